@@ -1,0 +1,300 @@
+-- The network of a sketch without a fault is valid.
+use Rattle.std.proofs.Common.{◌≡◌, ◌≢◌, ◌<◌, ◌≤◌, ◌+◌, ℕ, ℤ, pos, negsuc, zero, suc, Bool, true, false, not, ◌||◌, ◌&&◌, nat_lt, cond, List, [], ◌∷◌, length, get_or, map, Option, Some, None, IsSome, is_some, is_none, option_map, option_and_then, slice_get, unwrap_or, refl, sym, ap, ◌∙◌, arith, rules, lit<, lit≤}
+use Rattle.std.proofs.lemmas.Bool.{or_parts, and_parts, false≢true}
+use Rattle.std.proofs.lemmas.Bool.Decides.{nat_tests}
+use Rattle.std.proofs.lemmas.Int.{ints}
+use Rattle.std.proofs.lemmas.List.{length-map}
+use Rattle.std.proofs.lemmas.Slice.Eq.{bytes_eq-Decides}
+use Rattle.std.specs.List.{find, list_any, All, Any, AllPairs, AllByRecursion, position, position_or_len}
+use Rattle.std.specs.Prelude.{unsigned_abs, int_lt}
+use Rattle.std.specs.Ordering.{int_eq}
+use Rattle.std.specs.Str.{bytes_eq}
+use Rattle.kpn_net.specs.declared.fault.NetFault.{NetFault}
+use Rattle.kpn_net.specs.declared.fault.NetFault.TheVariants.{Version, Counts, Name, Kind, Args, NoEnd, Twice, Unused, Sorts, Capacity, Budget}
+use Rattle.kpn_net.specs.declared.token.Sort.{Sort}
+use Rattle.kpn_net.specs.declared.token.Sort.TheVariants.{Words, Flags}
+use Rattle.kpn_net.specs.declared.sketch.ProcessSketch.{ProcessSketch}
+use Rattle.kpn_net.specs.declared.sketch.ChannelSketch.{ChannelSketch}
+use Rattle.kpn_net.specs.declared.sketch.Sketch.{Sketch}
+use Rattle.kpn_net.specs.declared.parts.Process.{Process}
+use Rattle.kpn_net.specs.declared.parts.Channel.{Channel}
+use Rattle.kpn_net.specs.declared.kinds.Card.{Card}
+use Rattle.kpn_net.specs.declared.kinds.Signature.{Signature}
+use Rattle.kpn_net.specs.Name.{is_name}
+use Rattle.kpn_net.specs.Lawful.{port_at, in_sort, out_sort}
+use Rattle.kpn_net.specs.Faults.{any_pair, is_outside, is_sort, same_process, same_channel, port_sort, card_with, signature_of, has_wrong_args, takes_other_count, out_sort as sketch_out, in_sort as sketch_in, is_unused, is_unused_out, is_unused_in, has_unused_port, has_unknown_kind, same_out, same_in, has_fault, first_fault}
+use Rattle.kpn_net.specs.Network.{Network, no_process, card_of}
+use Rattle.kpn_net.specs.Sketched.{net_of, process_in, channel_in, index_of}
+use Rattle.kpn_net.specs.Valid.{HasEnds, JustOne, IsValid, IsOfSort}
+use Rattle.kpn_net.proofs.Lists.{none_passes, no_pair_passes, none_found, All-map, AllPairs-map, slice_get-map, found_index, none_passes_get, JustOne-map}
+use Rattle.kpn_net.proofs.ValidEnds.{just_one}
+
+true_from_not : (b : Bool) → not b ≡ false → b ≡ true
+true_from_not true h = refl
+true_from_not false h = cc
+
+differ : (a b : List ℕ) → bytes_eq a b ≡ false → a ≢ b
+differ a b h e = let same : bytes_eq a b ≡ true = (bytes_eq-Decides a b).1 e in false≢true (sym h ∙ same)
+
+inside : (low high : ℕ) (z : ℤ) → is_outside (pos low) (pos high) z ≡ false → (low ≤ unsigned_abs z) × (unsigned_abs z ≤ high)
+inside low high (pos n) h = let parts = or_parts (nat_lt n low) (nat_lt high n) h in (grind (arith, nat_tests), grind (arith, nat_tests))
+inside low high (negsuc n) h = cc
+
+some_from : {A : Type 0} (o : Option A) → is_none o ≡ false → IsSome o
+some_from None h = cc
+some_from (Some x) h = refl
+
+sort_is : (w : Sort) (o : Option Sort) → not (is_sort w o) ≡ false → o ≡ Some w
+sort_is Words None h = cc
+sort_is Flags None h = cc
+sort_is Words (Some Words) h = refl
+sort_is Words (Some Flags) h = cc
+sort_is Flags (Some Words) h = cc
+sort_is Flags (Some Flags) h = refl
+
+three : (u : ℕ → Bool) → (u 0 || (u 1 || u 2)) ≡ false → (k : ℕ) → k < 3 → u k ≡ false
+three u h zero l = (or_parts (u 0) (u 1 || u 2) h).0
+three u h (suc zero) l = (or_parts (u 1) (u 2) (or_parts (u 0) (u 1 || u 2) h).1).0
+three u h (suc (suc zero)) l = (or_parts (u 1) (u 2) (or_parts (u 0) (u 1 || u 2) h).1).1
+three u h (suc (suc (suc n))) l = absurd (omega arith)
+
+has_end : (a b : Bool) → a ≡ true → (a && not b) ≡ false → b ≡ true
+has_end true true e h = refl
+has_end true false e h = cc
+has_end false b e h = cc
+
+port_abs : (ports : List (Option Sort)) (z : ℤ) (w : Sort) → port_sort ports z ≡ Some w → port_sort ports (pos (unsigned_abs z)) ≡ Some w
+port_abs ports (pos k) w h = h
+port_abs ports (negsuc k) w h = cc
+
+-- a process by its number, and the process at a place
+module _ (signature : Card → Option Signature) (ports : Signature → List (Option Sort)) (k : ℕ) where
+  abbrev port_placed : List Process → ℕ → Option Sort
+  port_placed xs p = option_and_then (λ g. port_at (ports g) k) (option_and_then (λ x. signature x.card) (slice_get xs p))
+
+  abbrev port_numbered : List Process → ℕ → Option Sort
+  port_numbered xs p = option_and_then (λ g. port_at (ports g) k) (signature (get_or xs p no_process).card)
+
+  numbered : (w : Sort) (xs : List Process) (p : ℕ) → port_placed xs p ≡ Some w → (p < length xs) × (port_numbered xs p ≡ Some w)
+  numbered w [] p h = cc
+  numbered w (x ∷ xs) zero h = (omega arith, h)
+  numbered w (x ∷ xs) (suc p) h = let r = numbered w xs p h in (omega arith, r.1)
+
+  placed : (xs : List Process) (p : ℕ) → p < length xs → IsSome (port_numbered xs p) → IsSome (port_placed xs p)
+  placed [] p l h = absurd (omega arith)
+  placed (x ∷ xs) zero l h = h
+  placed (x ∷ xs) (suc p) l h = placed xs p (omega arith) h
+
+module _ (named : List ℕ → Option (ℕ × ℕ)) (signature : Card → Option Signature) where
+  card_known : (o : Option (ℕ × ℕ)) (args : List ℤ) → is_none (option_and_then (λ kind. signature (card_with kind.0 args)) o) ≡ false → IsSome (signature (card_with (unwrap_or o (0, 0)).0 args))
+  card_known None args h = cc
+  card_known (Some kind) args h = some_from (signature (card_with kind.0 args)) h
+
+  card_same : (o : Option (ℕ × ℕ)) (args : List ℤ) (g : Signature) → option_and_then (λ kind. signature (card_with kind.0 args)) o ≡ Some g → signature (card_with (unwrap_or o (0, 0)).0 args) ≡ Some g
+  card_same None args g h = cc
+  card_same (Some kind) args g h = h
+
+  card_back : (o : Option (ℕ × ℕ)) (args : List ℤ) (g : Signature) → is_none o ≡ false → signature (card_with (unwrap_or o (0, 0)).0 args) ≡ Some g → option_and_then (λ kind. signature (card_with kind.0 args)) o ≡ Some g
+  card_back None args g k h = cc
+  card_back (Some kind) args g k h = h
+
+  module _ (ports : Signature → List (Option Sort)) (z : ℤ) (w : Sort) where
+    end_of_signature : (o : Option Signature) (p : ProcessSketch) → signature_of named signature p ≡ o
+        → option_and_then (λ g. port_sort (ports g) z) o ≡ Some w → option_and_then (λ g. port_sort (ports g) (pos (unsigned_abs z))) (signature (process_in named p).card) ≡ Some w
+    end_of_signature None p e h = cc
+    end_of_signature (Some g) p e h = rw (card_same (named p.kind) p.args g e) (port_abs (ports g) z w h)
+
+    end_of_found : (ps : List ProcessSketch) (name : List ℕ) (o : Option ProcessSketch) → find (λ p. bytes_eq p.name name) ps ≡ o
+        → option_and_then (λ g. port_sort (ports g) z) (option_and_then (signature_of named signature) o) ≡ Some w
+        → option_and_then (λ g. port_sort (ports g) (pos (unsigned_abs z))) (option_and_then (λ x. signature x.card) (slice_get (map (process_in named) ps) (index_of ps name))) ≡ Some w
+    end_of_found ps name None e h = cc
+    end_of_found ps name (Some p) e h =
+        rw (slice_get-map (process_in named) ps (index_of ps name), found_index (λ p. bytes_eq p.name name) ps p e) (end_of_signature (signature_of named signature p) p refl h)
+
+  module _ (s : Sketch) (fine : first_fault named signature s ≡ None) where
+    abbrev tests : NetFault → Bool
+    tests = has_fault named signature s
+
+    abbrev faults : List NetFault
+    faults = Version ∷ Counts ∷ Name ∷ Kind ∷ Args ∷ NoEnd ∷ Twice ∷ Unused ∷ Sorts ∷ Capacity ∷ Budget ∷ []
+
+    no_fault : list_any tests faults ≡ false
+    no_fault = none_found tests faults fine
+
+    counts_fine : tests Counts ≡ false
+    counts_fine = none_passes tests faults no_fault 1 Version (lit< tt)
+
+    names_fine : tests Name ≡ false
+    names_fine = none_passes tests faults no_fault 2 Version (lit< tt)
+
+    args_fine : tests Args ≡ false
+    args_fine = none_passes tests faults no_fault 4 Version (lit< tt)
+
+    sorts_fine : tests Sorts ≡ false
+    sorts_fine = none_passes tests faults no_fault 8 Version (lit< tt)
+
+    capacities_fine : tests Capacity ≡ false
+    capacities_fine = none_passes tests faults no_fault 9 Version (lit< tt)
+
+    budget_fine : tests Budget ≡ false
+    budget_fine = none_passes tests faults no_fault 10 Version (lit< tt)
+
+    abbrev net : Network
+    net = net_of named s
+
+    pub some_process : 1 ≤ length net.processes
+    some_process = rw (length-map s.processes (process_in named))
+        (let first = (or_parts _ (nat_lt 64 (length s.processes) || nat_lt 256 (length s.channels)) counts_fine).0 in grind (arith, nat_tests))
+
+    pub few_processes : length net.processes ≤ 64
+    few_processes = rw (length-map s.processes (process_in named))
+        (let others = (or_parts _ (nat_lt 64 (length s.processes) || nat_lt 256 (length s.channels)) counts_fine).1 in
+        let many = (or_parts (nat_lt 64 (length s.processes)) (nat_lt 256 (length s.channels)) others).0 in grind (arith, nat_tests))
+
+    pub few_channels : length net.channels ≤ 256
+    few_channels = rw (length-map s.channels (channel_in s.processes))
+        (let others = (or_parts _ (nat_lt 64 (length s.processes) || nat_lt 256 (length s.channels)) counts_fine).1 in
+        let many = (or_parts (nat_lt 64 (length s.processes)) (nat_lt 256 (length s.channels)) others).1 in grind (arith, nat_tests))
+
+    abbrev bad_process : Bool
+    bad_process = list_any (λ p. not (is_name p.name)) s.processes
+
+    abbrev bad_channel : Bool
+    bad_channel = list_any (λ c. not (is_name c.name)) s.channels
+
+    forms : (bad_process || bad_channel) ≡ false
+    forms = (or_parts (bad_process || bad_channel) (any_pair same_process s.processes || any_pair same_channel s.channels) names_fine).0
+
+    doubles : (any_pair same_process s.processes || any_pair same_channel s.channels) ≡ false
+    doubles = (or_parts (bad_process || bad_channel) (any_pair same_process s.processes || any_pair same_channel s.channels) names_fine).1
+
+    pub process_names : All (λ p. is_name p.name ≡ true) net.processes
+    process_names = All-map (process_in named) (λ p. is_name p.name ≡ true) s.processes
+        (λ k d l. true_from_not _ (none_passes (λ p. not (is_name p.name)) s.processes (or_parts bad_process bad_channel forms).0 k d l))
+
+    pub channel_names : All (λ c. is_name c.name ≡ true) net.channels
+    channel_names = All-map (channel_in s.processes) (λ c. is_name c.name ≡ true) s.channels
+        (λ k d l. true_from_not _ (none_passes (λ c. not (is_name c.name)) s.channels (or_parts bad_process bad_channel forms).1 k d l))
+
+    pub processes_apart : AllPairs (λ p q. p.name ≢ q.name) net.processes
+    processes_apart = AllPairs-map (process_in named) (λ p q. p.name ≢ q.name) s.processes
+        (λ i j d l m. differ _ _ (no_pair_passes same_process s.processes (or_parts (any_pair same_process s.processes) (any_pair same_channel s.channels) doubles).0 i j d l m))
+
+    pub channels_apart : AllPairs (λ c d. c.name ≢ d.name) net.channels
+    channels_apart = AllPairs-map (channel_in s.processes) (λ c d. c.name ≢ d.name) s.channels
+        (λ i j d l m. differ _ _ (no_pair_passes same_channel s.channels (or_parts (any_pair same_process s.processes) (any_pair same_channel s.channels) doubles).1 i j d l m))
+
+    pub signed : All (λ p. IsSome (signature p.card)) net.processes
+    signed = All-map (process_in named) (λ p. IsSome (signature p.card)) s.processes (λ k d l.
+        let p = get_or s.processes k d in
+        let a : has_wrong_args named signature p ≡ false = none_passes (has_wrong_args named signature) s.processes args_fine k d l in
+        let rest = (or_parts (takes_other_count named signature p) _ a).1 in
+        let more = (or_parts (nat_lt 3 (length p.args)) _ rest).1 in
+        card_known (named p.kind) p.args (or_parts (list_any (λ z. int_lt z (pos 0)) p.args) _ more).1)
+
+    ends_at : (c : ChannelSketch) → (not (is_sort c.sort (sketch_out named signature s c)) || not (is_sort c.sort (sketch_in named signature s c))) ≡ false → HasEnds signature net (channel_in s.processes c)
+    ends_at c h =
+        let parts = or_parts (not (is_sort c.sort (sketch_out named signature s c))) (not (is_sort c.sort (sketch_in named signature s c))) h in
+        let from = end_of_found (λ g. g.outs) c.out c.sort s.processes c.from _ refl (sort_is c.sort _ parts.0) in
+        let to = end_of_found (λ g. g.ins) c.input c.sort s.processes c.to _ refl (sort_is c.sort _ parts.1) in
+        let writer = numbered signature (λ g. g.outs) (unsigned_abs c.out) c.sort net.processes (index_of s.processes c.from) from in
+        let reader = numbered signature (λ g. g.ins) (unsigned_abs c.input) c.sort net.processes (index_of s.processes c.to) to in
+        record { writer = writer.0; out = writer.1; reader = reader.0; input = reader.1 }
+
+    pub ends : All (HasEnds signature net) net.channels
+    ends = All-map (channel_in s.processes) (HasEnds signature net) s.channels
+        (λ k d l. ends_at (get_or s.channels k d) (none_passes (λ c. not (is_sort c.sort (sketch_out named signature s c)) || not (is_sort c.sort (sketch_in named signature s c))) s.channels sorts_fine k d l))
+
+    pub capacities : All (λ c. (1 ≤ c.capacity) × (c.capacity ≤ 65535)) net.channels
+    capacities = All-map (channel_in s.processes) (λ c. (1 ≤ c.capacity) × (c.capacity ≤ 65535)) s.channels
+        (λ k d l. inside 1 65535 (get_or s.channels k d).capacity (none_passes (λ c. is_outside (pos 1) (pos 65535) c.capacity) s.channels capacities_fine k d l))
+
+    pub budget : (1 ≤ net.budget) × (net.budget ≤ 1000000)
+    budget = inside 1 1000000 s.budget budget_fine
+
+    kinds_fine : tests Kind ≡ false
+    kinds_fine = none_passes tests faults no_fault 3 Version (lit< tt)
+
+    shared_fine : tests Twice ≡ false
+    shared_fine = none_passes tests faults no_fault 6 Version (lit< tt)
+
+    unused_fine : tests Unused ≡ false
+    unused_fine = none_passes tests faults no_fault 7 Version (lit< tt)
+
+    sorts_at : (c : ChannelSketch) → (not (is_sort c.sort (sketch_out named signature s c)) || not (is_sort c.sort (sketch_in named signature s c))) ≡ false
+        → (sketch_out named signature s c ≡ Some c.sort) × (sketch_in named signature s c ≡ Some c.sort)
+    sorts_at c h =
+        let parts = or_parts (not (is_sort c.sort (sketch_out named signature s c))) (not (is_sort c.sort (sketch_in named signature s c))) h in
+        (sort_is c.sort _ parts.0, sort_is c.sort _ parts.1)
+
+    sorts_known : All (λ c. (sketch_out named signature s c ≡ Some c.sort) × (sketch_in named signature s c ≡ Some c.sort)) s.channels
+    sorts_known k d l = sorts_at (get_or s.channels k d) (none_passes (λ c. not (is_sort c.sort (sketch_out named signature s c)) || not (is_sort c.sort (sketch_in named signature s c))) s.channels sorts_fine k d l)
+
+    -- the process of a port, with its signature
+    abbrev HasPort : (Signature → List (Option Sort)) → ℕ → ℕ → Type 0
+    HasPort ports p k = (x : ProcessSketch) × (g : Signature) × (slice_get s.processes p ≡ Some x) × (signature_of named signature x ≡ Some g) × IsSome (port_sort (ports g) (pos k))
+
+    port_by_card : (ports : Signature → List (Option Sort)) (p k : ℕ) (x : ProcessSketch) (o : Option Signature) → slice_get s.processes p ≡ Some x → signature (process_in named x).card ≡ o
+        → IsSome (option_and_then (λ g. port_sort (ports g) (pos k)) o) → HasPort ports p k
+    port_by_card ports p k x None at e h = cc
+    port_by_card ports p k x (Some g) at e h =
+        (x, g, at, card_back (named x.kind) x.args g (none_passes_get (has_unknown_kind named signature) s.processes p x kinds_fine at) e, h)
+
+    port_by_place : (ports : Signature → List (Option Sort)) (p k : ℕ) (o : Option ProcessSketch) → slice_get s.processes p ≡ o
+        → IsSome (option_and_then (λ g. port_sort (ports g) (pos k)) (option_and_then (λ y. signature y.card) (option_map (process_in named) o))) → HasPort ports p k
+    port_by_place ports p k None e h = cc
+    port_by_place ports p k (Some x) e h = port_by_card ports p k x (signature (process_in named x).card) e refl h
+
+    port_is : (ports : Signature → List (Option Sort)) (p k : ℕ) → IsSome (option_and_then (λ g. port_sort (ports g) (pos k)) (option_and_then (λ y. signature y.card) (slice_get net.processes p))) → HasPort ports p k
+    port_is ports p k h = port_by_place ports p k (slice_get s.processes p) refl (rw (slice_get-map (process_in named) s.processes p) at h)
+
+    used_at : (x : ProcessSketch) (g : Signature) (p k : ℕ) → k < 3 → slice_get s.processes p ≡ Some x → signature_of named signature x ≡ Some g → is_unused named signature s x.name g (pos k) ≡ false
+    used_at x g p k l at e =
+        let fine_here : has_unused_port named signature s x ≡ false = none_passes_get (has_unused_port named signature s) s.processes p x unused_fine at in
+        three (λ n. is_unused named signature s x.name g (pos n)) (rw e at fine_here) k l
+
+    pub writers : (p k : ℕ) → p < length net.processes → k < 3 → IsSome (out_sort signature (card_of net p) k) → JustOne (λ (c : Channel). (c.writer ≡ p) × (c.out ≡ k)) net.channels
+    writers p k within l h =
+        let (x, g, at, e, here) = port_is (λ g. g.outs) p k (placed signature (λ g. g.outs) k net.processes p within h) in
+        let unused : is_unused_out named signature s x.name g (pos k) ≡ false = (or_parts (is_unused_out named signature s x.name g (pos k)) (is_unused_in named signature s x.name g (pos k)) (used_at x g p k l at e)).0 in
+        let leads = has_end (is_some (port_sort g.outs (pos k))) (list_any (λ c. bytes_eq c.from x.name && int_eq c.out (pos k)) s.channels) here unused in
+        JustOne-map (channel_in s.processes) (λ c. (c.writer ≡ p) × (c.out ≡ k)) s.channels
+        (just_one named signature (λ g. g.outs) s.processes (or_parts (any_pair same_process s.processes) (any_pair same_channel s.channels) doubles).0 (λ c. c.from) (λ c. c.out) (λ c. c.sort) s.channels p k x
+        (λ i d m. (sorts_known i d m).0) (or_parts (any_pair same_out s.channels) (any_pair same_in s.channels) shared_fine).0 at leads)
+
+    pub readers : (p k : ℕ) → p < length net.processes → k < 3 → IsSome (in_sort signature (card_of net p) k) → JustOne (λ (c : Channel). (c.reader ≡ p) × (c.input ≡ k)) net.channels
+    readers p k within l h =
+        let (x, g, at, e, here) = port_is (λ g. g.ins) p k (placed signature (λ g. g.ins) k net.processes p within h) in
+        let unused : is_unused_in named signature s x.name g (pos k) ≡ false = (or_parts (is_unused_out named signature s x.name g (pos k)) (is_unused_in named signature s x.name g (pos k)) (used_at x g p k l at e)).1 in
+        let leads = has_end (is_some (port_sort g.ins (pos k))) (list_any (λ c. bytes_eq c.to x.name && int_eq c.input (pos k)) s.channels) here unused in
+        JustOne-map (channel_in s.processes) (λ c. (c.reader ≡ p) × (c.input ≡ k)) s.channels
+        (just_one named signature (λ g. g.ins) s.processes (or_parts (any_pair same_process s.processes) (any_pair same_channel s.channels) doubles).0 (λ c. c.to) (λ c. c.input) (λ c. c.sort) s.channels p k x
+        (λ i d m. (sorts_known i d m).1) (or_parts (any_pair same_out s.channels) (any_pair same_in s.channels) shared_fine).1 at leads)
+
+    -- a described channel begins empty
+    pub start_tokens : All (λ c. AllByRecursion (IsOfSort c.sort) c.tokens) net.channels
+    start_tokens = All-map (channel_in s.processes) (λ c. AllByRecursion (IsOfSort c.sort) c.tokens) s.channels (λ k d l. tt)
+
+    pub start_fits : All (λ c. length c.tokens ≤ c.capacity) net.channels
+    start_fits = All-map (channel_in s.processes) (λ c. length c.tokens ≤ c.capacity) s.channels (λ k d l. omega arith)
+
+    pub valid : IsValid signature net
+    valid = record {
+      some_process = some_process;
+      few_processes = few_processes;
+      few_channels = few_channels;
+      process_names = process_names;
+      channel_names = channel_names;
+      processes_apart = processes_apart;
+      channels_apart = channels_apart;
+      signed = signed;
+      ends = ends;
+      writers = writers;
+      readers = readers;
+      capacities = capacities;
+      start_tokens = start_tokens;
+      start_fits = start_fits;
+      some_step = lit≤ tt;
+      some_budget = budget.0;
+      small_budget = budget.1;
+    }

@@ -1,0 +1,77 @@
+-- The sketch that a TOML document describes.
+use Rattle.std.specs.Prelude.{◌≡◌, ℕ, ℤ, pos, IsUtf8, IsSome, codes, List, [], ◌∷◌, Option, Some, None, option_and_then, if◌then◌else◌}
+use Rattle.toml.specs.Data.{Data, Members, as_str, as_integer, as_table}
+use Rattle.std.specs.Str.{bytes_eq}
+use Rattle.kpn_net.specs.declared.token.Sort.{Sort}
+use Rattle.kpn_net.specs.declared.token.Sort.TheVariants.{Words, Flags}
+use Rattle.kpn_net.specs.declared.sketch.ProcessSketch.{ProcessSketch}
+use Rattle.kpn_net.specs.declared.sketch.ChannelSketch.{ChannelSketch}
+use Rattle.kpn_net.specs.declared.sketch.Sketch.{Sketch}
+use Rattle.toml.specs.Parse.{parse_document}
+use Rattle.kpn_net.specs.declared.fault.NetFault.{NetFault}
+use Rattle.kpn_net.specs.declared.fault.NetFault.TheVariants.{NotToml, Keys, Memory}
+use Rattle.kpn_net.specs.Form.{required, optional, array_of, has_only}
+
+infixl 10 ◌>>=◌
+abbrev ◌>>=◌ : {A B : Type 0} → Option A → (A → Option B) → Option B
+o >>= f = option_and_then f o
+
+-- the table of a value, with no key but these
+abbrev pub known_table : List (List ℕ) → Data → Option Members
+known_table known d = as_table d >>= (λ table. if has_only known table then Some table else None)
+
+abbrev pub sort_named : List ℕ → Option Sort
+sort_named text = if bytes_eq text (codes "words") then Some Words else if bytes_eq text (codes "flags") then Some Flags else None
+
+abbrev pub sort_of : Data → Option Sort
+sort_of d = as_str d >>= sort_named
+
+abbrev pub process_keys : List (List ℕ)
+process_keys = codes "name" ∷ codes "kind" ∷ codes "args" ∷ []
+
+abbrev pub process_of : Data → Option ProcessSketch
+process_of d =
+    known_table process_keys d >>= (λ table.
+    required as_str (codes "name") table >>= (λ name.
+    required as_str (codes "kind") table >>= (λ kind.
+    optional (array_of as_integer) [] (codes "args") table >>= (λ args.
+    Some (record { name = name; kind = kind; args = args })))))
+
+abbrev pub channel_keys : List (List ℕ)
+channel_keys = codes "name" ∷ codes "from" ∷ codes "to" ∷ codes "out" ∷ codes "in" ∷ codes "sort" ∷ codes "capacity" ∷ []
+
+abbrev pub channel_of : Data → Option ChannelSketch
+channel_of d =
+    known_table channel_keys d >>= (λ table.
+    required as_str (codes "name") table >>= (λ name.
+    required as_str (codes "from") table >>= (λ from.
+    required as_str (codes "to") table >>= (λ to.
+    optional as_integer (pos 0) (codes "out") table >>= (λ out.
+    optional as_integer (pos 0) (codes "in") table >>= (λ input.
+    optional sort_of Words (codes "sort") table >>= (λ sort.
+    optional as_integer (pos 1) (codes "capacity") table >>= (λ capacity.
+    Some (record { name = name; from = from; to = to; out = out; input = input; sort = sort; capacity = capacity })))))))))
+
+abbrev pub top_keys : List (List ℕ)
+top_keys = codes "version" ∷ codes "budget" ∷ codes "process" ∷ codes "channel" ∷ []
+
+abbrev pub sketch_of : Members → Option Sketch
+sketch_of table =
+    if has_only top_keys table then
+    required as_integer (codes "version") table >>= (λ version.
+    optional as_integer (pos 10000) (codes "budget") table >>= (λ budget.
+    required (array_of process_of) (codes "process") table >>= (λ processes.
+    optional (array_of channel_of) [] (codes "channel") table >>= (λ channels.
+    Some (record { version = version; budget = budget; processes = processes; channels = channels })))))
+    else None
+
+-- the text is TOML, and this sketch is what it describes
+abbrev pub Describes : List ℕ → Sketch → Type 0
+Describes text sketch = IsUtf8 text × (option_and_then sketch_of (parse_document text) ≡ Some sketch)
+
+-- when each fault is found in a text: memory at any time, and of the others one in each text that describes nothing
+abbrev pub IsReadFault : List ℕ → NetFault → Type 0
+IsReadFault text NotToml = IsUtf8 text → parse_document text ≡ None
+IsReadFault text Keys = IsUtf8 text × IsSome (parse_document text) × (option_and_then sketch_of (parse_document text) ≡ None)
+IsReadFault text Memory = Unit {0}
+IsReadFault text _ = ⊥

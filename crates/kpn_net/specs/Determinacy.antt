@@ -1,0 +1,67 @@
+-- Whatever is chosen, the outcome is the same.
+use Rattle.std.specs.Prelude.{◌≡◌, ◌⊎◌, ℕ, ◌≤◌, List, ◌++◌, length}
+use Rattle.kpn_net.specs.declared.history.Entry.{Entry}
+use Rattle.kpn_net.specs.declared.history.End.{End}
+use Rattle.kpn_net.specs.Network.{Family, Network, resized}
+use Rattle.kpn_net.specs.declared.history.End.TheVariants.{Terminated, Deadlock}
+use Rattle.kpn_net.specs.Machine.{State, start, wants, Run, IsOver}
+use Rattle.kpn_net.specs.History.{deeds, stream, place_of, digest}
+
+abbrev pub IsFrontOf : {X : Type 0} → List X → List X → Type 0
+IsFrontOf {X} xs ys = (rest : List X) × (xs ++ rest ≡ ys)
+
+-- one of the two begins with the other
+abbrev pub AreInLine : {X : Type 0} → List X → List X → Type 0
+AreInLine xs ys = IsFrontOf xs ys ⊎ IsFrontOf ys xs
+
+module _ (kinds : Family) where
+  -- E leads from the start of the network to M
+  abbrev pub IsRun : Network → List Entry → State → Type 0
+  IsRun net E M = Run kinds net (start kinds net) E M
+
+  -- E leads to M, which is over for this cause
+  pub record IsFinal (net : Network) (E : List Entry) (M : State) (cause : End) : Type 0 where
+    pub run : IsRun net E M
+    pub over : IsOver kinds net M cause
+
+-- two runs that are over have one digest
+abbrev pub OneDigest : Family → Type 0
+OneDigest kinds =
+    (net : Network) (E F : List Entry) (M N : State) (a b : End)
+    → IsFinal kinds net E M a → IsFinal kinds net F N b → digest kinds net a E M ≡ digest kinds net b F N
+
+-- no run is longer than one that is over
+abbrev pub NoneLonger : Family → Type 0
+NoneLonger kinds =
+    (net : Network) (E F : List Entry) (M N : State) (a : End)
+    → IsFinal kinds net E M a → IsRun kinds net F N → length F ≤ length E
+
+-- the end is no matter of capacities
+abbrev pub IsNatural : End → Type 0
+IsNatural Terminated = Unit {0}
+IsNatural Deadlock = Unit {0}
+IsNatural _ = ⊥
+
+-- what two runs have in common that are over, whatever the capacities
+pub record HaveSameOutcome (kinds : Family) (net other : Network) (E F : List Entry) (M N : State) : Type 0 where
+  pub deeds : (p : ℕ) → deeds E p ≡ deeds F p
+  pub streams : (c : ℕ) → stream net E c ≡ stream other F c
+  pub places : (p : ℕ) → place_of net p (wants kinds net M p) ≡ place_of other p (wants kinds other N p)
+
+-- runs that terminate or end in a deadlock have one outcome, whatever the starting capacities
+abbrev pub OneOutcome : Family → Type 0
+OneOutcome kinds =
+    (net : Network) (sizes : ℕ → ℕ) (E F : List Entry) (M N : State) (a b : End)
+    → IsFinal kinds net E M a → IsNatural a → IsFinal kinds (resized net sizes) F N b → IsNatural b
+    → HaveSameOutcome kinds net (resized net sizes) E F M N
+
+-- of the deeds of each process in two histories, and of each channel's streams, one begins with the other
+pub record AreAllInLine (net other : Network) (E F : List Entry) : Type 0 where
+  pub deeds : (p : ℕ) → AreInLine (deeds E p) (deeds F p)
+  pub streams : (c : ℕ) → AreInLine (stream net E c) (stream other F c)
+
+-- so it is in any two runs, whatever the starting capacities
+abbrev pub AllInLine : Family → Type 0
+AllInLine kinds =
+    (net : Network) (sizes : ℕ → ℕ) (E F : List Entry) (M N : State)
+    → IsRun kinds net E M → IsRun kinds (resized net sizes) F N → AreAllInLine net (resized net sizes) E F

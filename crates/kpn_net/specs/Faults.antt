@@ -1,0 +1,115 @@
+-- The faults of a sketch, and which of them is the first.
+use Rattle.std.specs.Prelude.{ℕ, ℤ, pos, negsuc, Bool, true, false, not, ◌&&◌, ◌||◌, ◌==◌, nat_le, nat_lt, int_lt, unsigned_abs, if◌then◌else◌, List, [], ◌∷◌, length, slice_index, slice_index_or, slice_get, Option, Some, None, is_some, is_none, option_and_then}
+use Rattle.std.specs.Option.{option_map_or}
+use Rattle.std.specs.List.{find, list_any, list_all}
+use Rattle.std.specs.Ordering.{int_eq}
+use Rattle.std.specs.Str.{bytes_eq}
+use Rattle.kpn_net.specs.declared.fault.NetFault.{NetFault}
+use Rattle.kpn_net.specs.declared.fault.NetFault.TheVariants.{Version, Counts, Name, Kind, Args, NoEnd, Twice, Unused, Sorts, Capacity, Budget}
+use Rattle.kpn_net.specs.declared.token.Sort.{Sort}
+use Rattle.kpn_net.specs.declared.token.Sort.TheVariants.{Words, Flags}
+use Rattle.kpn_net.specs.declared.sketch.ProcessSketch.{ProcessSketch}
+use Rattle.kpn_net.specs.declared.sketch.ChannelSketch.{ChannelSketch}
+use Rattle.kpn_net.specs.declared.sketch.Sketch.{Sketch}
+use Rattle.kpn_net.specs.declared.kinds.Card.{Card}
+use Rattle.kpn_net.specs.declared.kinds.Signature.{Signature}
+use Rattle.kpn_net.specs.Lawful.{port_at}
+use Rattle.kpn_net.specs.Name.{is_name}
+
+-- the test holds of an item and a later one
+abbrev pub any_pair : {A : Type 0} → (A → A → Bool) → List A → Bool
+any_pair test [] = false
+any_pair test (x ∷ xs) = list_any (test x) xs || any_pair test xs
+
+-- the number is outside the range
+abbrev pub is_outside : ℤ → ℤ → ℤ → Bool
+is_outside low high z = int_lt z low || int_lt high z
+
+abbrev pub same_process : ProcessSketch → ProcessSketch → Bool
+same_process p q = bytes_eq p.name q.name
+
+abbrev pub same_channel : ChannelSketch → ChannelSketch → Bool
+same_channel c d = bytes_eq c.name d.name
+
+abbrev pub same_out : ChannelSketch → ChannelSketch → Bool
+same_out c d = bytes_eq c.from d.from && int_eq c.out d.out
+
+abbrev pub same_in : ChannelSketch → ChannelSketch → Bool
+same_in c d = bytes_eq c.to d.to && int_eq c.input d.input
+
+-- the sort of a port, if there is such a port
+abbrev pub port_sort : List (Option Sort) → ℤ → Option Sort
+port_sort ports (pos k) = port_at ports k
+port_sort ports (negsuc k) = None
+
+abbrev pub is_sort : Sort → Option Sort → Bool
+is_sort sort None = false
+is_sort Words (Some Words) = true
+is_sort Flags (Some Flags) = true
+is_sort _ (Some _) = false
+
+-- the card of a kind with these arguments, of which the missing are 0
+abbrev pub card_with : ℕ → List ℤ → Card
+card_with kind args =
+    let arg : ℕ → ℕ = λ k. unsigned_abs (slice_index_or args k (pos 0)) in
+    record { kind = kind; args = arg 0 ∷ arg 1 ∷ arg 2 ∷ [] }
+
+module _ (named : List ℕ → Option (ℕ × ℕ)) (signature : Card → Option Signature) where
+  abbrev pub signature_of : ProcessSketch → Option Signature
+  signature_of p = option_and_then (λ kind. signature (card_with kind.0 p.args)) (named p.kind)
+
+  abbrev pub has_unknown_kind : ProcessSketch → Bool
+  has_unknown_kind p = is_none (named p.kind)
+
+  abbrev pub takes_other_count : ProcessSketch → Bool
+  takes_other_count p = option_map_or (λ kind. not (length p.args == kind.1)) (named p.kind) true
+
+  abbrev pub has_wrong_args : ProcessSketch → Bool
+  has_wrong_args p = takes_other_count p || (nat_lt 3 (length p.args) || (list_any (λ z. int_lt z (pos 0)) p.args || is_none (signature_of p)))
+
+  module _ (sketch : Sketch) where
+    -- the signature of the process of this name
+    abbrev pub signature_named : List ℕ → Option Signature
+    signature_named name = option_and_then signature_of (find (λ p. bytes_eq p.name name) sketch.processes)
+
+    -- the sorts of the two ports of a channel, where they are there
+    abbrev pub out_sort : ChannelSketch → Option Sort
+    out_sort c = option_and_then (λ s. port_sort s.outs c.out) (signature_named c.from)
+
+    abbrev pub in_sort : ChannelSketch → Option Sort
+    in_sort c = option_and_then (λ s. port_sort s.ins c.input) (signature_named c.to)
+
+    -- the port is there, and no channel leads from it, or to it
+    abbrev pub is_unused_out : List ℕ → Signature → ℤ → Bool
+    is_unused_out name s k = is_some (port_sort s.outs k) && not (list_any (λ c. bytes_eq c.from name && int_eq c.out k) sketch.channels)
+
+    abbrev pub is_unused_in : List ℕ → Signature → ℤ → Bool
+    is_unused_in name s k = is_some (port_sort s.ins k) && not (list_any (λ c. bytes_eq c.to name && int_eq c.input k) sketch.channels)
+
+    abbrev pub is_unused : List ℕ → Signature → ℤ → Bool
+    is_unused name s k = is_unused_out name s k || is_unused_in name s k
+
+    abbrev pub has_unused_port : ProcessSketch → Bool
+    has_unused_port p =
+        option_map_or (λ s. is_unused p.name s (pos 0) || (is_unused p.name s (pos 1) || is_unused p.name s (pos 2))) (signature_of p) false
+
+    -- the conditions of the faults
+    abbrev pub has_fault : NetFault → Bool
+    has_fault Version = not (int_eq sketch.version (pos 1))
+    has_fault Counts = length sketch.processes == 0 || (nat_lt 64 (length sketch.processes) || nat_lt 256 (length sketch.channels))
+    has_fault Name =
+        (list_any (λ p. not (is_name p.name)) sketch.processes || list_any (λ c. not (is_name c.name)) sketch.channels)
+        || (any_pair same_process sketch.processes || any_pair same_channel sketch.channels)
+    has_fault Kind = list_any has_unknown_kind sketch.processes
+    has_fault Args = list_any has_wrong_args sketch.processes
+    has_fault NoEnd = list_any (λ c. is_none (out_sort c) || is_none (in_sort c)) sketch.channels
+    has_fault Twice = any_pair same_out sketch.channels || any_pair same_in sketch.channels
+    has_fault Unused = list_any has_unused_port sketch.processes
+    has_fault Sorts = list_any (λ c. not (is_sort c.sort (out_sort c)) || not (is_sort c.sort (in_sort c))) sketch.channels
+    has_fault Capacity = list_any (λ c. is_outside (pos 1) (pos 65535) c.capacity) sketch.channels
+    has_fault Budget = is_outside (pos 1) (pos 1000000) sketch.budget
+    has_fault _ = false
+
+    -- the fault of least number whose condition holds
+    abbrev pub first_fault : Option NetFault
+    first_fault = find has_fault (Version ∷ Counts ∷ Name ∷ Kind ∷ Args ∷ NoEnd ∷ Twice ∷ Unused ∷ Sorts ∷ Capacity ∷ Budget ∷ [])

@@ -1,0 +1,97 @@
+-- What is read off a history.
+use Rattle.std.specs.Prelude.{◌++◌, ℕ, ◌==◌, if◌then◌else◌, List, [], ◌∷◌, Option, Some, None, length, drop, map}
+use Rattle.std.specs.List.{range_with_len}
+use Rattle.kpn_net.specs.declared.token.Token.{Token}
+use Rattle.kpn_net.specs.declared.kinds.Act.{Act}
+use Rattle.kpn_net.specs.declared.kinds.Act.TheVariants.{Read, Write, Stop}
+use Rattle.kpn_net.specs.declared.kinds.Answer.{Answer}
+use Rattle.kpn_net.specs.declared.history.Deed.{Deed}
+use Rattle.kpn_net.specs.declared.history.Deed.TheVariants.{Took, Put}
+use Rattle.kpn_net.specs.declared.history.Entry.{Entry}
+use Rattle.kpn_net.specs.declared.history.Entry.TheVariants.{Did, Grew}
+use Rattle.kpn_net.specs.declared.history.End.{End}
+use Rattle.kpn_net.specs.declared.history.Place.{Place}
+use Rattle.kpn_net.specs.declared.history.Place.TheVariants.{Stopped as Ended, Reads, Writes}
+use Rattle.kpn_net.specs.Network.{Family, Network, channel_of, in_of, out_of}
+use Rattle.kpn_net.specs.Machine.{State, wants}
+
+-- the deeds of p, in order
+abbrev pub deeds : List Entry → ℕ → List Deed
+deeds [] p = []
+deeds (Did q d ∷ es) p = if q == p then d ∷ deeds es p else deeds es p
+deeds (Grew c to ∷ es) p = deeds es p
+
+-- the tokens put on c, in order
+abbrev pub put_on : List Entry → ℕ → List Token
+put_on [] c = []
+put_on (Did p (Put b t) ∷ es) c = if b == c then t ∷ put_on es c else put_on es c
+put_on (_ ∷ es) c = put_on es c
+
+-- what went through c: its start tokens, and those put on it
+abbrev pub stream : Network → List Entry → ℕ → List Token
+stream net E c = (channel_of net c).tokens ++ put_on E c
+
+-- the tokens taken from c, in order
+abbrev pub taken : List Entry → ℕ → List Token
+taken [] c = []
+taken (Did p (Took b t) ∷ es) c = if b == c then t ∷ taken es c else taken es c
+taken (_ ∷ es) c = taken es c
+
+-- the growths, in order: a channel and its new capacity
+abbrev pub growths : List Entry → List (ℕ × ℕ)
+growths [] = []
+growths (Grew c to ∷ es) = (c, to) ∷ growths es
+growths (Did p d ∷ es) = growths es
+
+-- the capacity of c after these growths: what it began with, or the last growth's
+abbrev pub grown : ℕ → List (ℕ × ℕ) → ℕ → ℕ
+grown n [] c = n
+grown n (g ∷ gs) c = if g.0 == c then grown g.1 gs c else grown n gs c
+
+pub record Digest : Type 0 where
+  pub cause : End
+  pub places : List Place
+  pub steps : List ℕ
+  pub capacities : List ℕ
+  pub streams : List (List Token)
+  pub rests : List (List Token)
+  pub growths : List (ℕ × ℕ)
+  pub entries : ℕ
+
+-- where a process stands, which wants this; `Ended` also where a port is the end of no channel, as no port of a valid network is
+abbrev pub reads : Option ℕ → Place
+reads None = Ended
+reads (Some c) = Reads c
+
+abbrev pub writes : Option ℕ → Place
+writes None = Ended
+writes (Some c) = Writes c
+
+abbrev pub place_of_act : Network → ℕ → Act → Place
+place_of_act net p Stop = Ended
+place_of_act net p (Read k) = reads (in_of net p k)
+place_of_act net p (Write k t) = writes (out_of net p k)
+
+abbrev pub place_of : Network → ℕ → Option Answer → Place
+place_of net p None = Ended
+place_of net p (Some a) = place_of_act net p a.act
+
+abbrev pub each_process : {X : Type 0} → Network → (ℕ → X) → List X
+each_process net f = map f (range_with_len 0 (length net.processes))
+
+abbrev pub each_channel : {X : Type 0} → Network → (ℕ → X) → List X
+each_channel net f = map f (range_with_len 0 (length net.channels))
+
+-- what is reported of a run E from the start to M, which is over for this cause
+abbrev pub digest : Family → Network → End → List Entry → State → Digest
+digest kinds net cause E M =
+    record {
+      cause = cause;
+      places = each_process net (λ p. place_of net p (wants kinds net M p));
+      steps = each_process net (λ p. length (deeds E p));
+      capacities = each_channel net (λ c. grown (channel_of net c).capacity (growths E) c);
+      streams = each_channel net (λ c. stream net E c);
+      rests = each_channel net (λ c. drop (length (taken E c)) (stream net E c));
+      growths = growths E;
+      entries = length E;
+    }

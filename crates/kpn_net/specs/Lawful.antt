@@ -1,0 +1,56 @@
+-- The ports of cards, and the laws of a family of kinds.
+use Rattle.std.specs.Prelude.{◌≡◌, ℕ, ◌<◌, ◌^◌, List, Option, Some, None, IsSome, option_and_then, slice_get}
+use Rattle.kpn_net.specs.declared.token.Token.{Token}
+use Rattle.kpn_net.specs.declared.token.Token.TheVariants.{Word, Flag}
+use Rattle.kpn_net.specs.declared.token.Sort.{Sort}
+use Rattle.kpn_net.specs.declared.token.Sort.TheVariants.{Words, Flags}
+use Rattle.kpn_net.specs.declared.kinds.Card.{Card}
+use Rattle.kpn_net.specs.declared.kinds.Signature.{Signature}
+use Rattle.kpn_net.specs.declared.kinds.Act.{Act}
+use Rattle.kpn_net.specs.declared.kinds.Act.TheVariants.{Read, Write, Stop}
+use Rattle.kpn_net.specs.declared.kinds.Answer.{Answer}
+use Rattle.kpn_net.specs.Network.{Family}
+
+-- the sort of a token
+abbrev pub sort_of : Token → Sort
+sort_of (Word n) = Words
+sort_of (Flag b) = Flags
+
+-- a word has 64 bits
+abbrev pub Fits : Token → Type 0
+Fits (Word n) = n < 2 ^ 64
+Fits (Flag b) = Unit {0}
+
+-- the sort of port k, where it is there
+abbrev pub port_at : List (Option Sort) → ℕ → Option Sort
+port_at ports k = option_and_then (λ sort. sort) (slice_get ports k)
+
+module _ (signature : Card → Option Signature) where
+  -- the sort of a card's input and output k, where it is there
+  abbrev pub in_sort : Card → ℕ → Option Sort
+  in_sort card k = option_and_then (λ s. port_at s.ins k) (signature card)
+
+  abbrev pub out_sort : Card → ℕ → Option Sort
+  out_sort card k = option_and_then (λ s. port_at s.outs k) (signature card)
+
+  -- an act names a port of the card, and a written token fits and has the port's sort
+  abbrev pub NamesPort : Card → Act → Type 0
+  NamesPort card Stop = Unit {0}
+  NamesPort card (Read k) = (k < 3) × IsSome (in_sort card k)
+  NamesPort card (Write k t) = (k < 3) × Fits t × (out_sort card k ≡ Some (sort_of t))
+
+  module _ (admits : Card → List ℕ → Option Token → Type 0) where
+    abbrev pub AfterAct : Card → List ℕ → Act → Token → Type 0
+    AfterAct card next Stop token = Unit {0}
+    AfterAct card next (Read k) token = in_sort card k ≡ Some (sort_of token) → Fits token → admits card next (Some token)
+    AfterAct card next (Write k t) token = admits card next None
+
+    -- what follows an answer is admitted, where it is a read of this token too
+    abbrev pub LeadsOn : Card → Answer → Token → Type 0
+    LeadsOn card answer token = AfterAct card answer.next answer.act token
+
+    -- the laws of a family, of cards that have a signature
+    pub record AreLawful (kinds : Family) : Type 0 where
+      pub names_port : (card : Card) (local : List ℕ) (last : Option Token) → IsSome (signature card) → admits card local last → NamesPort card (kinds.answer card local last).act
+      pub leads_on : (card : Card) (local : List ℕ) (last : Option Token) (token : Token) → IsSome (signature card) → admits card local last → LeadsOn card (kinds.answer card local last) token
+      pub starts : (card : Card) → IsSome (signature card) → admits card (kinds.start card) None

@@ -1,0 +1,142 @@
+-- The sequential machine: any process that can go on may be next, and a channel grows only where none can.
+use Rattle.std.specs.Prelude.{min, ◌≡◌, ◌≢◌, ℕ, ◌+◌, ◌<◌, ◌≤◌, List, [], ◌∷◌, ◌++◌, Option, Some, None, length, get_or, set, drop, map}
+use Rattle.kpn_net.specs.declared.token.Token.{Token}
+use Rattle.kpn_net.specs.declared.kinds.Act.{Act}
+use Rattle.kpn_net.specs.declared.kinds.Act.TheVariants.{Read, Write, Stop}
+use Rattle.kpn_net.specs.declared.kinds.Answer.{Answer}
+use Rattle.kpn_net.specs.declared.history.Deed.{Deed}
+use Rattle.kpn_net.specs.declared.history.Deed.TheVariants.{Took, Put, Stopped}
+use Rattle.kpn_net.specs.declared.history.Entry.{Entry}
+use Rattle.kpn_net.specs.declared.history.Entry.TheVariants.{Did, Grew}
+use Rattle.kpn_net.specs.declared.history.End.{End}
+use Rattle.kpn_net.specs.declared.history.End.TheVariants.{Terminated, Deadlock, Ceiling, Budget, Memory}
+use Rattle.kpn_net.specs.declared.history.Status.{Status}
+use Rattle.kpn_net.specs.declared.history.Status.TheVariants.{Live, Done}
+use Rattle.kpn_net.specs.Network.{Family, Network, card_of, in_of, out_of}
+
+-- what a channel holds, the first token first, and how many it may hold
+pub record Held : Type 0 where
+  pub tokens : List Token
+  pub capacity : ℕ
+
+pub record State : Type 0 where
+  pub processes : List Status
+  pub channels : List Held
+
+abbrev pub nothing_held : Held
+nothing_held = record { tokens = []; capacity = 0 }
+
+abbrev pub status : State → ℕ → Status
+status M p = get_or M.processes p Done
+
+abbrev pub tokens : State → ℕ → List Token
+tokens M c = (get_or M.channels c nothing_held).tokens
+
+abbrev pub capacity : State → ℕ → ℕ
+capacity M c = (get_or M.channels c nothing_held).capacity
+
+abbrev pub with_status : State → ℕ → Status → State
+with_status M p s = record M { processes = set M.processes p s }
+
+abbrev pub with_channel : State → ℕ → List Token → ℕ → State
+with_channel M c ts n = record M { channels = set M.channels c (record { tokens = ts; capacity = n }) }
+
+module _ (kinds : Family) (net : Network) where
+  -- every process is live with its card's start, every channel holds its start tokens
+  abbrev pub start : State
+  start =
+      record {
+        processes = map (λ p. Live (kinds.start p.card) None) net.processes;
+        channels = map (λ l. record { tokens = l.tokens; capacity = l.capacity }) net.channels;
+      }
+
+  abbrev pub answered : ℕ → Status → Option Answer
+  answered p (Live local last) = Some (kinds.answer (card_of net p) local last)
+  answered p Done = None
+
+  -- what p wants to do next, if it is live
+  abbrev pub wants : State → ℕ → Option Answer
+  wants M p = answered p (status M p)
+
+  -- the act can be done now
+  abbrev pub IsPossible : State → ℕ → Act → Type 0
+  IsPossible M p Stop = Unit {0}
+  IsPossible M p (Read k) = (c : ℕ) × (in_of net p k ≡ Some c) × (tokens M c ≢ [])
+  IsPossible M p (Write k t) = (c : ℕ) × (out_of net p k ≡ Some c) × (length (tokens M c) < capacity M c)
+
+  pub record IsEnabled (M : State) (p : ℕ) : Type 0 where
+    pub answer : Answer
+    pub wanted : wants M p ≡ Some answer
+    pub possible : IsPossible M p answer.act
+
+  -- the deed is what the act comes to
+  abbrev pub IsDeed : State → ℕ → Act → Deed → Type 0
+  IsDeed M p Stop Stopped = Unit {0}
+  IsDeed M p (Read k) (Took c t) = (in_of net p k ≡ Some c) × ((rest : List Token) × (tokens M c ≡ t ∷ rest))
+  IsDeed M p (Write k w) (Put c t) = (out_of net p k ≡ Some c) × (t ≡ w) × (length (tokens M c) < capacity M c)
+  IsDeed M p a d = ⊥
+
+  -- the state after a deed of p, which goes on with this local state
+  abbrev pub after_deed : State → ℕ → List ℕ → Deed → State
+  after_deed M p next Stopped = with_status M p Done
+  after_deed M p next (Took c t) = with_channel (with_status M p (Live next (Some t))) c (drop 1 (tokens M c)) (capacity M c)
+  after_deed M p next (Put c t) = with_channel (with_status M p (Live next None)) c (tokens M c ++ t ∷ []) (capacity M c)
+
+  -- p does what it wants to do
+  pub record Does (M : State) (p : ℕ) (d : Deed) (N : State) : Type 0 where
+    pub answer : Answer
+    pub wanted : wants M p ≡ Some answer
+    pub is_deed : IsDeed M p answer.act d
+    pub leaves : N ≡ after_deed M p answer.next d
+
+  abbrev pub IsQuiet : State → Type 0
+  IsQuiet M = (p : ℕ) → IsEnabled M p → ⊥
+
+  -- p wants to write to c, which is full
+  pub record IsBlocked (M : State) (p c : ℕ) : Type 0 where
+    pub answer : Answer
+    pub wanted : wants M p ≡ Some answer
+    pub port : ℕ
+    pub token : Token
+    pub act : answer.act ≡ Write port token
+    pub at : out_of net p port ≡ Some c
+    pub full : capacity M c ≤ length (tokens M c)
+
+  -- no process can go on, and some writer is blocked
+  pub record IsArtificial (M : State) : Type 0 where
+    pub quiet : IsQuiet M
+    pub writer : ℕ
+    pub channel : ℕ
+    pub blocked : IsBlocked M writer channel
+
+  -- of the channels with a blocked writer the one of least capacity; of equal ones that of least number
+  pub record IsChosen (M : State) (c : ℕ) : Type 0 where
+    pub writer : ℕ
+    pub blocked : IsBlocked M writer c
+    pub no_smaller : (q d : ℕ) → IsBlocked M q d → capacity M c ≤ capacity M d
+    pub no_earlier : (q d : ℕ) → IsBlocked M q d → capacity M c ≡ capacity M d → c ≤ d
+
+  -- the chosen channel gets a step's places more, up to the ceiling
+  pub record Grows (M : State) (c to : ℕ) (N : State) : Type 0 where
+    pub artificial : IsArtificial M
+    pub chosen : IsChosen M c
+    pub below : capacity M c < net.ceiling
+    pub to_is : to ≡ min (capacity M c + net.step) net.ceiling
+    pub leaves : N ≡ with_channel M c (tokens M c) to
+
+  abbrev pub Step : State → Entry → State → Type 0
+  Step M (Did p d) N = Does M p d N
+  Step M (Grew c to) N = Grows M c to N
+
+  -- the entries lead from M to N, one step each
+  abbrev pub Run : State → List Entry → State → Type 0
+  Run M [] N = N ≡ M
+  Run M (e ∷ es) N = (mid : State) × Step M e mid × Run mid es N
+
+  -- nothing can happen any more, for this cause
+  abbrev pub IsOver : State → End → Type 0
+  IsOver M Terminated = IsQuiet M × ((p : ℕ) → status M p ≡ Done)
+  IsOver M Deadlock = IsQuiet M × ((p : ℕ) × (status M p ≢ Done)) × ((p c : ℕ) → IsBlocked M p c → ⊥)
+  IsOver M Ceiling = IsArtificial M × ((c : ℕ) × IsChosen M c × (capacity M c ≡ net.ceiling))
+  IsOver M Budget = ⊥
+  IsOver M Memory = ⊥

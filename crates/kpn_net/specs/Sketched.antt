@@ -1,0 +1,39 @@
+-- The network of a sketch.
+use Rattle.std.specs.Prelude.{ℕ, List, [], map, Option, unsigned_abs, unwrap_or, position}
+use Rattle.std.specs.Str.{bytes_eq}
+use Rattle.kpn_net.specs.declared.sketch.ProcessSketch.{ProcessSketch}
+use Rattle.kpn_net.specs.declared.sketch.ChannelSketch.{ChannelSketch}
+use Rattle.kpn_net.specs.declared.sketch.Sketch.{Sketch}
+use Rattle.kpn_net.specs.declared.parts.Process.{Process}
+use Rattle.kpn_net.specs.declared.parts.Channel.{Channel}
+use Rattle.kpn_net.specs.Network.{Network}
+use Rattle.kpn_net.specs.Faults.{card_with}
+
+-- the number of the process of a name
+abbrev pub index_of : List ProcessSketch → List ℕ → ℕ
+index_of processes name = unwrap_or (position (λ p. bytes_eq p.name name) processes) 0
+
+abbrev pub process_in : (List ℕ → Option (ℕ × ℕ)) → ProcessSketch → Process
+process_in named p = record { name = p.name; card = card_with (unwrap_or (named p.kind) (0, 0)).0 p.args }
+
+abbrev pub channel_in : List ProcessSketch → ChannelSketch → Channel
+channel_in processes c = record {
+  name = c.name;
+  writer = index_of processes c.from;
+  out = unsigned_abs c.out;
+  reader = index_of processes c.to;
+  input = unsigned_abs c.input;
+  sort = c.sort;
+  capacity = unsigned_abs c.capacity;
+  tokens = [];
+}
+
+-- the network that a sketch without a fault describes; its channels begin empty and grow by one, up to 65,535
+abbrev pub net_of : (List ℕ → Option (ℕ × ℕ)) → Sketch → Network
+net_of named s = record {
+  processes = map (process_in named) s.processes;
+  channels = map (channel_in s.processes) s.channels;
+  budget = unsigned_abs s.budget;
+  step = 1;
+  ceiling = 65535;
+}

@@ -1,0 +1,404 @@
+//! The faults of a sketch, one function for each condition.
+ghost use Rattle.std.specs.Prelude.{◌≡◌, ◌&&◌, ◌||◌, not, Bool, option_copied, pos, unsigned_abs, slice_index, slice_index_or};
+ghost use Rattle.std.specs.List.{find, list_any, list_all};
+ghost use Rattle.std.specs.Ordering.{int_eq};
+ghost use Rattle.std.specs.Str.{bytes_eq};
+ghost use Rattle.kpn_net.specs.Name.{is_letter, is_name_byte, is_name};
+ghost use Rattle.kpn_net.specs.Faults.{any_pair, is_outside, same_process, same_channel, same_out, same_in, port_sort, is_sort, card_with, signature_of, has_unknown_kind, takes_other_count, has_wrong_args, signature_named, out_sort, in_sort, is_unused_out, is_unused_in, is_unused, has_unused_port, has_fault, first_fault};
+
+use crate::fault::NetFault;
+use crate::kinds::{Card, Kinds, Signature};
+use crate::sketch::{ChannelSketch, ProcessSketch, Sketch};
+use crate::token::Sort;
+
+fn is_outside(low: i64, high: i64, x: i64) -> bool
+    ensures { result ≡ is_outside low high x }
+{
+    x < low || high < x
+}
+
+fn is_letter(b: u8) -> bool
+    ensures { result ≡ is_letter b }
+{
+    b'a' <= b && b <= b'z'
+}
+
+fn is_name_byte(b: u8) -> bool
+    ensures { result ≡ is_name_byte b }
+{
+    is_letter(b) || (b'0' <= b && b <= b'9') || b == b'_'
+}
+
+fn are_name_bytes(bytes: &[u8]) -> bool
+    ensures { result ≡ list_all is_name_byte bytes.now }
+{
+    bytes.iter().all(|b| is_name_byte(*b))
+}
+
+fn begins_with_letter(bytes: &[u8]) -> bool
+    ensures { result ≡ is_letter (slice_index bytes.now 0) }
+{
+    match bytes.first() {
+        Some(first) => is_letter(*first),
+        None => false,
+    }
+}
+
+fn is_name(text: &str) -> bool
+    ensures { result ≡ is_name text.now }
+{
+    let bytes = text.as_bytes();
+    bytes.len() <= 16 && begins_with_letter(bytes) && are_name_bytes(bytes)
+}
+
+/// A relation of two items that a list may not have.
+trait Clash<T> {
+    ghost clash: { T → T → Bool };
+
+    fn clash(x: &T, y: &T) -> bool
+        ensures { result ≡ clash x.now y.now };
+}
+
+struct SameName;
+
+struct SameOut;
+
+struct SameIn;
+
+impl Clash<ProcessSketch> for SameName {
+    ghost clash = { same_process };
+
+    fn clash(x: &ProcessSketch, y: &ProcessSketch) -> bool {
+        x.name.as_str() == y.name.as_str()
+    }
+}
+
+impl Clash<ChannelSketch> for SameName {
+    ghost clash = { same_channel };
+
+    fn clash(x: &ChannelSketch, y: &ChannelSketch) -> bool {
+        x.name.as_str() == y.name.as_str()
+    }
+}
+
+impl Clash<ChannelSketch> for SameOut {
+    ghost clash = { same_out };
+
+    fn clash(x: &ChannelSketch, y: &ChannelSketch) -> bool {
+        x.from.as_str() == y.from.as_str() && x.out == y.out
+    }
+}
+
+impl Clash<ChannelSketch> for SameIn {
+    ghost clash = { same_in };
+
+    fn clash(x: &ChannelSketch, y: &ChannelSketch) -> bool {
+        x.to.as_str() == y.to.as_str() && x.input == y.input
+    }
+}
+
+fn clashes_later<T, C: Clash<T>>(x: &T, later: &[T]) -> bool
+    ensures { result ≡ list_any (C.clash x.now) later.now }
+{
+    later.iter().any(|y| C::clash(x, y))
+}
+
+/// Whether two items clash.
+fn any_clash<T, C: Clash<T>>(items: &[T]) -> bool
+    ensures { result ≡ any_pair C.clash items.now }
+{
+    let mut rest = items;
+    while let Some((x, later)) = rest.split_first() {
+        if clashes_later::<T, C>(x, later) {
+            return true;
+        }
+        rest = later;
+    }
+    false
+}
+
+fn port_sort(ports: &[Option<Sort>; 3], port: i64) -> Option<Sort>
+    ensures { result ≡ port_sort ports.now port }
+{
+    match usize::try_from(port) {
+        Ok(k) => ports.get(k).copied().flatten(),
+        Err(_) => None,
+    }
+}
+
+fn is_sort(sort: Sort, found: Option<Sort>) -> bool
+    ensures { result ≡ is_sort sort found }
+{
+    match (sort, found) {
+        (_, None) => false,
+        (Sort::Words, Some(Sort::Words)) => true,
+        (Sort::Flags, Some(Sort::Flags)) => true,
+        _ => false,
+    }
+}
+
+fn arg(args: &[i64], k: usize) -> u64
+    ensures { result ≡ unsigned_abs (slice_index_or args.now k (pos 0)) }
+{
+    args.get(k).copied().unwrap_or(0).unsigned_abs()
+}
+
+/// The card of a kind with these arguments.
+pub(crate) fn card_with(kind: u16, args: &[i64]) -> Card
+    ensures { result ≡ card_with kind args.now }
+{
+    Card {
+        kind,
+        args: [arg(args, 0), arg(args, 1), arg(args, 2)],
+    }
+}
+
+fn signature_of<K: Kinds>(process: &ProcessSketch) -> Option<Signature>
+    ensures { result ≡ signature_of K.named K.signature_of process.now }
+{
+    let (kind, _) = K::named(process.kind.as_str())?;
+    K::signature(&card_with(kind, process.args.as_slice()))
+}
+
+fn has_unknown_kind<K: Kinds>(process: &ProcessSketch) -> bool
+    ensures { result ≡ has_unknown_kind K.named K.signature_of process.now }
+{
+    K::named(process.kind.as_str()).is_none()
+}
+
+fn takes_other_count<K: Kinds>(process: &ProcessSketch) -> bool
+    ensures { result ≡ takes_other_count K.named K.signature_of process.now }
+{
+    match K::named(process.kind.as_str()) {
+        Some((_, count)) => process.args.as_slice().len() != count,
+        None => true,
+    }
+}
+
+fn has_wrong_args<K: Kinds>(process: &ProcessSketch) -> bool
+    ensures { result ≡ has_wrong_args K.named K.signature_of process.now }
+{
+    let args = process.args.as_slice();
+    takes_other_count::<K>(process)
+        || args.len() > 3
+        || args.iter().any(|x| *x < 0)
+        || signature_of::<K>(process).is_none()
+}
+
+/// The signature of the process of a name.
+fn signature_named<K: Kinds>(sketch: &Sketch, name: &str) -> Option<Signature>
+    ensures { result ≡ signature_named K.named K.signature_of sketch.now name.now }
+{
+    let process = process_named(sketch.processes.as_slice(), name)?;
+    signature_of::<K>(process)
+}
+
+fn process_named<'a>(processes: &'a [ProcessSketch], name: &str) -> Option<&'a ProcessSketch>
+    ensures { option_copied result ≡ find (λ p. bytes_eq p.name name.now) processes.now }
+{
+    processes.iter().find(|p| p.name.as_str() == name)
+}
+
+fn out_sort<K: Kinds>(sketch: &Sketch, channel: &ChannelSketch) -> Option<Sort>
+    ensures { result ≡ out_sort K.named K.signature_of sketch.now channel.now }
+{
+    let signature = signature_named::<K>(sketch, channel.from.as_str())?;
+    port_sort(&signature.outs, channel.out)
+}
+
+fn in_sort<K: Kinds>(sketch: &Sketch, channel: &ChannelSketch) -> Option<Sort>
+    ensures { result ≡ in_sort K.named K.signature_of sketch.now channel.now }
+{
+    let signature = signature_named::<K>(sketch, channel.to.as_str())?;
+    port_sort(&signature.ins, channel.input)
+}
+
+fn leads_from(channels: &[ChannelSketch], name: &str, port: i64) -> bool
+    ensures { result ≡ list_any (λ c. bytes_eq c.from name.now && int_eq c.out port) channels.now }
+{
+    channels
+        .iter()
+        .any(|c| c.from.as_str() == name && c.out == port)
+}
+
+fn leads_to(channels: &[ChannelSketch], name: &str, port: i64) -> bool
+    ensures { result ≡ list_any (λ c. bytes_eq c.to name.now && int_eq c.input port) channels.now }
+{
+    channels
+        .iter()
+        .any(|c| c.to.as_str() == name && c.input == port)
+}
+
+fn is_unused_out<K: Kinds>(sketch: &Sketch, name: &str, signature: &Signature, port: i64) -> bool
+    ensures { result ≡ is_unused_out K.named K.signature_of sketch.now name.now signature.now port }
+{
+    port_sort(&signature.outs, port).is_some()
+        && !leads_from(sketch.channels.as_slice(), name, port)
+}
+
+fn is_unused_in<K: Kinds>(sketch: &Sketch, name: &str, signature: &Signature, port: i64) -> bool
+    ensures { result ≡ is_unused_in K.named K.signature_of sketch.now name.now signature.now port }
+{
+    port_sort(&signature.ins, port).is_some() && !leads_to(sketch.channels.as_slice(), name, port)
+}
+
+fn is_unused<K: Kinds>(sketch: &Sketch, name: &str, signature: &Signature, port: i64) -> bool
+    ensures { result ≡ is_unused K.named K.signature_of sketch.now name.now signature.now port }
+{
+    is_unused_out::<K>(sketch, name, signature, port)
+        || is_unused_in::<K>(sketch, name, signature, port)
+}
+
+fn has_unused_port<K: Kinds>(sketch: &Sketch, process: &ProcessSketch) -> bool
+    ensures { result ≡ has_unused_port K.named K.signature_of sketch.now process.now }
+{
+    match signature_of::<K>(process) {
+        Some(signature) => {
+            let name = process.name.as_str();
+            is_unused::<K>(sketch, name, &signature, 0)
+                || is_unused::<K>(sketch, name, &signature, 1)
+                || is_unused::<K>(sketch, name, &signature, 2)
+        }
+        None => false,
+    }
+}
+
+fn has_wrong_version(sketch: &Sketch) -> bool
+    ensures { result ≡ not (int_eq sketch.now.version (pos 1)) }
+{
+    sketch.version != 1
+}
+
+fn has_wrong_counts<K: Kinds>(sketch: &Sketch) -> bool
+    ensures { result ≡ has_fault K.named K.signature_of sketch.now NetFault.Counts }
+{
+    let processes = sketch.processes.as_slice();
+    processes.len() == 0 || processes.len() > 64 || sketch.channels.as_slice().len() > 256
+}
+
+fn has_bad_process_name(processes: &[ProcessSketch]) -> bool
+    ensures { result ≡ list_any (λ p. not (is_name p.name)) processes.now }
+{
+    processes.iter().any(|p| !is_name(p.name.as_str()))
+}
+
+fn has_bad_channel_name(channels: &[ChannelSketch]) -> bool
+    ensures { result ≡ list_any (λ c. not (is_name c.name)) channels.now }
+{
+    channels.iter().any(|c| !is_name(c.name.as_str()))
+}
+
+fn has_wrong_names<K: Kinds>(sketch: &Sketch) -> bool
+    ensures { result ≡ has_fault K.named K.signature_of sketch.now NetFault.Name }
+{
+    let processes = sketch.processes.as_slice();
+    let channels = sketch.channels.as_slice();
+    (has_bad_process_name(processes) || has_bad_channel_name(channels))
+        || any_clash::<ProcessSketch, SameName>(processes)
+        || any_clash::<ChannelSketch, SameName>(channels)
+}
+
+fn has_unknown_kinds<K: Kinds>(sketch: &Sketch) -> bool
+    ensures { result ≡ has_fault K.named K.signature_of sketch.now NetFault.Kind }
+{
+    sketch
+        .processes
+        .as_slice()
+        .iter()
+        .any(|p| has_unknown_kind::<K>(p))
+}
+
+fn has_process_with_wrong_args<K: Kinds>(sketch: &Sketch) -> bool
+    ensures { result ≡ has_fault K.named K.signature_of sketch.now NetFault.Args }
+{
+    sketch
+        .processes
+        .as_slice()
+        .iter()
+        .any(|p| has_wrong_args::<K>(p))
+}
+
+fn lacks_end<K: Kinds>(sketch: &Sketch) -> bool
+    ensures { result ≡ has_fault K.named K.signature_of sketch.now NetFault.NoEnd }
+{
+    let channels = sketch.channels.as_slice();
+    channels.iter().any(|c| out_sort::<K>(sketch, c).is_none() || in_sort::<K>(sketch, c).is_none())
+}
+
+fn shares_port<K: Kinds>(sketch: &Sketch) -> bool
+    ensures { result ≡ has_fault K.named K.signature_of sketch.now NetFault.Twice }
+{
+    let channels = sketch.channels.as_slice();
+    any_clash::<ChannelSketch, SameOut>(channels) || any_clash::<ChannelSketch, SameIn>(channels)
+}
+
+fn has_unused_ports<K: Kinds>(sketch: &Sketch) -> bool
+    ensures { result ≡ has_fault K.named K.signature_of sketch.now NetFault.Unused }
+{
+    sketch
+        .processes
+        .as_slice()
+        .iter()
+        .any(|p| has_unused_port::<K>(sketch, p))
+}
+
+fn has_wrong_sort<K: Kinds>(sketch: &Sketch, channel: &ChannelSketch) -> bool
+    ensures { result ≡ (not (is_sort channel.now.sort (out_sort K.named K.signature_of sketch.now channel.now)) || not (is_sort channel.now.sort (in_sort K.named K.signature_of sketch.now channel.now))) }
+{
+    !is_sort(channel.sort, out_sort::<K>(sketch, channel))
+        || !is_sort(channel.sort, in_sort::<K>(sketch, channel))
+}
+
+fn has_wrong_sorts<K: Kinds>(sketch: &Sketch) -> bool
+    ensures { result ≡ has_fault K.named K.signature_of sketch.now NetFault.Sorts }
+{
+    sketch
+        .channels
+        .as_slice()
+        .iter()
+        .any(|c| has_wrong_sort::<K>(sketch, c))
+}
+
+fn has_wrong_capacity<K: Kinds>(sketch: &Sketch) -> bool
+    ensures { result ≡ has_fault K.named K.signature_of sketch.now NetFault.Capacity }
+{
+    let channels = sketch.channels.as_slice();
+    channels.iter().any(|c| is_outside(1, 65535, c.capacity))
+}
+
+fn has_wrong_budget<K: Kinds>(sketch: &Sketch) -> bool
+    ensures { result ≡ has_fault K.named K.signature_of sketch.now NetFault.Budget }
+{
+    is_outside(1, 1000000, sketch.budget)
+}
+
+/// The fault of least number whose condition holds.
+pub(crate) fn first_fault<K: Kinds>(sketch: &Sketch) -> Option<NetFault>
+    ensures { result ≡ first_fault K.named K.signature_of sketch.now }
+{
+    if has_wrong_version(sketch) {
+        Some(NetFault::Version)
+    } else if has_wrong_counts::<K>(sketch) {
+        Some(NetFault::Counts)
+    } else if has_wrong_names::<K>(sketch) {
+        Some(NetFault::Name)
+    } else if has_unknown_kinds::<K>(sketch) {
+        Some(NetFault::Kind)
+    } else if has_process_with_wrong_args::<K>(sketch) {
+        Some(NetFault::Args)
+    } else if lacks_end::<K>(sketch) {
+        Some(NetFault::NoEnd)
+    } else if shares_port::<K>(sketch) {
+        Some(NetFault::Twice)
+    } else if has_unused_ports::<K>(sketch) {
+        Some(NetFault::Unused)
+    } else if has_wrong_sorts::<K>(sketch) {
+        Some(NetFault::Sorts)
+    } else if has_wrong_capacity::<K>(sketch) {
+        Some(NetFault::Capacity)
+    } else if has_wrong_budget::<K>(sketch) {
+        Some(NetFault::Budget)
+    } else {
+        None
+    }
+}

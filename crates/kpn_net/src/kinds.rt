@@ -1,0 +1,93 @@
+//! Cards, answers, and families of kinds.
+ghost use Rattle.std.specs.Prelude.{◌≡◌, ℕ, List, Option, None, IsSome};
+
+use crate::token::{Sort, Token};
+
+/// What makes a process: its kind, and three arguments of which the unused are 0.
+#[derive(Clone, Copy, Debug, PartialEq, Eq)]
+pub struct Card {
+    pub kind: u16,
+    pub args: [u64; 3],
+}
+
+/// The sorts of a card's ports, each list filled from the front: port k is there where entry k is.
+#[derive(Clone, Copy, Debug, PartialEq, Eq)]
+pub struct Signature {
+    pub ins: [Option<Sort>; 3],
+    pub outs: [Option<Sort>; 3],
+}
+
+/// What a process keeps between its acts.
+pub type Local = [u64; 4];
+
+/// What a process wants to do next, by its ports: read one, write a token to one, or stop.
+#[derive(Clone, Copy, Debug, PartialEq, Eq)]
+pub enum Act {
+    Read(u8),
+    Write(u8, Token),
+    Stop,
+}
+
+/// The local state after the act, and the act.
+#[derive(Clone, Copy, Debug, PartialEq, Eq)]
+pub struct Answer {
+    pub next: Local,
+    pub act: Act,
+}
+
+/// A family of kinds of processes.
+///
+/// A process is a function of what it has read (Kahn 1974): its card, its local state and the token
+/// of the read just done give its answer. A type that implements this trait stands for a family;
+/// callers may bring families of their own.
+///
+/// `family` says how processes begin and what they answer, `signature_of` which ports a card has,
+/// `named` which kind a name means, and `admits` with which local states and last tokens a process
+/// of a card may be asked: it holds only of locals of four numbers and of words, all below 2^64.
+pub trait Kinds: Send + Sync {
+    ghost use Rattle.kpn_net.specs.declared.kinds.Card.{Card};
+    ghost use Rattle.kpn_net.specs.declared.kinds.Signature.{Signature};
+    ghost use Rattle.kpn_net.specs.declared.token.Token.{Token};
+    ghost use Rattle.kpn_net.specs.Network.{Family};
+    ghost use Rattle.kpn_net.specs.Lawful.{NamesPort, LeadsOn};
+
+    ghost named: { List ℕ → Option (ℕ × ℕ) };
+
+    ghost signature_of: { Card → Option Signature };
+
+    ghost family: { Family };
+
+    ghost admits: { Card → List ℕ → Option Token → Type 0 };
+
+    /// The number of a kind, and how many arguments it takes; nothing where no kind has this name.
+    fn named(name: &str) -> Option<(u16, usize)>
+        ensures { result ≡ named name.now };
+
+    /// The ports of a card, or nothing where its arguments are refused.
+    fn signature(card: &Card) -> Option<Signature>
+        ensures { result ≡ signature_of card.now };
+
+    /// The local state with which a process of a card begins.
+    fn start(card: &Card) -> Local
+        requires { IsSome (signature_of card.now) }
+        ensures { result ≡ family.start card.now };
+
+    /// The law that an admitted answer names a port of the card, and that a written token has the
+    /// port's sort.
+    fn names_port(card: Card, local: Local, last: Option<Token>)
+        requires signed { IsSome (signature_of card) }
+        requires admitted { admits card local last }
+        ensures { NamesPort signature_of card (family.answer card local last).act };
+
+    /// The law that what follows an admitted answer is admitted: after a read, with each token of
+    /// the port's sort; after a write, with none.
+    fn leads_on(card: Card, local: Local, last: Option<Token>, token: Token)
+        requires signed { IsSome (signature_of card) }
+        requires admitted { admits card local last }
+        ensures { LeadsOn signature_of admits card (family.answer card local last) token };
+
+    /// The law that the start is admitted, with no token read.
+    fn starts(card: Card)
+        requires { IsSome (signature_of card) }
+        ensures { admits card (family.start card) None };
+}

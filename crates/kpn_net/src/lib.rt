@@ -1,0 +1,25 @@
+//! Kahn process networks: tokens, cards and kinds; descriptions, and the check that makes a network
+//! of one; and the definitions of the network and of the sequential machine, in specs/.
+#![tactic(auto)]
+
+mod check;
+pub mod fault;
+mod form;
+pub mod history;
+pub mod kinds;
+pub mod net;
+pub mod parts;
+pub mod read;
+pub mod sketch;
+pub mod small;
+pub mod token;
+
+pub use fault::NetFault;
+pub use history::{Deed, End, Entry, Place, Status};
+pub use kinds::{Act, Answer, Card, Kinds, Local, Signature};
+pub use net::Net;
+pub use parts::{Channel, Ends, Process};
+pub use read::read_sketch;
+pub use sketch::{ChannelSketch, ProcessSketch, Sketch};
+pub use small::{Listed, Text};
+pub use token::{Sort, Token};

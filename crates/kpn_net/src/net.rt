@@ -1,0 +1,288 @@
+//! Networks.
+ghost use Rattle.std.specs.Prelude.{◌≡◌, ◌≢◌, ◌<◌, ◌≤◌, ℕ, List, Some, None, IsSome, IfOk, IfErr, IfSome, map, length, slice_get, option_map, position};
+ghost use Rattle.std.specs.Str.{bytes_eq};
+ghost use Rattle.kpn_net.specs.Faults.{first_fault};
+ghost use Rattle.kpn_net.specs.Network.{card_of, channel_of, in_of, out_of};
+ghost use Rattle.kpn_net.specs.Sketched.{net_of, process_in, channel_in, index_of};
+ghost use Rattle.kpn_net.specs.Valid.{IsValid};
+
+use crate::check::{card_with, first_fault};
+use crate::fault::NetFault;
+use crate::kinds::{Card, Kinds};
+use crate::parts::{Channel, Ends, Process};
+use crate::sketch::{ChannelSketch, ProcessSketch, Sketch};
+use crate::small::{Listed, Text};
+use crate::token::Sort;
+use std::alloc::Global;
+use std::marker::{Model, PhantomData};
+
+/// A growth adds this many places.
+const STEP: usize = 1;
+
+/// The greatest capacity of a channel.
+const CEILING: usize = 65535;
+
+/// A valid network of processes of one family of kinds: each port of each process is the end of just
+/// one channel, of its sort (Kahn 1974: one writer and one reader a channel). Processes and channels
+/// are numbered from 0 in the order of the text.
+#[derive(Drop)]
+pub struct Net<K: Kinds> {
+    processes: Vec<Process>,
+    channels: Vec<Channel>,
+    budget: u64,
+    step: usize,
+    ceiling: usize,
+    kinds: PhantomData<K>,
+}
+
+impl<K: Kinds> Model for Net<K> {
+    ghost use Rattle.kpn_net.specs.Network.{Network};
+
+    ghost Value = { Network };
+
+    ghost use Rattle.kpn_net.specs.Valid.{IsValid};
+
+    ghost view = { λ n. record { processes = n.processes.items; channels = n.channels.items; budget = n.budget; step = n.step; ceiling = n.ceiling } };
+
+    ghost invariant = { λ n. IsValid K.signature_of (record { processes = n.processes.items; channels = n.channels.items; budget = n.budget; step = n.step; ceiling = n.ceiling }) };
+}
+
+impl<K: Kinds> Net<K> {
+    /// The network of a sketch, which is valid.
+    ///
+    /// The error is the fault of least number of 3 to 13 whose condition holds of the sketch, or
+    /// `Memory` where memory was refused; nothing was then made.
+    pub fn check(alloc: Global, sketch: &Sketch) -> Result<Net<K>, NetFault>
+        ensures ok { IfOk result (λ n. (first_fault K.named K.signature_of sketch.now ≡ None) × (n ≡ net_of K.named sketch.now)) }
+        ensures valid { IfOk result (IsValid K.signature_of) }
+        ensures fault { IfErr result (λ e. e ≢ NetFault.Memory → first_fault K.named K.signature_of sketch.now ≡ Some e) }
+    {
+        if let Some(fault) = first_fault::<K>(sketch) {
+            return Err(fault);
+        }
+        let processes = sketch.processes.as_slice();
+        Ok(Net {
+            processes: processes_of::<K>(alloc, processes)?,
+            channels: channels_of(alloc, processes, sketch.channels.as_slice())?,
+            budget: sketch.budget.unsigned_abs(),
+            step: STEP,
+            ceiling: CEILING,
+            kinds: PhantomData,
+        })
+    }
+}
+
+impl<K: Kinds> Net<K> {
+    /// How many processes there are: 1 to 64.
+    pub fn processes(&self) -> usize
+        ensures count { result ≡ length self.now.processes }
+        ensures valid { IsValid K.signature_of self.now }
+    {
+        self.processes.len()
+    }
+
+    /// How many channels there are: 0 to 256.
+    pub fn channels(&self) -> usize
+        ensures { result ≡ length self.now.channels }
+    {
+        self.channels.len()
+    }
+
+    /// The card of a process.
+    pub fn card(&self, p: usize) -> Card
+        requires { p < length self.now.processes }
+        ensures { result ≡ card_of self.now p }
+    {
+        self.processes[p].card
+    }
+
+    /// The name of a process.
+    pub fn process_name(&self, p: usize) -> &str
+        requires { p < length self.now.processes }
+        ensures { option_map (λ x. x.name) (slice_get self.now.processes p) ≡ Some result.now }
+    {
+        self.processes[p].name.as_str()
+    }
+
+    /// The name of a channel.
+    pub fn channel_name(&self, c: usize) -> &str
+        requires { c < length self.now.channels }
+        ensures { option_map (λ x. x.name) (slice_get self.now.channels c) ≡ Some result.now }
+    {
+        self.channels[c].name.as_str()
+    }
+
+    /// The number of the channel of a name.
+    pub fn find_channel(&self, name: &str) -> Option<usize>
+        ensures { result ≡ position (λ c. bytes_eq c.name name.now) self.now.channels }
+    {
+        self.channels.iter().position(|c| c.name.as_str() == name)
+    }
+
+    /// Where a channel begins and ends.
+    pub fn ends(&self, c: usize) -> Ends
+        requires { c < length self.now.channels }
+        ensures writer { result.writer ≡ (channel_of self.now c).writer }
+        ensures out { result.out ≡ (channel_of self.now c).out }
+        ensures reader { result.reader ≡ (channel_of self.now c).reader }
+        ensures input { result.input ≡ (channel_of self.now c).input }
+    {
+        let channel = &self.channels[c];
+        Ends {
+            writer: channel.writer,
+            out: channel.out,
+            reader: channel.reader,
+            input: channel.input,
+        }
+    }
+
+    /// What a channel carries.
+    pub fn sort(&self, c: usize) -> Sort
+        requires { c < length self.now.channels }
+        ensures { result ≡ (channel_of self.now c).sort }
+    {
+        self.channels[c].sort
+    }
+
+    /// How many tokens a channel may hold at first: 1 to the ceiling.
+    pub fn capacity(&self, c: usize) -> usize
+        requires { c < length self.now.channels }
+        ensures { result ≡ (channel_of self.now c).capacity }
+    {
+        self.channels[c].capacity
+    }
+
+    /// How many entries a run may have, and up to two more: 1 to 1,000,000.
+    pub fn budget(&self) -> u64
+        ensures { result ≡ self.now.budget }
+    {
+        self.budget
+    }
+
+    /// How many places a growth adds.
+    pub fn step(&self) -> usize
+        ensures { result ≡ self.now.step }
+    {
+        self.step
+    }
+
+    /// The capacity beyond which no channel grows.
+    pub fn ceiling(&self) -> usize
+        ensures { result ≡ self.now.ceiling }
+    {
+        self.ceiling
+    }
+
+    /// The channel that leads to a process's input.
+    pub fn in_of(&self, p: usize, port: usize) -> Option<usize>
+        ensures is { result ≡ in_of self.now p port }
+        ensures within { IfSome result (λ c. c < length self.now.channels) }
+    {
+        self.channels
+            .iter()
+            .position(|c| c.reader == p && c.input == port)
+    }
+
+    /// The channel that leads from a process's output.
+    pub fn out_of(&self, p: usize, port: usize) -> Option<usize>
+        ensures is { result ≡ out_of self.now p port }
+        ensures within { IfSome result (λ c. c < length self.now.channels) }
+    {
+        self.channels
+            .iter()
+            .position(|c| c.writer == p && c.out == port)
+    }
+}
+fn process_in<K: Kinds>(alloc: Global, sketch: &ProcessSketch) -> Result<Process, NetFault>
+    ensures ok { IfOk result (λ p. p ≡ process_in K.named sketch.now) }
+    ensures memory { IfErr result (λ e. e ≡ NetFault.Memory) }
+{
+    let kind = match K::named(sketch.kind.as_str()) {
+        Some((kind, _)) => kind,
+        None => 0,
+    };
+    Ok(Process {
+        name: copied(alloc, &sketch.name)?,
+        card: card_with(kind, sketch.args.as_slice()),
+    })
+}
+
+fn find_process(processes: &[ProcessSketch], name: &str) -> Option<usize>
+    ensures { result ≡ position (λ p. bytes_eq p.name name.now) processes.now }
+{
+    processes.iter().position(|p| p.name.as_str() == name)
+}
+
+fn index_of(processes: &[ProcessSketch], name: &str) -> usize
+    ensures { result ≡ index_of processes.now name.now }
+{
+    match find_process(processes, name) {
+        Some(p) => p,
+        None => 0,
+    }
+}
+
+fn channel_in(
+    alloc: Global,
+    processes: &[ProcessSketch],
+    sketch: &ChannelSketch,
+) -> Result<Channel, NetFault>
+    ensures ok { IfOk result (λ c. c ≡ channel_in processes.now sketch.now) }
+    ensures memory { IfErr result (λ e. e ≡ NetFault.Memory) }
+{
+    Ok(Channel {
+        name: copied(alloc, &sketch.name)?,
+        writer: index_of(processes, sketch.from.as_str()),
+        out: sketch.out.unsigned_abs() as usize,
+        reader: index_of(processes, sketch.to.as_str()),
+        input: sketch.input.unsigned_abs() as usize,
+        sort: sketch.sort,
+        capacity: sketch.capacity.unsigned_abs() as usize,
+        tokens: Listed::new(Vec::new(alloc)),
+    })
+}
+
+fn processes_of<K: Kinds>(
+    alloc: Global,
+    sketches: &[ProcessSketch],
+) -> Result<Vec<Process>, NetFault>
+    ensures ok { IfOk result (λ v. v.items ≡ map (process_in K.named) sketches.now) }
+    ensures memory { IfErr result (λ e. e ≡ NetFault.Memory) }
+{
+    let mut processes = Vec::new(alloc);
+    for sketch in sketches {
+        let process = process_in::<K>(alloc, sketch)?;
+        if processes.push(process).is_err() {
+            return Err(NetFault::Memory);
+        }
+    }
+    Ok(processes)
+}
+
+fn channels_of(
+    alloc: Global,
+    processes: &[ProcessSketch],
+    sketches: &[ChannelSketch],
+) -> Result<Vec<Channel>, NetFault>
+    ensures ok { IfOk result (λ v. v.items ≡ map (channel_in processes.now) sketches.now) }
+    ensures memory { IfErr result (λ e. e ≡ NetFault.Memory) }
+{
+    let mut channels = Vec::new(alloc);
+    for sketch in sketches {
+        let channel = channel_in(alloc, processes, sketch)?;
+        if channels.push(channel).is_err() {
+            return Err(NetFault::Memory);
+        }
+    }
+    Ok(channels)
+}
+
+fn copied(alloc: Global, text: &Text) -> Result<Text, NetFault>
+    ensures ok { IfOk result (λ t. t ≡ text.now) }
+    ensures memory { IfErr result (λ e. e ≡ NetFault.Memory) }
+{
+    match String::from_str(alloc, text.as_str()) {
+        Ok(string) => Ok(Text::new(string)),
+        Err(_) => Err(NetFault::Memory),
+    }
+}
