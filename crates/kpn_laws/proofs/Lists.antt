@@ -3,9 +3,11 @@ use Rattle.std.proofs.Common.{◌≡◌, ◌⊎◌, ◌≤◌, inl, inr, ⊎_eli
 use Rattle.std.proofs.lemmas.List.{append_cancel_left}
 use Rattle.kpn_net.specs.Determinacy.{IsFrontOf, AreInLine}
 
+-- what a list is followed by to give itself is nothing
 nil_of_self : {X : Type 0} (xs r : List X) → xs ++ r ≡ xs → r ≡ []
 nil_of_self xs r e = append_cancel_left xs r [] (e ∙ sym (append-nil xs))
 
+-- if nothing comes of two lists, nothing is in the first
 nil_left : {X : Type 0} (r s : List X) → r ++ s ≡ [] → r ≡ []
 nil_left [] s e = refl
 nil_left (x ∷ r) s e = cc
@@ -29,13 +31,15 @@ push_split (a ∷ xs) (b ∷ ys) zs x y e =
     elim (push_split xs ys zs x y f) [ inl p ↦ (let p0 = p.0 in let p1 = p.1 in inl (cc, p1)) | inr p ↦ (let q = p.1 in inr (p.0, cc)) ]
 
 -- a list in line with ys stays so with one more element, if that is the one that ys goes on with
-pub in_line_push : {X : Type 0} (xs ys : List X) (d : X) → AreInLine xs ys → ((e : X) (rest : List X) → ys ≡ xs ++ e ∷ rest → d ≡ e) → AreInLine (xs ++ d ∷ []) ys
+pub in_line_push :
+    {X : Type 0} (xs ys : List X) (d : X) → AreInLine xs ys → ((e : X) (rest : List X) → ys ≡ xs ++ e ∷ rest → d ≡ e) → AreInLine (xs ++ d ∷ []) ys
 in_line_push xs ys d (inr b) h = inr (b.0 ++ d ∷ [], sym (append_assoc ys b.0 (d ∷ [])) ∙ ap (λ l. l ++ d ∷ []) b.1)
 in_line_push xs ys d (inl ([], e)) h = inr (d ∷ [], ap (λ l. l ++ d ∷ []) (sym e ∙ append-nil xs))
 in_line_push xs ys d (inl (f ∷ rest, e)) h =
     let g = h f rest (sym e) in
     inl (rest, append_assoc xs (d ∷ []) rest ∙ ap (λ x. xs ++ x ∷ rest) g ∙ e)
 
+-- the same for a list and one of its fronts
 same_next_in_front : {X : Type 0} (k r s w xs ys : List X) (t u : X) → xs ++ w ≡ ys → xs ≡ k ++ t ∷ r → ys ≡ k ++ u ∷ s → t ≡ u
 same_next_in_front k r s w xs ys t u a e f =
     let h : t ∷ (r ++ w) ≡ u ∷ s = append_cancel_left k _ _ (sym (append_assoc k (t ∷ r) w) ∙ ap (λ l. l ++ w) (sym e) ∙ a ∙ f) in
@@ -46,15 +50,15 @@ pub same_next : {X : Type 0} (xs ys k r s : List X) (t u : X) → AreInLine xs y
 same_next xs ys k r s t u (inl a) e f = same_next_in_front k r s a.0 xs ys t u a.1 e f
 same_next xs ys k r s t u (inr b) e f = sym (same_next_in_front k s r b.0 ys xs u t b.1 f e)
 
-pub front_refl : {X : Type 0} (xs : List X) → IsFrontOf xs xs
-front_refl xs = ([], append-nil xs)
-
+-- a front of a front is a front
 pub front_trans : {X : Type 0} (xs ys zs : List X) → IsFrontOf xs ys → IsFrontOf ys zs → IsFrontOf xs zs
 front_trans xs ys zs a b = (a.0 ++ b.0, sym (append_assoc xs a.0 b.0) ∙ ap (λ l. l ++ b.0) a.1 ∙ b.1)
 
+-- a list is a front of itself with one more element
 pub front_of_push : {X : Type 0} (xs : List X) (x : X) → IsFrontOf xs (xs ++ x ∷ [])
 front_of_push xs x = (x ∷ [], refl)
 
+-- a front is no longer than the whole
 pub front-length : {X : Type 0} (xs ys : List X) → IsFrontOf xs ys → length xs ≤ length ys
 front-length xs ys a = omega (arith, length-append xs a.0, ap length a.1)
 
@@ -63,6 +67,7 @@ pub front_cases : {X : Type 0} (xs ys : List X) → IsFrontOf xs ys → (xs ≡ 
 front_cases xs ys ([], e) = inl (sym (append-nil xs) ∙ e)
 front_cases xs ys (f ∷ rest, e) = inr (f, (rest, sym e))
 
+-- a front stays one with the element more that the whole goes on with
 pub front_to_push : {X : Type 0} (xs ys rest : List X) (e d : X) → ys ≡ xs ++ e ∷ rest → d ≡ e → IsFrontOf (xs ++ d ∷ []) ys
 front_to_push xs ys rest e d h g = (rest, append_assoc xs (d ∷ []) rest ∙ ap (λ x. xs ++ x ∷ rest) g ∙ sym h)
 

@@ -1,5 +1,5 @@
 -- The ports of cards, and the laws of a family of kinds.
-use Rattle.std.specs.Prelude.{◌≡◌, ℕ, ◌<◌, ◌^◌, List, Option, Some, None, IsSome, option_and_then, slice_get}
+use Rattle.std.specs.Prelude.{◌≡◌, ℕ, ◌<◌, ◌^◌, false, List, Option, Some, None, IsSome, option_and_then, slice_get}
 use Rattle.kpn_net.specs.declared.token.Token.{Token}
 use Rattle.kpn_net.specs.declared.token.Token.TheVariants.{Word, Flag}
 use Rattle.kpn_net.specs.declared.token.Sort.{Sort}
@@ -9,6 +9,8 @@ use Rattle.kpn_net.specs.declared.kinds.Signature.{Signature}
 use Rattle.kpn_net.specs.declared.kinds.Act.{Act}
 use Rattle.kpn_net.specs.declared.kinds.Act.TheVariants.{Read, Write, Stop}
 use Rattle.kpn_net.specs.declared.kinds.Answer.{Answer}
+use Rattle.kpn_net.specs.declared.history.Deed.{Deed}
+use Rattle.kpn_net.specs.declared.history.Deed.TheVariants.{Took, Put, Stopped}
 use Rattle.kpn_net.specs.Network.{Family}
 
 -- the sort of a token
@@ -20,6 +22,12 @@ sort_of (Flag b) = Flags
 abbrev pub Fits : Token → Type 0
 Fits (Word n) = n < 2 ^ 64
 Fits (Flag b) = Unit {0}
+
+-- the token that a deed read; after another deed any stands for it
+abbrev pub read_by : Deed → Token
+read_by (Took c t) = t
+read_by (Put c t) = Flag false
+read_by Stopped = Flag false
 
 -- the sort of port k, where it is there
 abbrev pub port_at : List (Option Sort) → ℕ → Option Sort

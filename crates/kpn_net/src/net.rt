@@ -12,7 +12,7 @@ use crate::kinds::{Card, Kinds};
 use crate::parts::{Channel, Ends, Process};
 use crate::sketch::{ChannelSketch, ProcessSketch, Sketch};
 use crate::small::{Listed, Text};
-use crate::token::Sort;
+use crate::token::{Sort, Token};
 use std::alloc::Global;
 use std::marker::{Model, PhantomData};
 
@@ -150,6 +150,14 @@ impl<K: Kinds> Net<K> {
         ensures { result ≡ (channel_of self.now c).capacity }
     {
         self.channels[c].capacity
+    }
+
+    /// What a channel holds at first, the first token first.
+    pub fn tokens(&self, c: usize) -> &[Token]
+        requires { c < length self.now.channels }
+        ensures { result.now ≡ (channel_of self.now c).tokens }
+    {
+        self.channels[c].tokens.as_slice()
     }
 
     /// How many entries a run may have, and up to two more: 1 to 1,000,000.

@@ -1,1 +1,22 @@
+//! The twelve standard kinds of processes, as a family: their names, arguments, ports and answers.
 #![tactic(auto)]
+
+pub mod answers;
+pub mod arithmetic;
+pub mod copies;
+pub mod ends;
+pub mod flags;
+pub mod merging;
+pub mod numbers;
+pub mod standard;
+#[cfg(test)]
+mod tests;
+mod token;
+
+pub use answers::answer;
+pub use arithmetic::{add, scale};
+pub use copies::{copy, prefix, take};
+pub use ends::{count, sink};
+pub use flags::{divides, select, switch};
+pub use merging::{merge, weave};
+pub use standard::Standard;

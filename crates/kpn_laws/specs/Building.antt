@@ -1,0 +1,72 @@
+-- Networks of the standard kinds, written briefly. No run speaks of names, so these have none.
+use Rattle.std.specs.Prelude.{ℕ, List, [], ◌∷◌, map}
+use Rattle.kpn_net.specs.declared.token.Token.{Token}
+use Rattle.kpn_net.specs.declared.token.Token.TheVariants.{Word}
+use Rattle.kpn_net.specs.declared.token.Sort.TheVariants.{Words, Flags}
+use Rattle.kpn_net.specs.declared.parts.Process.{Process}
+use Rattle.kpn_net.specs.declared.parts.Channel.{Channel}
+use Rattle.kpn_net.specs.Network.{Network}
+
+-- a process of the kind of this number, with two arguments
+abbrev pub process : ℕ → ℕ → ℕ → Process
+process kind x y = record { name = []; card = record { kind = kind; args = x ∷ y ∷ 0 ∷ [] } }
+
+-- writes n numbers, from `from` on, and stops
+abbrev pub count : ℕ → ℕ → Process
+count from n = process 0 from n
+
+-- takes n tokens and stops
+abbrev pub sink : ℕ → Process
+sink n = process 1 n 0
+
+-- passes n tokens on and stops
+abbrev pub take : ℕ → Process
+take n = process 2 n 0
+
+-- writes each token to both its outputs
+abbrev pub copy : Process
+copy = process 3 0 0
+
+-- writes the sum of a token from each input
+abbrev pub add : Process
+add = process 5 0 0
+
+-- writes k times each token
+abbrev pub scale : ℕ → Process
+scale k = process 6 k 0
+
+-- passes a tokens of its first input on, then b of its second, and again
+abbrev pub weave : ℕ → ℕ → Process
+weave a b = process 7 a b
+
+-- passes the lesser of two tokens on, and of equal ones one
+abbrev pub merge : Process
+merge = process 8 0 0
+
+-- writes whether m divides each token
+abbrev pub divides : ℕ → Process
+divides m = process 9 m 0
+
+-- passes each token on to the output that a flag says
+abbrev pub switch : Process
+switch = process 10 0 0
+
+-- an empty channel of words from an output to an input, each a process and its port, with room for so many tokens
+abbrev pub words : ℕ × ℕ → ℕ × ℕ → ℕ → Channel
+words from to capacity = record { name = []; writer = from.0; out = from.1; reader = to.0; input = to.1; sort = Words; capacity = capacity; tokens = [] }
+
+-- the same, of flags
+abbrev pub flags : ℕ × ℕ → ℕ × ℕ → ℕ → Channel
+flags from to capacity = record (words from to capacity) { sort = Flags }
+
+-- the channel with these start tokens
+abbrev pub holding : List Token → Channel → Channel
+holding tokens c = record c { tokens = tokens }
+
+-- these numbers as tokens
+abbrev pub numbers : List ℕ → List Token
+numbers ns = map (λ n. Word n) ns
+
+-- a network whose channels grow by one, up to 65,535, with a budget of 10,000
+abbrev pub network : List Process → List Channel → Network
+network processes channels = record { processes = processes; channels = channels; budget = 10000; step = 1; ceiling = 65535 }

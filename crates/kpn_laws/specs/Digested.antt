@@ -1,0 +1,16 @@
+-- What is said of a network: whichever run is over, this is its digest.
+use Rattle.std.specs.Prelude.{◌≡◌, List}
+use Rattle.kpn_net.specs.declared.history.Entry.{Entry}
+use Rattle.kpn_net.specs.declared.history.End.{End}
+use Rattle.kpn_net.specs.Network.{Family, Network}
+use Rattle.kpn_net.specs.Machine.{State}
+use Rattle.kpn_net.specs.History.{Digest, digest}
+use Rattle.kpn_net.specs.Determinacy.{IsFinal}
+
+-- some run that is over has this digest, and so has every other
+pub record HasDigest (kinds : Family) (net : Network) (d : Digest) : Type 0 where
+  pub history : List Entry
+  pub state : State
+  pub final : IsFinal kinds net history state d.cause
+  pub digest_is : digest kinds net d.cause history state ≡ d
+  pub others : (F : List Entry) (N : State) (cause : End) → IsFinal kinds net F N cause → digest kinds net cause F N ≡ d

@@ -1,0 +1,18 @@
+-- Runs of valid networks stay within the capacities.
+use Rattle.std.specs.Prelude.{List, Option}
+use Rattle.kpn_net.specs.declared.kinds.Card.{Card}
+use Rattle.kpn_net.specs.declared.kinds.Signature.{Signature}
+use Rattle.kpn_net.specs.declared.history.Entry.{Entry}
+use Rattle.kpn_net.specs.Network.{Family, Network}
+use Rattle.kpn_net.specs.Machine.{State, start}
+use Rattle.kpn_net.specs.Determinacy.{IsRun}
+use Rattle.kpn_net.specs.Moments.{IsWithin}
+use Rattle.kpn_net.specs.Valid.{IsValid}
+
+-- no channel of a valid network begins with more tokens than its capacity
+abbrev pub StartsWithin : (Card → Option Signature) → Family → Type 0
+StartsWithin signature kinds = (net : Network) → IsValid signature net → IsWithin (start kinds net)
+
+-- and no run of one brings more tokens to a channel than its capacity
+abbrev pub StaysWithin : (Card → Option Signature) → Family → Type 0
+StaysWithin signature kinds = (net : Network) → IsValid signature net → (E : List Entry) (M : State) → IsRun kinds net E M → IsWithin M

@@ -1,0 +1,40 @@
+//! Whichever process goes on next, the outcome is the same.
+ghost use Rattle.kpn_net.specs.Network.{Family};
+ghost use Rattle.kpn_net.specs.Determinacy.{OneDigest, NoneLonger, OneOutcome, AllInLine};
+ghost use Rattle.kpn_net.specs.Moments.{OneState, FrontsAreRuns, AlwaysWithin, HistoryTellsState, BudgetSuffices, EnabledCanDo, OneCause};
+
+use crate::run::moments;
+use kpn_net::Kinds;
+
+/// The laws of determinacy, for every family of kinds and every network (Kahn 1974, of runs that end).
+///
+/// `one_digest`: two runs that are over have one digest, so one cause, one place of each process, the
+/// same deeds, streams, rests, growths in order, last capacities and number of entries. `none_longer`:
+/// no run is longer than one that is over. `one_outcome`: whatever the starting capacities, runs that
+/// terminate or end in a deadlock have the same deeds, streams and places (the growth is Parks's, 1995).
+/// `all_in_line`: of any two runs cut anywhere, from any starting capacities, one's deeds of each
+/// process begin with the other's, and so do the streams.
+pub fn determinacy()
+    ensures one_digest { (kinds : Family) → OneDigest kinds }
+    ensures none_longer { (kinds : Family) → NoneLonger kinds }
+    ensures one_outcome { (kinds : Family) → OneOutcome kinds }
+    ensures all_in_line { (kinds : Family) → AllInLine kinds }
+{}
+
+/// All laws of determinacy, and those of the moments of a run, for a family that is given as a type.
+pub fn determinacy_of<K: Kinds>()
+    ensures one_digest { OneDigest K.family }
+    ensures none_longer { NoneLonger K.family }
+    ensures one_outcome { OneOutcome K.family }
+    ensures all_in_line { AllInLine K.family }
+    ensures one_state { OneState K.family }
+    ensures fronts { FrontsAreRuns K.family }
+    ensures within { AlwaysWithin K.family }
+    ensures told { HistoryTellsState K.family }
+    ensures budget { BudgetSuffices K.family }
+    ensures enabled { EnabledCanDo K.family }
+    ensures one_cause { OneCause K.family }
+{
+    determinacy();
+    moments();
+}

@@ -1,0 +1,41 @@
+//! What holds at each moment of a run.
+ghost use Rattle.std.specs.Prelude.{Option};
+ghost use Rattle.kpn_net.specs.declared.kinds.Card.{Card};
+ghost use Rattle.kpn_net.specs.declared.kinds.Signature.{Signature};
+ghost use Rattle.kpn_net.specs.Network.{Family};
+ghost use Rattle.kpn_net.specs.Lawful.{AreLawful};
+ghost use Rattle.kpn_net.specs.Moments.{OneState, FrontsAreRuns, AlwaysWithin, HistoryTellsState, BudgetSuffices, EnabledCanDo, OneCause};
+ghost use Rattle.kpn_net.specs.Valid.{AlwaysSorted};
+ghost use Rattle.kpn_laws.specs.ValidRuns.{StartsWithin, StaysWithin};
+
+use kpn_net::Kinds;
+
+/// The laws of the moments of a run, for every family of kinds and every network.
+///
+/// `one_state`: a history leads from a state to one state. `fronts`: a history's front is a run too,
+/// and the rest goes on from where it leads. `within`: a network that begins with no channel above its
+/// capacity never has one. `told`: what a channel holds, and its capacity, are read off the history.
+/// `budget`: no run ends for its budget where one that is over has fewer entries. `enabled`: a process
+/// is enabled exactly where it can do a deed. `one_cause`: at most one cause fits a state.
+pub fn moments()
+    ensures one_state { (kinds : Family) → OneState kinds }
+    ensures fronts { (kinds : Family) → FrontsAreRuns kinds }
+    ensures within { (kinds : Family) → AlwaysWithin kinds }
+    ensures told { (kinds : Family) → HistoryTellsState kinds }
+    ensures budget { (kinds : Family) → BudgetSuffices kinds }
+    ensures enabled { (kinds : Family) → EnabledCanDo kinds }
+    ensures one_cause { (kinds : Family) → OneCause kinds }
+{}
+
+/// A valid network begins with no channel above its capacity, and no run of it ever has one.
+pub fn valid_runs()
+    ensures start { (signature : Card → Option Signature) (kinds : Family) → StartsWithin signature kinds }
+    ensures within { (signature : Card → Option Signature) (kinds : Family) → StaysWithin signature kinds }
+{}
+
+/// Where the kinds of a family are lawful, each run of a valid network is sorted at each moment: each
+/// token in a channel fits and has the channel's sort, and each live process is in a state that its
+/// card admits.
+pub fn sorted_runs<K: Kinds>()
+    ensures { AreLawful K.signature_of K.admits K.family → AlwaysSorted K.signature_of K.admits K.family }
+{}

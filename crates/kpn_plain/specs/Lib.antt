@@ -1,0 +1,4 @@
+pub mod State
+pub mod Starting
+pub mod Turns
+pub mod Halts

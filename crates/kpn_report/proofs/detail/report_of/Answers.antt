@@ -1,0 +1,12 @@
+-- A run that came to its own end has a detail, which is the digest's.
+use Rattle.std.proofs.Common.{◌≡◌, true, refl, rules}
+use Rattle.kpn_report.specs.Digested.{has_detail}
+use Rattle.kpn_report.proofs.detail.report_of.Goals as goal
+
+pub returns-in_ok-detail_of-clause-detail : goal.returns-in_ok-detail_of-clause-detail
+returns-in_ok-detail_of-clause-detail g c = λ kinds M places.
+    let has : has_detail c.args.end ≡ true = search rules in
+    record {
+      none = λ e. cc;
+      some = λ _. (c.in_ok-detail_of.field-0, refl, c.in_ok-detail_of.ensures kinds M c.args.end places);
+    }

@@ -1,0 +1,43 @@
+-- A report, its digest and its text.
+use Rattle.std.specs.Prelude.{◌≡◌, ℕ, Bool, true, false, List, ◌++◌, Option, Some, None}
+use Rattle.kpn_net.specs.declared.history.End.{End}
+use Rattle.kpn_net.specs.declared.history.End.TheVariants.{Terminated, Budget, Memory}
+use Rattle.kpn_net.specs.declared.history.Entry.{Entry}
+use Rattle.kpn_net.specs.Network.{Family, Network}
+use Rattle.kpn_net.specs.Machine.{State}
+use Rattle.kpn_net.specs.History.{Digest, digest}
+use Rattle.kpn_report.specs.Text.{end_line, digest_text}
+use Rattle.kpn_report.specs.declared.detail.Detail.{Detail}
+
+-- the digest of this cause and this detail
+abbrev pub digest_with : End → Detail → Digest
+digest_with cause d = record {
+  cause = cause;
+  places = d.places;
+  steps = d.steps;
+  capacities = d.capacities;
+  streams = d.streams;
+  rests = d.rests;
+  growths = d.growths;
+  entries = d.entries;
+}
+
+-- the digest of a detail, of which no line tells the cause
+abbrev pub digest_of : Detail → Digest
+digest_of = digest_with Terminated
+
+-- the text of a report: its end, and its detail where there is one
+abbrev pub report_text : Network → End → Option Detail → Option ℕ → List ℕ
+report_text net end None show = end_line end
+report_text net end (Some d) show = end_line end ++ digest_text net (digest_of d) show
+
+-- a run that ended so came to its own end
+abbrev pub has_detail : End → Bool
+has_detail Budget = false
+has_detail Memory = false
+has_detail _ = true
+
+-- the report is that of a run to M that ended for this cause
+pub record IsReport (kinds : Family) (net : Network) (cause : End) (E : List Entry) (M : State) (detail : Option Detail) : Type 0 where
+  pub none : has_detail cause ≡ false → detail ≡ None
+  pub some : has_detail cause ≡ true → (d : Detail) × (detail ≡ Some d) × (digest_with cause d ≡ digest kinds net cause E M)

@@ -1,0 +1,3 @@
+pub mod Tally
+pub mod Text
+pub mod Digested

@@ -1,0 +1,36 @@
+-- What is kept of a history.
+use Rattle.std.specs.Prelude.{◌≡◌, ℕ, ◌+◌, ◌<◌, List, [], ◌∷◌, ◌++◌, length, get_or}
+use Rattle.kpn_net.specs.declared.token.Token.{Token}
+use Rattle.kpn_net.specs.declared.history.Entry.{Entry}
+use Rattle.kpn_net.specs.Network.{Network, channel_of}
+use Rattle.kpn_net.specs.History.{deeds, stream, taken, growths, grown}
+use Rattle.kpn_report.specs.declared.account.Account.{Account}
+
+abbrev pub account : Network → List Entry → ℕ → Account
+account net E c = record { stream = stream net E c; taken = length (taken E c); capacity = grown (channel_of net c).capacity (growths E) c }
+
+abbrev pub no_account : Account
+no_account = record { stream = []; taken = 0; capacity = 0 }
+
+-- the number of deeds of each process
+pub record CountsSteps (net : Network) (E : List Entry) (steps : List ℕ) : Type 0 where
+  pub count : length steps ≡ length net.processes
+  pub each : (p : ℕ) → p < length net.processes → get_or steps p 0 ≡ length (deeds E p)
+
+-- the account of each channel
+pub record KeepsAccounts (net : Network) (E : List Entry) (accounts : List Account) : Type 0 where
+  pub count : length accounts ≡ length net.channels
+  pub each : (c : ℕ) → c < length net.channels → get_or accounts c no_account ≡ account net E c
+
+abbrev pub account_at : List Account → ℕ → Account
+account_at accounts c = get_or accounts c no_account
+
+-- an account after a put, a take and a growth
+abbrev pub with_put : Account → Token → Account
+with_put a t = record a { stream = a.stream ++ t ∷ [] }
+
+abbrev pub with_taken : Account → Account
+with_taken a = record a { taken = a.taken + 1 }
+
+abbrev pub with_capacity : Account → ℕ → Account
+with_capacity a n = record a { capacity = n }

@@ -1,0 +1,86 @@
+-- The text of a report.
+use Rattle.std.specs.Prelude.{ℕ, ◌-◌, zero, suc, true, false, codes, decimal, List, [], ◌++◌, length, slice_index, slice_index_or, slice_get, Option, Some, None}
+use Rattle.std.specs.Option.{option_map_or}
+use Rattle.std.specs.List.{flat_map}
+use Rattle.kpn_net.specs.declared.token.Token.{Token}
+use Rattle.kpn_net.specs.declared.token.Token.TheVariants.{Word, Flag}
+use Rattle.kpn_net.specs.declared.history.Place.{Place}
+use Rattle.kpn_net.specs.declared.history.Place.TheVariants.{Stopped, Reads, Writes}
+use Rattle.kpn_net.specs.declared.history.End.{End}
+use Rattle.kpn_net.specs.declared.history.End.TheVariants.{Terminated, Deadlock, Ceiling, Budget, Memory}
+use Rattle.kpn_net.specs.declared.history.Entry.{Entry}
+use Rattle.kpn_net.specs.Network.{Family, Network, channel_of}
+use Rattle.kpn_net.specs.Machine.{State}
+use Rattle.kpn_net.specs.History.{Digest, digest}
+
+-- the texts of line 0 up to line n, without it
+abbrev pub lines_upto : (ℕ → List ℕ) → ℕ → List ℕ
+lines_upto line zero = []
+lines_upto line (suc n) = lines_upto line n ++ line n
+
+abbrev pub token_text : Token → List ℕ
+token_text (Word n) = decimal n
+token_text (Flag true) = codes "true"
+token_text (Flag false) = codes "false"
+
+abbrev pub end_text : End → List ℕ
+end_text Terminated = codes "terminated"
+end_text Deadlock = codes "deadlock"
+end_text Ceiling = codes "ceiling"
+end_text Budget = codes "budget"
+end_text Memory = codes "memory"
+
+abbrev pub end_line : End → List ℕ
+end_line end = codes "end " ++ end_text end ++ codes "\n"
+
+abbrev pub token_part : Token → List ℕ
+token_part t = codes " " ++ token_text t
+
+module _ (net : Network) where
+  abbrev pub process_name : ℕ → List ℕ
+  process_name p = option_map_or (λ x. x.name) (slice_get net.processes p) []
+
+  abbrev pub channel_name : ℕ → List ℕ
+  channel_name c = option_map_or (λ x. x.name) (slice_get net.channels c) []
+
+  abbrev pub place_text : Place → List ℕ
+  place_text Stopped = codes "stopped"
+  place_text (Reads c) = codes "reads " ++ channel_name c
+  place_text (Writes c) = codes "writes " ++ channel_name c
+
+  abbrev pub growth_line : ℕ × ℕ → List ℕ
+  growth_line g = codes "grew " ++ channel_name g.0 ++ codes " " ++ decimal g.1 ++ codes "\n"
+
+  module _ (d : Digest) where
+    -- how many tokens were put on a channel: its stream without its start tokens
+    abbrev pub put_count : ℕ → ℕ
+    put_count c = length (slice_index_or d.streams c []) - length (channel_of net c).tokens
+
+    abbrev pub process_line : ℕ → List ℕ
+    process_line p =
+        codes "process " ++ process_name p ++ codes " " ++ place_text (slice_index_or d.places p Stopped)
+        ++ codes " steps " ++ decimal (slice_index d.steps p) ++ codes "\n"
+
+    abbrev pub channel_line : ℕ → List ℕ
+    channel_line c =
+        codes "channel " ++ channel_name c ++ codes " put " ++ decimal (put_count c)
+        ++ codes " left " ++ decimal (length (slice_index_or d.rests c [])) ++ codes " capacity " ++ decimal (slice_index d.capacities c) ++ codes "\n"
+
+    abbrev pub stream_line : ℕ → List ℕ
+    stream_line c = codes "stream " ++ channel_name c ++ flat_map token_part (slice_index_or d.streams c []) ++ codes "\n"
+
+    -- the line of the channel that is to be shown, if any is
+    abbrev pub shown_line : Option ℕ → List ℕ
+    shown_line None = []
+    shown_line (Some c) = stream_line c
+
+    abbrev pub digest_text : Option ℕ → List ℕ
+    digest_text show =
+        lines_upto process_line (length net.processes) ++ lines_upto channel_line (length net.channels)
+        ++ flat_map growth_line d.growths ++ codes "entries " ++ decimal d.entries ++ codes "\n" ++ shown_line show
+
+-- the text of a run to M that ended for this cause: after a spent budget and after want of memory the cause alone
+abbrev pub text : Family → Network → End → List Entry → State → Option ℕ → List ℕ
+text kinds net Budget E M show = end_line Budget
+text kinds net Memory E M show = end_line Memory
+text kinds net cause E M show = end_line cause ++ digest_text net (digest kinds net cause E M) show

@@ -1,0 +1,92 @@
+-- What the laws ask of an answer, for reads, writes and stops.
+use Rattle.std.proofs.Common.{◌≡◌, ℕ, ◌<◌, ◌≤◌, ◌^◌, nat_lt, if◌then◌else◌, Bool, true, false, List, Option, Some, None, IsSome, option_and_then, refl, sym, ◌∙◌, ap, subst, ltb-true, ltb-false, arith}
+use Rattle.kpn_net.specs.declared.token.Token.{Token}
+use Rattle.kpn_net.specs.declared.token.Token.TheVariants.{Word, Flag}
+use Rattle.kpn_net.specs.declared.token.Sort.{Sort}
+use Rattle.kpn_net.specs.declared.token.Sort.TheVariants.{Words, Flags}
+use Rattle.kpn_net.specs.declared.kinds.Card.{Card}
+use Rattle.kpn_net.specs.declared.kinds.Signature.{Signature}
+use Rattle.kpn_net.specs.declared.kinds.Act.TheVariants.{Read, Write, Stop}
+use Rattle.kpn_net.specs.declared.kinds.Answer.{Answer}
+use Rattle.kpn_net.specs.Lawful.{sort_of, Fits, port_at, in_sort, out_sort, NamesPort, LeadsOn}
+use Rattle.kpn_net.specs.Standard.{at}
+use Rattle.kpn_standard.specs.Signatures.{given, signature}
+use Rattle.kpn_standard.specs.Admitted.{Admitted}
+
+-- the answer names a port of the card, and what follows it is admitted
+pub record IsLawful (card : Card) (answer : Answer) : Type 0 where
+  pub names_port : NamesPort signature card answer.act
+  pub leads_on : (token : Token) → LeadsOn signature Admitted card answer token
+
+-- the arguments have 64 bits
+pub record AreArguments (args : List ℕ) : Type 0 where
+  pub first : at args 0 < 2 ^ 64
+  pub second : at args 1 < 2 ^ 64
+
+-- arguments with a signature pass the kind's test
+pub passes : (test : Bool) (ins outs : List (Option Sort)) → IsSome (given test ins outs) → test ≡ true
+passes true ins outs h = refl
+passes false ins outs h = cc
+
+-- and the signature has the kind's ports
+pub has_ports : (test : Bool) (ins outs : List (Option Sort)) → IsSome (given test ins outs) → given test ins outs ≡ Some (record { ins = ins; outs = outs })
+has_ports true ins outs h = refl
+has_ports false ins outs h = cc
+
+-- what holds of both branches holds of the choice
+pub by_test : (P : Answer → Type 0) (m n : ℕ) (a b : Answer) → (m < n → P a) → (n ≤ m → P b) → P (if nat_lt m n then a else b)
+by_test P m n a b below above = go (nat_lt m n) refl
+  where
+    go : (x : Bool) → nat_lt m n ≡ x → P (if x then a else b)
+    go true e = below (ltb-true m n e)
+    go false e = above (ltb-false m n e)
+
+-- what follows from less and from equal follows from at most
+pub below_or_at : (P : Type 0) (m n : ℕ) → m ≤ n → (m < n → P) → (m ≡ n → P) → P
+below_or_at P m n h below at_end = go (nat_lt m n) refl
+  where
+    go : (x : Bool) → nat_lt m n ≡ x → P
+    go true e = below (ltb-true m n e)
+    go false e = let above : n ≤ m = ltb-false m n e in at_end (omega arith)
+
+-- and so with a flag for the test
+pub by_flag : (P : Answer → Type 0) (f : Bool) (a b : Answer) → P a → P b → P (if f then a else b)
+by_flag P true a b p q = p
+by_flag P false a b p q = q
+
+-- a port that has a sort is there
+some_sort : (o : Option Sort) (s : Sort) → o ≡ Some s → IsSome o
+some_sort o s e = subst (λ o. IsSome o) (sym e) refl
+
+-- a stop is lawful
+pub stops : (card : Card) (next : List ℕ) → IsLawful card (record { next = next; act = Stop })
+stops card next = record { names_port = tt; leads_on = λ token. tt }
+
+module _ (card : Card) (s : Signature) (signed : signature card ≡ Some s) (next : List ℕ) (k : ℕ) (small : k < 3) where
+  -- the inputs of the card are those of its signature
+  in_port : in_sort signature card k ≡ port_at s.ins k
+  in_port = ap (λ (o : Option Signature). option_and_then (λ s. port_at s.ins k) o) signed
+
+  -- the outputs too
+  out_port : out_sort signature card k ≡ port_at s.outs k
+  out_port = ap (λ (o : Option Signature). option_and_then (λ s. port_at s.outs k) o) signed
+
+  -- a read of words is lawful, where each word that may come is admitted
+  pub reads_word : port_at s.ins k ≡ Some Words → ((w : ℕ) → w < 2 ^ 64 → Admitted card next (Some (Word w))) → IsLawful card (record { next = next; act = Read k })
+  reads_word port admitted = record { names_port = (small, some_sort _ _ (in_port ∙ port)); leads_on = λ token is fits. by_token token (sym (in_port ∙ port) ∙ is) fits }
+    where
+      by_token : (token : Token) → Some Words ≡ Some (sort_of token) → Fits token → Admitted card next (Some token)
+      by_token (Word w) is fits = admitted w fits
+      by_token (Flag f) is fits = cc
+
+  -- a read of flags is lawful, where each flag is admitted
+  pub reads_flag : port_at s.ins k ≡ Some Flags → ((f : Bool) → Admitted card next (Some (Flag f))) → IsLawful card (record { next = next; act = Read k })
+  reads_flag port admitted = record { names_port = (small, some_sort _ _ (in_port ∙ port)); leads_on = λ token is fits. by_token token (sym (in_port ∙ port) ∙ is) }
+    where
+      by_token : (token : Token) → Some Flags ≡ Some (sort_of token) → Admitted card next (Some token)
+      by_token (Word w) is = cc
+      by_token (Flag f) is = admitted f
+
+  -- a write is lawful, where the token fits the port, and what follows is admitted
+  pub writes : (token : Token) → port_at s.outs k ≡ Some (sort_of token) → Fits token → Admitted card next None → IsLawful card (record { next = next; act = Write k token })
+  writes token port fits admitted = record { names_port = (small, fits, out_port ∙ port); leads_on = λ other. admitted }

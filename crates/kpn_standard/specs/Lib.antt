@@ -1,0 +1,9 @@
+pub mod Names
+pub mod Signatures
+pub mod Locals
+pub mod Ends
+pub mod Copies
+pub mod Arithmetic
+pub mod Merging
+pub mod Flags
+pub mod Admitted

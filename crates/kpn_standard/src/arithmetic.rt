@@ -1,0 +1,40 @@
+//! The kinds that compute words.
+ghost use Rattle.std.specs.Prelude.{◌≡◌, IsSome};
+ghost use Rattle.kpn_net.specs.Standard.{standard};
+ghost use Rattle.kpn_standard.specs.Signatures.{card, signature};
+ghost use Rattle.kpn_standard.specs.Admitted.{Admitted};
+
+use crate::numbers::{ADD, SCALE};
+use crate::token::{reads, word, writes};
+use kpn_net::{Answer, Local, Token};
+
+/// Reads a word of input 0 and one of input 1, and writes their sum modulo 2^64, for ever.
+pub fn add(args: [u64; 3], local: Local, last: Option<Token>) -> Answer
+    requires signed { IsSome (signature (card ADD args)) }
+    requires admitted { Admitted (card ADD args) local last }
+    ensures { result ≡ standard.answer (card ADD args) local last }
+{
+    match local[0] {
+        0 => reads([1, 0, 0, 0], 0),
+        1 => reads([2, word(last), 0, 0], 1),
+        _ => {
+            let sum = local[1].wrapping_add(word(last));
+            writes([0, 0, 0, 0], 0, Token::Word(sum))
+        }
+    }
+}
+
+/// Reads a word, and writes its product by `args[0]` modulo 2^64, for ever.
+pub fn scale(args: [u64; 3], local: Local, last: Option<Token>) -> Answer
+    requires signed { IsSome (signature (card SCALE args)) }
+    requires admitted { Admitted (card SCALE args) local last }
+    ensures { result ≡ standard.answer (card SCALE args) local last }
+{
+    match local[0] {
+        0 => reads([1, 0, 0, 0], 0),
+        _ => {
+            let product = args[0].wrapping_mul(word(last));
+            writes([0, 0, 0, 0], 0, Token::Word(product))
+        }
+    }
+}

@@ -1,0 +1,51 @@
+//! The kinds that write what they read.
+ghost use Rattle.std.specs.Prelude.{◌≡◌, IsSome};
+ghost use Rattle.kpn_net.specs.Standard.{standard};
+ghost use Rattle.kpn_standard.specs.Signatures.{card, signature};
+ghost use Rattle.kpn_standard.specs.Admitted.{Admitted};
+
+use crate::numbers::{COPY, PREFIX, TAKE};
+use crate::token::{got, reads, stops, word, writes};
+use kpn_net::{Answer, Local, Token};
+
+/// Reads and writes `args[0]` words, then stops.
+pub fn take(args: [u64; 3], local: Local, last: Option<Token>) -> Answer
+    requires signed { IsSome (signature (card TAKE args)) }
+    requires admitted { Admitted (card TAKE args) local last }
+    ensures { result ≡ standard.answer (card TAKE args) local last }
+{
+    let i = local[1];
+    if local[0] == 1 {
+        writes([0, i + 1, 0, 0], 0, got(last))
+    } else if i < args[0] {
+        reads([1, i, 0, 0], 0)
+    } else {
+        stops(local)
+    }
+}
+
+/// Reads a word, and writes it to output 0 and then to output 1, for ever.
+pub fn copy(args: [u64; 3], local: Local, last: Option<Token>) -> Answer
+    requires signed { IsSome (signature (card COPY args)) }
+    requires admitted { Admitted (card COPY args) local last }
+    ensures { result ≡ standard.answer (card COPY args) local last }
+{
+    match local[0] {
+        0 => reads([1, 0, 0, 0], 0),
+        1 => writes([2, word(last), 0, 0], 0, got(last)),
+        _ => writes([0, 0, 0, 0], 1, Token::Word(local[1])),
+    }
+}
+
+/// Writes the word `args[0]`, then reads and writes for ever.
+pub fn prefix(args: [u64; 3], local: Local, last: Option<Token>) -> Answer
+    requires signed { IsSome (signature (card PREFIX args)) }
+    requires admitted { Admitted (card PREFIX args) local last }
+    ensures { result ≡ standard.answer (card PREFIX args) local last }
+{
+    match local[0] {
+        0 => writes([1, 0, 0, 0], 0, Token::Word(args[0])),
+        1 => reads([2, 0, 0, 0], 0),
+        _ => writes([1, 0, 0, 0], 0, got(last)),
+    }
+}

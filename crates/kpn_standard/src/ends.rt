@@ -1,0 +1,38 @@
+//! The kinds that write alone, or read alone.
+ghost use Rattle.std.specs.Prelude.{◌≡◌, IsSome};
+ghost use Rattle.kpn_net.specs.Standard.{standard};
+ghost use Rattle.kpn_standard.specs.Signatures.{card, signature};
+ghost use Rattle.kpn_standard.specs.Admitted.{Admitted};
+
+use crate::numbers::{COUNT, SINK};
+use crate::token::{reads, stops, writes};
+use kpn_net::{Answer, Local, Token};
+
+/// Writes the `args[1]` words from `args[0]` on, then stops.
+pub fn count(args: [u64; 3], local: Local, last: Option<Token>) -> Answer
+    requires signed { IsSome (signature (card COUNT args)) }
+    requires admitted { Admitted (card COUNT args) local last }
+    ensures { result ≡ standard.answer (card COUNT args) local last }
+{
+    let [from, n, _] = args;
+    let i = local[0];
+    if i < n {
+        writes([i + 1, 0, 0, 0], 0, Token::Word(from + i))
+    } else {
+        stops(local)
+    }
+}
+
+/// Reads `args[0]` words, then stops.
+pub fn sink(args: [u64; 3], local: Local, last: Option<Token>) -> Answer
+    requires signed { IsSome (signature (card SINK args)) }
+    requires admitted { Admitted (card SINK args) local last }
+    ensures { result ≡ standard.answer (card SINK args) local last }
+{
+    let i = local[0];
+    if i < args[0] {
+        reads([i + 1, 0, 0, 0], 0)
+    } else {
+        stops(local)
+    }
+}

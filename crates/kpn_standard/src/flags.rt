@@ -1,0 +1,55 @@
+//! The kinds that write flags, or go by them.
+ghost use Rattle.std.specs.Prelude.{◌≡◌, IsSome};
+ghost use Rattle.kpn_net.specs.Standard.{standard};
+ghost use Rattle.kpn_standard.specs.Signatures.{card, signature};
+ghost use Rattle.kpn_standard.specs.Admitted.{Admitted};
+
+use crate::numbers::{DIVIDES, SELECT, SWITCH};
+use crate::token::{flag, got, reads, word, writes};
+use kpn_net::{Answer, Local, Token};
+
+/// Reads a word, and writes whether `args[0]` divides it, for ever.
+pub fn divides(args: [u64; 3], local: Local, last: Option<Token>) -> Answer
+    requires signed { IsSome (signature (card DIVIDES args)) }
+    requires admitted { Admitted (card DIVIDES args) local last }
+    ensures { result ≡ standard.answer (card DIVIDES args) local last }
+{
+    match local[0] {
+        0 => reads([1, 0, 0, 0], 0),
+        _ => {
+            let is_divided = word(last) % args[0] == 0;
+            writes([0, 0, 0, 0], 0, Token::Flag(is_divided))
+        }
+    }
+}
+
+/// Reads a flag of input 1 and then a word of input 0, and writes the word to output 1 where the
+/// flag is true, else to output 0, for ever.
+pub fn switch(args: [u64; 3], local: Local, last: Option<Token>) -> Answer
+    requires signed { IsSome (signature (card SWITCH args)) }
+    requires admitted { Admitted (card SWITCH args) local last }
+    ensures { result ≡ standard.answer (card SWITCH args) local last }
+{
+    match local[0] {
+        0 => reads([1, 0, 0, 0], 1),
+        1 if flag(last) => reads([2, 1, 0, 0], 0),
+        1 => reads([2, 0, 0, 0], 0),
+        _ if local[1] == 0 => writes([0, 0, 0, 0], 0, got(last)),
+        _ => writes([0, 0, 0, 0], 1, got(last)),
+    }
+}
+
+/// Reads a flag of input 2 and then a word, of input 1 where the flag is true, else of input 0,
+/// and writes the word, for ever.
+pub fn select(args: [u64; 3], local: Local, last: Option<Token>) -> Answer
+    requires signed { IsSome (signature (card SELECT args)) }
+    requires admitted { Admitted (card SELECT args) local last }
+    ensures { result ≡ standard.answer (card SELECT args) local last }
+{
+    match local[0] {
+        0 => reads([1, 0, 0, 0], 2),
+        1 if flag(last) => reads([2, 0, 0, 0], 1),
+        1 => reads([2, 0, 0, 0], 0),
+        _ => writes([0, 0, 0, 0], 0, got(last)),
+    }
+}

@@ -1,0 +1,542 @@
+//! Each line of each kind, with numbers of its own; the names, the arguments and the ports.
+use crate::*;
+use kpn_net::Act::{Read, Stop, Write};
+use kpn_net::Token::{Flag, Word};
+use kpn_net::{Act, Answer, Card, Kinds, Local, Signature, Sort};
+use std::process::Abort;
+use std::test::Fail;
+
+fn agree(rt: &impl Abort, lines: &[(Answer, Local, Act)]) -> Result<(), Fail> {
+    for (answer, next, act) in lines {
+        assert_eq!(rt; answer.next, *next);
+        assert_eq!(rt; answer.act, *act);
+    }
+    Ok(())
+}
+
+#[tactic(auto, using(crate::proofs::Lines::count_lines))]
+#[test]
+fn count_follows_its_lines(rt: HostRuntime) -> Result<(), Fail> {
+    agree(
+        &rt,
+        &[
+            (
+                count([5, 3, 0], [0, 0, 0, 0], None),
+                [1, 0, 0, 0],
+                Write(0, Word(5)),
+            ),
+            (
+                count([5, 3, 0], [2, 0, 0, 0], None),
+                [3, 0, 0, 0],
+                Write(0, Word(7)),
+            ),
+            (count([5, 3, 0], [3, 0, 0, 0], None), [3, 0, 0, 0], Stop),
+            (count([5, 0, 0], [0, 0, 0, 0], None), [0, 0, 0, 0], Stop),
+            (
+                count([u64::MAX - 2, 2, 0], [1, 0, 0, 0], None),
+                [2, 0, 0, 0],
+                Write(0, Word(u64::MAX - 1)),
+            ),
+            (
+                answer(
+                    Card {
+                        kind: 0,
+                        args: [0, u64::MAX, 0],
+                    },
+                    [u64::MAX - 1, 0, 0, 0],
+                    None,
+                ),
+                [u64::MAX, 0, 0, 0],
+                Write(0, Word(u64::MAX - 1)),
+            ),
+        ],
+    )
+}
+
+#[tactic(auto, using(crate::proofs::Lines::sink_lines))]
+#[test]
+fn sink_follows_its_lines(rt: HostRuntime) -> Result<(), Fail> {
+    agree(
+        &rt,
+        &[
+            (sink([3, 0, 0], [0, 0, 0, 0], None), [1, 0, 0, 0], Read(0)),
+            (
+                sink([3, 0, 0], [2, 0, 0, 0], Some(Word(9))),
+                [3, 0, 0, 0],
+                Read(0),
+            ),
+            (
+                sink([3, 0, 0], [3, 0, 0, 0], Some(Word(9))),
+                [3, 0, 0, 0],
+                Stop,
+            ),
+            (
+                answer(
+                    Card {
+                        kind: 1,
+                        args: [0, 0, 0],
+                    },
+                    [0, 0, 0, 0],
+                    None,
+                ),
+                [0, 0, 0, 0],
+                Stop,
+            ),
+        ],
+    )
+}
+
+#[tactic(auto, using(crate::proofs::Lines::take_lines))]
+#[test]
+fn take_follows_its_lines(rt: HostRuntime) -> Result<(), Fail> {
+    agree(
+        &rt,
+        &[
+            (take([3, 0, 0], [0, 2, 0, 0], None), [1, 2, 0, 0], Read(0)),
+            (
+                take([3, 0, 0], [1, 2, 0, 0], Some(Word(7))),
+                [0, 3, 0, 0],
+                Write(0, Word(7)),
+            ),
+            (take([3, 0, 0], [0, 3, 0, 0], None), [0, 3, 0, 0], Stop),
+            (
+                answer(
+                    Card {
+                        kind: 2,
+                        args: [0, 0, 0],
+                    },
+                    [0, 0, 0, 0],
+                    None,
+                ),
+                [0, 0, 0, 0],
+                Stop,
+            ),
+        ],
+    )
+}
+
+#[tactic(auto, using(crate::proofs::Lines::copy_lines))]
+#[test]
+fn copy_follows_its_lines(rt: HostRuntime) -> Result<(), Fail> {
+    agree(
+        &rt,
+        &[
+            (copy([0, 0, 0], [0, 0, 0, 0], None), [1, 0, 0, 0], Read(0)),
+            (
+                copy([0, 0, 0], [1, 0, 0, 0], Some(Word(7))),
+                [2, 7, 0, 0],
+                Write(0, Word(7)),
+            ),
+            (
+                answer(
+                    Card {
+                        kind: 3,
+                        args: [0, 0, 0],
+                    },
+                    [2, 7, 0, 0],
+                    None,
+                ),
+                [0, 0, 0, 0],
+                Write(1, Word(7)),
+            ),
+        ],
+    )
+}
+
+#[tactic(auto, using(crate::proofs::Lines::prefix_lines))]
+#[test]
+fn prefix_follows_its_lines(rt: HostRuntime) -> Result<(), Fail> {
+    agree(
+        &rt,
+        &[
+            (
+                prefix([4, 0, 0], [0, 0, 0, 0], None),
+                [1, 0, 0, 0],
+                Write(0, Word(4)),
+            ),
+            (prefix([4, 0, 0], [1, 0, 0, 0], None), [2, 0, 0, 0], Read(0)),
+            (
+                answer(
+                    Card {
+                        kind: 4,
+                        args: [4, 0, 0],
+                    },
+                    [2, 0, 0, 0],
+                    Some(Word(7)),
+                ),
+                [1, 0, 0, 0],
+                Write(0, Word(7)),
+            ),
+        ],
+    )
+}
+
+#[tactic(auto, using(crate::proofs::Lines::add_lines))]
+#[test]
+fn add_follows_its_lines(rt: HostRuntime) -> Result<(), Fail> {
+    agree(
+        &rt,
+        &[
+            (add([0, 0, 0], [0, 0, 0, 0], None), [1, 0, 0, 0], Read(0)),
+            (
+                add([0, 0, 0], [1, 0, 0, 0], Some(Word(7))),
+                [2, 7, 0, 0],
+                Read(1),
+            ),
+            (
+                add([0, 0, 0], [2, 7, 0, 0], Some(Word(5))),
+                [0, 0, 0, 0],
+                Write(0, Word(12)),
+            ),
+            (
+                add([0, 0, 0], [2, u64::MAX, 0, 0], Some(Word(1))),
+                [0, 0, 0, 0],
+                Write(0, Word(0)),
+            ),
+            (
+                answer(
+                    Card {
+                        kind: 5,
+                        args: [0, 0, 0],
+                    },
+                    [2, u64::MAX, 0, 0],
+                    Some(Word(u64::MAX)),
+                ),
+                [0, 0, 0, 0],
+                Write(0, Word(u64::MAX - 1)),
+            ),
+        ],
+    )
+}
+
+#[tactic(auto, using(crate::proofs::Lines::scale_lines))]
+#[test]
+fn scale_follows_its_lines(rt: HostRuntime) -> Result<(), Fail> {
+    agree(
+        &rt,
+        &[
+            (scale([3, 0, 0], [0, 0, 0, 0], None), [1, 0, 0, 0], Read(0)),
+            (
+                scale([3, 0, 0], [1, 0, 0, 0], Some(Word(7))),
+                [0, 0, 0, 0],
+                Write(0, Word(21)),
+            ),
+            (
+                scale([3, 0, 0], [1, 0, 0, 0], Some(Word(1 << 63))),
+                [0, 0, 0, 0],
+                Write(0, Word(1 << 63)),
+            ),
+            (
+                answer(
+                    Card {
+                        kind: 6,
+                        args: [2, 0, 0],
+                    },
+                    [1, 0, 0, 0],
+                    Some(Word(1 << 63)),
+                ),
+                [0, 0, 0, 0],
+                Write(0, Word(0)),
+            ),
+        ],
+    )
+}
+
+#[tactic(auto, using(crate::proofs::Lines::weave_lines))]
+#[test]
+fn weave_follows_its_lines(rt: HostRuntime) -> Result<(), Fail> {
+    agree(
+        &rt,
+        &[
+            (weave([2, 3, 0], [0, 1, 0, 0], None), [1, 1, 0, 0], Read(0)),
+            (
+                weave([2, 3, 0], [1, 0, 0, 0], Some(Word(7))),
+                [0, 1, 0, 0],
+                Write(0, Word(7)),
+            ),
+            (
+                weave([2, 3, 0], [1, 1, 0, 0], Some(Word(7))),
+                [2, 0, 0, 0],
+                Write(0, Word(7)),
+            ),
+            (weave([2, 3, 0], [2, 2, 0, 0], None), [3, 2, 0, 0], Read(1)),
+            (
+                weave([2, 3, 0], [3, 1, 0, 0], Some(Word(7))),
+                [2, 2, 0, 0],
+                Write(0, Word(7)),
+            ),
+            (
+                answer(
+                    Card {
+                        kind: 7,
+                        args: [2, 3, 0],
+                    },
+                    [3, 2, 0, 0],
+                    Some(Word(7)),
+                ),
+                [0, 0, 0, 0],
+                Write(0, Word(7)),
+            ),
+        ],
+    )
+}
+
+#[tactic(auto, using(crate::proofs::Lines::merge_lines))]
+#[test]
+fn merge_follows_its_lines(rt: HostRuntime) -> Result<(), Fail> {
+    agree(
+        &rt,
+        &[
+            (merge([0, 0, 0], [0, 0, 0, 0], None), [1, 0, 0, 0], Read(0)),
+            (
+                merge([0, 0, 0], [1, 0, 0, 0], Some(Word(7))),
+                [2, 7, 0, 0],
+                Read(1),
+            ),
+            (
+                merge([0, 0, 0], [2, 7, 0, 0], Some(Word(9))),
+                [3, 0, 9, 0],
+                Write(0, Word(7)),
+            ),
+            (
+                merge([0, 0, 0], [2, 9, 0, 0], Some(Word(7))),
+                [4, 9, 0, 0],
+                Write(0, Word(7)),
+            ),
+            (
+                merge([0, 0, 0], [2, 7, 0, 0], Some(Word(7))),
+                [0, 0, 0, 0],
+                Write(0, Word(7)),
+            ),
+            (merge([0, 0, 0], [3, 0, 9, 0], None), [5, 0, 9, 0], Read(0)),
+            (merge([0, 0, 0], [4, 9, 0, 0], None), [2, 9, 0, 0], Read(1)),
+            (
+                merge([0, 0, 0], [5, 0, 9, 0], Some(Word(8))),
+                [3, 0, 9, 0],
+                Write(0, Word(8)),
+            ),
+            (
+                merge([0, 0, 0], [5, 0, 8, 0], Some(Word(9))),
+                [4, 9, 0, 0],
+                Write(0, Word(8)),
+            ),
+            (
+                answer(
+                    Card {
+                        kind: 8,
+                        args: [0, 0, 0],
+                    },
+                    [5, 0, 9, 0],
+                    Some(Word(9)),
+                ),
+                [0, 0, 0, 0],
+                Write(0, Word(9)),
+            ),
+        ],
+    )
+}
+
+#[tactic(auto, using(crate::proofs::Lines::divides_lines))]
+#[test]
+fn divides_follows_its_lines(rt: HostRuntime) -> Result<(), Fail> {
+    agree(
+        &rt,
+        &[
+            (
+                divides([3, 0, 0], [0, 0, 0, 0], None),
+                [1, 0, 0, 0],
+                Read(0),
+            ),
+            (
+                divides([3, 0, 0], [1, 0, 0, 0], Some(Word(9))),
+                [0, 0, 0, 0],
+                Write(0, Flag(true)),
+            ),
+            (
+                divides([3, 0, 0], [1, 0, 0, 0], Some(Word(10))),
+                [0, 0, 0, 0],
+                Write(0, Flag(false)),
+            ),
+            (
+                answer(
+                    Card {
+                        kind: 9,
+                        args: [1, 0, 0],
+                    },
+                    [1, 0, 0, 0],
+                    Some(Word(10)),
+                ),
+                [0, 0, 0, 0],
+                Write(0, Flag(true)),
+            ),
+        ],
+    )
+}
+
+#[tactic(auto, using(crate::proofs::Lines::switch_lines))]
+#[test]
+fn switch_follows_its_lines(rt: HostRuntime) -> Result<(), Fail> {
+    agree(
+        &rt,
+        &[
+            (switch([0, 0, 0], [0, 0, 0, 0], None), [1, 0, 0, 0], Read(1)),
+            (
+                switch([0, 0, 0], [1, 0, 0, 0], Some(Flag(true))),
+                [2, 1, 0, 0],
+                Read(0),
+            ),
+            (
+                switch([0, 0, 0], [1, 0, 0, 0], Some(Flag(false))),
+                [2, 0, 0, 0],
+                Read(0),
+            ),
+            (
+                switch([0, 0, 0], [2, 0, 0, 0], Some(Word(7))),
+                [0, 0, 0, 0],
+                Write(0, Word(7)),
+            ),
+            (
+                answer(
+                    Card {
+                        kind: 10,
+                        args: [0, 0, 0],
+                    },
+                    [2, 1, 0, 0],
+                    Some(Word(7)),
+                ),
+                [0, 0, 0, 0],
+                Write(1, Word(7)),
+            ),
+        ],
+    )
+}
+
+#[tactic(auto, using(crate::proofs::Lines::select_lines))]
+#[test]
+fn select_follows_its_lines(rt: HostRuntime) -> Result<(), Fail> {
+    agree(
+        &rt,
+        &[
+            (select([0, 0, 0], [0, 0, 0, 0], None), [1, 0, 0, 0], Read(2)),
+            (
+                select([0, 0, 0], [1, 0, 0, 0], Some(Flag(true))),
+                [2, 0, 0, 0],
+                Read(1),
+            ),
+            (
+                select([0, 0, 0], [1, 0, 0, 0], Some(Flag(false))),
+                [2, 0, 0, 0],
+                Read(0),
+            ),
+            (
+                answer(
+                    Card {
+                        kind: 11,
+                        args: [0, 0, 0],
+                    },
+                    [2, 0, 0, 0],
+                    Some(Word(7)),
+                ),
+                [0, 0, 0, 0],
+                Write(0, Word(7)),
+            ),
+        ],
+    )
+}
+
+#[test]
+fn names_have_numbers_and_counts(rt: HostRuntime) -> Result<(), Fail> {
+    let names = [
+        ("count", Some((0, 2))),
+        ("sink", Some((1, 1))),
+        ("take", Some((2, 1))),
+        ("copy", Some((3, 0))),
+        ("prefix", Some((4, 1))),
+        ("add", Some((5, 0))),
+        ("scale", Some((6, 1))),
+        ("weave", Some((7, 2))),
+        ("merge", Some((8, 0))),
+        ("divides", Some((9, 1))),
+        ("switch", Some((10, 0))),
+        ("select", Some((11, 0))),
+        ("", None),
+        ("Count", None),
+        ("counts", None),
+        ("selec", None),
+    ];
+    for (name, expected) in names {
+        assert_eq!(rt; Standard::named(name), expected, "{name}");
+    }
+    Ok(())
+}
+
+const W: Option<Sort> = Some(Sort::Words);
+
+const F: Option<Sort> = Some(Sort::Flags);
+
+#[test]
+fn arguments_have_ports(rt: HostRuntime) -> Result<(), Fail> {
+    let ports_of = [
+        (0, [5, 3, 0], [None, None, None], [W, None, None]),
+        (0, [u64::MAX - 3, 3, 0], [None, None, None], [W, None, None]),
+        (1, [0, 0, 0], [W, None, None], [None, None, None]),
+        (2, [u64::MAX, 0, 0], [W, None, None], [W, None, None]),
+        (3, [0, 0, 0], [W, None, None], [W, W, None]),
+        (4, [4, 0, 0], [W, None, None], [W, None, None]),
+        (5, [0, 0, 0], [W, W, None], [W, None, None]),
+        (6, [0, 0, 0], [W, None, None], [W, None, None]),
+        (7, [1, 1, 0], [W, W, None], [W, None, None]),
+        (8, [0, 0, 0], [W, W, None], [W, None, None]),
+        (9, [1, 0, 0], [W, None, None], [F, None, None]),
+        (10, [0, 0, 0], [W, F, None], [W, W, None]),
+        (11, [0, 0, 0], [W, W, F], [W, None, None]),
+    ];
+    for (kind, args, ins, outs) in ports_of {
+        let signature = Standard::signature(&Card { kind, args });
+        assert_eq!(rt; signature, Some(Signature { ins, outs }), "{kind}");
+    }
+    Ok(())
+}
+
+#[test]
+fn other_arguments_are_refused(rt: HostRuntime) -> Result<(), Fail> {
+    let refused = [
+        (0, [u64::MAX - 3, 4, 0]),
+        (0, [u64::MAX, u64::MAX, 0]),
+        (0, [0, 0, 1]),
+        (1, [3, 1, 0]),
+        (2, [3, 0, 1]),
+        (3, [1, 0, 0]),
+        (4, [4, 1, 0]),
+        (5, [0, 1, 0]),
+        (6, [2, 0, 1]),
+        (7, [0, 1, 0]),
+        (7, [1, 0, 0]),
+        (7, [1, 1, 1]),
+        (8, [0, 0, 1]),
+        (9, [0, 0, 0]),
+        (9, [2, 1, 0]),
+        (10, [1, 0, 0]),
+        (11, [0, 1, 0]),
+        (12, [0, 0, 0]),
+        (65535, [1, 1, 0]),
+    ];
+    for (kind, args) in refused {
+        assert_eq!(rt; Standard::signature(&Card { kind, args }), None, "{kind}");
+    }
+    Ok(())
+}
+
+fn start_of<K: Kinds>(card: Card) -> Option<Local> {
+    K::signature(&card)?;
+    Some(K::start(&card))
+}
+
+#[test]
+fn starts_at_zero(rt: HostRuntime) -> Result<(), Fail> {
+    for kind in [3, 5, 8, 10, 11] {
+        let card = Card { kind, args: [0; 3] };
+        assert_eq!(rt; start_of::<Standard>(card), Some([0; 4]), "{kind}");
+    }
+    Ok(())
+}
