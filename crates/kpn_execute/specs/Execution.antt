@@ -1,0 +1,88 @@
+-- What the program writes of a network, and its exit status.
+use Rattle.std.specs.Prelude.{◌≡◌, ◌≢◌, ◌⊎◌, ℕ, Bool, true, codes, List, [], ◌++◌, length, Option, Some, None, position}
+use Rattle.std.specs.Str.{bytes_eq}
+use Rattle.std.specs.Io.KnownBytes.{Appends}
+use Rattle.kpn_net.specs.declared.history.Entry.{Entry}
+use Rattle.kpn_net.specs.declared.history.End.{End}
+use Rattle.kpn_net.specs.declared.history.End.TheVariants.{Terminated, Deadlock, Ceiling, Budget, Memory}
+use Rattle.kpn_net.specs.declared.fault.NetFault.TheVariants.{Memory as OutOfMemory}
+use Rattle.kpn_net.specs.Network.{Family, Network}
+use Rattle.kpn_net.specs.Machine.{State, IsArtificial}
+use Rattle.kpn_net.specs.History.{growths}
+use Rattle.kpn_net.specs.Determinacy.{IsRun}
+use Rattle.kpn_net.specs.Moments.{IsBound}
+use Rattle.kpn_report.specs.Text.{text as report_text}
+use Rattle.kpn_front.specs.Lines.{refused_line, no_channel_line}
+
+-- the exit status of a run that ended for this cause
+abbrev pub status_of : End → ℕ
+status_of Terminated = 0
+status_of Budget = 3
+status_of Memory = 4
+status_of Deadlock = 5
+status_of Ceiling = 6
+
+-- the number of the channel of a name
+abbrev pub channel_named : Network → List ℕ → Option ℕ
+channel_named net name = position (λ c. bytes_eq c.name name) net.channels
+
+-- no channel has the name that is to be shown
+pub record TellsNoChannel (net : Network) (show : Option (List ℕ)) (status : ℕ) (text : List ℕ) : Type 0 where
+  pub name : List ℕ
+  pub asked : show ≡ Some name
+  pub unknown : channel_named net name ≡ None
+  pub status_is : status ≡ 1
+  pub text_is : text ≡ no_channel_line name
+
+-- this is the channel that is to be shown, if any is
+abbrev pub IsShown : Network → Option (List ℕ) → Option ℕ → Type 0
+IsShown net None channel = channel ≡ None
+IsShown net (Some name) channel = (channel ≡ channel_named net name) × (channel ≢ None)
+
+-- memory was refused, before the first deed or for the report
+pub record TellsRefused (status : ℕ) (text : List ℕ) : Type 0 where
+  pub status_is : status ≡ 4
+  pub text_is : text ≡ refused_line OutOfMemory
+
+-- a run without growths stopped at an artificial deadlock
+pub record TellsFull (kinds : Family) (net : Network) (status : ℕ) (text : List ℕ) : Type 0 where
+  pub history : List Entry
+  pub state : State
+  pub run : IsRun kinds net history state
+  pub ungrown : growths history ≡ []
+  pub artificial : IsArtificial kinds net state
+  pub status_is : status ≡ 9
+  pub text_is : text ≡ codes "end full\n"
+
+-- a run without growths ended for a cause to which it is bound
+pub record TellsRun (kinds : Family) (net : Network) (channel : Option ℕ) (status : ℕ) (text : List ℕ) : Type 0 where
+  pub history : List Entry
+  pub state : State
+  pub cause : End
+  pub run : IsRun kinds net history state
+  pub ungrown : growths history ≡ []
+  pub bound : IsBound kinds net history state cause
+  pub natural : IsArtificial kinds net state → ⊥
+  pub status_is : status ≡ status_of cause
+  pub text_is : text ≡ report_text kinds net cause history state channel
+
+-- what is told of a network where the name that is to be shown is that of a channel
+abbrev pub TellsKnown : Family → Network → Option ℕ → ℕ → List ℕ → Type 0
+TellsKnown kinds net channel status text = TellsRefused status text ⊎ (TellsFull kinds net status text ⊎ TellsRun kinds net channel status text)
+
+-- what is told of a network, and the status
+abbrev pub Tells : Family → Network → Option (List ℕ) → ℕ → List ℕ → Type 0
+Tells kinds net show status text = TellsNoChannel net show status text ⊎ ((channel : Option ℕ) × IsShown net show channel × TellsKnown kinds net channel status text)
+
+-- what is told is written, and the status is its own; it is 7 where the write fails, as it does not
+-- where the sink takes so many bytes
+pub record Writes (tells : ℕ → List ℕ → Type 0) (takes : ℕ → Bool) (before after : Option (List ℕ)) (result : ℕ) : Type 0 where
+  pub status : ℕ
+  pub text : List ℕ
+  pub told : tells status text
+  pub written : result ≢ 7 → (result ≡ status) × Appends before after text
+  pub room : takes (length text) ≡ true → result ≢ 7
+
+-- what the program writes of a network
+abbrev pub Executes : Family → Network → Option (List ℕ) → (ℕ → Bool) → Option (List ℕ) → Option (List ℕ) → ℕ → Type 0
+Executes kinds net show takes before after result = Writes (Tells kinds net show) takes before after result

@@ -1,0 +1,4 @@
+pub mod Entries
+pub mod Loaded
+pub mod Subcommands
+pub mod Writing

@@ -1,0 +1,69 @@
+-- What the words of the command line ask for, and why they are refused.
+use Rattle.std.specs.Prelude.{◌≡◌, ◌≤◌, ◌++◌, ℕ, decimal, Bool, true, false, codes, List, [], Option, Some, None, option_map}
+use Rattle.std.specs.Str.Parse.{IsNumeral, digits_value, without_leading_plus}
+use Rattle.clap.specs.Words.{HasKind, Row, Text, fault_of, first_of, kind_of, subcommand_of}
+use Rattle.clap.specs.declared.error.kind.ErrorKind.{ErrorKind}
+use Rattle.clap.specs.declared.error.kind.ErrorKind.TheVariants.{DisplayHelp, DisplayVersion}
+use Rattle.kpn_front.specs.declared.words.TheConstants.{MAX_WORKERS}
+use Rattle.kpn_front.specs.declared.words.Choice.{Choice}
+use Rattle.kpn_front.specs.declared.words.Choice.TheVariants.{Check, Run}
+use Rattle.kpn_front.specs.declared.words.WordsFault.{WordsFault}
+use Rattle.kpn_front.specs.declared.words.WordsFault.TheVariants.{Parser, Workers}
+use Rattle.kpn_front.specs.Command.{kpn}
+
+-- the text is read as a number of workers
+abbrev pub ReadsWorkers : Text → ℕ → Type 0
+ReadsWorkers text n = IsNumeral 10 (without_leading_plus text) × (digits_value 10 (without_leading_plus text) ≡ n) × (1 ≤ n) × (n ≤ MAX_WORKERS)
+
+abbrev pub IsWorkers : Text → Option ℕ → Type 0
+IsWorkers text (Some n) = ReadsWorkers text n
+IsWorkers text None = (n : ℕ) → ReadsWorkers text n → ⊥
+
+-- the number of workers that the text asks for, or 1
+abbrev pub WorkersFrom : Option Text → ℕ → Type 0
+WorkersFrom None n = n ≡ 1
+WorkersFrom (Some text) n = ReadsWorkers text n
+
+-- the text is no number of workers
+abbrev pub IsRefusedWorkers : Option Text → Type 0
+IsRefusedWorkers None = ⊥
+IsRefusedWorkers (Some text) = IsWorkers text None
+
+-- the choice is what a command and its entries ask for
+abbrev pub IsChoiceOf : Option (Text × List Row) → Choice → Type 0
+IsChoiceOf None choice = ⊥
+IsChoiceOf (Some p) Check = p.0 ≡ codes "check"
+IsChoiceOf (Some p) (Run workers show) =
+    (p.0 ≡ codes "run") × WorkersFrom (first_of (codes "workers") p.1) workers × (option_map (λ s. s.now) show ≡ first_of (codes "show") p.1)
+
+abbrev pub HasRefusedWorkers : Option (Text × List Row) → Type 0
+HasRefusedWorkers None = ⊥
+HasRefusedWorkers (Some p) = IsRefusedWorkers (first_of (codes "workers") p.1)
+
+-- the command line takes the words
+abbrev pub AreTaken : List Text → Type 0
+AreTaken words = fault_of kpn words ≡ []
+
+abbrev pub IsChoice : List Text → Choice → Type 0
+IsChoice words choice = AreTaken words × IsChoiceOf (subcommand_of kpn words) choice
+
+-- the command line refuses the words by this kind of error, or memory was refused; or it takes them,
+-- and the text of `--workers` is no number of workers
+abbrev pub IsWordsFault : List Text → WordsFault → Type 0
+IsWordsFault words (Parser e) = HasKind (fault_of kpn words) e
+IsWordsFault words Workers = AreTaken words × HasRefusedWorkers (subcommand_of kpn words)
+
+abbrev pub is_text_asked_for : ErrorKind → Bool
+is_text_asked_for DisplayHelp = true
+is_text_asked_for DisplayVersion = true
+is_text_asked_for _ = false
+
+-- the words ask for a text, the help or the version
+abbrev pub asks_for_help : WordsFault → Bool
+asks_for_help (Parser e) = is_text_asked_for (kind_of e)
+asks_for_help Workers = false
+
+-- the text for the user, where it is not the parser's own
+abbrev pub text_of : WordsFault → Option Text
+text_of (Parser e) = None
+text_of Workers = Some (codes "error: --workers takes a number from 1 to " ++ (decimal MAX_WORKERS ++ codes "\n\nFor more information, try 'kpn run --help'.\n"))

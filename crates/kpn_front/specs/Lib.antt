@@ -1,0 +1,4 @@
+pub mod Command
+pub mod Choices
+pub mod Lines
+pub mod Loading

@@ -1,0 +1,22 @@
+-- The lines that the program writes of a description, and its exit status.
+use Rattle.std.specs.Prelude.{ℕ, codes, decimal, List, ◌++◌, length}
+use Rattle.kpn_net.specs.declared.fault.NetFault.{NetFault}
+use Rattle.kpn_net.specs.declared.fault.NetFault.TheVariants.{Memory}
+use Rattle.kpn_net.specs.Fault.{number_of}
+use Rattle.kpn_net.specs.Network.{Network}
+
+-- what is written of a network that is accepted
+abbrev pub checked_line : Network → List ℕ
+checked_line net = codes "ok " ++ (decimal (length net.processes) ++ (codes " processes " ++ (decimal (length net.channels) ++ codes " channels\n")))
+
+-- what is written of a description that is refused
+abbrev pub refused_line : NetFault → List ℕ
+refused_line fault = codes "refused " ++ (decimal (number_of fault) ++ codes "\n")
+
+abbrev pub status_of : NetFault → ℕ
+status_of Memory = 4
+status_of _ = 2
+
+-- what is written where no channel has the name that is to be shown
+abbrev pub no_channel_line : List ℕ → List ℕ
+no_channel_line name = codes "no channel " ++ name ++ codes "\n"

@@ -1,0 +1,37 @@
+-- What is loaded from a source of bytes.
+use Rattle.std.specs.Prelude.{◌≡◌, ◌≤◌, ◌<◌, ℕ, Bool, true, List, length, Option, Some, None, Result, MatchResult}
+use Rattle.std.specs.Io.KnownBytes.{Consumes}
+use Rattle.kpn_net.specs.declared.fault.NetFault.{NetFault}
+use Rattle.kpn_net.specs.declared.fault.NetFault.TheVariants.{NotToml, Keys, Memory, Input}
+use Rattle.kpn_net.specs.declared.kinds.Card.{Card}
+use Rattle.kpn_net.specs.declared.kinds.Signature.{Signature}
+use Rattle.kpn_net.specs.declared.sketch.Sketch.{Sketch}
+use Rattle.kpn_net.specs.Description.{Describes, IsReadFault}
+use Rattle.kpn_net.specs.Faults.{first_fault}
+use Rattle.kpn_net.specs.Network.{Network}
+use Rattle.kpn_net.specs.Sketched.{net_of}
+
+-- how many bytes a description may have
+abbrev pub longest : ℕ
+longest = 1048576
+
+-- of the bytes that a source had left, where they are known, at most n are gone
+abbrev pub TakesAtMost : ℕ → Option (List ℕ) → Option (List ℕ) → Type 0
+TakesAtMost n old new = (bytes : List ℕ) × Consumes old new bytes × (length bytes ≤ n)
+
+module _ (named : List ℕ → Option (ℕ × ℕ)) (signature : Card → Option Signature) (is_steady : Bool) (text : List ℕ) where
+  -- the text describes a sketch without a fault, and the network is that sketch's
+  abbrev pub IsNet : Network → Type 0
+  IsNet net = (length text ≤ longest) × (sketch : Sketch) × Describes text sketch × (first_fault named signature sketch ≡ None) × (net ≡ net_of named sketch)
+
+  -- a longer text is not read, and nothing is where a read fails; a shorter one has a fault of
+  -- reading, or the sketch that it describes has
+  abbrev pub IsLoadFault : NetFault → Type 0
+  IsLoadFault Memory = Unit {0}
+  IsLoadFault Input = is_steady ≡ true → longest < length text
+  IsLoadFault NotToml = (length text ≤ longest) × IsReadFault text NotToml
+  IsLoadFault Keys = (length text ≤ longest) × IsReadFault text Keys
+  IsLoadFault e = (length text ≤ longest) × (sketch : Sketch) × Describes text sketch × (first_fault named signature sketch ≡ Some e)
+
+  abbrev pub Loads : Result Network NetFault → Type 0
+  Loads result = MatchResult result IsNet IsLoadFault

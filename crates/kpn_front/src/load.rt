@@ -1,0 +1,54 @@
+//! Reading a network from a source.
+ghost use Rattle.std.specs.Prelude.{◌≡◌, ◌≤◌, ◌<◌, ◌+◌, ◌⊎◌, true, IfOk, IfErr, IfSome, length};
+ghost use Rattle.kpn_front.specs.Loading.{Loads, TakesAtMost, longest};
+
+use crate::streams::Source;
+use kpn_net::{Kinds, Net, NetFault, read_sketch};
+use std::alloc::Global;
+
+/// How many bytes a description may have.
+pub const LONGEST_TEXT: usize = 1048576;
+
+/// How many bytes one turn reads at most.
+const CHUNK: usize = 4096;
+
+/// Reads a description to its end, and makes its network.
+///
+/// Each turn reads at least one byte, and at most 1,048,577 bytes are read in all.
+///
+/// The fault is `Input` where the source gives more than 1,048,576 bytes or a read fails; nothing is
+/// then made of what was read. Otherwise it is the one that `read_sketch` finds in the bytes, or
+/// `Net::check` in what they describe, or `Memory` where memory was refused. After a fault no network
+/// was made, and what was read is gone from the source.
+pub fn load<K: Kinds, S: Source>(alloc: Global, source: &mut S) -> Result<Net<K>, NetFault>
+    ensures loads { IfSome (S.remaining source.old) (λ text. Loads K.named K.signature_of (S.is_steady source.old) text result) }
+    ensures taken { TakesAtMost (longest + 1) (S.remaining source.old) (S.remaining source.new) }
+{
+    let text = read_text(alloc, source)?;
+    let sketch = read_sketch(alloc, text.as_slice())?;
+    Net::check(alloc, &sketch)
+}
+
+/// The bytes of a source, where they are no more than a description may have.
+fn read_text<S: Source>(alloc: Global, source: &mut S) -> Result<Vec<u8>, NetFault>
+    ensures ok { IfOk result (λ t. (length t.items ≤ longest) × IfSome (S.remaining source.old) (λ text. t.items ≡ text)) }
+    ensures input { result ≡ Err NetFault.Input → IfSome (S.remaining source.old) (λ text. S.is_steady source.old ≡ true → longest < length text) }
+    ensures fault { IfErr result (λ e. (e ≡ NetFault.Input) ⊎ (e ≡ NetFault.Memory)) }
+    ensures taken { TakesAtMost (longest + 1) (S.remaining source.old) (S.remaining source.new) }
+{
+    let mut text = Vec::new(alloc);
+    let mut chunk = [0; CHUNK];
+    while text.len() <= LONGEST_TEXT {
+        let room = CHUNK.min(LONGEST_TEXT + 1 - text.len());
+        match source.read(&mut chunk[..room]) {
+            Ok(0) => return Ok(text),
+            Ok(n) => {
+                if text.extend_from_slice(&chunk[..n]).is_err() {
+                    return Err(NetFault::Memory);
+                }
+            }
+            Err(_) => return Err(NetFault::Input),
+        }
+    }
+    Err(NetFault::Input)
+}

@@ -1,0 +1,229 @@
+//! The words of the command line.
+ghost use Rattle.std.specs.Prelude.{◌≡◌, IfOk, IfErr, Some, false, map, option_map, codes, if◌then◌else◌};
+ghost use Rattle.clap.specs.Words.{FailsBy, app_of, fault_of, first_of, found_of, rows_of, rule_of, subcommand_of, subcommand_rows_of};
+ghost use Rattle.clap.specs.declared.builder.command.Command.TheViews.{out-Command as fields_of};
+ghost use Rattle.kpn_front.specs.Command.{kpn, check_command, run_command, workers_rule, show_rule};
+ghost use Rattle.kpn_front.specs.Choices.{IsWorkers, WorkersFrom, IsRefusedWorkers, IsChoice, IsChoiceOf, AreTaken, IsWordsFault, asks_for_help};
+
+use clap::error::ErrorKind;
+use clap::{Arg, ArgMatches, Command};
+use std::alloc::{AllocError, Global};
+use std::{error, fmt};
+
+/// How many workers a run may have at most.
+pub const MAX_WORKERS: usize = 1;
+
+/// The statuses that the program exits with, as its help tells them.
+const STATUSES: &str = "\
+Exit status:
+  0  the run terminated, the description was accepted, or help was asked for
+  1  the words were refused, or no channel has the name to show
+  2  the description was refused
+  3  the budget of entries was spent
+  4  memory was refused
+  5  the run ended in a deadlock
+  6  a channel would have grown past its ceiling
+  7  writing failed
+  9  a channel is full that would have to grow
+";
+
+/// Where the subcommands find the description.
+const INPUT: &str = "The description is TOML, read from standard input.";
+
+/// What the words ask for.
+#[derive(Debug, Drop)]
+pub enum Choice<'a> {
+    /// `kpn check`: whether the description is a network.
+    Check,
+    /// `kpn run`: the network run by so many workers, and the channel whose tokens are to be shown.
+    Run {
+        workers: usize,
+        show: Option<&'a str>,
+    },
+}
+
+/// Why the words give no choice. Its `Display` is the text for the user, which ends a line.
+#[derive(Debug, Drop)]
+pub enum WordsFault {
+    /// The command line refuses the words, or they ask for help or the version, or memory was
+    /// refused.
+    Parser(clap::Error),
+    /// The text of `--workers` is no number from 1 to `MAX_WORKERS`.
+    Workers,
+}
+
+impl WordsFault {
+    /// Whether the words ask for help or for the version: the text then goes to standard output, and
+    /// else to standard error.
+    pub fn asks_for_help(&self) -> bool
+        ensures { result ≡ asks_for_help self.now }
+    {
+        match self {
+            WordsFault::Parser(error) => matches!(
+                error.kind(),
+                ErrorKind::DisplayHelp | ErrorKind::DisplayVersion
+            ),
+            WordsFault::Workers => false,
+        }
+    }
+
+    /// The exit status: 0 where help or the version was asked for, and else 1.
+    pub fn status(&self) -> u8
+        ensures { result ≡ (if asks_for_help self.now then 0 else 1) }
+    {
+        if self.asks_for_help() { 0 } else { 1 }
+    }
+}
+
+impl fmt::Display for WordsFault {
+    ghost use Rattle.kpn_front.specs.Choices.{text_of};
+
+    ghost output = { text_of };
+
+    fn fmt<W: fmt::Write>(&self, f: &mut fmt::Formatter<W>) -> fmt::Result {
+        match self {
+            WordsFault::Parser(error) => error.fmt(f),
+            WordsFault::Workers => {
+                write!(
+                    f,
+                    "error: --workers takes a number from 1 to {MAX_WORKERS}\n\nFor more information, try 'kpn run --help'.\n"
+                )
+            }
+        }
+    }
+}
+
+impl error::Error for WordsFault {}
+
+/// What the words ask for, of which the first is the program's name.
+///
+/// The fault is `Parser` just where the command line refuses the words, with the kind of error that
+/// clap has for them (a call for help or for the version is one), or where memory was refused. It is
+/// `Workers` just where the command line takes the words, and the text of `--workers` is not read as
+/// a number from 1 to `MAX_WORKERS`. The words stay as they were.
+pub fn read_words<'a>(alloc: Global, words: &'a [&'a str]) -> Result<Choice<'a>, WordsFault>
+    ensures ok { IfOk result (IsChoice (map (λ w. w.now) words.entry.now)) }
+    ensures fault { IfErr result (IsWordsFault (map (λ w. w.now) words.entry.now)) }
+{
+    let matches = matches_of(alloc, words)?;
+    match subcommand_in(&matches) {
+        Some(("check", _)) => Ok(Choice::Check),
+        Some(("run", entries)) => run_choice(entries),
+        _ => unreachable!(),
+    }
+}
+
+/// The choice that the entries of `run` ask for.
+fn run_choice<'a>(entries: &ArgMatches<'a>) -> Result<Choice<'a>, WordsFault>
+    ensures ok { IfOk result (IsChoiceOf (Some (codes "run", rows_of (found_of entries.now)))) }
+    ensures workers { IfErr result (λ e. (e ≡ WordsFault.Workers) × IsRefusedWorkers (first_of (codes "workers") (rows_of (found_of entries.now)))) }
+{
+    let workers = workers_in(text_in(entries, "workers"))?;
+    let show = text_in(entries, "show");
+    Ok(Choice::Run { workers, show })
+}
+
+/// The number of workers that a text asks for, or 1.
+fn workers_in(text: Option<&str>) -> Result<usize, WordsFault>
+    ensures ok { IfOk result (WorkersFrom (option_map (λ s. s.now) text.entry)) }
+    ensures workers { IfErr result (λ e. (e ≡ WordsFault.Workers) × IsRefusedWorkers (option_map (λ s. s.now) text.entry)) }
+{
+    match text {
+        Some(text) => workers_of(text).ok_or(WordsFault::Workers),
+        None => Ok(1),
+    }
+}
+
+/// The number of workers that a text is.
+fn workers_of(text: &str) -> Option<usize>
+    ensures { IsWorkers text.now result }
+{
+    match text.parse::<usize>() {
+        Ok(workers) if workers >= 1 && workers <= MAX_WORKERS => Some(workers),
+        _ => None,
+    }
+}
+
+/// The first text of an option.
+fn text_in<'a>(entries: &ArgMatches<'a>, id: &str) -> Option<&'a str>
+    ensures { option_map (λ s. s.now) result ≡ first_of id.now (rows_of (found_of entries.now)) }
+{
+    entries.get_str(id)
+}
+
+/// The subcommand and its entries.
+fn subcommand_in<'a, 'b>(matches: &'b ArgMatches<'a>) -> Option<(&'a str, &'b ArgMatches<'a>)>
+    ensures { option_map (λ p. (p.0.now, rows_of (found_of p.1.now))) result ≡ subcommand_rows_of matches.now }
+{
+    matches.subcommand()
+}
+
+/// What the command line finds in the words.
+fn matches_of<'a>(alloc: Global, words: &'a [&'a str]) -> Result<ArgMatches<'a>, WordsFault>
+    ensures taken { IfOk result (λ m. AreTaken (map (λ w. w.now) words.entry.now)) }
+    ensures matches { IfOk result (λ m. subcommand_rows_of m ≡ subcommand_of kpn (map (λ w. w.now) words.entry.now)) }
+    ensures fault { IfErr result (IsWordsFault (map (λ w. w.now) words.entry.now)) }
+{
+    parse(alloc, words).map_err(WordsFault::Parser)
+}
+
+fn parse<'a>(alloc: Global, words: &'a [&'a str]) -> Result<ArgMatches<'a>, clap::Error>
+    ensures matches { IfOk result (λ m. subcommand_rows_of m ≡ subcommand_of kpn (map (λ w. w.now) words.entry.now)) }
+    ensures kinds { FailsBy (fault_of kpn (map (λ w. w.now) words.entry.now)) result }
+{
+    command(alloc)?.try_get_matches_from(words)
+}
+
+/// The command line of the program.
+fn command<'a>(alloc: Global) -> Result<Command<'a>, AllocError>
+    ensures { IfOk result (λ c. app_of c ≡ kpn) }
+{
+    Command::new(alloc, "kpn")
+        .about("Runs Kahn process networks in bounded memory")
+        .after_help(STATUSES)
+        .version("0.1.0")
+        .disable_help_subcommand(true)
+        .subcommand_required(true)
+        .subcommand(check(alloc))?
+        .subcommand(run(alloc)?)
+}
+
+fn check<'a>(alloc: Global) -> Command<'a>
+    ensures app { app_of result ≡ check_command }
+    ensures local { (fields_of result).has_globals ≡ false }
+{
+    Command::new(alloc, "check")
+        .about("Checks a description, and counts its processes and channels")
+        .after_help(INPUT)
+}
+
+fn run<'a>(alloc: Global) -> Result<Command<'a>, AllocError>
+    ensures app { IfOk result (λ c. app_of c ≡ run_command) }
+    ensures local { IfOk result (λ c. (fields_of c).has_globals ≡ false) }
+{
+    Command::new(alloc, "run")
+        .about("Runs the network of a description, and reports how it ended")
+        .after_help(INPUT)
+        .arg(workers(alloc))?
+        .arg(show(alloc))
+}
+
+fn workers<'a>(alloc: Global) -> Arg<'a>
+    ensures rule { rule_of result ≡ workers_rule }
+    ensures local { result.global ≡ false }
+{
+    Arg::new(alloc, "workers")
+        .long("workers")
+        .value_name("N")
+        .help("How many workers run the network [default: 1]")
+}
+
+fn show<'a>(alloc: Global) -> Arg<'a>
+    ensures rule { rule_of result ≡ show_rule }
+    ensures local { result.global ≡ false }
+{
+    Arg::new(alloc, "show")
+        .long("show")
+        .value_name("NAME")
+        .help("Also prints the tokens that were put on this channel")
+}
