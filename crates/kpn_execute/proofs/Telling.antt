@@ -1,16 +1,19 @@
 -- What is told of a run without growths.
-use Rattle.std.proofs.Common.{◌≡◌, ◌≢◌, ◌<◌, ◌++◌, ◌⊎◌, inl, inr, ℕ, List, Option, Some, None, refl, sym, ap, ◌∙◌, lit<}
+use Rattle.std.proofs.Common.{◌≡◌, ◌≢◌, ◌<◌, ◌++◌, ℕ, true, List, Option, Some, None, refl, sym, ap, ◌∙◌}
 use Rattle.kpn_net.specs.declared.history.Entry.{Entry}
 use Rattle.kpn_net.specs.declared.history.End.{End}
 use Rattle.kpn_net.specs.declared.history.End.TheVariants.{Terminated, Deadlock, Ceiling, Budget, Memory}
 use Rattle.kpn_net.specs.declared.history.Place.{Place}
 use Rattle.kpn_net.specs.Network.{Family, Network}
-use Rattle.kpn_net.specs.Machine.{State}
+use Rattle.kpn_net.specs.Machine.{State, IsOver}
+use Rattle.kpn_net.specs.History.{Digest, digest}
+use Rattle.kpn_net.specs.Determinacy.{IsFinal, OneDigest}
+use Rattle.kpn_net.specs.Moments.{IsBound}
 use Rattle.kpn_plain.specs.declared.halt.Halt.TheVariants.{Ended}
 use Rattle.kpn_plain.specs.Halts.{IsPlainRun}
 use Rattle.kpn_report.specs.declared.detail.Detail.{Detail}
 use Rattle.kpn_report.specs.Text.{end_line, digest_text, text}
-use Rattle.kpn_report.specs.Digested.{IsReport, report_text}
+use Rattle.kpn_report.specs.Digested.{IsReport, has_detail, report_text}
 use Rattle.kpn_execute.specs.Execution.{status_of, TellsRun}
 
 module _ (kinds : Family) (net : Network) where
@@ -25,10 +28,35 @@ module _ (kinds : Family) (net : Network) where
   report_told Deadlock E M detail channel r = let (d, is, same) = r.some refl in detailed Deadlock _ detail d channel is (ap (λ x. end_line Deadlock ++ digest_text net x channel) same)
   report_told Ceiling E M detail channel r = let (d, is, same) = r.some refl in detailed Ceiling _ detail d channel is (ap (λ x. end_line Ceiling ++ digest_text net x channel) same)
 
+  -- the text of a run that is over, from its digest
+  abbrev text_of : Option ℕ → Digest → List ℕ
+  text_of channel d = end_line d.cause ++ digest_text net d channel
+
+  over_text : (cause : End) (E : List Entry) (M : State) (channel : Option ℕ) → IsOver kinds net M cause → text kinds net cause E M channel ≡ text_of channel (digest kinds net cause E M)
+  over_text Terminated E M channel over = refl
+  over_text Deadlock E M channel over = refl
+  over_text Ceiling E M channel over = refl
+  over_text Budget E M channel over = elim over [ ]
+  over_text Memory E M channel over = elim over [ ]
+
+  -- a run that has a detail is over
+  over_of : (cause : End) (E : List Entry) (M : State) → has_detail cause ≡ true → IsBound kinds net E M cause → IsOver kinds net M cause
+  over_of Terminated E M has bound = bound
+  over_of Deadlock E M has bound = bound
+  over_of Ceiling E M has bound = bound
+  over_of Budget E M has bound = cc
+  over_of Memory E M has bound = cc
+
+  -- two runs that are over have one text
+  one_text : OneDigest kinds → (E F : List Entry) (M N : State) (a b : End) (channel : Option ℕ) → IsFinal kinds net E M a → IsFinal kinds net F N b → text kinds net a E M channel ≡ text kinds net b F N channel
+  one_text one E F M N a b channel e f =
+      over_text a E M channel e.over ∙ ap (text_of channel) (one net E F M N a b e f) ∙ sym (over_text b F N channel f.over)
+
   -- a run without growths that ended is told by its report
-  pub run_told : (E : List Entry) (places : List Place) (cause : End) (detail : Option Detail) (channel : Option ℕ) (status : ℕ) (bytes : List ℕ) (plain : IsPlainRun kinds net E places (Ended cause))
+  pub run_told : (E : List Entry) (places : List Place) (cause : End) (detail : Option Detail) (channel : Option ℕ) (status : ℕ) (bytes : List ℕ) (plain : IsPlainRun kinds net E places (Ended cause)) → OneDigest kinds
       → IsReport kinds net cause E plain.state detail → status ≡ status_of cause → bytes ≡ report_text net cause detail channel → TellsRun kinds net channel status bytes
-  run_told E places cause detail channel status bytes plain report status_is bytes_are =
+  run_told E places cause detail channel status bytes plain one report status_is bytes_are =
+      let told : bytes ≡ text kinds net cause E plain.state channel = bytes_are ∙ report_told cause E plain.state detail channel report in
       record {
         history = E;
         state = plain.state;
@@ -38,7 +66,9 @@ module _ (kinds : Family) (net : Network) where
         bound = plain.halts.0;
         natural = plain.halts.1;
         status_is = status_is;
-        text_is = bytes_are ∙ report_told cause E plain.state detail channel report;
+        text_is = told;
+        settled = λ has F N b final.
+            told ∙ one_text one E F plain.state N cause b channel (record { run = plain.run; over = over_of cause E plain.state has plain.halts.0 }) final;
       }
 
 -- no run ends with the status of a failed write

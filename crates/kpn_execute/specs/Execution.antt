@@ -9,9 +9,10 @@ use Rattle.kpn_net.specs.declared.fault.NetFault.TheVariants.{Memory as OutOfMem
 use Rattle.kpn_net.specs.Network.{Family, Network}
 use Rattle.kpn_net.specs.Machine.{State, IsArtificial}
 use Rattle.kpn_net.specs.History.{growths}
-use Rattle.kpn_net.specs.Determinacy.{IsRun}
+use Rattle.kpn_net.specs.Determinacy.{IsRun, IsFinal}
 use Rattle.kpn_net.specs.Moments.{IsBound}
 use Rattle.kpn_report.specs.Text.{text as report_text}
+use Rattle.kpn_report.specs.Digested.{has_detail}
 use Rattle.kpn_front.specs.Lines.{refused_line, no_channel_line}
 
 -- the exit status of a run that ended for this cause
@@ -54,6 +55,10 @@ pub record TellsFull (kinds : Family) (net : Network) (status : ℕ) (text : Lis
   pub status_is : status ≡ 9
   pub text_is : text ≡ codes "end full\n"
 
+-- whatever the schedule, each run that is over tells the same
+abbrev pub IsSettled : Family → Network → Option ℕ → List ℕ → Type 0
+IsSettled kinds net channel text = (F : List Entry) (N : State) (b : End) → IsFinal kinds net F N b → text ≡ report_text kinds net b F N channel
+
 -- a run without growths ended for a cause to which it is bound
 pub record TellsRun (kinds : Family) (net : Network) (channel : Option ℕ) (status : ℕ) (text : List ℕ) : Type 0 where
   pub history : List Entry
@@ -65,6 +70,7 @@ pub record TellsRun (kinds : Family) (net : Network) (channel : Option ℕ) (sta
   pub natural : IsArtificial kinds net state → ⊥
   pub status_is : status ≡ status_of cause
   pub text_is : text ≡ report_text kinds net cause history state channel
+  pub settled : has_detail cause ≡ true → IsSettled kinds net channel text
 
 -- what is told of a network where the name that is to be shown is that of a channel
 abbrev pub TellsKnown : Family → Network → Option ℕ → ℕ → List ℕ → Type 0

@@ -6,6 +6,7 @@ ghost use Rattle.kpn_execute.specs.Told.{IsTold};
 
 use kpn_front::say::{say, say_no_channel, say_refused};
 use kpn_front::streams::Sink;
+use kpn_laws::determinacy_of;
 use kpn_net::{End, Net, NetFault};
 use kpn_plain::{Answering, Halt, run_plain};
 use kpn_report::{report_of, report_text};
@@ -24,6 +25,9 @@ enum Told {
 
 /// Runs a network in the calling thread, without growths, and writes what came of it: the report of
 /// the run, with the stream of a channel where `show` names one.
+///
+/// Where the run came to its own end, each run of the network that is over tells the same, whatever
+/// the schedule.
 ///
 /// The answer is the exit status: 0, 5 or 6 where the run terminated, ended in a deadlock or at the
 /// ceiling, 3 where its budget was spent, 1 where `show` is the name of no channel (nothing is then
@@ -87,6 +91,7 @@ fn run_and_tell<K: Answering>(
     match run.halt {
         Halt::Full => Ok(Told::Full),
         Halt::Ended(end) => {
+            determinacy_of::<K>();
             let places = run.places;
             let report = report_of(alloc, net, run.history.as_slice(), places, end)?;
             let text = report_text(alloc, net, &report, channel)?;

@@ -1,0 +1,22 @@
+//! Beginnings of a description.
+use crate::texts::PARKS;
+use kpn_front::load::load;
+use kpn_net::{Net, NetFault};
+use kpn_standard::Standard;
+use std::alloc::Global;
+
+fn is_accepted(alloc: Global, text: &[u8]) -> bool {
+    let mut source = text;
+    let net: Result<Net<Standard>, NetFault> = load(alloc, &mut source);
+    net.is_ok()
+}
+
+/// Every beginning that lacks more than the last line feed is refused, and the rest is accepted.
+#[test]
+fn only_the_whole_text_is_accepted(rt: HostRuntime) {
+    let text = PARKS.as_bytes();
+    for length in 0..text.len() + 1 {
+        let accepted = is_accepted(rt.alloc(), &text[..length]);
+        assert_eq!(rt; accepted, length + 1 >= text.len(), "at {length}");
+    }
+}

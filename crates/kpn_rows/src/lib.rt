@@ -1,0 +1,9 @@
+//! Tests that cross the crates: descriptions, from their bytes to what the program writes of them.
+#![tactic(auto)]
+
+#[cfg(test)]
+mod beginnings;
+#[cfg(test)]
+mod runs;
+#[cfg(test)]
+mod texts;

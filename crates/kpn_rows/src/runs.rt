@@ -1,0 +1,212 @@
+//! Whole runs: what is written of each worked network, and the exit status.
+use crate::texts::{COUNTER, DEAD, FLAGS, NOTHING, PARKS, WRAPS};
+use kpn_execute::execute_alone;
+use kpn_front::load::load;
+use kpn_net::{Net, NetFault};
+use kpn_standard::Standard;
+use std::alloc::{AllocError, Global};
+use std::test::Fail;
+
+/// What is written of a description, and the exit status: that of a run, or the fault's number and 2.
+#[derive(Drop)]
+struct Told {
+    status: u8,
+    text: Vec<u8>,
+}
+
+/// Room for every text here, taken before the run.
+const ROOM: usize = 1024;
+
+fn outcome_of(alloc: Global, text: &str, show: Option<&str>) -> Result<Told, AllocError> {
+    let mut out = Vec::with_capacity(alloc, ROOM)?;
+    let mut source = text.as_bytes();
+    let net: Result<Net<Standard>, NetFault> = load(alloc, &mut source);
+    let status = match net {
+        Ok(net) => execute_alone(alloc, net, show, &mut out),
+        Err(fault) => kpn_front::say::say_refused(&fault, &mut out),
+    };
+    Ok(Told { status, text: out })
+}
+
+fn outcome_of_edit(
+    alloc: Global,
+    old: &str,
+    new: &str,
+    show: Option<&str>,
+) -> Result<Told, AllocError> {
+    let text = COUNTER.replace(alloc, old, new)?;
+    outcome_of(alloc, text.as_str(), show)
+}
+
+/// A description, the channel to show, the exit status, and what is written.
+static RUNS: [(&str, Option<&str>, u8, &str); 9] = [
+    (
+        COUNTER,
+        Some("c0"),
+        0,
+        "end terminated
+process src stopped steps 4
+process snk stopped steps 4
+channel c0 put 3 left 0 capacity 1
+entries 8
+stream c0 1 2 3
+",
+    ),
+    (
+        NOTHING,
+        Some("c0"),
+        0,
+        "end terminated
+process src stopped steps 1
+process snk stopped steps 1
+channel c0 put 0 left 0 capacity 1
+entries 2
+stream c0
+",
+    ),
+    (
+        WRAPS,
+        Some("c3"),
+        5,
+        "end deadlock
+process s stopped steps 2
+process d reads c0 steps 2
+process t stopped steps 2
+process ad reads c1 steps 3
+process snk stopped steps 2
+channel c0 put 1 left 0 capacity 1
+channel c1 put 1 left 0 capacity 1
+channel c2 put 1 left 0 capacity 1
+channel c3 put 1 left 0 capacity 1
+entries 11
+stream c3 0
+",
+    ),
+    (
+        DEAD,
+        None,
+        5,
+        "end deadlock
+process k reads c0 steps 0
+process snk reads c1 steps 0
+channel c0 put 0 left 0 capacity 1
+channel c1 put 0 left 0 capacity 1
+entries 0
+",
+    ),
+    (
+        FLAGS,
+        Some("c3"),
+        5,
+        "end deadlock
+process src stopped steps 7
+process cp reads c0 steps 18
+process dv reads c1 steps 12
+process sw reads c3 steps 18
+process odd stopped steps 4
+process even stopped steps 4
+channel c0 put 6 left 0 capacity 1
+channel c1 put 6 left 0 capacity 1
+channel c2 put 6 left 0 capacity 1
+channel c3 put 6 left 0 capacity 1
+channel c4 put 3 left 0 capacity 1
+channel c5 put 3 left 0 capacity 1
+entries 63
+stream c3 false true false true false true
+",
+    ),
+    (PARKS, Some("c3"), 9, "end full\n"),
+    (PARKS, Some("c9"), 1, "no channel c9\n"),
+    (COUNTER, Some("c9"), 1, "no channel c9\n"),
+    ("", None, 2, "refused 2\n"),
+];
+
+#[test]
+fn runs_tell_their_outcome(rt: HostRuntime) -> Result<(), Fail> {
+    for (text, show, status, lines) in RUNS {
+        let told = outcome_of(rt.alloc(), text, show)?;
+        assert_eq!(rt; told.status, status);
+        assert!(rt; told.text.as_slice() == lines.as_bytes());
+    }
+    Ok(())
+}
+
+/// A part of the counter's description, what takes its place, the exit status, and what is written.
+static EDITS: [(&str, &str, u8, &str); 6] = [
+    (
+        "args = [3]",
+        "args = [4]",
+        5,
+        "end deadlock
+process src stopped steps 4
+process snk reads c0 steps 3
+channel c0 put 3 left 0 capacity 1
+entries 7
+",
+    ),
+    (
+        "args = [3]",
+        "args = [2]",
+        0,
+        "end terminated
+process src stopped steps 4
+process snk stopped steps 3
+channel c0 put 3 left 1 capacity 1
+entries 7
+",
+    ),
+    ("args = [3]", "args = [1]", 9, "end full\n"),
+    (
+        "version = 1",
+        "version = 1\nbudget = 8",
+        0,
+        "end terminated
+process src stopped steps 4
+process snk stopped steps 4
+channel c0 put 3 left 0 capacity 1
+entries 8
+",
+    ),
+    ("version = 1", "version = 1\nbudget = 7", 3, "end budget\n"),
+    ("\"sink\"", "\"filter\"", 2, "refused 6\n"),
+];
+
+#[test]
+fn edits_tell_their_outcome(rt: HostRuntime) -> Result<(), Fail> {
+    for (old, new, status, lines) in EDITS {
+        let told = outcome_of_edit(rt.alloc(), old, new, None)?;
+        assert_eq!(rt; told.status, status);
+        assert!(rt; told.text.as_slice() == lines.as_bytes());
+    }
+    Ok(())
+}
+
+/// The flags' network with another channel shown: the last line.
+static SHOWN: [(&str, &str); 2] = [
+    ("c4", "entries 63\nstream c4 1 3 5\n"),
+    ("c5", "entries 63\nstream c5 2 4 6\n"),
+];
+
+#[test]
+fn shows_the_named_stream(rt: HostRuntime) -> Result<(), Fail> {
+    for (name, end) in SHOWN {
+        let told = outcome_of(rt.alloc(), FLAGS, Some(name))?;
+        assert_eq!(rt; told.status, 5);
+        assert!(rt; told.text.as_slice().ends_with(end.as_bytes()));
+    }
+    Ok(())
+}
+
+/// Where a request for memory is refused, that is all that is told, and the status is 4. With ample
+/// memory the run is told; `bench/refuse_each_allocation` refuses each request in turn.
+#[test]
+fn tells_a_refusal_or_the_run(rt: HostRuntime) -> Result<(), Fail> {
+    let (text, show, status, lines) = RUNS[0];
+    let Ok(told) = outcome_of(rt.alloc(), text, show) else {
+        return Ok(());
+    };
+    let is_run = told.status == status && told.text.as_slice() == lines.as_bytes();
+    let is_refusal = told.status == 4 && told.text.as_slice() == b"refused 14\n".as_slice();
+    assert!(rt; is_run || is_refusal);
+    Ok(())
+}
