@@ -1,5 +1,5 @@
 -- What is told of a run without growths.
-use Rattle.std.proofs.Common.{◌≡◌, ◌≢◌, ◌<◌, ◌++◌, ℕ, true, List, Option, Some, None, refl, sym, ap, ◌∙◌}
+use Rattle.std.proofs.Common.{◌≡◌, ◌≢◌, ◌++◌, ℕ, true, List, Option, Some, refl, sym, ap, ◌∙◌}
 use Rattle.kpn_net.specs.declared.history.Entry.{Entry}
 use Rattle.kpn_net.specs.declared.history.End.{End}
 use Rattle.kpn_net.specs.declared.history.End.TheVariants.{Terminated, Deadlock, Ceiling, Budget, Memory}

@@ -201,6 +201,7 @@ impl<K: Kinds> Net<K> {
             .position(|c| c.writer == p && c.out == port)
     }
 }
+
 fn process_in<K: Kinds>(alloc: Global, sketch: &ProcessSketch) -> Result<Process, NetFault>
     ensures ok { IfOk result (λ p. p ≡ process_in K.named sketch.now) }
     ensures memory { IfErr result (λ e. e ≡ NetFault.Memory) }

@@ -1,5 +1,5 @@
 -- How processes and channels start.
-use Rattle.std.specs.Prelude.{Option, None}
+use Rattle.std.specs.Prelude.{None}
 use Rattle.kpn_net.specs.declared.history.Status.{Status}
 use Rattle.kpn_net.specs.declared.history.Status.TheVariants.{Live}
 use Rattle.kpn_net.specs.declared.parts.Process.{Process}

@@ -76,11 +76,7 @@ fn advance<K: Answering>(net: &Net<K>, state: &mut PlainState) -> Option<Entry>
 
 /// Goes on until no process can, or until there are as many entries as the budget: whether no
 /// process can go on.
-fn run_on<K: Answering>(
-    net: &Net<K>,
-    state: &mut PlainState,
-    history: &mut Vec<Entry>,
-) -> bool
+fn run_on<K: Answering>(net: &Net<K>, state: &mut PlainState, history: &mut Vec<Entry>) -> bool
     requires fits { Fits K.admits net.now state.old }
     requires at_start { state.old ≡ start K.family net.now }
     requires fresh { history.old.items ≡ [] }

@@ -31,11 +31,7 @@ impl Model for Queue {
 
 impl Queue {
     /// A channel that holds these tokens, with room for its capacity.
-    pub(crate) fn new(
-        alloc: Global,
-        tokens: &[Token],
-        capacity: usize,
-    ) -> Result<Queue, AllocError>
+    pub(crate) fn new(alloc: Global, tokens: &[Token], capacity: usize) -> Result<Queue, AllocError>
         requires { length tokens.now ≤ capacity }
         ensures { IfOk result (λ q. q ≡ held tokens.now capacity) }
     {

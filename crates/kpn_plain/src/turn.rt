@@ -82,10 +82,7 @@ fn blocked_on<K: Answering>(net: &Net<K>, state: &PlainState, p: usize) -> Optio
 }
 
 /// The first process that is blocked on a write, and the channel.
-pub(crate) fn find_blocked<K: Answering>(
-    net: &Net<K>,
-    state: &PlainState,
-) -> Option<(usize, usize)>
+pub(crate) fn find_blocked<K: Answering>(net: &Net<K>, state: &PlainState) -> Option<(usize, usize)>
     requires { Fits K.admits net.now state.now }
     ensures some { IfSome result (λ b. IsBlocked K.family net.now state.now b.0 b.1) }
     ensures none { IfNone result ((p c : ℕ) → IsBlocked K.family net.now state.now p c → ⊥) }

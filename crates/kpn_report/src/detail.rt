@@ -82,7 +82,10 @@ fn rests(alloc: Global, accounts: &[Account]) -> Result<Vec<Stream>, AllocError>
 fn capacities(alloc: Global, accounts: &[Account]) -> Result<Vec<usize>, AllocError>
     ensures { IfOk result (λ v. v.items ≡ map (λ a. a.capacity) accounts.now) }
 {
-    accounts.iter().map(|account| account.capacity).collect(alloc)
+    accounts
+        .iter()
+        .map(|account| account.capacity)
+        .collect(alloc)
 }
 
 /// The stream of each channel.

@@ -1,6 +1,5 @@
 -- The channel that is to be shown is known, or it is told that it isn't.
-use Rattle.std.proofs.Common.{◌≡◌, Some, None, inl, inr, refl, sym, ap, ◌∙◌}
-use Rattle.std.specs.Prelude.{option_map}
+use Rattle.std.proofs.Common.{Some, None, inl, inr, refl, sym}
 use Rattle.kpn_front.specs.Lines.{no_channel_line}
 use Rattle.kpn_execute.proofs.execute.execute_plain.Goals as goal
 

@@ -1,5 +1,5 @@
 -- The report of the run, as its text.
-use Rattle.std.proofs.Common.{◌≡◌, ap, subst, ◌∙◌}
+use Rattle.std.proofs.Common.{subst, ◌∙◌}
 use Rattle.kpn_plain.specs.declared.halt.Halt.{Halt}
 use Rattle.kpn_plain.specs.Halts.{IsPlainRun}
 use Rattle.kpn_execute.proofs.Telling.{run_told}

@@ -1,8 +1,8 @@
 -- One more deed goes on with the run.
-use Rattle.std.proofs.Common.{◌≡◌, ◌++◌, ◌∷◌, [], List, sym, ap, ◌∙◌, subst, arith, rules, length, length-append}
+use Rattle.std.proofs.Common.{◌≡◌, ◌++◌, ◌∷◌, [], List, sym, ap, ◌∙◌, subst, rules}
 use Rattle.kpn_net.specs.declared.history.Entry.{Entry}
 use Rattle.kpn_net.specs.declared.history.Entry.TheVariants.{Did}
-use Rattle.kpn_net.specs.Machine.{Run, Step, start}
+use Rattle.kpn_net.specs.Machine.{Run, start}
 use Rattle.kpn_net.specs.History.{growths}
 use Rattle.kpn_laws.proofs.Runs.{run_push}
 use Rattle.kpn_laws.proofs.Views.{growths_push_did}

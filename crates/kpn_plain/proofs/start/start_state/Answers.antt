@@ -1,7 +1,6 @@
 -- The start of a valid network.
 use Rattle.std.proofs.Common.{◌≡◌, rules}
-use Rattle.kpn_net.specs.Machine.{State, start}
-use Rattle.kpn_plain.specs.Turns.{Fits}
+use Rattle.kpn_net.specs.Machine.{start}
 use Rattle.kpn_plain.proofs.Keeping.{fits_start}
 use Rattle.kpn_plain.proofs.start.start_state.Goals as goal
 

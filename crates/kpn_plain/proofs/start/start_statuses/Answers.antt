@@ -1,7 +1,6 @@
-use Rattle.std.proofs.Common.{◌≡◌, ◌<◌, ℕ, arith, sym, ap, ◌∙◌, ◌++◌, ◌∷◌, [], None, below_more}
+use Rattle.std.proofs.Common.{arith, sym, ap, ◌∙◌, ◌++◌, ◌∷◌, [], None, below_more}
 use Rattle.std.proofs.lemmas.List.{map_more}
-use Rattle.std.proofs.Math.Seq.{take-length}
-use Rattle.kpn_net.specs.Network.{card_of, no_process}
+use Rattle.kpn_net.specs.Network.{no_process}
 use Rattle.kpn_net.specs.declared.history.Status.TheVariants.{Live}
 use Rattle.kpn_plain.specs.Starting.{starting}
 use Rattle.kpn_plain.proofs.start.start_statuses.Goals as goal

@@ -1,5 +1,5 @@
 -- One entry more, and no count is more than the number of entries.
-use Rattle.std.proofs.Common.{◌≡◌, ◌≤◌, ◌<◌, List, subst, sym, arith, take, length}
+use Rattle.std.proofs.Common.{◌≡◌, ◌<◌, List, subst, sym, arith, take, length}
 use Rattle.std.proofs.lemmas.List.{take_more, length-take-le}
 use Rattle.kpn_net.specs.declared.history.Entry.{Entry}
 use Rattle.kpn_net.specs.History.{growths}
