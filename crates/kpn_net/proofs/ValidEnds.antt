@@ -1,11 +1,10 @@
 -- Each port of a network is the end of just one channel.
-use Rattle.std.proofs.Common.{◌≡◌, ◌≢◌, ◌<◌, ◌≤◌, ◌+◌, ℕ, ℤ, pos, negsuc, zero, suc, Bool, true, false, not, ◌||◌, ◌&&◌, nat_lt, cond, List, [], ◌∷◌, length, get_or, map, Option, Some, None, IsSome, is_some, is_none, option_map, option_and_then, slice_get, unwrap_or, refl, sym, ap, ◌∙◌, arith, rules}
+use Rattle.std.proofs.Common.{◌≡◌, ◌<◌, ℕ, ℤ, pos, negsuc, zero, suc, Bool, true, false, ◌&&◌, nat_lt, List, [], ◌∷◌, length, get_or, Option, Some, None, option_and_then, slice_get, refl, sym, ap, ◌∙◌, arith}
 use Rattle.std.proofs.lemmas.Bool.{or_parts, and_parts, false≢true}
 use Rattle.std.proofs.lemmas.Bool.Decides.{nat_tests, Decides-int_eq}
 use Rattle.std.proofs.lemmas.List.Folds.{Any-from_list_any}
 use Rattle.std.proofs.lemmas.Slice.Eq.{bytes_eq-Decides}
-use Rattle.std.specs.List.{find, list_any, All, Any, AllPairs, position, position_or_len}
-use Rattle.std.specs.Option.{option_map_or}
+use Rattle.std.specs.List.{find, list_any, All, position_or_len}
 use Rattle.std.specs.Ordering.{int_eq}
 use Rattle.std.specs.Prelude.{unsigned_abs}
 use Rattle.std.specs.Str.{bytes_eq}
@@ -14,7 +13,7 @@ use Rattle.kpn_net.specs.declared.sketch.ProcessSketch.{ProcessSketch}
 use Rattle.kpn_net.specs.declared.sketch.ChannelSketch.{ChannelSketch}
 use Rattle.kpn_net.specs.declared.kinds.Card.{Card}
 use Rattle.kpn_net.specs.declared.kinds.Signature.{Signature}
-use Rattle.kpn_net.specs.Faults.{any_pair, same_process, port_sort, card_with, signature_of}
+use Rattle.kpn_net.specs.Faults.{any_pair, same_process, port_sort, signature_of}
 use Rattle.kpn_net.specs.Sketched.{index_of}
 use Rattle.kpn_net.specs.Valid.{JustOne}
 use Rattle.kpn_net.proofs.Lists.{no_pair_passes, found_index, found_passes, slice_get_within, none_passes_get}

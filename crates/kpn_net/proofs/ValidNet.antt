@@ -1,11 +1,10 @@
 -- The network of a sketch without a fault is valid.
-use Rattle.std.proofs.Common.{◌≡◌, ◌≢◌, ◌<◌, ◌≤◌, ◌+◌, ℕ, ℤ, pos, negsuc, zero, suc, Bool, true, false, not, ◌||◌, ◌&&◌, nat_lt, cond, List, [], ◌∷◌, length, get_or, map, Option, Some, None, IsSome, is_some, is_none, option_map, option_and_then, slice_get, unwrap_or, refl, sym, ap, ◌∙◌, arith, rules, lit<, lit≤}
-use Rattle.std.proofs.lemmas.Bool.{or_parts, and_parts, false≢true}
+use Rattle.std.proofs.Common.{◌≡◌, ◌≢◌, ◌<◌, ◌≤◌, ℕ, ℤ, pos, negsuc, zero, suc, Bool, true, false, not, ◌||◌, ◌&&◌, nat_lt, List, [], ◌∷◌, length, get_or, map, Option, Some, None, IsSome, is_some, is_none, option_map, option_and_then, slice_get, unwrap_or, refl, sym, ◌∙◌, arith, lit<, lit≤}
+use Rattle.std.proofs.lemmas.Bool.{or_parts, false≢true}
 use Rattle.std.proofs.lemmas.Bool.Decides.{nat_tests}
-use Rattle.std.proofs.lemmas.Int.{ints}
 use Rattle.std.proofs.lemmas.List.{length-map}
 use Rattle.std.proofs.lemmas.Slice.Eq.{bytes_eq-Decides}
-use Rattle.std.specs.List.{find, list_any, All, Any, AllPairs, AllByRecursion, position, position_or_len}
+use Rattle.std.specs.List.{find, list_any, All, AllPairs, AllByRecursion}
 use Rattle.std.specs.Prelude.{unsigned_abs, int_lt}
 use Rattle.std.specs.Ordering.{int_eq}
 use Rattle.std.specs.Str.{bytes_eq}

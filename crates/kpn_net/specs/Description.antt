@@ -1,5 +1,5 @@
 -- The sketch that a TOML document describes.
-use Rattle.std.specs.Prelude.{◌≡◌, ℕ, ℤ, pos, IsUtf8, IsSome, codes, List, [], ◌∷◌, Option, Some, None, option_and_then, if◌then◌else◌}
+use Rattle.std.specs.Prelude.{◌≡◌, ℕ, pos, IsUtf8, IsSome, codes, List, [], ◌∷◌, Option, Some, None, option_and_then, if◌then◌else◌}
 use Rattle.toml.specs.Data.{Data, Members, as_str, as_integer, as_table}
 use Rattle.std.specs.Str.{bytes_eq}
 use Rattle.kpn_net.specs.declared.token.Sort.{Sort}

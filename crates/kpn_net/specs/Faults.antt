@@ -1,7 +1,7 @@
 -- The faults of a sketch, and which of them is the first.
-use Rattle.std.specs.Prelude.{ℕ, ℤ, pos, negsuc, Bool, true, false, not, ◌&&◌, ◌||◌, ◌==◌, nat_le, nat_lt, int_lt, unsigned_abs, if◌then◌else◌, List, [], ◌∷◌, length, slice_index, slice_index_or, slice_get, Option, Some, None, is_some, is_none, option_and_then}
+use Rattle.std.specs.Prelude.{ℕ, ℤ, pos, negsuc, Bool, true, false, not, ◌&&◌, ◌||◌, ◌==◌, nat_lt, int_lt, unsigned_abs, List, [], ◌∷◌, length, slice_index_or, Option, Some, None, is_some, is_none, option_and_then}
 use Rattle.std.specs.Option.{option_map_or}
-use Rattle.std.specs.List.{find, list_any, list_all}
+use Rattle.std.specs.List.{find, list_any}
 use Rattle.std.specs.Ordering.{int_eq}
 use Rattle.std.specs.Str.{bytes_eq}
 use Rattle.kpn_net.specs.declared.fault.NetFault.{NetFault}

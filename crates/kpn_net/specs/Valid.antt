@@ -7,11 +7,10 @@ use Rattle.kpn_net.specs.declared.kinds.Card.{Card}
 use Rattle.kpn_net.specs.declared.kinds.Signature.{Signature}
 use Rattle.kpn_net.specs.declared.parts.Channel.{Channel}
 use Rattle.kpn_net.specs.declared.history.Entry.{Entry}
-use Rattle.kpn_net.specs.declared.history.Status.{Status}
 use Rattle.kpn_net.specs.declared.history.Status.TheVariants.{Live}
 use Rattle.kpn_net.specs.Name.{is_name}
 use Rattle.kpn_net.specs.Network.{Family, Network, card_of, channel_of}
-use Rattle.kpn_net.specs.Lawful.{sort_of, Fits, in_sort, out_sort, AreLawful}
+use Rattle.kpn_net.specs.Lawful.{sort_of, Fits, in_sort, out_sort}
 use Rattle.kpn_net.specs.Machine.{State, status, tokens}
 use Rattle.kpn_net.specs.Determinacy.{IsRun}
 

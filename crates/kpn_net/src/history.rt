@@ -4,14 +4,15 @@ use crate::kinds::Local;
 use crate::token::Token;
 
 /// Whether a process goes on: it is live, with its local state and the token of the read just done
-/// (none at its start and after a write), or it has stopped.
+/// (`None` at its start and after a write), or it has stopped.
 #[derive(Clone, Copy, Debug, PartialEq, Eq)]
 pub enum Status {
     Live { local: Local, last: Option<Token> },
     Done,
 }
 
-/// What a process did, by the network's channels.
+/// What a process did: it took the first token of a channel, put a token at the end of a channel, or
+/// stopped. Channels are given by their numbers in the network.
 #[derive(Clone, Copy, Debug, PartialEq, Eq)]
 pub enum Deed {
     Took { channel: usize, token: Token },
@@ -19,7 +20,7 @@ pub enum Deed {
     Stopped,
 }
 
-/// One event of a run: a process did something, or a channel grew to a new capacity.
+/// One event of a run: a process did something, or a channel grew to a new capacity, in tokens.
 #[derive(Clone, Copy, Debug, PartialEq, Eq)]
 pub enum Entry {
     Did { process: usize, deed: Deed },
@@ -28,10 +29,10 @@ pub enum Entry {
 
 /// Why a run ended.
 ///
-/// `Terminated`: every process has stopped. `Deadlock`: some process is live, and none is blocked
-/// on a write (Parks 1995 calls it a real deadlock). `Ceiling`: the channel that had to grow is at
-/// the ceiling. `Budget`: the history has at least as many entries as the budget. `Memory`: the
-/// channel that had to grow was refused memory.
+/// `Terminated`: every process has stopped. `Deadlock`: some process is live, none can go on, and
+/// none is blocked on a write (Parks 1995 calls it a real deadlock). `Ceiling`: the channel that had
+/// to grow is at the ceiling. `Budget`: the history has at least as many entries as the budget.
+/// `Memory`: the channel that had to grow was refused memory.
 #[derive(Clone, Copy, Debug, PartialEq, Eq)]
 pub enum End {
     Terminated,
@@ -41,7 +42,7 @@ pub enum End {
     Memory,
 }
 
-/// Where a process stands: it has stopped, or wants to read or to write a channel.
+/// Where a process stands: it has stopped, or wants to read or to write the channel of a number.
 #[derive(Clone, Copy, Debug, PartialEq, Eq)]
 pub enum Place {
     Stopped,

@@ -3,24 +3,27 @@ ghost use Rattle.std.specs.Prelude.{◌≡◌, ℕ, List, Option, None, IsSome};
 
 use crate::token::{Sort, Token};
 
-/// What makes a process: its kind, and three arguments of which the unused are 0.
+/// What makes a process: the number of its kind, and three arguments, of which those that the kind
+/// does not use are 0.
 #[derive(Clone, Copy, Debug, PartialEq, Eq)]
 pub struct Card {
     pub kind: u16,
     pub args: [u64; 3],
 }
 
-/// The sorts of a card's ports, each list filled from the front: port k is there where entry k is.
+/// The sorts of a card's inputs and outputs: there is an input k where entry k of `ins` is one, and
+/// an output k where entry k of `outs` is one. Each list is filled from the front.
 #[derive(Clone, Copy, Debug, PartialEq, Eq)]
 pub struct Signature {
     pub ins: [Option<Sort>; 3],
     pub outs: [Option<Sort>; 3],
 }
 
-/// What a process keeps between its acts.
+/// What a process keeps between its acts: four words, whose meaning is its kind's.
 pub type Local = [u64; 4];
 
-/// What a process wants to do next, by its ports: read one, write a token to one, or stop.
+/// What a process wants to do next: read an input, write a token to an output, each by its number
+/// (0 to 2), or stop.
 #[derive(Clone, Copy, Debug, PartialEq, Eq)]
 pub enum Act {
     Read(u8),
@@ -28,7 +31,7 @@ pub enum Act {
     Stop,
 }
 
-/// The local state after the act, and the act.
+/// What a process answers: its next act, and its local state once the act is done.
 #[derive(Clone, Copy, Debug, PartialEq, Eq)]
 pub struct Answer {
     pub next: Local,
@@ -59,15 +62,17 @@ pub trait Kinds: Send + Sync {
 
     ghost admits: { Card → List ℕ → Option Token → Type 0 };
 
-    /// The number of a kind, and how many arguments it takes; nothing where no kind has this name.
+    /// The number of the kind of a name, and how many arguments it takes; `None` where no kind has
+    /// this name.
     fn named(name: &str) -> Option<(u16, usize)>
         ensures { result ≡ named name.now };
 
-    /// The ports of a card, or nothing where its arguments are refused.
+    /// The ports of a card; `None` where the family has no such kind, or where the kind refuses these
+    /// arguments.
     fn signature(card: &Card) -> Option<Signature>
         ensures { result ≡ signature_of card.now };
 
-    /// The local state with which a process of a card begins.
+    /// The local state with which a process of a card begins. The card has a signature.
     fn start(card: &Card) -> Local
         requires { IsSome (signature_of card.now) }
         ensures { result ≡ family.start card.now };

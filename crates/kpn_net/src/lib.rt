@@ -1,5 +1,6 @@
-//! Kahn process networks: tokens, cards and kinds; descriptions, and the check that makes a network
-//! of one; and the definitions of the network and of the sequential machine, in specs/.
+//! Kahn process networks (Kahn 1974): tokens, cards and kinds; descriptions, and the check that makes
+//! a network of one; and, in specs/, the definitions of the network, of its runs and of what is read
+//! off them.
 #![tactic(auto)]
 
 mod check;

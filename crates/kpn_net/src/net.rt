@@ -25,6 +25,9 @@ const CEILING: usize = 65535;
 /// A valid network of processes of one family of kinds: each port of each process is the end of just
 /// one channel, of its sort (Kahn 1974: one writer and one reader a channel). Processes and channels
 /// are numbered from 0 in the order of the text.
+///
+/// `Net::check` makes one. Where a call takes the number of a process or of a channel, it has to be
+/// below `processes()` or `channels()`.
 #[derive(Drop)]
 pub struct Net<K: Kinds> {
     processes: Vec<Process>,
@@ -48,10 +51,13 @@ impl<K: Kinds> Model for Net<K> {
 }
 
 impl<K: Kinds> Net<K> {
-    /// The network of a sketch, which is valid.
+    /// The valid network that a sketch describes. Its channels are empty at first, and grow by one
+    /// place at a time, up to 65,535. The sketch stays as it is.
     ///
-    /// The error is the fault of least number of 3 to 13 whose condition holds of the sketch, or
-    /// `Memory` where memory was refused; nothing was then made.
+    /// The error is the first of `Version`, `Counts`, `Name`, `Kind`, `Args`, `NoEnd`, `Twice`,
+    /// `Unused`, `Sorts`, `Capacity` and `Budget` whose condition holds of the sketch, or `Memory`
+    /// where memory was refused; nothing was then made. A sketch without such a fault is refused for
+    /// memory alone.
     pub fn check(alloc: Global, sketch: &Sketch) -> Result<Net<K>, NetFault>
         ensures ok { IfOk result (λ n. (first_fault K.named K.signature_of sketch.now ≡ None) × (n ≡ net_of K.named sketch.now)) }
         ensures valid { IfOk result (IsValid K.signature_of) }
@@ -73,7 +79,8 @@ impl<K: Kinds> Net<K> {
 }
 
 impl<K: Kinds> Net<K> {
-    /// How many processes there are: 1 to 64.
+    /// How many processes there are: 1 to 64. The call also gives its caller that the network is
+    /// valid.
     pub fn processes(&self) -> usize
         ensures count { result ≡ length self.now.processes }
         ensures valid { IsValid K.signature_of self.now }
@@ -88,7 +95,7 @@ impl<K: Kinds> Net<K> {
         self.channels.len()
     }
 
-    /// The card of a process.
+    /// The card of process `p`, which has a signature.
     pub fn card(&self, p: usize) -> Card
         requires { p < length self.now.processes }
         ensures { result ≡ card_of self.now p }
@@ -96,7 +103,7 @@ impl<K: Kinds> Net<K> {
         self.processes[p].card
     }
 
-    /// The name of a process.
+    /// The name of process `p`: 1 to 16 characters, and no other process's.
     pub fn process_name(&self, p: usize) -> &str
         requires { p < length self.now.processes }
         ensures { option_map (λ x. x.name) (slice_get self.now.processes p) ≡ Some result.now }
@@ -104,7 +111,7 @@ impl<K: Kinds> Net<K> {
         self.processes[p].name.as_str()
     }
 
-    /// The name of a channel.
+    /// The name of channel `c`: 1 to 16 characters, and no other channel's.
     pub fn channel_name(&self, c: usize) -> &str
         requires { c < length self.now.channels }
         ensures { option_map (λ x. x.name) (slice_get self.now.channels c) ≡ Some result.now }
@@ -112,14 +119,14 @@ impl<K: Kinds> Net<K> {
         self.channels[c].name.as_str()
     }
 
-    /// The number of the channel of a name.
+    /// The number of the channel of a name; `None` where no channel has it.
     pub fn find_channel(&self, name: &str) -> Option<usize>
         ensures { result ≡ position (λ c. bytes_eq c.name name.now) self.now.channels }
     {
         self.channels.iter().position(|c| c.name.as_str() == name)
     }
 
-    /// Where a channel begins and ends.
+    /// Where channel `c` begins and ends. Both ports are there.
     pub fn ends(&self, c: usize) -> Ends
         requires { c < length self.now.channels }
         ensures writer { result.writer ≡ (channel_of self.now c).writer }
@@ -136,7 +143,7 @@ impl<K: Kinds> Net<K> {
         }
     }
 
-    /// What a channel carries.
+    /// What channel `c` carries, as the ports at both its ends do.
     pub fn sort(&self, c: usize) -> Sort
         requires { c < length self.now.channels }
         ensures { result ≡ (channel_of self.now c).sort }
@@ -144,7 +151,7 @@ impl<K: Kinds> Net<K> {
         self.channels[c].sort
     }
 
-    /// How many tokens a channel may hold at first: 1 to the ceiling.
+    /// How many tokens channel `c` may hold at first: 1 to the ceiling.
     pub fn capacity(&self, c: usize) -> usize
         requires { c < length self.now.channels }
         ensures { result ≡ (channel_of self.now c).capacity }
@@ -152,7 +159,8 @@ impl<K: Kinds> Net<K> {
         self.channels[c].capacity
     }
 
-    /// What a channel holds at first, the first token first.
+    /// What channel `c` holds at first, the token that is read first in front: no more tokens than
+    /// its capacity, all of its sort.
     pub fn tokens(&self, c: usize) -> &[Token]
         requires { c < length self.now.channels }
         ensures { result.now ≡ (channel_of self.now c).tokens }
@@ -160,28 +168,30 @@ impl<K: Kinds> Net<K> {
         self.channels[c].tokens.as_slice()
     }
 
-    /// How many entries a run may have, and up to two more: 1 to 1,000,000.
+    /// How many entries the history of a run may have, and up to two more: 1 to 1,000,000.
     pub fn budget(&self) -> u64
         ensures { result ≡ self.now.budget }
     {
         self.budget
     }
 
-    /// How many places a growth adds.
+    /// How many places a growth of a channel adds: at least 1 (Parks 1995 enlarges a full channel
+    /// where a run cannot go on without).
     pub fn step(&self) -> usize
         ensures { result ≡ self.now.step }
     {
         self.step
     }
 
-    /// The capacity beyond which no channel grows.
+    /// The capacity beyond which no channel grows, in tokens.
     pub fn ceiling(&self) -> usize
         ensures { result ≡ self.now.ceiling }
     {
         self.ceiling
     }
 
-    /// The channel that leads to a process's input.
+    /// The number of the channel that leads to input `port` of process `p`; `None` where there is no
+    /// such process or input.
     pub fn in_of(&self, p: usize, port: usize) -> Option<usize>
         ensures is { result ≡ in_of self.now p port }
         ensures within { IfSome result (λ c. c < length self.now.channels) }
@@ -191,7 +201,8 @@ impl<K: Kinds> Net<K> {
             .position(|c| c.reader == p && c.input == port)
     }
 
-    /// The channel that leads from a process's output.
+    /// The number of the channel that leads from output `port` of process `p`; `None` where there is
+    /// no such process or output.
     pub fn out_of(&self, p: usize, port: usize) -> Option<usize>
         ensures is { result ≡ out_of self.now p port }
         ensures within { IfSome result (λ c. c < length self.now.channels) }

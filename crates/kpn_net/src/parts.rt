@@ -3,14 +3,15 @@ use crate::kinds::Card;
 use crate::small::{Listed, Text};
 use crate::token::{Sort, Token};
 
-/// A process: its name and its card.
+/// A process: its name, and the card that says what it does.
 #[derive(Drop)]
 pub struct Process {
     pub name: Text,
     pub card: Card,
 }
 
-/// Where a channel begins and ends: a process and one of its ports each.
+/// Where a channel begins and ends: output `out` of process `writer`, and input `input` of process
+/// `reader`. In a network processes are numbered from 0, and ports are 0 to 2.
 #[derive(Clone, Copy, Debug, PartialEq, Eq)]
 pub struct Ends {
     pub writer: usize,
@@ -19,7 +20,11 @@ pub struct Ends {
     pub input: usize,
 }
 
-/// A channel: its ends, its sort, how many tokens it may hold at first, and what it holds then.
+/// A channel: its name, its ends as in [`Ends`], its sort, how many tokens it may hold at first, and
+/// what it holds at first, the token that is read first in front.
+///
+/// It is a queue that one process writes and one reads (Kahn 1974), and a write to a full channel
+/// blocks (Parks 1995).
 #[derive(Drop)]
 pub struct Channel {
     pub name: Text,

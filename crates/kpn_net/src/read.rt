@@ -12,8 +12,19 @@ use crate::token::Sort;
 use std::alloc::Global;
 use toml::{Table, Value};
 
-/// Reads a description: fault 1 where it is no TOML, 2 where a key is missing, unknown or of
-/// another form.
+/// Reads a description, a TOML document in UTF-8, and fills in its defaults. Ranges and names are not
+/// checked: `Net::check` does that.
+///
+/// At the top stand `version` and `budget` (integers; the budget is 10000 where it is absent),
+/// `process` (an array of tables) and `channel` (an array of tables, empty where it is absent). A
+/// process has `name` and `kind` (texts) and `args` (an array of integers, empty where it is absent).
+/// A channel has `name`, `from` and `to` (texts), `out` and `in` (integers, 0 where they are absent),
+/// `sort` (`words` or `flags`, and `words` where it is absent) and `capacity` (an integer, 1 where it
+/// is absent). There are no other keys.
+///
+/// The error is `NotToml` where the bytes are not UTF-8 or no TOML, `Keys` where a key is missing or
+/// unknown or its value is of another form, or `Memory` where memory was refused; nothing was then
+/// read.
 pub fn read_sketch(alloc: Global, text: &[u8]) -> Result<Sketch, NetFault>
     ensures ok { IfOk result (Describes text.now) }
     ensures fault { IfErr result (IsReadFault text.now) }

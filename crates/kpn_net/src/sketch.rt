@@ -1,8 +1,10 @@
-//! What a description says, before it is checked.
+//! What a description says, before it is checked. Its numbers may be out of range, and its names
+//! may name nothing.
 use crate::small::{Listed, Text};
 use crate::token::Sort;
 
-/// A description, with its defaults filled in: its texts and integers in the order of the text.
+/// A description with its defaults filled in: its version, its budget in entries of a history, and
+/// its processes and channels in the order of the text.
 #[derive(Drop)]
 pub struct Sketch {
     pub version: i64,
@@ -11,7 +13,8 @@ pub struct Sketch {
     pub channels: Listed<ChannelSketch>,
 }
 
-/// A process of a description.
+/// A process of a description: its name, the name of its kind, and the arguments that are given, in
+/// their order.
 #[derive(Drop)]
 pub struct ProcessSketch {
     pub name: Text,
@@ -19,7 +22,8 @@ pub struct ProcessSketch {
     pub args: Listed<i64>,
 }
 
-/// A channel of a description.
+/// A channel of a description: its name, the names of the processes that it leads from and to, the
+/// output `out` of the one and the input `input` of the other, its sort, and its capacity in tokens.
 #[derive(Drop)]
 pub struct ChannelSketch {
     pub name: Text,

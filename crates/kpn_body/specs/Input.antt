@@ -1,0 +1,27 @@
+-- What a process is asked, and the answer to it.
+use Rattle.std.specs.Prelude.{◌≡◌, ℕ, List, Option, IsSome}
+use Rattle.kpn_net.specs.declared.token.Token.{Token}
+use Rattle.kpn_net.specs.declared.kinds.Card.{Card}
+use Rattle.kpn_net.specs.declared.kinds.Signature.{Signature}
+use Rattle.kpn_net.specs.declared.kinds.Answer.{Answer}
+use Rattle.kpn_net.specs.Network.{Family}
+
+-- a process of a card, its local state, and the token of the read just done
+pub record Input : Type 0 where
+  pub process : ℕ
+  pub card : Card
+  pub local : List ℕ
+  pub last : Option Token
+
+abbrev pub input : ℕ → Card → List ℕ → Option Token → Input
+input process card local last = record { process = process; card = card; local = local; last = last }
+
+-- what a family answers
+abbrev pub answer_to : Family → Input → Answer
+answer_to family asked = family.answer asked.card asked.local asked.last
+
+-- the answer is the family's, to an input that it admits, of a card that has a signature
+pub record IsAnswerTo (signature : Card → Option Signature) (admits : Card → List ℕ → Option Token → Type 0) (family : Family) (asked : Input) (answer : Answer) : Type 0 where
+  pub signed : IsSome (signature asked.card)
+  pub admitted : admits asked.card asked.local asked.last
+  pub is : answer ≡ answer_to family asked

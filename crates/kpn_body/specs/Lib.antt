@@ -1,0 +1,4 @@
+pub mod Equal
+pub mod Calls
+pub mod Input
+pub mod Standard

@@ -1,0 +1,17 @@
+//! Bodies, which are cards with stored closures; the tasks in which they are called; and the answers
+//! that come back.
+#![tactic(auto)]
+
+pub mod body;
+pub mod standard;
+pub mod task;
+#[cfg(test)]
+mod tests;
+
+pub use body::Body;
+pub use kpn_standard::{
+    Standard, add, answer, copy, count, divides, merge, prefix, scale, select, sink, switch, take,
+    weave,
+};
+pub use standard::{Call, StandardBody};
+pub use task::{Answered, Finished, Task};

@@ -1,0 +1,57 @@
+//! The bodies of the standard kinds.
+ghost use Rattle.std.specs.Prelude.{◌≡◌, IsSome};
+ghost use Rattle.kpn_net.specs.Standard.{standard};
+ghost use Rattle.kpn_standard.specs.Signatures.{signature};
+ghost use Rattle.kpn_standard.specs.Admitted.{Admitted};
+ghost use Rattle.kpn_body.specs.Calls.{IsCallable, Answers, answers_prop};
+
+use crate::body::Body;
+use kpn_net::{Answer, Card, Local, Token};
+use kpn_standard::Standard;
+
+/// A stored closure: from a local state, and the token of the read just done, to the answer.
+pub type Call = Box<dyn Fn(Local, Option<Token>) -> Answer + Send>;
+
+/// A standard card, and a closure that answers as the card says.
+#[derive(Drop)]
+pub struct StandardBody {
+    card: Card,
+    call: Call,
+    ghost signed: { IsSome (signature card) },
+    ghost callable: { IsCallable (Admitted card) (pre call) },
+    ghost answers: { Answers (Admitted card) (post call) (standard.answer card) } by { answers_prop _ _ _ },
+}
+
+impl StandardBody {
+    /// A body of a card that has a signature: `call` may be called on all that the card admits, and
+    /// its answer is then the card's.
+    pub fn new(card: Card, call: Call) -> Self
+        requires signed { IsSome (signature card) }
+        requires callable { IsCallable (Admitted card) (pre call) }
+        requires answers { Answers (Admitted card) (post call) (standard.answer card) }
+        ensures { result.card ≡ card }
+    {
+        StandardBody { card, call }
+    }
+}
+
+impl Body for StandardBody {
+    type Kinds = Standard;
+
+    ghost card = { λ body. body.card };
+
+    fn card(&self) -> Card {
+        self.card
+    }
+
+    fn answer(&self, local: Local, last: Option<Token>) -> Answer {
+        ask(&self.call, local, last)
+    }
+}
+
+fn ask(call: &Call, local: Local, last: Option<Token>) -> Answer
+    requires { pre call.now local last }
+    ensures { post call.now local last result }
+{
+    call(local, last)
+}

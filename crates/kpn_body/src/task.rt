@@ -1,0 +1,238 @@
+//! Tasks, and the answers that come back.
+ghost use Rattle.std.specs.Prelude.{◌≡◌, IsSome};
+ghost use Rattle.kpn_body.specs.Input.{input, answer_to};
+
+use crate::body::Body;
+use kpn_net::{Answer, Card, Kinds, Local, Token};
+use std::marker::{Model, PhantomData};
+
+/// A process that is asked for its next act, with the body that answers for it: the family admits
+/// its local state and last token for the body's card.
+///
+/// A task can't be copied, so a process is called once each time that it is asked.
+#[derive(Drop)]
+pub struct Task<B: Body> {
+    process: usize,
+    body: B,
+    local: Local,
+    last: Option<Token>,
+}
+
+impl<B: Body> Model for Task<B> {
+    ghost use Rattle.kpn_body.specs.Input.{Input, input};
+
+    ghost Value = { Input };
+
+    ghost view = { λ t. input t.process (B.card t.body) t.local t.last };
+
+    ghost invariant = { λ t. B.Kinds.admits (B.card t.body) t.local t.last };
+}
+
+impl<B: Body> Task<B> {
+    /// A task of the process of this number, in this local state, where it has just read `last`.
+    pub fn new(process: usize, body: B, local: Local, last: Option<Token>) -> Self
+        requires { B.Kinds.admits (B.card body) local last }
+        ensures { result ≡ input process (B.card body) local last }
+    {
+        Task {
+            process,
+            body,
+            local,
+            last,
+        }
+    }
+
+    /// The number of the process.
+    pub fn process(&self) -> usize
+        ensures { result ≡ self.now.process }
+    {
+        self.process
+    }
+
+    /// The body's card, which has a signature.
+    pub fn card(&self) -> Card
+        ensures card { result ≡ self.now.card }
+        ensures signed { IsSome (B.Kinds.signature_of self.now.card) }
+    {
+        self.body.card()
+    }
+
+    /// The local state, which is admitted with the last token.
+    pub fn local(&self) -> Local
+        ensures local { result ≡ self.now.local }
+        ensures admitted { B.Kinds.admits self.now.card self.now.local self.now.last }
+    {
+        self.local
+    }
+
+    /// The token of the read just done.
+    pub fn last(&self) -> Option<Token>
+        ensures { result ≡ self.now.last }
+    {
+        self.last
+    }
+
+    /// Calls the body, and keeps its answer with what it was asked. Takes no lock and no memory.
+    pub fn call(self) -> Finished<B>
+        ensures { result ≡ self }
+    {
+        let card = self.body.card();
+        let answer = self.body.answer(self.local, self.last);
+        let Task {
+            process,
+            body,
+            local,
+            last,
+        } = self;
+        Finished {
+            answered: Answered {
+                process,
+                card,
+                local,
+                last,
+                answer,
+                kinds: PhantomData,
+            },
+            body,
+        }
+    }
+}
+
+/// What a process was asked, and the answer that its card gives for it.
+///
+/// It is made by `Task::call` alone, and can't be copied.
+#[derive(Drop)]
+pub struct Answered<K: Kinds> {
+    process: usize,
+    card: Card,
+    local: Local,
+    last: Option<Token>,
+    answer: Answer,
+    kinds: PhantomData<K>,
+}
+
+impl<K: Kinds> Model for Answered<K> {
+    ghost use Rattle.kpn_body.specs.Input.{Input, input, IsAnswerTo};
+
+    ghost Value = { Input };
+
+    ghost view = { λ a. input a.process a.card a.local a.last };
+
+    ghost invariant = { λ a. IsAnswerTo K.signature_of K.admits K.family (input a.process a.card a.local a.last) a.answer };
+}
+
+impl<K: Kinds> Answered<K> {
+    /// The number of the process.
+    pub fn process(&self) -> usize
+        ensures { result ≡ self.now.process }
+    {
+        self.process
+    }
+
+    /// The card, which has a signature.
+    pub fn card(&self) -> Card
+        ensures card { result ≡ self.now.card }
+        ensures signed { IsSome (K.signature_of self.now.card) }
+    {
+        self.card
+    }
+
+    /// The local state in which the process was asked, which is admitted with the last token.
+    pub fn local(&self) -> Local
+        ensures local { result ≡ self.now.local }
+        ensures admitted { K.admits self.now.card self.now.local self.now.last }
+    {
+        self.local
+    }
+
+    /// The token of the read just done, when the process was asked.
+    pub fn last(&self) -> Option<Token>
+        ensures { result ≡ self.now.last }
+    {
+        self.last
+    }
+
+    /// The answer: the card's for this local state and last token.
+    pub fn answer(&self) -> Answer
+        ensures { result ≡ answer_to K.family self.now }
+    {
+        self.answer
+    }
+}
+
+/// A task that was called: its answer, beside the body.
+///
+/// It is made by `Task::call` alone, and can't be copied. Its card is the body's, and its answer is
+/// the card's for the local state and the last token that it holds.
+#[derive(Drop)]
+pub struct Finished<B: Body> {
+    answered: Answered<B::Kinds>,
+    body: B,
+}
+
+impl<B: Body> Model for Finished<B> {
+    ghost use Rattle.std.specs.Prelude.{◌≡◌};
+    ghost use Rattle.kpn_body.specs.Input.{Input};
+
+    ghost Value = { Input };
+
+    ghost view = { λ f. f.answered };
+
+    ghost invariant = { λ f. f.answered.card ≡ B.card f.body };
+}
+
+impl<B: Body> Finished<B> {
+    /// The number of the process.
+    pub fn process(&self) -> usize
+        ensures { result ≡ self.now.process }
+    {
+        self.answered.process()
+    }
+
+    /// The body's card, which has a signature.
+    pub fn card(&self) -> Card
+        ensures card { result ≡ self.now.card }
+        ensures signed { IsSome (B.Kinds.signature_of self.now.card) }
+    {
+        self.answered.card()
+    }
+
+    /// The local state in which the process was asked, which is admitted with the last token.
+    pub fn local(&self) -> Local
+        ensures local { result ≡ self.now.local }
+        ensures admitted { B.Kinds.admits self.now.card self.now.local self.now.last }
+    {
+        self.answered.local()
+    }
+
+    /// The token of the read just done, when the process was asked.
+    pub fn last(&self) -> Option<Token>
+        ensures { result ≡ self.now.last }
+    {
+        self.answered.last()
+    }
+
+    /// The answer: the card's for this local state and last token.
+    pub fn answer(&self) -> Answer
+        ensures { result ≡ answer_to B.Kinds.family self.now }
+    {
+        self.answered.answer()
+    }
+
+    /// The body alone, whose card is the one that it had.
+    pub fn into_body(self) -> B
+        ensures { B.card result ≡ self.card }
+    {
+        let Finished { answered: _, body } = self;
+        body
+    }
+
+    /// The answer with what was asked, and the body, whose card is the one that it had.
+    pub fn into_parts(self) -> (Answered<B::Kinds>, B)
+        ensures answered { result.0 ≡ self }
+        ensures card { B.card result.1 ≡ self.card }
+    {
+        let Finished { answered, body } = self;
+        (answered, body)
+    }
+}

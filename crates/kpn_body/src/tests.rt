@@ -1,0 +1,106 @@
+//! Tasks of standard bodies: what the readers give, and two lines of the table of kinds.
+ghost use Rattle.std.specs.Prelude.{◌≡◌, IsSome, IfOk};
+ghost use Rattle.kpn_net.specs.Standard.{standard};
+ghost use Rattle.kpn_standard.specs.Signatures.{signature};
+ghost use Rattle.kpn_standard.specs.Admitted.{Admitted};
+
+use crate::*;
+use kpn_net::Act::Write;
+use kpn_net::Token::Word;
+use kpn_net::{Answer, Card, Kinds, Local, Token};
+use std::process::Abort;
+use std::test::Fail;
+
+/// Process 5 is asked so: its readers before and after the call, its answer, and the body back.
+fn asked<B: Body>(
+    rt: &impl Abort,
+    body: B,
+    local: Local,
+    last: Option<Token>,
+    expected: Answer,
+) -> Result<B, Fail>
+    requires { B.Kinds.admits (B.card body) local last }
+    ensures { IfOk result (λ b. B.card b ≡ B.card body) }
+{
+    let card = body.card();
+    let task = Task::new(5, body, local, last);
+    assert_eq!(rt; task.process(), 5);
+    assert_eq!(rt; task.card(), card);
+    assert_eq!(rt; task.local(), local);
+    assert_eq!(rt; task.last(), last);
+    let finished = task.call();
+    assert_eq!(rt; finished.process(), 5);
+    assert_eq!(rt; finished.card(), card);
+    assert_eq!(rt; finished.local(), local);
+    assert_eq!(rt; finished.last(), last);
+    assert_eq!(rt; finished.answer(), expected);
+    Ok(finished.into_body())
+}
+
+/// The same by the answer alone, which a caller may keep beside the body.
+fn asked_in_parts<B: Body>(
+    rt: &impl Abort,
+    body: B,
+    local: Local,
+    last: Option<Token>,
+    expected: Answer,
+) -> Result<(), Fail>
+    requires { B.Kinds.admits (B.card body) local last }
+{
+    let card = body.card();
+    let (answered, body) = Task::new(5, body, local, last).call().into_parts();
+    assert_eq!(rt; answered.process(), 5);
+    assert_eq!(rt; answered.card(), card);
+    assert_eq!(rt; answered.local(), local);
+    assert_eq!(rt; answered.last(), last);
+    assert_eq!(rt; answered.answer(), expected);
+    assert_eq!(rt; body.card(), card);
+    Ok(())
+}
+
+#[test]
+fn count_from_one_writes_two(rt: HostRuntime) -> Result<(), Fail> {
+    let card = Card {
+        kind: 0,
+        args: [1, 3, 0],
+    };
+    let call: Call = Box::new(
+        rt.alloc(),
+        move |local: Local, last: Option<Token>| -> Answer
+            requires signed { IsSome (signature card) }
+            requires admitted { Admitted card local last }
+            ensures { result ≡ standard.answer card local last }
+        { answer(card, local, last) },
+    )?;
+    let body = StandardBody::new(card, call);
+    let expected = Answer {
+        next: [2, 0, 0, 0],
+        act: Write(0, Word(2)),
+    };
+    let body = asked(&rt, body, [1, 0, 0, 0], None, expected)?;
+    assert_eq!(rt; body.card(), card);
+    asked_in_parts(&rt, body, [1, 0, 0, 0], None, expected)
+}
+
+#[test]
+fn copy_writes_what_it_read(rt: HostRuntime) -> Result<(), Fail> {
+    let card = Card {
+        kind: 3,
+        args: [0; 3],
+    };
+    let call: Call = Box::new(
+        rt.alloc(),
+        move |local: Local, last: Option<Token>| -> Answer
+            requires signed { IsSome (signature card) }
+            requires admitted { Admitted card local last }
+            ensures { result ≡ standard.answer card local last }
+        { answer(card, local, last) },
+    )?;
+    let body = StandardBody::new(card, call);
+    let expected = Answer {
+        next: [2, 7, 0, 0],
+        act: Write(0, Word(7)),
+    };
+    asked(&rt, body, [1, 0, 0, 0], Some(Word(7)), expected)?;
+    Ok(())
+}

@@ -1,0 +1,5 @@
+//! Tests of kpn_net, in a crate of their own so that kpn_net is proved once.
+#![tactic(auto)]
+
+#[cfg(test)]
+mod tests;

@@ -1,0 +1,164 @@
+//! A description of a counter into a sink, and what each call gives of it; the numbers of the faults;
+//! texts and lists.
+ghost use Rattle.std.specs.Prelude.{◌≡◌, ◌<◌, ◌+◌, ◌^◌, ◌==◌, ◌&&◌, nat_lt, if◌then◌else◌, codes, [], ◌∷◌, Option, Some, None, slice_index};
+ghost use Rattle.std.specs.Str.{bytes_eq};
+
+use kpn_net::{
+    Card, Ends, Kinds, Listed, Local, Net, NetFault, Signature, Sort, Text, Token, read_sketch,
+};
+use std::test::Fail;
+
+/// A counter and a sink, by their names, arguments and ports. What they do is no matter here: each
+/// stops at once.
+struct CountAndSink;
+
+impl Kinds for CountAndSink {
+    ghost use Rattle.kpn_net.specs.declared.kinds.Act.TheVariants.{Stop};
+    ghost use Rattle.kpn_net.specs.declared.token.Sort.TheVariants.{Words};
+
+    ghost named = { λ name. if bytes_eq name (codes "count") then Some (0, 2) else if bytes_eq name (codes "sink") then Some (1, 1) else None };
+
+    ghost signature_of = { λ card.
+        if (card.kind == 0) && (slice_index card.args 2 == 0) && nat_lt (slice_index card.args 0 + slice_index card.args 1) (2 ^ 64)
+        then Some (record { ins = None ∷ None ∷ None ∷ []; outs = Some Words ∷ None ∷ None ∷ [] })
+        else if (card.kind == 1) && (slice_index card.args 1 == 0) && (slice_index card.args 2 == 0)
+        then Some (record { ins = Some Words ∷ None ∷ None ∷ []; outs = None ∷ None ∷ None ∷ [] })
+        else None };
+
+    ghost family = { record { start = λ card. 0 ∷ 0 ∷ 0 ∷ 0 ∷ []; answer = λ card local last. record { next = local; act = Stop } } };
+
+    ghost admits = { λ card local last. (local ≡ 0 ∷ 0 ∷ 0 ∷ 0 ∷ []) × (last ≡ None) };
+
+    fn named(name: &str) -> Option<(u16, usize)> {
+        match name {
+            "count" => Some((0, 2)),
+            "sink" => Some((1, 1)),
+            _ => None,
+        }
+    }
+
+    fn signature(card: &Card) -> Option<Signature> {
+        let [first, second, third] = card.args;
+        match card.kind {
+            0 if third == 0 && first.checked_add(second).is_some() => Some(Signature {
+                ins: [None, None, None],
+                outs: [Some(Sort::Words), None, None],
+            }),
+            1 if second == 0 && third == 0 => Some(Signature {
+                ins: [Some(Sort::Words), None, None],
+                outs: [None, None, None],
+            }),
+            _ => None,
+        }
+    }
+
+    fn start(_card: &Card) -> Local {
+        [0, 0, 0, 0]
+    }
+
+    fn names_port(_card: Card, _local: Local, _last: Option<Token>) {}
+
+    fn leads_on(_card: Card, _local: Local, _last: Option<Token>, _token: Token) {}
+
+    fn starts(_card: Card) {}
+}
+
+/// A counter of three into a sink of three.
+const COUNTER: &[u8] = b"version = 1
+
+[[process]]
+name = \"src\"
+kind = \"count\"
+args = [1, 3]
+
+[[process]]
+name = \"snk\"
+kind = \"sink\"
+args = [3]
+
+[[channel]]
+name = \"c0\"
+from = \"src\"
+to = \"snk\"
+capacity = 1
+";
+
+#[test]
+fn describes_a_counter_into_a_sink(rt: HostRuntime) -> Result<(), Fail> {
+    let alloc = rt.alloc();
+    let sketch = read_sketch(alloc, COUNTER).map_err(|_| "not read")?;
+    let net: Net<CountAndSink> = Net::check(alloc, &sketch).map_err(|_| "refused")?;
+    assert!(rt; net.processes() == 2 && net.channels() == 1);
+    let cards = [
+        Card {
+            kind: 0,
+            args: [1, 3, 0],
+        },
+        Card {
+            kind: 1,
+            args: [3, 0, 0],
+        },
+    ];
+    assert!(rt; [net.card(0), net.card(1)] == cards);
+    let ends = Ends {
+        writer: 0,
+        out: 0,
+        reader: 1,
+        input: 0,
+    };
+    assert!(rt; net.ends(0) == ends && net.sort(0) == Sort::Words);
+    let names = [
+        net.process_name(0),
+        net.process_name(1),
+        net.channel_name(0),
+    ];
+    assert!(rt; names == ["src", "snk", "c0"] && net.tokens(0).is_empty());
+    let found = [
+        net.find_channel("c0"),
+        net.find_channel("c1"),
+        net.out_of(0, 0),
+        net.in_of(1, 0),
+        net.in_of(0, 0),
+        net.out_of(0, 1),
+    ];
+    assert!(rt; found == [Some(0), None, Some(0), Some(0), None, None]);
+    assert!(rt;
+        [net.capacity(0), net.step(), net.ceiling()] == [1, 1, 65535] && net.budget() == 10000
+    );
+    Ok(())
+}
+
+static NUMBERS: [(NetFault, u8); 15] = [
+    (NetFault::NotToml, 1),
+    (NetFault::Keys, 2),
+    (NetFault::Version, 3),
+    (NetFault::Counts, 4),
+    (NetFault::Name, 5),
+    (NetFault::Kind, 6),
+    (NetFault::Args, 7),
+    (NetFault::NoEnd, 8),
+    (NetFault::Twice, 9),
+    (NetFault::Unused, 10),
+    (NetFault::Sorts, 11),
+    (NetFault::Capacity, 12),
+    (NetFault::Budget, 13),
+    (NetFault::Memory, 14),
+    (NetFault::Input, 15),
+];
+
+#[test]
+fn numbers_faults_and_keeps_texts_and_lists(rt: HostRuntime) -> Result<(), Fail> {
+    let alloc = rt.alloc();
+    for (fault, number) in NUMBERS {
+        assert_eq!(rt; fault.number(), number);
+    }
+    let text = Text::new(String::from_str(alloc, "c0")?);
+    assert!(rt; text.as_str() == "c0");
+    assert!(rt; text.into_string().as_str() == "c0");
+    let mut list = Listed::new(Vec::new(alloc));
+    list.push(Token::Word(7))?;
+    list.push(Token::Flag(true))?;
+    assert!(rt; list.as_slice() == [Token::Word(7), Token::Flag(true)].as_slice());
+    assert_eq!(rt; list.into_vec().len(), 2);
+    Ok(())
+}

@@ -1,0 +1,52 @@
+-- The family whose one kind is flip: it reads a flag and writes the other, for ever.
+use Rattle.std.specs.Prelude.{◌≡◌, ℕ, ◌==◌, ◌&&◌, not, Bool, if◌then◌else◌, List, [], ◌∷◌, Option, Some, None, codes}
+use Rattle.std.specs.Str.{bytes_eq}
+use Rattle.kpn_net.specs.declared.token.Sort.{Sort}
+use Rattle.kpn_net.specs.declared.token.Sort.TheVariants.{Flags}
+use Rattle.kpn_net.specs.declared.token.Token.{Token}
+use Rattle.kpn_net.specs.declared.token.Token.TheVariants.{Word, Flag}
+use Rattle.kpn_net.specs.declared.kinds.Card.{Card}
+use Rattle.kpn_net.specs.declared.kinds.Signature.{Signature}
+use Rattle.kpn_net.specs.declared.kinds.Act.TheVariants.{Read, Write}
+use Rattle.kpn_net.specs.declared.kinds.Answer.{Answer}
+use Rattle.kpn_net.specs.Network.{Family}
+use Rattle.kpn_net.specs.Standard.{at}
+
+-- the number of the kind of a name, and how many arguments it takes
+abbrev pub number_named : List ℕ → Option (ℕ × ℕ)
+number_named name = if bytes_eq name (codes "flip") then Some (0, 0) else None
+
+-- the one card
+abbrev pub flip : Card
+flip = record { kind = 0; args = 0 ∷ 0 ∷ 0 ∷ [] }
+
+-- an input and an output of flags
+abbrev pub one_flag : List (Option Sort)
+one_flag = Some Flags ∷ None ∷ None ∷ []
+
+abbrev pub is_flip : Card → Bool
+is_flip card = (card.kind == 0) && ((at card.args 0 == 0) && ((at card.args 1 == 0) && (at card.args 2 == 0)))
+
+abbrev pub ports : Card → Option Signature
+ports card = if is_flip card then Some (record { ins = one_flag; outs = one_flag }) else None
+
+-- the local states before the read and after it
+abbrev pub before_read : List ℕ
+before_read = 0 ∷ 0 ∷ 0 ∷ 0 ∷ []
+
+abbrev pub after_read : List ℕ
+after_read = 1 ∷ 0 ∷ 0 ∷ 0 ∷ []
+
+-- the lines of the table: the local state, by the token of the read just done
+abbrev pub HasLine : List ℕ → Option Token → Type 0
+HasLine local None = local ≡ before_read
+HasLine local (Some (Flag f)) = local ≡ after_read
+HasLine local (Some (Word n)) = ⊥
+
+-- what stands in each line: the next local state, and the act
+abbrev pub answer : Option Token → Answer
+answer (Some (Flag f)) = record { next = before_read; act = Write 0 (Flag (not f)) }
+answer _ = record { next = after_read; act = Read 0 }
+
+abbrev pub flips : Family
+flips = record { start = λ card. before_read; answer = λ card local last. answer last }

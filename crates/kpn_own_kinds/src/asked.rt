@@ -1,0 +1,23 @@
+//! Bodies of any family, asked as tasks.
+ghost use Rattle.std.specs.Prelude.{◌≡◌, None};
+
+use kpn_body::{Body, Task};
+use kpn_net::{Answer, Kinds, Local, Token};
+
+/// What a body answers, asked as the task of process 0.
+pub fn answer_of<B: Body>(body: B, local: Local, last: Option<Token>) -> Answer
+    requires { B.Kinds.admits (B.card body) local last }
+    ensures { result ≡ B.Kinds.family.answer (B.card body) local last }
+{
+    Task::new(0, body, local, last).call().answer()
+}
+
+/// What a body answers at the start of its process.
+pub fn first_answer<B: Body>(body: B) -> Answer
+    ensures { result ≡ B.Kinds.family.answer (B.card body) (B.Kinds.family.start (B.card body)) None }
+{
+    let card = body.card();
+    let start = B::Kinds::start(&card);
+    B::Kinds::starts(card);
+    answer_of(body, start, None)
+}

@@ -1,0 +1,53 @@
+//! The bodies of a network of standard kinds.
+ghost use Rattle.std.specs.Prelude.{◌≡◌, ◌<◌, IsSome, IfOk, Some, None, length, map, slice_get};
+ghost use Rattle.kpn_net.specs.Standard.{standard};
+ghost use Rattle.kpn_net.specs.Valid.{IsValid};
+ghost use Rattle.kpn_body.specs.Standard.{signature, Admitted};
+
+use crate::asked::first_answer;
+use kpn_body::{Body, Call, Standard, StandardBody, answer};
+use kpn_net::{Answer, Card, Local, Net, Token};
+use std::alloc::{AllocError, Global};
+
+/// What each process of a network answers first, in the order of the processes: a body is made for
+/// each, with a closure of its own, and asked once.
+///
+/// The closure captures the card, and its clauses name nothing else; so one serves all kinds. The
+/// error is want of memory; nothing was then asked.
+pub fn first_answers(alloc: Global, net: &Net<Standard>) -> Result<Vec<Answer>, AllocError>
+    ensures { IfOk result (λ answers. answers.items ≡ map (λ card. standard.answer card (standard.start card) None) (map (λ p. p.card) net.now.processes)) }
+{
+    let mut bodies = Vec::new(alloc);
+    for process in 0..net.processes() {
+        let card = signed_card(net, process);
+        let call: Call = Box::new(
+            alloc,
+            move |local: Local, last: Option<Token>| -> Answer
+                requires signed { IsSome (signature card) }
+                requires admitted { Admitted card local last }
+                ensures { result ≡ standard.answer card local last }
+            { answer(card, local, last) },
+        )?;
+        bodies.push(StandardBody::new(card, call))?;
+    }
+    each_first_answer(alloc, bodies)
+}
+
+fn signed_card(net: &Net<Standard>, process: usize) -> Card
+    requires valid { IsValid signature net.now }
+    requires within { process < length net.now.processes }
+    ensures signed { IsSome (signature result) }
+    ensures is { slice_get (map (λ p. p.card) net.now.processes) process ≡ Some result }
+{
+    net.card(process)
+}
+
+fn each_first_answer<B: Body>(alloc: Global, bodies: Vec<B>) -> Result<Vec<Answer>, AllocError>
+    ensures { IfOk result (λ answers. answers.items ≡ map (λ b. B.Kinds.family.answer (B.card b) (B.Kinds.family.start (B.card b)) None) bodies.items) }
+{
+    let mut answers = Vec::with_capacity(alloc, bodies.len())?;
+    for body in bodies {
+        answers.push(first_answer(body))?;
+    }
+    Ok(answers)
+}

@@ -1,0 +1,17 @@
+//! How a caller brings kinds of processes of its own, and closures of its own for the standard ones.
+//!
+//! `flip` holds a family with one kind, from the table of its lines to a run; `docs/own-kinds.md`
+//! explains it step by step.
+#![tactic(auto)]
+
+pub mod asked;
+pub mod bodies;
+pub mod flip;
+pub mod scale;
+#[cfg(test)]
+mod tests;
+
+pub use asked::{answer_of, first_answer};
+pub use bodies::first_answers;
+pub use flip::{FlipBody, Flips, flip_answer};
+pub use scale::scale_answer;

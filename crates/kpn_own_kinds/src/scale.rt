@@ -1,0 +1,44 @@
+//! A closure of a caller's own for a standard kind.
+ghost use Rattle.std.specs.Prelude.{◌≡◌, ◌*◌, ◌%◌, ◌^◌, ◌∷◌, [], IfOk};
+ghost use Rattle.kpn_net.specs.Standard.{standard, says};
+ghost use Rattle.kpn_body.specs.Standard.{card};
+ghost use Rattle.kpn_body.specs.Standard.{Admitted};
+
+use crate::asked::answer_of;
+use kpn_body::{Call, StandardBody};
+use kpn_net::{Act, Answer, Card, Local, Token};
+use std::alloc::{AllocError, Global};
+
+/// The number of the standard kind `scale`, which reads a word and writes its product by a factor.
+const SCALE: u16 = 6;
+
+/// What a scale by this factor answers where it has just read a word: it writes their product modulo
+/// 2^64, and is then in its first local state.
+pub fn scale_answer(alloc: Global, factor: u64, word: u64) -> Result<Answer, AllocError>
+    ensures { IfOk result (λ a. a ≡ says 0 0 0 (Act.Write 0 (Token.Word ((factor * word) % 2 ^ 64)))) }
+{
+    let call: Call = Box::new(
+        alloc,
+        move |local: Local, last: Option<Token>| -> Answer
+            requires { Admitted (card SCALE (factor ∷ 0 ∷ 0 ∷ [])) local last }
+            ensures { result ≡ standard.answer (card SCALE (factor ∷ 0 ∷ 0 ∷ [])) local last }
+        {
+            let word = match last {
+                Some(Token::Word(word)) if local[0] == 1 => word,
+                _ => {
+                    return Answer {
+                        next: [1, 0, 0, 0],
+                        act: Act::Read(0),
+                    };
+                }
+            };
+            Answer {
+                next: [0; 4],
+                act: Act::Write(0, Token::Word(factor.wrapping_mul(word))),
+            }
+        },
+    )?;
+    let args = [factor, 0, 0];
+    let body = StandardBody::new(Card { kind: SCALE, args }, call);
+    Ok(answer_of(body, [1, 0, 0, 0], Some(Token::Word(word))))
+}
