@@ -1,0 +1,129 @@
+-- The end of a run is the one that the definitions give it.
+use Rattle.std.proofs.Common.{◌≡◌, ◌↔◌, List, length, refl, sym, ap, ◌∙◌, arith, ℕ, ◌<◌, ◌≤◌, Bool, true, false, nat_le, if◌then◌else◌, Some, None, subst}
+use Rattle.std.proofs.lemmas.Grind.{common_steps}
+use Rattle.std.specs.List.{list_any}
+use Rattle.kpn_net.specs.declared.history.End.{End}
+use Rattle.kpn_net.specs.declared.history.End.TheVariants.{Terminated, Deadlock, Ceiling, Budget, Memory}
+use Rattle.kpn_net.specs.Network.{Network, Family}
+use Rattle.kpn_net.specs.Machine.{State, IsOver}
+use Rattle.kpn_laws.proofs.Causes.{cause_same, over_grows_not}
+use Rattle.kpn_body.specs.Input.{Input}
+use Rattle.kpn_machine.specs.Story.{Story}
+use Rattle.kpn_machine.specs.declared.standing.Standing.{Standing}
+use Rattle.kpn_machine.specs.declared.standing.Standing.TheVariants.{Ready, Parked, Stopped as Ended}
+use Rattle.kpn_machine.specs.declared.settle.Settled.{Settled}
+use Rattle.kpn_machine.specs.declared.settle.Settled.TheVariants.{Busy, Ended as Over, Enlarged}
+use Rattle.kpn_machine.specs.declared.outcome.Outcome.{Outcome}
+use Rattle.kpn_machine.specs.Standings.{is_busy}
+use Rattle.kpn_machine.specs.Settling.{CanGrow, EndsBy, Settles, GrowsAndPuts}
+use Rattle.kpn_machine.specs.Works.{end_after}
+use Rattle.kpn_machine.specs.Scheduler.{Scheduler, story_of}
+use Rattle.kpn_machine.specs.Commits.{IsCause, EndsAs, WorksOn, Commits}
+use Rattle.kpn_machine.specs.declared.outcome.Outcome.TheVariants.{Done, Parked as Parks, LaidBack}
+use Rattle.kpn_machine.proofs.Placed.{place_set_same, place_within, busy_at}
+use Rattle.kpn_machine.specs.Standings.{place}
+
+true_false : (b : Bool) → b ≡ true → b ≡ false → ⊥
+true_false b x y = cc
+
+-- the budget is no cause
+budget_no_cause : (b : Bool) (cause : End) → IsCause cause → (if b then Some Budget else None) ≡ Some cause → ⊥
+budget_no_cause true Terminated h e = cc
+budget_no_cause true Deadlock h e = cc
+budget_no_cause true Ceiling h e = cc
+budget_no_cause true Budget h e = h
+budget_no_cause true Memory h e = h
+budget_no_cause false cause h e = cc
+
+-- nor want of memory
+budget_no_memory : (b : Bool) → (if b then Some Budget else None) ≡ Some Memory → ⊥
+budget_no_memory true e = cc
+budget_no_memory false e = cc
+
+same_end : (a b : End) → Some a ≡ Some b → a ≡ b
+same_end a b e = cc
+
+module _ (kinds : Family) (net : Network) where
+  -- a cause that was found is the definitions'
+  found_over : (M : State) (end : End) → IsCause end → EndsBy kinds net M end → IsOver kinds net M end
+  found_over M Terminated c h = h
+  found_over M Deadlock c h = h
+  found_over M Ceiling c h = h
+  found_over M Budget c h = absurd h
+  found_over M Memory c h = absurd c
+
+  -- and no other is
+  over_found : (M : State) (end cause : End) → IsCause cause → EndsBy kinds net M end → IsOver kinds net M cause → Some end ≡ Some cause
+  over_found M Terminated cause c h o = ap (λ (x : End). Some x) (cause_same kinds net M Terminated cause h o)
+  over_found M Deadlock cause c h o = ap (λ (x : End). Some x) (cause_same kinds net M Deadlock cause h o)
+  over_found M Ceiling cause c h o = ap (λ (x : End). Some x) (cause_same kinds net M Ceiling cause h o)
+  over_found M Budget cause c h o = absurd h
+  over_found M Memory cause c h o = absurd (over_grows_not kinds net M cause h.channel h.to h.next o h.grows)
+
+  found_memory : (M : State) (end : End) → end ≡ Memory → EndsBy kinds net M end → CanGrow kinds net M
+  found_memory M end e h = subst (λ x. EndsBy kinds net M x) e h
+
+  -- after a growth its writer is ready
+  grown_busy : (s : Story) (places : List Standing) (t : Story) (moved : List Standing) → GrowsAndPuts kinds net s places t moved → list_any is_busy moved ≡ true
+  grown_busy s places t moved g =
+      let within = place_within places g.writer (λ f. parked_ended (sym g.parked ∙ f)) in
+      busy_at moved g.writer (ap is_busy (ap (λ (l : List Standing). place l g.writer) g.puts.moves ∙ place_set_same places g.writer Ready within))
+    where
+      parked_ended : Parked g.wanted ≡ Ended → ⊥
+      parked_ended e = cc
+
+  module _ (s : Story) (places : List Standing) (t : Story) (moved : List Standing) (budget entries : ℕ) where
+    ends_over : (x : Settled) → Settles kinds net s places x t moved → (cause : End) → IsCause cause → (end_after x budget entries ≡ Some cause) ↔ ((list_any is_busy moved ≡ false) × IsOver kinds net t.state cause)
+    ends_over Busy h cause c = (λ e. absurd (budget_no_cause _ cause c e), λ o. absurd (true_false _ h.0 (ap (list_any is_busy) (sym h.2) ∙ o.0)))
+    ends_over (Over end) h cause c = (
+      λ e. let same = same_end end cause e in
+          (ap (list_any is_busy) h.2 ∙ h.0, subst (λ (y : Story). IsOver kinds net y.state cause) (sym h.1) (found_over s.state cause c (subst (λ x. EndsBy kinds net s.state x) same h.3))),
+      λ o. over_found s.state end cause c h.3 (subst (λ (y : Story). IsOver kinds net y.state cause) h.1 o.1),
+    )
+    ends_over Enlarged h cause c = (λ e. absurd (budget_no_cause _ cause c e), λ o. absurd (true_false _ (grown_busy s places t moved h.1) o.0))
+
+    ends_memory : (x : Settled) → Settles kinds net s places x t moved → end_after x budget entries ≡ Some Memory → (list_any is_busy moved ≡ false) × CanGrow kinds net t.state
+    ends_memory Busy h e = absurd (budget_no_memory _ e)
+    ends_memory (Over end) h e = (ap (list_any is_busy) h.2 ∙ h.0, subst (λ (y : Story). CanGrow kinds net y.state) (sym h.1) (found_memory s.state end (same_end end Memory e) h.3))
+    ends_memory Enlarged h e = absurd (budget_no_memory _ e)
+
+    by_budget : (b : Bool) → nat_le budget entries ≡ b → (if b then Some Budget else None) ≡ Some Budget → budget ≤ entries
+    by_budget true h e = grind (arith, common_steps)
+    by_budget false h e = cc
+
+    by_none : (b : Bool) → nat_le budget entries ≡ b → (if b then Some Budget else None) ≡ None → entries < budget
+    by_none true h e = cc
+    by_none false h e = grind (arith, common_steps)
+
+    ends_budget : (x : Settled) → Settles kinds net s places x t moved → end_after x budget entries ≡ Some Budget → budget ≤ entries
+    ends_budget Busy h e = by_budget _ refl e
+    ends_budget (Over end) h e = absurd (subst (λ x. EndsBy kinds net s.state x) (same_end end Budget e) h.3)
+    ends_budget Enlarged h e = by_budget _ refl e
+
+    ends_none : (x : Settled) → end_after x budget entries ≡ None → entries < budget
+    ends_none Busy e = by_none _ refl e
+    ends_none (Over end) e = cc
+    ends_none Enlarged e = by_none _ refl e
+
+module _ (kinds : Family) where
+  -- the end after a commit that was worked on
+  pub works_end : (s : Scheduler) (i : Input) (o : Outcome) (t : Scheduler) → WorksOn kinds s i o t → EndsAs kinds t
+  works_end s i o t h =
+      let w = h.works in
+      let n = s.network in
+      let is : t.end ≡ end_after w.settled n.budget (length t.history) = w.end_is in
+      subst (λ (net : Network). EndsAs kinds (record t { network = net })) (sym h.network)
+      (record {
+        over = λ cause c.
+            let e = ends_over kinds n w.between w.places_between (story_of t) t.places n.budget (length t.history) w.settled w.settles cause c in
+            (λ x. e.0 (sym is ∙ x), λ x. is ∙ e.1 x);
+        memory = λ x. ends_memory kinds n w.between w.places_between (story_of t) t.places n.budget (length t.history) w.settled w.settles (sym is ∙ x);
+        budget = λ x. ends_budget kinds n w.between w.places_between (story_of t) t.places n.budget (length t.history) w.settled w.settles (sym is ∙ x);
+        none = λ x. ends_none kinds n w.between w.places_between (story_of t) t.places n.budget (length t.history) w.settled (sym is ∙ x);
+      })
+
+  -- where no end stood, a commit was worked on
+  pub commits_end : (s : Scheduler) (i : Input) (o : Outcome) (t : Scheduler) → Commits kinds s i o t → s.end ≡ None → EndsAs kinds t
+  commits_end s i (Done n) t h e = works_end s i (Done n) t h
+  commits_end s i (Parks n) t h e = works_end s i (Parks n) t h
+  commits_end s i LaidBack t h e = absurd (h.0 e)

@@ -1,0 +1,113 @@
+-- Taking and committing one process after another.
+use Rattle.std.proofs.Common.{◌≡◌, ◌≢◌, ◌↔◌, ⊎_elim, List, [], ◌∷◌, ◌++◌, append_assoc, length, refl, sym, ap, ◌∙◌, arith, ℕ, zero, suc, ◌+◌, ◌<◌, ◌≤◌, Bool, true, false, cond, subst, get_or}
+use Rattle.std.specs.List.{list_any, count_by}
+use Rattle.std.proofs.lemmas.Bool.{cases_lt, cases_eq}
+use Rattle.std.proofs.lemmas.List.{get_or_past}
+use Rattle.std.proofs.lemmas.List.Sums.{get_or-le-sum_by, sum_by-le}
+use Rattle.kpn_net.specs.Network.{Network, Family}
+use Rattle.kpn_net.specs.Machine.{State, Run}
+use Rattle.kpn_body.specs.Input.{Input}
+use Rattle.kpn_machine.specs.declared.standing.Standing.{Standing}
+use Rattle.kpn_machine.specs.declared.standing.Standing.TheVariants.{Ready, Out, Parked, Stopped as Ended}
+use Rattle.kpn_machine.specs.declared.outcome.Outcome.{Outcome}
+use Rattle.kpn_machine.specs.declared.outcome.Outcome.TheVariants.{Done, Parked as Parks, LaidBack}
+use Rattle.kpn_machine.specs.Standings.{place, is_busy, is_out}
+use Rattle.kpn_machine.specs.Scheduler.{Scheduler, TakesOut}
+use Rattle.kpn_machine.specs.Commits.{Commits, Appends, GoesOn, number}
+use Rattle.kpn_machine.proofs.Placed.{place_set_other}
+use Rattle.kpn_machine.proofs.Entries.{run_both}
+
+-- 1 for a process that is out
+abbrev weight : Standing → ℕ
+weight x = cond (is_out x) 1 0
+
+-- a process that is out counts
+out_counts : (x : Standing) → x ≡ Out → weight x ≡ 1
+out_counts x e = ap weight e
+
+-- and each other does not
+others_count : (x : Standing) → x ≢ Out → weight x ≤ 0
+others_count Ready n = omega arith
+others_count Out n = absurd (n refl)
+others_count (Parked a) n = omega arith
+others_count Ended n = omega arith
+
+ended_not_out : Ended ≢ Out
+ended_not_out e = cc
+
+-- where none is counted out, none is out
+pub none_is_out : (places : List Standing) → count_by is_out places ≡ 0 → (p : ℕ) → place places p ≢ Out
+none_is_out places h p e =
+    ⊎_elim
+    (λ within. let one = out_counts (place places p) e in let most = get_or-le-sum_by weight places p Ended within in omega arith)
+    (λ past. ended_not_out (sym (get_or_past places p Ended past) ∙ e)) (cases_lt p (length places))
+
+-- and the other way round
+pub none_counted : (places : List Standing) → ((p : ℕ) → place places p ≢ Out) → count_by is_out places ≡ 0
+none_counted places h =
+    let all = sum_by-le weight 0 places (λ i d within. others_count _ (λ e. h i (same_default places i d within ∙ e))) in omega arith
+  where
+    same_default : (xs : List Standing) (i : ℕ) (d : Standing) → i < length xs → get_or xs i Ended ≡ get_or xs i d
+    same_default [] i d l = absurd (omega arith)
+    same_default (x ∷ xs) zero d l = refl
+    same_default (x ∷ xs) (suc i) d l = same_default xs i d (omega arith)
+
+idle : (x : Standing) → x ≢ Ready → x ≢ Out → is_busy x ≡ false
+idle Ready r o = absurd (r refl)
+idle Out r o = absurd (o refl)
+idle (Parked a) r o = refl
+idle Ended r o = refl
+
+all_idle : (places : List Standing) → ((p : ℕ) → is_busy (place places p) ≡ false) → list_any is_busy places ≡ false
+all_idle [] h = refl
+all_idle (x ∷ xs) h = rw (h 0) (all_idle xs (λ p. h (suc p)))
+
+-- some process is ready where one is ready or out and none is out
+pub some_ready : (places : List Standing) → list_any is_busy places ≡ true → ((p : ℕ) → place places p ≢ Out) → ((p : ℕ) → place places p ≢ Ready) → ⊥
+some_ready places busy out ready = true_false _ busy (all_idle places (λ p. idle (place places p) (ready p) (out p)))
+  where
+    true_false : (b : Bool) → b ≡ true → b ≡ false → ⊥
+    true_false b x y = cc
+
+module _ (kinds : Family) where
+  -- a commit is in the same network
+  pub commits_network : (s : Scheduler) (i : Input) (o : Outcome) (t : Scheduler) → Commits kinds s i o t → t.network ≡ s.network
+  commits_network s i (Done n) t h = h.network
+  commits_network s i (Parks n) t h = h.network
+  commits_network s i LaidBack t h = ap (λ (x : Scheduler). x.network) h.1
+
+  -- and is one more
+  pub commits_more : (s : Scheduler) (i : Input) (o : Outcome) (t : Scheduler) → Commits kinds s i o t → t.commits ≡ s.commits + 1
+  commits_more s i (Done n) t h = h.commits
+  commits_more s i (Parks n) t h = h.commits
+  commits_more s i LaidBack t h = ap (λ (x : Scheduler). x.commits) h.1
+
+  module _ (s : Scheduler) (i : Input) (mid : Scheduler) (o : Outcome) (t : Scheduler) (taken : TakesOut s i mid) (commits : Commits kinds mid i o t) where
+    -- one process taken and committed goes on with the run
+    pub round_goes : (first : Scheduler) → GoesOn kinds first s → Appends kinds mid t (number o) → GoesOn kinds first t
+    round_goes first goes appends =
+        let same : mid.network ≡ first.network = ap (λ (x : Scheduler). x.network) taken.after ∙ goes.network in
+        let state : mid.state ≡ s.state = ap (λ (x : Scheduler). x.state) taken.after in
+        let history : mid.history ≡ s.history = ap (λ (x : Scheduler). x.history) taken.after in
+        record {
+          network = commits_network mid i o t commits ∙ same;
+          entries = goes.entries ++ appends.entries;
+          history = appends.history ∙ ap (λ l. l ++ appends.entries) (history ∙ goes.history) ∙ append_assoc first.history goes.entries appends.entries;
+          run = run_both kinds first.network first.state s.state t.state goes.entries appends.entries goes.run
+              (subst (λ (M : State). Run kinds first.network M appends.entries t.state) state (subst (λ (net : Network). Run kinds net mid.state appends.entries t.state) same appends.run));
+        }
+
+    -- and leaves nobody out
+    pub round_none_out :
+        ((p : ℕ) → place s.places p ≢ Out) → place t.places i.process ≢ Out → ((p : ℕ) → p ≢ i.process → (place t.places p ≡ Out) ↔ (place mid.places p ≡ Out)) → (p : ℕ) → place t.places p ≢ Out
+    round_none_out none back others p e =
+        let places = ap (λ (x : Scheduler). x.places) taken.after in
+        ⊎_elim (λ (x : p ≡ i.process). back (ap (λ y. place t.places y) (sym x) ∙ e))
+        (λ ne. none p (sym (place_set_other s.places i.process p Out ne) ∙ ap (λ (l : List Standing). place l p) (sym places) ∙ (others p ne).0 e)) (cases_eq p i.process)
+
+    -- with one more commit
+    pub round_commits : t.commits ≡ s.commits + 1
+    round_commits = commits_more mid i o t commits ∙ ap (λ n. n + 1) (ap (λ (x : Scheduler). x.commits) taken.after)
+
+    pub round_network : t.network ≡ s.network
+    round_network = commits_network mid i o t commits ∙ ap (λ (x : Scheduler). x.network) taken.after

@@ -1,0 +1,272 @@
+-- What a machine keeps while processes go out and come back.
+use Rattle.std.proofs.Common.{◌≡◌, ◌≢◌, ◌↔◌, ⊎_elim, inl, inr, List, length, length-append, refl, sym, ap, ◌∙◌, arith, ℕ, ◌+◌, ◌<◌, ◌≤◌, Bool, true, false, Some, None, Option, set, subst, get_or, length-set, get_or-set_same, get_or-set_other, nat_le, if◌then◌else◌}
+use Rattle.std.proofs.lemmas.Grind.{common_steps}
+use Rattle.std.proofs.lemmas.Bool.{cases_eq}
+use Rattle.std.specs.Bool.{IsTrue}
+use Rattle.std.specs.Option.{is_some}
+use Rattle.std.specs.List.{list_any}
+use Rattle.kpn_net.specs.declared.token.Token.{Token}
+use Rattle.kpn_net.specs.declared.kinds.Card.{Card}
+use Rattle.kpn_net.specs.declared.kinds.Answer.{Answer}
+use Rattle.kpn_net.specs.declared.history.Entry.{Entry}
+use Rattle.kpn_net.specs.declared.history.Status.TheVariants.{Done as Halted}
+use Rattle.kpn_net.specs.declared.history.End.{End}
+use Rattle.kpn_net.specs.declared.history.End.TheVariants.{Terminated, Deadlock, Ceiling, Budget, Memory}
+use Rattle.kpn_net.specs.Network.{Network, Family, card_of}
+use Rattle.kpn_net.specs.Machine.{State, status, answered, wants, start}
+use Rattle.kpn_net.specs.Determinacy.{IsRun}
+use Rattle.kpn_laws.proofs.EachMoment.{enabled_can_do}
+use Rattle.kpn_body.specs.Input.{Input, answer_to}
+use Rattle.kpn_machine.specs.Story.{Story, story}
+use Rattle.kpn_machine.specs.declared.standing.Standing.{Standing}
+use Rattle.kpn_machine.specs.declared.standing.Standing.TheVariants.{Ready, Out, Parked, Stopped as Ended}
+use Rattle.kpn_machine.specs.declared.react.Reaction.{Reaction}
+use Rattle.kpn_machine.specs.declared.react.Reaction.TheVariants.{Waits, Acts, HandsOn}
+use Rattle.kpn_machine.specs.declared.settle.Settled.{Settled}
+use Rattle.kpn_machine.specs.declared.settle.Settled.TheVariants.{Busy, Ended as Over, Enlarged}
+use Rattle.kpn_machine.specs.declared.outcome.Outcome.{Outcome}
+use Rattle.kpn_machine.specs.declared.outcome.Outcome.TheVariants.{Done, Parked as Parks, LaidBack}
+use Rattle.kpn_machine.specs.Standings.{place, is_busy, Keeps}
+use Rattle.kpn_machine.specs.Reactions.{Reacts}
+use Rattle.kpn_machine.specs.Settling.{EndsBy, Settles}
+use Rattle.kpn_machine.specs.Works.{Works, acted_entries, settled_entries, outcome_of, end_after}
+use Rattle.kpn_machine.specs.Scheduler.{Scheduler, scheduler, IsOutAt, HasBodies, EndIs, waits, stays_in, IsSound, EndHolds, IsFaithful}
+use Rattle.kpn_machine.specs.Commits.{number, Appends, WorksOn, Commits, TellsEnabled}
+use Rattle.kpn_machine.proofs.Placed.{place_set_same, place_set_other, place_within, busy_at, out_not_ended, ready_not_ended}
+use Rattle.kpn_machine.proofs.Keeping.{keeps_moved}
+use Rattle.kpn_machine.proofs.Idle.{enabled_busy}
+use Rattle.kpn_machine.proofs.Working.{handed_busy}
+use Rattle.kpn_machine.proofs.Entries.{GoesOn, run_both, number_is, works_goes}
+use Rattle.kpn_machine.proofs.Moves.{waiting_in, in_within, waits_moved, in_moved, out_or_not, works_back, works_out, works_others, works_count}
+
+true_false : (b : Bool) → b ≡ true → b ≡ false → ⊥
+true_false b x y = cc
+
+out_not_parked : (a : Answer) → Out ≡ Parked a → ⊥
+out_not_parked a e = cc
+
+ready_not_parked : (a : Answer) → Ready ≡ Parked a → ⊥
+ready_not_parked a e = cc
+
+module _ (kinds : Family) (net : Network) where
+  -- an end is bound
+  end_holds : (M : State) (E : List Entry) (end : Option End) → length E ≤ net.budget + 2 → EndIs kinds net M E end → EndHolds kinds net E M end
+  end_holds M E None few h = tt
+  end_holds M E (Some Terminated) few h = h
+  end_holds M E (Some Deadlock) few h = h
+  end_holds M E (Some Ceiling) few h = h
+  end_holds M E (Some Budget) few h = (h, few)
+  end_holds M E (Some Memory) few h = (h.grows.artificial, (h.channel, h.grows.chosen, h.grows.below))
+
+  by_budget : (M : State) (E : List Entry) (b : Bool) → nat_le net.budget (length E) ≡ b → EndIs kinds net M E (if b then Some Budget else None)
+  by_budget M E true e = grind (arith, common_steps)
+  by_budget M E false e = grind (arith, common_steps)
+
+  by_cause : (M : State) (E : List Entry) (end : End) → EndsBy kinds net M end → EndIs kinds net M E (Some end)
+  by_cause M E Terminated h = h
+  by_cause M E Deadlock h = h
+  by_cause M E Ceiling h = h
+  by_cause M E Budget h = absurd h
+  by_cause M E Memory h = h
+
+  -- the end that follows is bound
+  end_follows : (s : Story) (places : List Standing) (x : Settled) (t : Story) (moved : List Standing) → Settles kinds net s places x t moved → EndIs kinds net t.state t.history (end_after x net.budget (length t.history))
+  end_follows s places Busy t moved h = by_budget t.state t.history _ refl
+  end_follows s places (Over end) t moved h = by_cause t.state t.history end (subst (λ (y : Story). EndsBy kinds net y.state end) (sym h.1) h.3)
+  end_follows s places Enlarged t moved h = by_budget t.state t.history _ refl
+
+  -- and without one some process is ready or out
+  busy_follows : (s : Story) (places : List Standing) (x : Settled) (t : Story) (moved : List Standing) (budget entries : ℕ) → Settles kinds net s places x t moved → end_after x budget entries ≡ None → list_any is_busy moved ≡ true
+  busy_follows s places Busy t moved budget entries h e = ap (list_any is_busy) h.2 ∙ h.0
+  busy_follows s places (Over end) t moved budget entries h e = cc
+  busy_follows s places Enlarged t moved budget entries h e =
+      let g = h.1 in
+      let within : g.writer < length places = place_within places g.writer (λ f. parked_ended g.wanted (sym g.parked ∙ f)) in
+      busy_at moved g.writer (ap is_busy (ap (λ (l : List Standing). place l g.writer) g.puts.moves ∙ place_set_same places g.writer Ready within))
+    where
+      parked_ended : (a : Answer) → Parked a ≡ Ended → ⊥
+      parked_ended a f = cc
+
+  -- done with 1 to 3 entries where the process could go on, parked with 0 or 2 where it couldn't
+  tells :
+      (M : State) (E : List Entry) (room : ℕ) (places : List Standing) (end : Option End) (commits : ℕ) (m : Story) (mid : List Standing) (t : Story) (moved : List Standing) (p : ℕ) (a : Answer) (r : Reaction) (x : Settled)
+      → p < length places → Reacts kinds net (story M E room) places p a r m mid → Settles kinds net m mid x t moved → TellsEnabled kinds (scheduler net M E places end commits) p (outcome_of r x)
+  tells M E room places end commits m mid t moved p a Waits Busy within h g = (h.0, inl refl)
+  tells M E room places end commits m mid t moved p a Waits (Over stop) within h g = (h.0, inl refl)
+  tells M E room places end commits m mid t moved p a Waits Enlarged within h g = (h.0, inr refl)
+  tells M E room places end commits m mid t moved p a Acts Busy within h g = ((enabled_can_do kinds net M p).1 (h.0, (m.state, h.1.does)), omega arith, omega arith)
+  tells M E room places end commits m mid t moved p a Acts (Over stop) within h g = ((enabled_can_do kinds net M p).1 (h.0, (m.state, h.1.does)), omega arith, omega arith)
+  tells M E room places end commits m mid t moved p a Acts Enlarged within h g = ((enabled_can_do kinds net M p).1 (h.0, (m.state, h.1.does)), omega arith, omega arith)
+  tells M E room places end commits m mid t moved p a HandsOn Busy within h g = ((enabled_can_do kinds net M p).1 (h.deed, (h.between.state, h.first.does)), omega arith, omega arith)
+  tells M E room places end commits m mid t moved p a HandsOn (Over stop) within h g = ((enabled_can_do kinds net M p).1 (h.deed, (h.between.state, h.first.does)), omega arith, omega arith)
+  tells M E room places end commits m mid t moved p a HandsOn Enlarged within h g = absurd (true_false _ (handed_busy kinds net (story M E room) places p m mid within h) g.0)
+
+-- an outcome's number is at most 3
+few_entries : (kinds : Family) (s : Scheduler) (p : ℕ) (o : Outcome) → TellsEnabled kinds s p o → number o ≤ 3
+few_entries kinds s p (Done n) h = h.2
+few_entries kinds s p (Parks n) h = ⊎_elim (λ e. omega arith) (λ e. omega arith) h.1
+few_entries kinds s p LaidBack h = omega arith
+
+module _ (kinds : Family) (admits : Card → List ℕ → Option Token → Type 0) where
+  pub sound_faithful : (s : Scheduler) (room : ℕ) (bodies : List (Option Card)) → IsSound kinds admits s room bodies → IsFaithful kinds s
+  sound_faithful s room bodies h =
+      let most = in_within s.places in
+      let many = h.keeps.standing in
+      let laid = h.laid in
+      record {
+        run = h.run;
+        bound = end_holds kinds s.network s.state s.history s.end h.few h.ends;
+        none_held_back = enabled_busy kinds admits s.network s.state s.places h.keeps;
+        some_busy = h.busy;
+        few_entries = h.few;
+        few_commits = omega arith;
+      }
+
+  -- a body that comes back stands with the others
+  bodies_back :
+      (net : Network) (places moved : List Standing) (bodies : List (Option Card)) (p : ℕ) (card : Card) → p < length bodies → card_of net p ≡ card → HasBodies net places bodies
+      → ((q : ℕ) → q ≢ p → place places q ≡ Out → place moved q ≡ Out) → HasBodies net moved (set bodies p (Some card))
+  bodies_back net places moved bodies p card within is has keeps q there n =
+      ⊎_elim
+      (λ (s : q ≡ p). ap (λ x. get_or (set bodies p (Some card)) x None) s ∙ get_or-set_same bodies p (Some card) None within ∙ ap (λ (x : Card). Some x) (sym is) ∙ ap (λ x. Some (card_of net x)) (sym s))
+      (λ o. get_or-set_other bodies p q (Some card) None o ∙ ⊎_elim (λ e. absurd (n (keeps q o e))) (λ ne. has q there ne) (out_or_not (place places q)))
+      (cases_eq q p)
+
+  module _ (net : Network) (M : State) (E : List Entry) (places : List Standing) (end : Option End) (commits room : ℕ) (bodies : List (Option Card)) (h : IsSound kinds admits (scheduler net M E places end commits) room bodies) where
+    -- a process that is ready or out is live
+    busy_live : (p : ℕ) (x : Standing) → place places p ≡ x → x ≢ Ended → status M p ≢ Halted
+    busy_live p x e n f = n (sym e ∙ h.keeps.done p f)
+
+    pub sound_taken : (p : ℕ) → end ≡ None → place places p ≡ Ready → IsSound kinds admits (scheduler net M E (set places p Out) end commits) room (set bodies p None)
+    sound_taken p none ready =
+        let within : p < length places = place_within places p (λ e. ready_not_ended (sym ready ∙ e)) in
+        let now : place (set places p Out) p ≡ Out = place_set_same places p Out within in
+        let count = waits_moved places p Out within in
+        let was : waits (place places p) ≡ 0 = ap waits ready in
+        let asked = h.asked none in
+        let most = waiting_in (set places p Out) in
+        record {
+          run = h.run;
+          keeps = keeps_moved kinds admits net M places p Out h.keeps within out_not_ended (busy_live p Ready ready ready_not_ended) (λ a e. absurd (out_not_parked a e));
+          room_is = h.room_is;
+          many_bodies = length-set bodies p None ∙ h.many_bodies;
+          has_bodies = λ q there n. ⊎_elim (λ (s : q ≡ p). absurd (n (ap (λ x. place (set places p Out) x) s ∙ now)))
+              (λ o. get_or-set_other bodies p q None None o ∙ h.has_bodies q there (λ e. n (place_set_other places p q Out o ∙ e)))
+              (cases_eq q p);
+          few = h.few;
+          ends = h.ends;
+          busy = λ e. busy_at (set places p Out) p (ap is_busy now);
+          asked = λ e. omega arith;
+          laid = omega arith;
+        }
+
+    -- there are at most as many commits as entries and processes
+    pub commits_fit : commits ≤ length E + length net.processes
+    commits_fit = let a = in_within places in let b = h.keeps.standing in let c = h.laid in omega arith
+
+    module _ (i : Input) (out : IsOutAt net M places i) where
+      pub out_within : i.process < length places
+      out_within = place_within places i.process (λ e. out_not_ended (sym out.out ∙ e))
+
+      out_bodies : i.process < length bodies
+      out_bodies = let a = out_within in let b = h.many_bodies in let c = h.keeps.standing in omega arith
+
+      pub sound_back : end ≢ None → IsSound kinds admits (scheduler net M E (set places i.process Ready) end (commits + 1)) room (set bodies i.process (Some i.card))
+      sound_back over =
+          let now : place (set places i.process Ready) i.process ≡ Ready = place_set_same places i.process Ready out_within in
+          let count = in_moved places i.process Ready out_within in
+          let was : stays_in (place places i.process) ≡ 0 = ap stays_in out.out in
+          let laid = h.laid in
+          record {
+            run = h.run;
+            keeps = keeps_moved kinds admits net M places i.process Ready h.keeps out_within ready_not_ended (busy_live i.process Out out.out out_not_ended) (λ a e. absurd (ready_not_parked a e));
+            room_is = h.room_is;
+            many_bodies = length-set bodies i.process (Some i.card) ∙ h.many_bodies;
+            has_bodies = bodies_back net places (set places i.process Ready) bodies i.process i.card out_bodies out.card h.has_bodies (λ q o e. place_set_other places i.process q Ready o ∙ e);
+            few = h.few;
+            ends = h.ends;
+            busy = λ e. busy_at (set places i.process Ready) i.process (ap is_busy now);
+            asked = λ e. absurd (over e);
+            laid = omega arith;
+          }
+
+      -- a process that is out wants what it was asked for
+      pub out_wants : wants kinds net M i.process ≡ Some (answer_to kinds i)
+      out_wants = ap (λ s. answered kinds net i.process s) out.live ∙ ap (λ (c : Card). Some (kinds.answer c i.local i.last)) out.card
+
+      module _ (none : end ≡ None) (o : Outcome) (N : State) (F : List Entry) (moved : List Standing) (stop : Option End) (left : ℕ) (w : Works kinds net (story M E room) places i.process (answer_to kinds i) o (story N F left) moved stop) where
+        goes : GoesOn kinds net (story M E room) (story N F left) (number o)
+        goes = works_goes kinds net (story M E room) places i.process (answer_to kinds i) o (story N F left) moved stop w
+
+        -- the machine before and after
+        abbrev old : Scheduler
+        old = scheduler net M E places end commits
+
+        abbrev new : Scheduler
+        new = scheduler net N F moved stop (commits + 1)
+
+        pub worked_appends : Appends kinds old new (number o)
+        worked_appends = record { entries = goes.entries; history = goes.history; run = goes.run; count = goes.count }
+
+        pub worked_tells : TellsEnabled kinds old i.process o
+        worked_tells =
+            subst (λ x. TellsEnabled kinds old i.process x) (sym w.outcome_is)
+            (tells kinds net M E room places end commits w.between w.places_between (story N F left) moved i.process (answer_to kinds i) w.reaction w.settled out_within w.reacts w.settles)
+
+        pub worked_back : place moved i.process ≢ Out
+        worked_back = works_back kinds net (story M E room) places i.process (answer_to kinds i) o (story N F left) moved stop w out_within
+
+        pub worked_others : (q : ℕ) → q ≢ i.process → (place moved q ≡ Out) ↔ (place places q ≡ Out)
+        worked_others q ne = works_others kinds net (story M E room) places i.process (answer_to kinds i) o (story N F left) moved stop w q out_within ne
+
+        pub worked_commits : Commits kinds old i o new
+        worked_commits = by_outcome o w.outcome_is (record { before = none; network = refl; commits = refl; works = subst (λ r. Works kinds net (story M E (net.budget + 2)) places i.process (answer_to kinds i) o (story N F r) moved stop) (goes.room ∙ h.room_is) (subst (λ r. Works kinds net (story M E r) places i.process (answer_to kinds i) o (story N F left) moved stop) h.room_is w) })
+          where
+            not_laid : (r : Reaction) (x : Settled) → LaidBack ≡ outcome_of r x → ⊥
+            not_laid Waits x e = cc
+            not_laid Acts x e = cc
+            not_laid HandsOn x e = cc
+
+            by_outcome : (q : Outcome) → q ≡ outcome_of w.reaction w.settled → WorksOn kinds old i q new → Commits kinds old i q new
+            by_outcome (Done n) e x = x
+            by_outcome (Parks n) e x = x
+            by_outcome LaidBack e x = absurd (not_laid w.reaction w.settled e)
+
+        pub sound_worked : Keeps kinds admits net None N moved → IsSound kinds admits new left (set bodies i.process (Some i.card))
+        sound_worked k =
+            let before : length E < net.budget = subst (λ e. EndIs kinds net M E e) none h.ends in
+            let longer : length F ≡ length E + number o = ap length goes.history ∙ length-append E goes.entries ∙ ap (λ n. length E + n) goes.count in
+            let most = few_entries kinds old i.process o worked_tells in
+            let asked = h.asked none in
+            let count = works_count kinds net (story M E room) places i.process (answer_to kinds i) o (story N F left) moved stop w out_within out.out in
+            let number : number o ≡ acted_entries w.reaction + settled_entries w.settled = ap number w.outcome_is ∙ sym (number_is kinds net w.reaction w.settled) in
+            let waiting = waiting_in moved in
+            record {
+              run = subst (λ l. IsRun kinds net l N) (sym goes.history) (run_both kinds net (start kinds net) M N E goes.entries h.run goes.run);
+              keeps = k;
+              room_is = goes.room ∙ h.room_is;
+              many_bodies = length-set bodies i.process (Some i.card) ∙ h.many_bodies;
+              has_bodies = bodies_back net places moved bodies i.process i.card out_bodies out.card h.has_bodies (works_out kinds net (story M E room) places i.process (answer_to kinds i) o (story N F left) moved stop w);
+              few = omega arith;
+              ends = subst (λ e. EndIs kinds net N F e) (sym w.end_is) (end_follows kinds net w.between w.places_between w.settled (story N F left) moved w.settles);
+              busy = λ e. busy_follows kinds net w.between w.places_between w.settled (story N F left) moved net.budget (length F) w.settles (sym w.end_is ∙ e);
+              asked = λ e. omega arith;
+              laid = omega arith;
+            }
+
+-- an option that is not some is none
+pub none_of : (o : Option End) → is_some o ≡ false → o ≡ None
+none_of None e = refl
+none_of (Some x) e = cc
+
+-- one that is some is not none
+pub some_of : (o : Option End) → is_some o ≡ true → o ≢ None
+some_of None e f = cc
+some_of (Some x) e f = cc
+
+-- a true test
+pub is_true : (b : Bool) → b ≡ true → IsTrue b
+is_true b e = e
+
+pub ready_not_out : Ready ≢ Out
+ready_not_out e = cc

@@ -1,0 +1,49 @@
+-- Each place of a fresh machine has its body.
+use Rattle.std.proofs.Common.{◌≡◌, ◌<◌, ◌+◌, length, get_or, sym, ap, ◌∙◌, arith, length-set, length-append}
+use Rattle.std.specs.Option.{option_map}
+use Rattle.std.proofs.lemmas.List.{length-map}
+use Rattle.std.proofs.lemmas.Option.{same_Some}
+use Rattle.kpn_net.specs.declared.parts.Process.{Process}
+use Rattle.kpn_net.specs.Network.{no_process}
+use Rattle.kpn_machine.specs.Opening.{cards_of}
+use Rattle.kpn_machine.specs.Scheduler.{Scheduler}
+use Rattle.kpn_machine.proofs.Seats.{slot_at, kept_later, back_more, same_lists}
+use Rattle.kpn_machine.proofs.machine.Machine.into_parts.Goals as goal
+
+pub unreachable-requires : goal.unreachable-requires
+unreachable-requires g c =
+    let f = g.B.Body.card in
+    let i = c.loop-p.invariant in
+    let same : length c.self.inside.net.processes ≡ length c.args.self.network.processes = ap (λ (x : Scheduler). length x.network.processes) c.self.view_is in
+    let within : c.loop-p.p < length c.loop-p.bodies.items = omega (arith, c.loop-p-test.true, c.processes-p-end.ensures.count, i.slots) in
+    let here = slot_at f c.loop-p.bodies.items c.loop-p.p c.index_mut.result.now within c.index_mut.ensures.value in
+    let kept = i.kept c.loop-p.p (omega arith) (omega (arith, i.slots)) in
+    let none = ap (option_map f) (sym c.take.ensures.value ∙ c.in_default.is) in
+    cc
+
+pub loop-p-preserved : goal.loop-p-preserved
+loop-p-preserved g c =
+    let f = g.B.Body.card in
+    let i = c.loop-p.invariant in
+    let same : length c.self.inside.net.processes ≡ length c.args.self.network.processes = ap (λ (x : Scheduler). length x.network.processes) c.self.view_is in
+    let within : c.loop-p.p < length c.loop-p.bodies.items = omega (arith, c.loop-p-test.true, c.processes-p-end.ensures.count, i.slots) in
+    let here = slot_at f c.loop-p.bodies.items c.loop-p.p c.index_mut.result.now within c.index_mut.ensures.value in
+    let kept = i.kept c.loop-p.p (omega arith) (omega (arith, i.slots)) in
+    let some = ap (option_map f) (sym c.take.ensures.value ∙ c.in-Some.is) in
+    let card : f c.in-Some.body ≡ get_or (cards_of c.args.self.network.processes) c.loop-p.p no_process.card = same_Some _ _ (sym some ∙ sym here ∙ kept) in
+    record {
+      kept = kept_later f c.loop-p.bodies.items c.loop-p.p _ c.take.new.self _ i.kept;
+      back = back_more f c.loop-p.spare.items c.push_reserved.new.self.items c.in-Some.body _ c.loop-p.p c.push_reserved.ensures.items i.many card i.back;
+      many = ap length c.push_reserved.ensures.items ∙ length-append _ _ ∙ ap (λ n. n + 1) i.many;
+      slots = length-set _ _ _ ∙ i.slots;
+      room = omega (arith, i.room, c.push_reserved.ensures.capacity);
+    }
+
+pub returns-clause-bodies : goal.returns-clause-bodies
+returns-clause-bodies g c =
+    let i = c.loop-p.invariant in
+    let many = length-map c.loop-p.spare.items g.B.Body.card in
+    let all = length-map c.args.self.network.processes (λ (p : Process). p.card) in
+    let long = i.many in
+    let same : length c.self.inside.net.processes ≡ length c.args.self.network.processes = ap (λ (x : Scheduler). length x.network.processes) c.self.view_is in
+    same_lists _ _ (omega (arith, c.loop-p-test.false, c.loop-p.auto.p-end, c.processes-p-end.ensures.count)) (λ q below. i.back q (omega arith))

@@ -1,0 +1,19 @@
+-- A machine that was just opened keeps what it is to keep.
+use Rattle.std.proofs.Common.{◌≡◌, length, map, ap, ◌∙◌, arith}
+use Rattle.std.proofs.lemmas.List.{length-map}
+use Rattle.kpn_net.specs.declared.parts.Process.{Process}
+use Rattle.kpn_machine.specs.Opening.{cards_of}
+use Rattle.kpn_machine.proofs.Opened.{sound_opened}
+use Rattle.kpn_machine.proofs.machine.Machine.open.Goals as goal
+
+pub invariant_of-result : goal.invariant_of-result
+invariant_of-result g c =
+    let cards : map g.B.Body.card c.args.bodies.items ≡ cards_of c.args.net.processes = rw c.as_slice.ensures.value at c.in_default.ensures.none in
+    let all = length-map c.args.net.processes (λ (p : Process). p.card) in
+    let many = length-map c.args.bodies.items g.B.Body.card in
+    let same = ap length cards in (
+      rw (c.in-Ok.ensures.store, c.in-Ok.ensures.places)
+          (sound_opened g.B.Kinds.Kinds.signature_of g.B.Kinds.Kinds.admits g.B.Kinds.Kinds.family c.args.net c.processes.ensures.valid c.in-Ok.ensures.admitted (map g.B.Body.card c.args.bodies.items) _ cards c.seat_all.ensures.seated
+          (length-map c.seat_all.new.slots.items _ ∙ c.seat_all.ensures.slots ∙ c.in-Ok.ensures.slots)),
+      record { emptied = c.seat_all.ensures.emptied; enough = omega (arith, c.seat_all.ensures.room, c.args.bodies.ok.0, c.args.bodies.ok.1) },
+    )

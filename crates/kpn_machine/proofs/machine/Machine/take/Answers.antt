@@ -1,0 +1,12 @@
+-- A ready process may go out.
+use Rattle.std.proofs.Common.{sym, ◌∙◌}
+use Rattle.std.proofs.lemmas.List.{map-set}
+use Rattle.kpn_machine.proofs.Sound.{sound_taken, none_of}
+use Rattle.kpn_machine.proofs.machine.Machine.take.Goals as goal
+
+pub invariant_of-self : goal.invariant_of-self
+invariant_of-self g c = (
+  rw (c.take_out.ensures.places, c.take_out.ensures.bodies, map-set)
+      (sound_taken g.B.Kinds.Kinds.family g.B.Kinds.Kinds.admits _ _ _ _ _ _ _ _ c.self.invariant.0 c.in_ok-process.process (none_of _ (sym c.is_some.ensures ∙ c.if-is_some.false)) (rw c.as_slice.ensures.value at c.in_ok-process.ensures.some)),
+  c.self.invariant.1,
+)

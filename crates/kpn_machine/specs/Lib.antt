@@ -1,0 +1,9 @@
+pub mod Story
+pub mod Standings
+pub mod Reactions
+pub mod Choice
+pub mod Settling
+pub mod Works
+pub mod Opening
+pub mod Scheduler
+pub mod Commits

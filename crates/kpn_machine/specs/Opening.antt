@@ -1,0 +1,33 @@
+-- How a machine starts, and when it is refused.
+use Rattle.std.specs.Prelude.{◌≡◌, ◌≢◌, ℕ, ◌<◌, List, Option, Some, None, length, map, get_or}
+use Rattle.kpn_net.specs.declared.kinds.Card.{Card}
+use Rattle.kpn_net.specs.declared.history.Status.{Status}
+use Rattle.kpn_net.specs.declared.history.Status.TheVariants.{Live}
+use Rattle.kpn_net.specs.declared.parts.Process.{Process}
+use Rattle.kpn_net.specs.declared.parts.Channel.{Channel}
+use Rattle.kpn_net.specs.Network.{Family, no_process}
+use Rattle.kpn_net.specs.Machine.{Held}
+use Rattle.kpn_machine.specs.declared.opening.OpenFault.{OpenFault}
+use Rattle.kpn_machine.specs.declared.opening.OpenFault.TheVariants.{Bodies, Card as WrongCard, Memory}
+
+-- a process at its start
+abbrev pub starting : Family → Process → Status
+starting kinds p = Live (kinds.start p.card) None
+
+-- a channel with its start tokens
+abbrev pub filled : Channel → Held
+filled c = record { tokens = c.tokens; capacity = c.capacity }
+
+-- the cards of the processes, in order
+abbrev pub cards_of : List Process → List Card
+cards_of ps = map (λ p. p.card) ps
+
+-- what is wrong with the bodies of these cards; of want of memory, nothing
+abbrev pub IsRefused : List Process → List Card → OpenFault → Type 0
+IsRefused ps cards Bodies = length cards ≢ length ps
+IsRefused ps cards WrongCard = (length cards ≡ length ps) × (cards ≢ cards_of ps)
+IsRefused ps cards Memory = cards ≡ cards_of ps
+
+-- each place has the body of its number
+abbrev pub AreSeated : List Card → List (Option Card) → Type 0
+AreSeated cards slots = (p : ℕ) → p < length cards → get_or slots p None ≡ Some (get_or cards p no_process.card)

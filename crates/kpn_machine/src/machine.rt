@@ -1,0 +1,323 @@
+//! The machine.
+ghost use Rattle.std.specs.Prelude.{count_by, ◌≡◌, ◌≢◌, ℕ, ◌<◌, ◌+◌, ◌↔◌, [], replicate, length, get_or, set, map, option_map, Some, None, IfSome, IfNone, IfErr, IfOk, OnOk, IsTrue, IsSome};
+ghost use Rattle.kpn_net.specs.Network.{card_of};
+ghost use Rattle.kpn_net.specs.Machine.{status, start};
+ghost use Rattle.kpn_machine.specs.Opening.{cards_of, IsRefused};
+ghost use Rattle.kpn_net.specs.declared.history.Status.TheVariants.{Live};
+ghost use Rattle.kpn_machine.specs.declared.standing.Standing.TheVariants.{Out, Ready as ReadyV};
+ghost use Rattle.kpn_machine.specs.Standings.{place, is_out, Keeps};
+ghost use Rattle.kpn_machine.specs.Scheduler.{scheduler, IsOut, IsOutAt, TakesOut, IsFaithful, IsFresh};
+ghost use Rattle.kpn_machine.specs.Commits.{Commits, Appends, EndsAs, GoesOn, TellsEnabled, number};
+
+use crate::opening::{OpenFault, Start, misfit, prepare, seat_all};
+use crate::outcome::Outcome;
+use crate::same::{same_card, same_last, same_local};
+use crate::standing::{Standing, all_ready, find_ready};
+use crate::store::Store;
+use crate::work::work;
+use kpn_body::{Body, Finished, Task};
+use kpn_net::{End, Entry, Net, Status};
+use std::alloc::Global;
+use std::marker::Model;
+
+/// A network at work: its processes are taken one at a time, called elsewhere, and their answers
+/// committed.
+#[derive(Drop)]
+pub struct Machine<B: Body> {
+    net: Net<B::Kinds>,
+    store: Store,
+    places: Vec<Standing>,
+    bodies: Vec<Option<B>>,
+    spare: Vec<B>,
+    end: Option<End>,
+    commits: u64,
+}
+
+impl<B: Body> Model for Machine<B> {
+    ghost use Rattle.std.specs.Prelude.{map, option_map};
+    ghost use Rattle.std.specs.Vec.{vec_capacity};
+    ghost use Rattle.kpn_machine.specs.Scheduler.{Scheduler, scheduler, IsSound, HasRoom};
+
+    ghost Value = { Scheduler };
+
+    ghost view = { λ m. scheduler m.net m.store.state m.store.history m.places.items m.end m.commits };
+
+    ghost invariant = { λ m. IsSound B.Kinds.family B.Kinds.admits (scheduler m.net m.store.state m.store.history m.places.items m.end m.commits) m.store.room (map (option_map B.card) m.bodies.items) × HasRoom m.net m.spare.items (vec_capacity m.spare) };
+}
+
+/// What a machine was to be opened with, handed back, and why it was not.
+#[derive(Drop)]
+pub struct OpenRefused<B: Body> {
+    pub net: Net<B::Kinds>,
+    pub bodies: Vec<B>,
+    pub fault: OpenFault,
+}
+
+/// An answer that was not asked for, handed back.
+#[derive(Drop)]
+pub struct Stranger<B: Body> {
+    pub finished: Finished<B>,
+}
+
+impl<B: Body> Machine<B> {
+    /// A machine at the start of a network, with a body for each process, in order: all processes are
+    /// ready, and the channels hold their start tokens. All memory but that of growths is taken here.
+    ///
+    /// The error is the first fault that applies, with the network and the bodies as they were.
+    pub fn open(
+        alloc: Global,
+        net: Net<B::Kinds>,
+        mut bodies: Vec<B>,
+    ) -> Result<Machine<B>, OpenRefused<B>>
+        ensures opened { IfOk result (λ m. m ≡ scheduler net (start B.Kinds.family net) [] (replicate (length net.processes) ReadyV) None 0) }
+        ensures cards { OnOk result (map B.card bodies.items ≡ cards_of net.processes) }
+        ensures net_back { IfErr result (λ refused. refused.net ≡ net) }
+        ensures bodies_back { IfErr result (λ refused. refused.bodies.items ≡ bodies.items) }
+        ensures fault { IfErr result (λ refused. IsRefused net.processes (map B.card bodies.items) refused.fault) }
+    {
+        if let Some(fault) = misfit(&net, bodies.as_slice()) {
+            return Err(OpenRefused { net, bodies, fault });
+        }
+        let Ok(start) = prepare(alloc, &net) else {
+            return Err(OpenRefused {
+                net,
+                bodies,
+                fault: OpenFault::Memory,
+            });
+        };
+        net.processes();
+        let Start {
+            store,
+            places,
+            mut slots,
+        } = start;
+        seat_all(&mut bodies, &mut slots);
+        Ok(Machine {
+            net,
+            store,
+            places,
+            bodies: slots,
+            spare: bodies,
+            end: None,
+            commits: 0,
+        })
+    }
+
+    /// How the run ended, where it did.
+    pub fn end(&self) -> Option<End>
+        ensures end { result ≡ self.now.end }
+        ensures faithful { IsFaithful B.Kinds.family self.now }
+    {
+        self.end
+    }
+
+    /// The entries so far.
+    pub fn history(&self) -> &[Entry]
+        ensures { result.now ≡ self.now.history }
+    {
+        self.store.history()
+    }
+
+    /// The network.
+    pub fn net(&self) -> &Net<B::Kinds>
+        ensures { result.now ≡ self.now.network }
+    {
+        &self.net
+    }
+
+    /// How many processes are out.
+    pub fn out(&self) -> usize
+        ensures { result ≡ count_by is_out self.now.places }
+    {
+        self.places
+            .iter()
+            .filter(|place| matches!(place, Standing::Out))
+            .count()
+    }
+
+    /// Whether the machine is as it was opened: no entry, no commit, no end, and every process ready.
+    pub fn is_fresh(&self) -> bool
+        ensures { IsTrue result ↔ IsFresh self.now }
+    {
+        self.store.history().is_empty()
+            && self.commits == 0
+            && self.end.is_none()
+            && all_ready(self.places.as_slice())
+    }
+
+    /// How many answers were taken.
+    pub fn commits(&self) -> u64
+        ensures { result ≡ self.now.commits }
+    {
+        self.commits
+    }
+}
+
+impl<B: Body> Machine<B> {
+    /// A ready process goes out, unless the run ended or none is ready. Which one is not fixed.
+    pub fn take(&mut self) -> Option<Task<B>>
+        ensures some { IfSome result (λ task. (self.old.end ≡ None) × TakesOut self.old task self.new) }
+        ensures none { IfNone result (self.old.end ≡ None → (p : ℕ) → place self.old.places p ≢ ReadyV) }
+        ensures same { IfNone result (self.new ≡ self.old) }
+    {
+        if self.end.is_some() {
+            return None;
+        }
+        let process = find_ready(self.places.as_slice())?;
+        Some(take_out(
+            &self.net,
+            &self.store,
+            &mut self.places,
+            &mut self.bodies,
+            process,
+        ))
+    }
+}
+
+/// A ready process goes out.
+fn take_out<B: Body>(
+    net: &Net<B::Kinds>,
+    store: &Store,
+    places: &mut Vec<Standing>,
+    bodies: &mut Vec<Option<B>>,
+    process: usize,
+) -> Task<B>
+    requires keeps { Keeps B.Kinds.family B.Kinds.admits net.now None store.now.state places.old.items }
+    requires process { process < length places.old.items }
+    requires bodies { process < length bodies.old.items }
+    requires ready { place places.old.items process ≡ ReadyV }
+    requires has_body { get_or (map (option_map B.card) bodies.old.items) process None ≡ Some (card_of net.now process) }
+    ensures process { result.process ≡ process }
+    ensures card { card_of net.now process ≡ result.card }
+    ensures live { status store.now.state process ≡ Live result.local result.last }
+    ensures places { places.new.items ≡ set places.old.items process Out }
+    ensures bodies { bodies.new.items ≡ set bodies.old.items process None }
+{
+    let Status::Live { local, last } = store.status(process) else {
+        unreachable!()
+    };
+    let Some(body) = bodies[process].take() else {
+        unreachable!()
+    };
+    places[process] = Standing::Out;
+    Task::new(process, body, local, last)
+}
+
+/// Whether the process of an answer is out, with its card, local state and last token.
+fn is_out<B: Body>(
+    net: &Net<B::Kinds>,
+    store: &Store,
+    places: &[Standing],
+    finished: &Finished<B>,
+) -> bool
+    requires keeps { Keeps B.Kinds.family B.Kinds.admits net.now None store.now.state places.now }
+    ensures { IsTrue result ↔ IsOutAt net.now store.now.state places.now finished.now }
+{
+    let process = finished.process();
+    if process >= places.len() {
+        return false;
+    }
+    match places[process] {
+        Standing::Out => {}
+        Standing::Ready | Standing::Parked(_) | Standing::Stopped => return false,
+    }
+    if !same_card(net.card(process), finished.card()) {
+        return false;
+    }
+    match store.status(process) {
+        Status::Live { local, last } => {
+            same_local(local, finished.local()) && same_last(last, finished.last())
+        }
+        Status::Done => false,
+    }
+}
+
+impl<B: Body> Machine<B> {
+    /// Takes the answer of a process that is out.
+    ///
+    /// Where an end stands, the process is laid back: ready again, as it was. Otherwise its act is
+    /// done where it can be, or the process is parked with its answer; a deed that lets the parked
+    /// process at the other end of the channel go on is followed by that one's deed. Where no process
+    /// is then ready or out, the run ends, or the chosen channel grows and its writer's put is done.
+    /// Takes no memory but that of a growth. The error is an answer of a process that is not out, or
+    /// not with this card, local state and last token: nothing changed, and it is handed back.
+    pub fn commit(&mut self, finished: Finished<B>) -> Result<Outcome, Stranger<B>>
+        ensures stranger { IfErr result (λ stranger. (stranger.finished ≡ finished) × (self.new ≡ self.old)) }
+        ensures deserved { IfErr result (λ _. IsOut self.old finished → ⊥) }
+        ensures out { OnOk result (IsOut self.old finished) }
+        ensures commits { IfOk result (λ outcome. Commits B.Kinds.family self.old finished outcome self.new) }
+        ensures appends { IfOk result (λ outcome. Appends B.Kinds.family self.old self.new (number outcome)) }
+        ensures tells { IfOk result (TellsEnabled B.Kinds.family self.old finished.process) }
+        ensures ends { OnOk result (self.old.end ≡ None → EndsAs B.Kinds.family self.new) }
+        ensures back { OnOk result (place self.new.places finished.process ≢ Out) }
+        ensures others { OnOk result ((p : ℕ) → p ≢ finished.process → (place self.new.places p ≡ Out) ↔ (place self.old.places p ≡ Out)) }
+    {
+        if !is_out(&self.net, &self.store, self.places.as_slice(), &finished) {
+            return Err(Stranger { finished });
+        }
+        self.net.processes();
+        let process = finished.process();
+        let answer = finished.answer();
+        self.bodies[process] = Some(finished.into_body());
+        self.commits += 1;
+        if self.end.is_some() {
+            self.places[process] = Standing::Ready;
+            return Ok(Outcome::LaidBack);
+        }
+        let (outcome, end) = work(
+            &self.net,
+            &mut self.store,
+            &mut self.places,
+            process,
+            answer,
+        );
+        self.end = end;
+        Ok(outcome)
+    }
+}
+
+impl<B: Body> Machine<B> {
+    /// The network and the bodies, in order, of a machine that is fresh: what it was opened with. Takes
+    /// no memory.
+    pub fn into_parts(self) -> (Net<B::Kinds>, Vec<B>)
+        requires { IsFresh self }
+        ensures net { result.0 ≡ self.network }
+        ensures bodies { map B.card result.1.items ≡ cards_of self.network.processes }
+    {
+        let Machine {
+            net,
+            store: _,
+            places: _,
+            mut bodies,
+            mut spare,
+            end: _,
+            commits: _,
+        } = self;
+        for p in 0..net.processes() {
+            let Some(body) = bodies[p].take() else {
+                unreachable!()
+            };
+            spare.push_reserved(body);
+        }
+        (net, spare)
+    }
+}
+
+impl<B: Body> Machine<B> {
+    /// Runs to an end in the calling thread, where no process is out.
+    pub fn finish_alone(&mut self)
+        requires { count_by is_out self.old.places ≡ 0 }
+        ensures goes { GoesOn B.Kinds.family self.old self.new }
+        ensures end { IsSome self.new.end }
+        ensures faithful { IsFaithful B.Kinds.family self.new }
+    {
+        while self.end().is_none() {
+            let Some(task) = self.take() else {
+                unreachable!()
+            };
+            let Ok(_) = self.commit(task.call()) else {
+                unreachable!()
+            };
+        }
+    }
+}

@@ -1,0 +1,142 @@
+//! What a machine begins with.
+ghost use Rattle.std.specs.Prelude.{◌≡◌, ℕ, ◌<◌, ◌+◌, length, [], Some, None, IfOk, OnOk, IfSome, IfNone, map, option_map, replicate};
+ghost use Rattle.std.specs.Vec.{vec_capacity};
+ghost use Rattle.kpn_net.specs.Network.{card_of};
+ghost use Rattle.kpn_net.specs.Machine.{start};
+ghost use Rattle.kpn_machine.specs.declared.standing.Standing.TheVariants.{Ready};
+ghost use Rattle.kpn_machine.specs.Story.{story};
+ghost use Rattle.kpn_machine.specs.Opening.{starting, filled, cards_of, IsRefused, AreSeated};
+
+use crate::ring::Ring;
+use crate::same::same_card;
+use crate::standing::Standing;
+use crate::store::Store;
+use kpn_body::Body;
+use kpn_net::{Kinds, Net, Status};
+use std::alloc::{AllocError, Global};
+
+/// Why a machine was not opened, the first that applies: the bodies are not as many as the
+/// processes; a body has not the card of its process; memory was refused.
+#[derive(Clone, Copy, Debug, PartialEq, Eq)]
+pub enum OpenFault {
+    Bodies,
+    Card,
+    Memory,
+}
+
+/// What is wrong with the bodies, if anything is.
+pub(crate) fn misfit<B: Body>(net: &Net<B::Kinds>, bodies: &[B]) -> Option<OpenFault>
+    ensures some { IfSome result (IsRefused net.now.processes (map B.card bodies.now)) }
+    ensures none { IfNone result (map B.card bodies.now ≡ cards_of net.now.processes) }
+{
+    if bodies.len() != net.processes() {
+        return Some(OpenFault::Bodies);
+    }
+    for p in 0..net.processes() {
+        if !same_card(bodies[p].card(), net.card(p)) {
+            return Some(OpenFault::Card);
+        }
+    }
+    None
+}
+
+/// Each process live, with its card's start.
+fn start_statuses<K: Kinds>(alloc: Global, net: &Net<K>) -> Result<Vec<Status>, AllocError>
+    ensures items { IfOk result (λ v. v.items ≡ map (starting K.family) net.now.processes) }
+    ensures admitted { OnOk result ((p : ℕ) → p < length net.now.processes → K.admits (card_of net.now p) (K.family.start (card_of net.now p)) None) }
+{
+    let mut statuses = Vec::with_capacity(alloc, net.processes())?;
+    for p in 0..net.processes() {
+        let card = net.card(p);
+        K::starts(card);
+        statuses.push(Status::Live {
+            local: K::start(&card),
+            last: None,
+        })?;
+    }
+    Ok(statuses)
+}
+
+/// Each channel with its start tokens, and room for its capacity.
+fn start_rings<K: Kinds>(alloc: Global, net: &Net<K>) -> Result<Vec<Ring>, AllocError>
+    ensures { IfOk result (λ v. v.items ≡ map filled net.now.channels) }
+{
+    net.processes();
+    let mut rings = Vec::with_capacity(alloc, net.channels())?;
+    for c in 0..net.channels() {
+        rings.push(Ring::new(alloc, net.tokens(c), net.capacity(c))?)?;
+    }
+    Ok(rings)
+}
+
+/// The start of a network, with room for its budget and two entries more.
+fn start_store<K: Kinds>(alloc: Global, net: &Net<K>) -> Result<Store, AllocError>
+    ensures store { IfOk result (λ s. s ≡ story (start K.family net.now) [] (net.now.budget + 2)) }
+    ensures admitted { OnOk result ((p : ℕ) → p < length net.now.processes → K.admits (card_of net.now p) (K.family.start (card_of net.now p)) None) }
+{
+    net.processes();
+    let room = net.budget() as usize + 2;
+    let statuses = start_statuses(alloc, net)?;
+    let rings = start_rings(alloc, net)?;
+    let history = Vec::with_capacity(alloc, room)?;
+    Ok(Store::new(statuses, rings, history, room))
+}
+
+/// All processes ready.
+fn start_places(alloc: Global, count: usize) -> Result<Vec<Standing>, AllocError>
+    ensures { IfOk result (λ v. v.items ≡ replicate count Ready) }
+{
+    let mut places = Vec::with_capacity(alloc, count)?;
+    for _p in 0..count {
+        places.push(Standing::Ready)?;
+    }
+    Ok(places)
+}
+
+/// A place for each body.
+fn empty_slots<B: Body>(alloc: Global, count: usize) -> Result<Vec<Option<B>>, AllocError>
+    ensures { IfOk result (λ v. length v.items ≡ count) }
+{
+    let mut slots = Vec::with_capacity(alloc, count)?;
+    for _p in 0..count {
+        slots.push(None)?;
+    }
+    Ok(slots)
+}
+
+/// All that a machine begins with, but its network and its bodies: the state, where the processes
+/// stand, and a place for each body.
+#[derive(Drop)]
+pub(crate) struct Start<B: Body> {
+    pub(crate) store: Store,
+    pub(crate) places: Vec<Standing>,
+    pub(crate) slots: Vec<Option<B>>,
+}
+
+/// The start of a network.
+pub(crate) fn prepare<B: Body>(alloc: Global, net: &Net<B::Kinds>) -> Result<Start<B>, AllocError>
+    ensures store { IfOk result (λ r. r.store ≡ story (start B.Kinds.family net.now) [] (net.now.budget + 2)) }
+    ensures places { IfOk result (λ r. r.places.items ≡ replicate (length net.now.processes) Ready) }
+    ensures slots { IfOk result (λ r. length r.slots.items ≡ length net.now.processes) }
+    ensures admitted { OnOk result ((p : ℕ) → p < length net.now.processes → B.Kinds.admits (card_of net.now p) (B.Kinds.family.start (card_of net.now p)) None) }
+{
+    Ok(Start {
+        store: start_store(alloc, net)?,
+        places: start_places(alloc, net.processes())?,
+        slots: empty_slots(alloc, net.processes())?,
+    })
+}
+
+/// Puts each body in its place.
+pub(crate) fn seat_all<B: Body>(bodies: &mut Vec<B>, slots: &mut Vec<Option<B>>)
+    requires { length slots.old.items ≡ length bodies.old.items }
+    ensures seated { AreSeated (map B.card bodies.old.items) (map (option_map B.card) slots.new.items) }
+    ensures slots { length slots.new.items ≡ length slots.old.items }
+    ensures emptied { bodies.new.items ≡ [] }
+    ensures room { vec_capacity bodies.new ≡ vec_capacity bodies.old }
+{
+    while let Some(body) = bodies.pop() {
+        let process = bodies.len();
+        slots[process] = Some(body);
+    }
+}

@@ -1,0 +1,22 @@
+//! Whether two of a kind are equal.
+ghost use Rattle.std.specs.Prelude.{◌≡◌, ◌↔◌, IsTrue};
+
+use kpn_net::{Card, Local, Token};
+
+pub(crate) fn same_card(a: Card, b: Card) -> bool
+    ensures { IsTrue result ↔ (a ≡ b) }
+{
+    a == b
+}
+
+pub(crate) fn same_local(a: Local, b: Local) -> bool
+    ensures { IsTrue result ↔ (a ≡ b) }
+{
+    a == b
+}
+
+pub(crate) fn same_last(a: Option<Token>, b: Option<Token>) -> bool
+    ensures { IsTrue result ↔ (a ≡ b) }
+{
+    a == b
+}
