@@ -1,7 +1,7 @@
 //! Checks and runs Kahn process networks that are described on standard input.
 #![tactic(auto)]
 
-use kpn_execute::execute_alone;
+use kpn_execute::execute_standard;
 use kpn_front::load::load;
 use kpn_front::say::{WRITE_FAILED, say_checked, say_refused};
 use kpn_front::streams::Fallible;
@@ -68,7 +68,7 @@ fn status_of_choice<R: Input + Print + Eprint + AllocGlobal>(rt: &R, choice: Cho
     };
     match choice {
         Choice::Check => say_checked(&net, &mut sink),
-        Choice::Run { show, .. } => execute_alone(rt.alloc(), net, show, &mut sink),
+        Choice::Run { show, .. } => execute_standard(rt.alloc(), net, show, &mut sink),
     }
 }
 

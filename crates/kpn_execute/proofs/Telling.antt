@@ -1,16 +1,20 @@
--- What is told of a run without growths.
-use Rattle.std.proofs.Common.{◌≡◌, ◌≢◌, ◌++◌, ℕ, true, List, Option, Some, refl, sym, ap, ◌∙◌}
+-- What is told of a run.
+use Rattle.std.proofs.Common.{◌≡◌, ◌≢◌, ◌++◌, ℕ, zero, suc, true, List, Option, Some, replicate, refl, sym, ap, ◌∙◌, subst}
+use Rattle.std.proofs.Math.Path.{fun_ext}
+use Rattle.std.specs.List.{count_by}
 use Rattle.kpn_net.specs.declared.history.Entry.{Entry}
 use Rattle.kpn_net.specs.declared.history.End.{End}
 use Rattle.kpn_net.specs.declared.history.End.TheVariants.{Terminated, Deadlock, Ceiling, Budget, Memory}
 use Rattle.kpn_net.specs.declared.history.Place.{Place}
 use Rattle.kpn_net.specs.Network.{Family, Network}
-use Rattle.kpn_net.specs.Machine.{State, IsOver}
-use Rattle.kpn_net.specs.History.{Digest, digest}
+use Rattle.kpn_net.specs.Machine.{State, IsOver, wants}
+use Rattle.kpn_net.specs.History.{Digest, digest, each_process, place_of}
 use Rattle.kpn_net.specs.Determinacy.{IsFinal, OneDigest}
 use Rattle.kpn_net.specs.Moments.{IsBound}
-use Rattle.kpn_plain.specs.declared.halt.Halt.TheVariants.{Ended}
-use Rattle.kpn_plain.specs.Halts.{IsPlainRun}
+use Rattle.kpn_steps.specs.declared.standing.Standing.TheVariants.{Ready}
+use Rattle.kpn_steps.specs.Standings.{place, is_out, parked_answer}
+use Rattle.kpn_machine.specs.Scheduler.{Scheduler, EndHolds, IsFaithful}
+use Rattle.kpn_steps.proofs.Placed.{idle_at}
 use Rattle.kpn_report.specs.declared.detail.Detail.{Detail}
 use Rattle.kpn_report.specs.Text.{end_line, digest_text, text}
 use Rattle.kpn_report.specs.Digested.{IsReport, has_detail, report_text}
@@ -52,24 +56,50 @@ module _ (kinds : Family) (net : Network) where
   one_text one E F M N a b channel e f =
       over_text a E M channel e.over ∙ ap (text_of channel) (one net E F M N a b e f) ∙ sym (over_text b F N channel f.over)
 
-  -- a run without growths that ended is told by its report
-  pub run_told : (E : List Entry) (places : List Place) (cause : End) (detail : Option Detail) (channel : Option ℕ) (status : ℕ) (bytes : List ℕ) (plain : IsPlainRun kinds net E places (Ended cause)) → OneDigest kinds
-      → IsReport kinds net cause E plain.state detail → status ≡ status_of cause → bytes ≡ report_text net cause detail channel → TellsRun kinds net channel status bytes
-  run_told E places cause detail channel status bytes plain one report status_is bytes_are =
-      let told : bytes ≡ text kinds net cause E plain.state channel = bytes_are ∙ report_told cause E plain.state detail channel report in
-      record {
-        history = E;
-        state = plain.state;
-        cause = cause;
-        run = plain.run;
-        ungrown = plain.ungrown;
-        bound = plain.halts.0;
-        natural = plain.halts.1;
-        status_is = status_is;
-        text_is = told;
-        settled = λ has F N b final.
-            told ∙ one_text one E F plain.state N cause b channel (record { run = plain.run; over = over_of cause E plain.state has plain.halts.0 }) final;
-      }
+  not_budget : (cause : End) → has_detail cause ≡ true → cause ≢ Budget
+  not_budget Terminated has e = cc
+  not_budget Deadlock has e = cc
+  not_budget Ceiling has e = cc
+  not_budget Budget has e = cc
+  not_budget Memory has e = cc
+
+-- where a run came to its own end, what the parked processes answered is what all want
+at_rest :
+    (kinds : Family) (s : Scheduler) (cause : End) → IsFaithful kinds s → s.end ≡ Some cause → has_detail cause ≡ true
+    → each_process s.network (λ p. place_of s.network p (parked_answer (place s.places p))) ≡ each_process s.network (λ p. place_of s.network p (wants kinds s.network s.state p))
+at_rest kinds s cause faithful ended has =
+    let same : (λ (p : ℕ). place_of s.network p (parked_answer (place s.places p))) ≡ (λ (p : ℕ). place_of s.network p (wants kinds s.network s.state p)) = fun_ext (λ p. ap (place_of s.network p) (sym (faithful.wanted p (idle_at s.places p (faithful.none_busy cause ended (not_budget kinds s.network cause has)))))) in
+    ap (each_process s.network) same
+
+-- an end that stands is bound
+bound_by : (kinds : Family) (s : Scheduler) (cause : End) → IsFaithful kinds s → s.end ≡ Some cause → IsBound kinds s.network s.history s.state cause
+bound_by kinds s cause faithful ended = subst (EndHolds kinds s.network s.history s.state) ended faithful.bound
+
+-- a run that ended is told by its report
+pub run_told :
+    (kinds : Family) (s : Scheduler) (cause : End) (places : List Place) (detail : Option Detail) (channel : Option ℕ) (status : ℕ) (bytes : List ℕ) → IsFaithful kinds s → s.end ≡ Some cause
+    → places ≡ each_process s.network (λ p. place_of s.network p (parked_answer (place s.places p))) → OneDigest kinds
+    → ((has_detail cause ≡ true → places ≡ each_process s.network (λ p. place_of s.network p (wants kinds s.network s.state p))) → IsReport kinds s.network cause s.history s.state detail)
+    → status ≡ status_of cause → bytes ≡ report_text s.network cause detail channel → TellsRun kinds s.network channel status bytes
+run_told kinds s cause places detail channel status bytes faithful ended places_are one report status_is bytes_are =
+    let bound = bound_by kinds s cause faithful ended in
+    let told : bytes ≡ text kinds s.network cause s.history s.state channel = bytes_are ∙ report_told kinds s.network cause s.history s.state detail channel (report (λ has. places_are ∙ at_rest kinds s cause faithful ended has)) in
+    record {
+      history = s.history;
+      state = s.state;
+      cause = cause;
+      run = faithful.run;
+      bound = bound;
+      status_is = status_is;
+      text_is = told;
+      settled = λ has F N b final.
+          told ∙ one_text kinds s.network one s.history F s.state N cause b channel (record { run = faithful.run; over = over_of kinds s.network cause s.history s.state has bound }) final;
+    }
+
+-- where all are ready, none is out
+pub none_out : (n : ℕ) → count_by is_out (replicate n Ready) ≡ 0
+none_out zero = refl
+none_out (suc n) = none_out n
 
 -- no run ends with the status of a failed write
 pub status_not_failed : (cause : End) → status_of cause ≢ 7

@@ -1,5 +1,5 @@
 -- What the program writes of a network, and its exit status.
-use Rattle.std.specs.Prelude.{◌≡◌, ◌≢◌, ◌⊎◌, ℕ, Bool, true, codes, List, [], length, Option, Some, None, position}
+use Rattle.std.specs.Prelude.{◌≡◌, ◌≢◌, ◌⊎◌, ℕ, Bool, true, List, length, Option, Some, None, position}
 use Rattle.std.specs.Str.{bytes_eq}
 use Rattle.std.specs.Io.KnownBytes.{Appends}
 use Rattle.kpn_net.specs.declared.history.Entry.{Entry}
@@ -7,8 +7,7 @@ use Rattle.kpn_net.specs.declared.history.End.{End}
 use Rattle.kpn_net.specs.declared.history.End.TheVariants.{Terminated, Deadlock, Ceiling, Budget, Memory}
 use Rattle.kpn_net.specs.declared.fault.NetFault.TheVariants.{Memory as OutOfMemory}
 use Rattle.kpn_net.specs.Network.{Family, Network}
-use Rattle.kpn_net.specs.Machine.{State, IsArtificial}
-use Rattle.kpn_net.specs.History.{growths}
+use Rattle.kpn_net.specs.Machine.{State}
 use Rattle.kpn_net.specs.Determinacy.{IsRun, IsFinal}
 use Rattle.kpn_net.specs.Moments.{IsBound}
 use Rattle.kpn_report.specs.Text.{text as report_text}
@@ -45,40 +44,32 @@ pub record TellsRefused (status : ℕ) (text : List ℕ) : Type 0 where
   pub status_is : status ≡ 4
   pub text_is : text ≡ refused_line OutOfMemory
 
--- a run without growths stopped at an artificial deadlock
-pub record TellsFull (kinds : Family) (net : Network) (status : ℕ) (text : List ℕ) : Type 0 where
-  pub history : List Entry
-  pub state : State
-  pub run : IsRun kinds net history state
-  pub ungrown : growths history ≡ []
-  pub artificial : IsArtificial kinds net state
-  pub status_is : status ≡ 9
-  pub text_is : text ≡ codes "end full\n"
-
 -- whatever the schedule, each run that is over tells the same
 abbrev pub IsSettled : Family → Network → Option ℕ → List ℕ → Type 0
 IsSettled kinds net channel text = (F : List Entry) (N : State) (b : End) → IsFinal kinds net F N b → text ≡ report_text kinds net b F N channel
 
--- a run without growths ended for a cause to which it is bound
+-- a run from the start ended for a cause to which it is bound
 pub record TellsRun (kinds : Family) (net : Network) (channel : Option ℕ) (status : ℕ) (text : List ℕ) : Type 0 where
   pub history : List Entry
   pub state : State
   pub cause : End
   pub run : IsRun kinds net history state
-  pub ungrown : growths history ≡ []
   pub bound : IsBound kinds net history state cause
-  pub natural : IsArtificial kinds net state → ⊥
   pub status_is : status ≡ status_of cause
   pub text_is : text ≡ report_text kinds net cause history state channel
   pub settled : has_detail cause ≡ true → IsSettled kinds net channel text
 
 -- what is told of a network where the name that is to be shown is that of a channel
 abbrev pub TellsKnown : Family → Network → Option ℕ → ℕ → List ℕ → Type 0
-TellsKnown kinds net channel status text = TellsRefused status text ⊎ (TellsFull kinds net status text ⊎ TellsRun kinds net channel status text)
+TellsKnown kinds net channel status text = TellsRefused status text ⊎ TellsRun kinds net channel status text
 
 -- what is told of a network, and the status
 abbrev pub Tells : Family → Network → Option (List ℕ) → ℕ → List ℕ → Type 0
 Tells kinds net show status text = TellsNoChannel net show status text ⊎ ((channel : Option ℕ) × IsShown net show channel × TellsKnown kinds net channel status text)
+
+-- the same, or that memory for the bodies was refused
+abbrev pub TellsOfBodies : Family → Network → Option (List ℕ) → ℕ → List ℕ → Type 0
+TellsOfBodies kinds net show status text = TellsRefused status text ⊎ Tells kinds net show status text
 
 -- what is told is written, and the status is its own; it is 7 where the write fails, as it does not
 -- where the sink takes so many bytes
@@ -92,3 +83,7 @@ pub record Writes (tells : ℕ → List ℕ → Type 0) (takes : ℕ → Bool) (
 -- what the program writes of a network
 abbrev pub Executes : Family → Network → Option (List ℕ) → (ℕ → Bool) → Option (List ℕ) → Option (List ℕ) → ℕ → Type 0
 Executes kinds net show takes before after result = Writes (Tells kinds net show) takes before after result
+
+-- the same of a program that makes the bodies of the network
+abbrev pub MakesAndExecutes : Family → Network → Option (List ℕ) → (ℕ → Bool) → Option (List ℕ) → Option (List ℕ) → ℕ → Type 0
+MakesAndExecutes kinds net show takes before after result = Writes (TellsOfBodies kinds net show) takes before after result

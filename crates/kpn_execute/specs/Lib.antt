@@ -1,2 +1,1 @@
 pub mod Execution
-pub mod Told

@@ -1,106 +1,94 @@
 //! Running a network and telling of it.
-ghost use Rattle.std.specs.Prelude.{◌≡◌, ◌≢◌, Some, None, IfOk, option_map, string_bytes};
-ghost use Rattle.kpn_net.specs.Standard.{standard};
-ghost use Rattle.kpn_execute.specs.Execution.{status_of, Executes, TellsKnown, Writes};
-ghost use Rattle.kpn_execute.specs.Told.{IsTold};
+ghost use Rattle.std.specs.Prelude.{◌≡◌, ◌≢◌, Some, None, IfOk, IsSome, map, option_map, string_bytes};
+ghost use Rattle.kpn_machine.specs.Opening.{cards_of};
+ghost use Rattle.kpn_execute.specs.Execution.{status_of, Executes, TellsKnown, TellsRun, Writes};
 
+use kpn_body::Body;
 use kpn_front::say::{say, say_no_channel, say_refused};
 use kpn_front::streams::Sink;
 use kpn_laws::determinacy_of;
+use kpn_machine::{Machine, places_of};
 use kpn_net::{End, Net, NetFault};
-use kpn_plain::{Answering, Halt, run_plain};
 use kpn_report::{report_of, report_text};
-use kpn_standard::Standard;
 use std::alloc::{AllocError, Global};
-
-/// The exit status where a channel is full that would have to grow.
-const FULL: u8 = 9;
 
 /// What is told of a run.
 #[derive(Drop)]
-enum Told {
-    Full,
-    Run { status: u8, text: String },
+struct Told {
+    status: u8,
+    text: String,
 }
 
-/// Runs a network in the calling thread, without growths, and writes what came of it: the report of
-/// the run, with the stream of a channel where `show` names one.
+/// Runs a network in the calling thread, with a body for each process, and writes what came of it:
+/// the report of the run, with the stream of a channel where `show` names one.
 ///
 /// Where the run came to its own end, each run of the network that is over tells the same, whatever
 /// the schedule.
 ///
 /// The answer is the exit status: 0, 5 or 6 where the run terminated, ended in a deadlock or at the
 /// ceiling, 3 where its budget was spent, 1 where `show` is the name of no channel (nothing is then
-/// run, and `no channel NAME` is written), 4 where memory was refused before the first deed or for
-/// the report (`refused 14`), 9 where a channel is full that would have to grow (`end full`), and 7
-/// where the write fails.
-pub fn execute_alone<S: Sink>(
+/// run, and `no channel NAME` is written), 4 where memory was refused, before the run or for the
+/// report (`refused 14`) or for a growth (`end memory`), and 7 where the write fails.
+pub fn execute_alone<B: Body, S: Sink>(
     alloc: Global,
-    net: Net<Standard>,
+    net: Net<B::Kinds>,
+    bodies: Vec<B>,
     show: Option<&str>,
     sink: &mut S,
 ) -> u8
-    ensures { Executes standard net (option_map (λ s. s.now) show.entry) (S.takes sink.old) (S.contents sink.old) (S.contents sink.new) result }
-{
-    execute_plain(alloc, &net, show, sink)
-}
-
-/// The same for a network of any family that answers without stored closures.
-fn execute_plain<K: Answering, S: Sink>(
-    alloc: Global,
-    net: &Net<K>,
-    show: Option<&str>,
-    sink: &mut S,
-) -> u8
-    ensures { Executes K.family net.now (option_map (λ s. s.now) show.entry) (S.takes sink.old) (S.contents sink.old) (S.contents sink.new) result }
+    requires { map B.card bodies.items ≡ cards_of net.processes }
+    ensures { Executes B.Kinds.family net (option_map (λ s. s.now) show.entry) (S.takes sink.old) (S.contents sink.old) (S.contents sink.new) result }
 {
     match show {
-        None => tell(alloc, net, None, sink),
+        None => tell(alloc, net, bodies, None, sink),
         Some(name) => match net.find_channel(name) {
-            Some(channel) => tell(alloc, net, Some(channel), sink),
+            Some(channel) => tell(alloc, net, bodies, Some(channel), sink),
             None => say_no_channel(name, sink),
         },
     }
 }
 
 /// Runs a network and writes what came of it, with the stream of a channel where one is to be shown.
-fn tell<K: Answering, S: Sink>(
+fn tell<B: Body, S: Sink>(
     alloc: Global,
-    net: &Net<K>,
+    net: Net<B::Kinds>,
+    bodies: Vec<B>,
     channel: Option<usize>,
     sink: &mut S,
 ) -> u8
-    ensures { Writes (TellsKnown K.family net.now channel) (S.takes sink.old) (S.contents sink.old) (S.contents sink.new) result }
+    ensures { Writes (TellsKnown B.Kinds.family net channel) (S.takes sink.old) (S.contents sink.old) (S.contents sink.new) result }
 {
-    match run_and_tell(alloc, net, channel) {
-        Ok(Told::Full) => say(sink, "end full\n", FULL),
-        Ok(Told::Run { status, text }) => say(sink, text.as_str(), status),
+    let Ok(mut machine) = Machine::open(alloc, net, bodies) else {
+        return say_refused(&NetFault::Memory, sink);
+    };
+    machine.finish_alone();
+    match told_of(alloc, &machine, channel) {
+        Ok(told) => say(sink, told.text.as_str(), told.status),
         Err(_) => say_refused(&NetFault::Memory, sink),
     }
 }
 
-/// Runs a network, and makes the whole of what is told of it.
-fn run_and_tell<K: Answering>(
+/// The whole of what is told of a run that ended.
+fn told_of<B: Body>(
     alloc: Global,
-    net: &Net<K>,
+    machine: &Machine<B>,
     channel: Option<usize>,
 ) -> Result<Told, AllocError>
-    ensures { IfOk result (IsTold K.family net.now channel) }
+    requires { IsSome machine.now.end }
+    ensures { IfOk result (λ told. TellsRun B.Kinds.family machine.now.network channel told.status (string_bytes told.text)) }
 {
-    let run = run_plain(alloc, net)?;
-    match run.halt {
-        Halt::Full => Ok(Told::Full),
-        Halt::Ended(end) => {
-            determinacy_of::<K>();
-            let places = run.places;
-            let report = report_of(alloc, net, run.history.as_slice(), places, end)?;
-            let text = report_text(alloc, net, &report, channel)?;
-            Ok(Told::Run {
-                status: status_of(end),
-                text,
-            })
-        }
-    }
+    let Some(end) = machine.end() else {
+        unreachable!()
+    };
+    determinacy_of::<B::Kinds>();
+    let net = machine.net();
+    let places = places_of(alloc, net, machine.standings())?;
+    let report = report_of(alloc, net, machine.history(), places, end)?;
+    let text = report_text(alloc, net, &report, channel)?;
+    Ok(Told {
+        status: status_of(end),
+        text,
+    })
 }
 
 /// The exit status of a run that ended so.

@@ -24,7 +24,6 @@ Exit status:
   5  the run ended in a deadlock
   6  a channel would have grown past its ceiling
   7  writing failed
-  9  a channel is full that would have to grow
 ";
 
 /// Where the subcommands find the description.

@@ -7,16 +7,16 @@ use Rattle.kpn_net.specs.declared.history.Entry.TheVariants.{Did, Grew}
 use Rattle.kpn_net.specs.declared.history.End.{End}
 use Rattle.kpn_net.specs.Network.{Network, Family}
 use Rattle.kpn_net.specs.Machine.{State, Run, Step}
-use Rattle.kpn_machine.specs.Story.{Story, more}
-use Rattle.kpn_machine.specs.declared.standing.Standing.{Standing}
-use Rattle.kpn_machine.specs.declared.react.Reaction.{Reaction}
-use Rattle.kpn_machine.specs.declared.react.Reaction.TheVariants.{Waits, Acts, HandsOn}
-use Rattle.kpn_machine.specs.declared.settle.Settled.{Settled}
-use Rattle.kpn_machine.specs.declared.settle.Settled.TheVariants.{Busy, Ended as Over, Enlarged}
-use Rattle.kpn_machine.specs.declared.outcome.Outcome.{Outcome}
-use Rattle.kpn_machine.specs.Reactions.{Reacts}
-use Rattle.kpn_machine.specs.Settling.{Settles}
-use Rattle.kpn_machine.specs.Works.{Works, acted_entries, settled_entries, outcome_of}
+use Rattle.kpn_rings.specs.Story.{Story, more}
+use Rattle.kpn_steps.specs.declared.standing.Standing.{Standing}
+use Rattle.kpn_steps.specs.declared.react.Reaction.{Reaction}
+use Rattle.kpn_steps.specs.declared.react.Reaction.TheVariants.{Waits, Acts, HandsOn}
+use Rattle.kpn_steps.specs.declared.settle.Settled.{Settled}
+use Rattle.kpn_steps.specs.declared.settle.Settled.TheVariants.{Busy, Ended as Over, Enlarged}
+use Rattle.kpn_steps.specs.declared.outcome.Outcome.{Outcome}
+use Rattle.kpn_steps.specs.Reactions.{Reacts}
+use Rattle.kpn_steps.specs.Settling.{Settles}
+use Rattle.kpn_steps.specs.Works.{Works, acted_entries, settled_entries, outcome_of}
 use Rattle.kpn_machine.specs.Commits.{number}
 
 module _ (kinds : Family) (net : Network) where

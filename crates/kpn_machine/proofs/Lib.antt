@@ -1,11 +1,3 @@
-pub mod Placed
-pub mod Deeds
-pub mod Keeping
-pub mod Reacting
-pub mod Idle
-pub mod Growing
-pub mod Enlarging
-pub mod Working
 pub mod Entries
 pub mod Moves
 pub mod Sound
@@ -13,3 +5,4 @@ pub mod Seats
 pub mod Opened
 pub mod Finishing
 pub mod Ends
+pub mod Cards

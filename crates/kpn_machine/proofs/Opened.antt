@@ -13,11 +13,11 @@ use Rattle.kpn_net.specs.Network.{Network, Family, no_channel, card_of, no_proce
 use Rattle.kpn_net.specs.Machine.{nothing_held, start}
 use Rattle.kpn_net.specs.Valid.{IsValid}
 use Rattle.kpn_laws.proofs.SortedDeeds.{sorted_start}
-use Rattle.kpn_machine.specs.declared.standing.Standing.TheVariants.{Ready, Parked, Stopped as Ended}
-use Rattle.kpn_machine.specs.Standings.{place, is_busy, Keeps}
+use Rattle.kpn_steps.specs.declared.standing.Standing.TheVariants.{Ready, Parked, Stopped as Ended}
+use Rattle.kpn_steps.specs.Standings.{place, is_busy, Keeps}
 use Rattle.kpn_machine.specs.Opening.{cards_of, AreSeated}
 use Rattle.kpn_machine.specs.Scheduler.{scheduler, IsSound}
-use Rattle.kpn_machine.proofs.Placed.{busy_at}
+use Rattle.kpn_steps.proofs.Placed.{busy_at}
 use Rattle.kpn_machine.proofs.Seats.{card_at}
 
 -- each process is ready
@@ -91,6 +91,7 @@ module _ (signature : Card → Option Signature) (admits : Card → List ℕ →
         few = omega arith;
         ends = let some = valid.some_budget in omega arith;
         busy = λ e. busy_at (replicate (length net.processes) Ready) 0 (ap is_busy (ready_at (length net.processes) 0 first));
+        idle = λ end e not. cc;
         asked = λ e. omega arith;
         laid = omega arith;
       }

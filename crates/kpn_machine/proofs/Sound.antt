@@ -17,30 +17,39 @@ use Rattle.kpn_net.specs.Machine.{State, status, answered, wants, start}
 use Rattle.kpn_net.specs.Determinacy.{IsRun}
 use Rattle.kpn_laws.proofs.EachMoment.{enabled_can_do}
 use Rattle.kpn_body.specs.Input.{Input, answer_to}
-use Rattle.kpn_machine.specs.Story.{Story, story}
-use Rattle.kpn_machine.specs.declared.standing.Standing.{Standing}
-use Rattle.kpn_machine.specs.declared.standing.Standing.TheVariants.{Ready, Out, Parked, Stopped as Ended}
-use Rattle.kpn_machine.specs.declared.react.Reaction.{Reaction}
-use Rattle.kpn_machine.specs.declared.react.Reaction.TheVariants.{Waits, Acts, HandsOn}
-use Rattle.kpn_machine.specs.declared.settle.Settled.{Settled}
-use Rattle.kpn_machine.specs.declared.settle.Settled.TheVariants.{Busy, Ended as Over, Enlarged}
-use Rattle.kpn_machine.specs.declared.outcome.Outcome.{Outcome}
-use Rattle.kpn_machine.specs.declared.outcome.Outcome.TheVariants.{Done, Parked as Parks, LaidBack}
-use Rattle.kpn_machine.specs.Standings.{place, is_busy, Keeps}
-use Rattle.kpn_machine.specs.Reactions.{Reacts}
-use Rattle.kpn_machine.specs.Settling.{EndsBy, Settles}
-use Rattle.kpn_machine.specs.Works.{Works, acted_entries, settled_entries, outcome_of, end_after}
+use Rattle.kpn_rings.specs.Story.{Story, story}
+use Rattle.kpn_steps.specs.declared.standing.Standing.{Standing}
+use Rattle.kpn_steps.specs.declared.standing.Standing.TheVariants.{Ready, Out, Parked, Stopped as Ended}
+use Rattle.kpn_steps.specs.declared.react.Reaction.{Reaction}
+use Rattle.kpn_steps.specs.declared.react.Reaction.TheVariants.{Waits, Acts, HandsOn}
+use Rattle.kpn_steps.specs.declared.settle.Settled.{Settled}
+use Rattle.kpn_steps.specs.declared.settle.Settled.TheVariants.{Busy, Ended as Over, Enlarged}
+use Rattle.kpn_steps.specs.declared.outcome.Outcome.{Outcome}
+use Rattle.kpn_steps.specs.declared.outcome.Outcome.TheVariants.{Done, Parked as Parks, LaidBack}
+use Rattle.kpn_steps.specs.Standings.{place, is_busy, parked_answer, Keeps}
+use Rattle.kpn_steps.specs.Reactions.{Reacts}
+use Rattle.kpn_steps.specs.Settling.{EndsBy, Settles}
+use Rattle.kpn_steps.specs.Works.{Works, acted_entries, settled_entries, outcome_of, end_after}
 use Rattle.kpn_machine.specs.Scheduler.{Scheduler, scheduler, IsOutAt, HasBodies, EndIs, waits, stays_in, IsSound, EndHolds, IsFaithful}
 use Rattle.kpn_machine.specs.Commits.{number, Appends, WorksOn, Commits, TellsEnabled}
-use Rattle.kpn_machine.proofs.Placed.{place_set_same, place_set_other, place_within, busy_at, out_not_ended, ready_not_ended}
-use Rattle.kpn_machine.proofs.Keeping.{keeps_moved}
-use Rattle.kpn_machine.proofs.Idle.{enabled_busy}
-use Rattle.kpn_machine.proofs.Working.{handed_busy}
+use Rattle.kpn_steps.proofs.Placed.{place_set_same, place_set_other, place_within, busy_at, out_not_ended, ready_not_ended}
+use Rattle.kpn_steps.proofs.Keeping.{keeps_moved}
+use Rattle.kpn_steps.proofs.Idle.{enabled_busy}
+use Rattle.kpn_steps.proofs.Working.{handed_busy}
+use Rattle.kpn_steps.proofs.Due.{grows_exactly}
 use Rattle.kpn_machine.proofs.Entries.{GoesOn, run_both, number_is, works_goes}
 use Rattle.kpn_machine.proofs.Moves.{waiting_in, in_within, waits_moved, in_moved, out_or_not, works_back, works_out, works_others, works_count}
 
 true_false : (b : Bool) → b ≡ true → b ≡ false → ⊥
 true_false b x y = cc
+
+none_some : (x : End) → None ≡ Some x → ⊥
+none_some x e = cc
+
+-- an end by the budget alone is the budget's
+spent : (b : Bool) (cause : End) → (if b then Some Budget else None) ≡ Some cause → cause ≡ Budget
+spent true cause e = cc
+spent false cause e = cc
 
 out_not_parked : (a : Answer) → Out ≡ Parked a → ⊥
 out_not_parked a e = cc
@@ -87,6 +96,12 @@ module _ (kinds : Family) (net : Network) where
       parked_ended : (a : Answer) → Parked a ≡ Ended → ⊥
       parked_ended a f = cc
 
+  -- and with one that isn't the budget's none is
+  idle_follows : (s : Story) (places : List Standing) (x : Settled) (t : Story) (moved : List Standing) (budget entries : ℕ) (cause : End) → Settles kinds net s places x t moved → end_after x budget entries ≡ Some cause → cause ≢ Budget → list_any is_busy moved ≡ false
+  idle_follows s places Busy t moved budget entries cause h e not = absurd (not (spent _ cause e))
+  idle_follows s places (Over end) t moved budget entries cause h e not = ap (list_any is_busy) h.2 ∙ h.0
+  idle_follows s places Enlarged t moved budget entries cause h e not = absurd (not (spent _ cause e))
+
   -- done with 1 to 3 entries where the process could go on, parked with 0 or 2 where it couldn't
   tells :
       (M : State) (E : List Entry) (room : ℕ) (places : List Standing) (end : Option End) (commits : ℕ) (m : Story) (mid : List Standing) (t : Story) (moved : List Standing) (p : ℕ) (a : Answer) (r : Reaction) (x : Settled)
@@ -108,6 +123,15 @@ few_entries kinds s p (Parks n) h = ⊎_elim (λ e. omega arith) (λ e. omega ar
 few_entries kinds s p LaidBack h = omega arith
 
 module _ (kinds : Family) (admits : Card → List ℕ → Option Token → Type 0) where
+  -- who is neither ready nor out wants what it answered
+  idle_wants :
+      (net : Network) (M : State) (places : List Standing) (p : ℕ) (x : Standing) → Keeps kinds admits net None M places → place places p ≡ x → is_busy x ≡ false
+      → wants kinds net M p ≡ parked_answer x
+  idle_wants net M places p Ready k e idle = cc
+  idle_wants net M places p Out k e idle = cc
+  idle_wants net M places p (Parked a) k e idle = k.wanted p a e
+  idle_wants net M places p Ended k e idle = ap (answered kinds net p) (k.stopped p e)
+
   pub sound_faithful : (s : Scheduler) (room : ℕ) (bodies : List (Option Card)) → IsSound kinds admits s room bodies → IsFaithful kinds s
   sound_faithful s room bodies h =
       let most = in_within s.places in
@@ -117,7 +141,9 @@ module _ (kinds : Family) (admits : Card → List ℕ → Option Token → Type 
         run = h.run;
         bound = end_holds kinds s.network s.state s.history s.end h.few h.ends;
         none_held_back = enabled_busy kinds admits s.network s.state s.places h.keeps;
+        wanted = λ p idle. idle_wants s.network s.state s.places p _ h.keeps refl idle;
         some_busy = h.busy;
+        none_busy = h.idle;
         few_entries = h.few;
         few_commits = omega arith;
       }
@@ -156,6 +182,7 @@ module _ (kinds : Family) (admits : Card → List ℕ → Option Token → Type 
           few = h.few;
           ends = h.ends;
           busy = λ e. busy_at (set places p Out) p (ap is_busy now);
+          idle = λ stop e not. absurd (none_some stop (sym none ∙ e));
           asked = λ e. omega arith;
           laid = omega arith;
         }
@@ -186,6 +213,7 @@ module _ (kinds : Family) (admits : Card → List ℕ → Option Token → Type 
             few = h.few;
             ends = h.ends;
             busy = λ e. busy_at (set places i.process Ready) i.process (ap is_busy now);
+            idle = λ stop e not. absurd (true_false _ (busy_at places i.process (ap is_busy out.out)) (h.idle stop e not));
             asked = λ e. absurd (over e);
             laid = omega arith;
           }
@@ -219,8 +247,17 @@ module _ (kinds : Family) (admits : Card → List ℕ → Option Token → Type 
         pub worked_others : (q : ℕ) → q ≢ i.process → (place moved q ≡ Out) ↔ (place places q ≡ Out)
         worked_others q ne = works_others kinds net (story M E room) places i.process (answer_to kinds i) o (story N F left) moved stop w q out_within ne
 
+        works_on : Works kinds net (story M E (net.budget + 2)) places i.process (answer_to kinds i) o (story N F (net.budget + 2)) moved stop → WorksOn kinds old i o new
+        works_on v = record {
+          before = none;
+          network = refl;
+          commits = refl;
+          works = v;
+          grows = λ not. grows_exactly kinds net v.between v.places_between v.settled (story N F (net.budget + 2)) moved net.budget (length F) v.settles (λ e. not (v.end_is ∙ e));
+        }
+
         pub worked_commits : Commits kinds old i o new
-        worked_commits = by_outcome o w.outcome_is (record { before = none; network = refl; commits = refl; works = subst (λ r. Works kinds net (story M E (net.budget + 2)) places i.process (answer_to kinds i) o (story N F r) moved stop) (goes.room ∙ h.room_is) (subst (λ r. Works kinds net (story M E r) places i.process (answer_to kinds i) o (story N F left) moved stop) h.room_is w) })
+        worked_commits = by_outcome o w.outcome_is (works_on (subst (λ r. Works kinds net (story M E (net.budget + 2)) places i.process (answer_to kinds i) o (story N F r) moved stop) (goes.room ∙ h.room_is) (subst (λ r. Works kinds net (story M E r) places i.process (answer_to kinds i) o (story N F left) moved stop) h.room_is w)))
           where
             not_laid : (r : Reaction) (x : Settled) → LaidBack ≡ outcome_of r x → ⊥
             not_laid Waits x e = cc
@@ -250,6 +287,7 @@ module _ (kinds : Family) (admits : Card → List ℕ → Option Token → Type 
               few = omega arith;
               ends = subst (λ e. EndIs kinds net N F e) (sym w.end_is) (end_follows kinds net w.between w.places_between w.settled (story N F left) moved w.settles);
               busy = λ e. busy_follows kinds net w.between w.places_between w.settled (story N F left) moved net.budget (length F) w.settles (sym w.end_is ∙ e);
+              idle = λ cause e not. idle_follows kinds net w.between w.places_between w.settled (story N F left) moved net.budget (length F) cause w.settles (sym w.end_is ∙ e) not;
               asked = λ e. omega arith;
               laid = omega arith;
             }

@@ -7,12 +7,13 @@ use Rattle.kpn_net.specs.declared.history.End.TheVariants.{Terminated, Deadlock,
 use Rattle.kpn_net.specs.Network.{Family}
 use Rattle.kpn_net.specs.Machine.{Run, IsEnabled, IsOver}
 use Rattle.kpn_body.specs.Input.{Input, answer_to}
-use Rattle.kpn_machine.specs.declared.standing.Standing.TheVariants.{Ready}
-use Rattle.kpn_machine.specs.declared.outcome.Outcome.{Outcome}
-use Rattle.kpn_machine.specs.declared.outcome.Outcome.TheVariants.{Done, Parked, LaidBack}
-use Rattle.kpn_machine.specs.Standings.{is_busy}
-use Rattle.kpn_machine.specs.Settling.{CanGrow}
-use Rattle.kpn_machine.specs.Works.{Works}
+use Rattle.kpn_steps.specs.declared.standing.Standing.TheVariants.{Ready}
+use Rattle.kpn_steps.specs.declared.settle.Settled.TheVariants.{Enlarged}
+use Rattle.kpn_steps.specs.declared.outcome.Outcome.{Outcome}
+use Rattle.kpn_steps.specs.declared.outcome.Outcome.TheVariants.{Done, Parked, LaidBack}
+use Rattle.kpn_steps.specs.Standings.{is_busy}
+use Rattle.kpn_steps.specs.Settling.{CanGrow}
+use Rattle.kpn_steps.specs.Works.{Works}
 use Rattle.kpn_machine.specs.Scheduler.{Scheduler, story_of}
 
 abbrev pub number : Outcome → ℕ
@@ -34,12 +35,14 @@ pub record GoesOn (kinds : Family) (s t : Scheduler) : Type 0 where
   pub history : t.history ≡ s.history ++ entries
   pub run : Run kinds s.network s.state entries t.state
 
--- the answer was worked on, in a machine whose run goes on
+-- the answer was worked on, in a machine whose run goes on; a growth follows the deeds exactly where
+-- no process is then ready or out and one is due, unless its memory is refused
 pub record WorksOn (kinds : Family) (s : Scheduler) (i : Input) (o : Outcome) (t : Scheduler) : Type 0 where
   pub before : s.end ≡ None
   pub network : t.network ≡ s.network
   pub commits : t.commits ≡ s.commits + 1
   pub works : Works kinds s.network (story_of s) s.places i.process (answer_to kinds i) o (story_of t) t.places t.end
+  pub grows : t.end ≢ Some Memory → (works.settled ≡ Enlarged) ↔ ((list_any is_busy works.places_between ≡ false) × CanGrow kinds s.network works.between.state)
 
 -- an end stood, and the process is ready again; or the answer was worked on
 abbrev pub Commits : Family → Scheduler → Input → Outcome → Scheduler → Type 0

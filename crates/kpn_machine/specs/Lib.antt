@@ -1,9 +1,3 @@
-pub mod Story
-pub mod Standings
-pub mod Reactions
-pub mod Choice
-pub mod Settling
-pub mod Works
 pub mod Opening
 pub mod Scheduler
 pub mod Commits

@@ -1,5 +1,5 @@
 -- What contracts see of a machine.
-use Rattle.std.specs.Prelude.{◌≡◌, ◌≢◌, ℕ, ◌+◌, ◌<◌, ◌≤◌, true, List, [], Option, Some, None, length, get_or, set}
+use Rattle.std.specs.Prelude.{◌≡◌, ◌≢◌, ℕ, ◌+◌, ◌<◌, ◌≤◌, true, false, List, [], Option, Some, None, length, get_or, set}
 use Rattle.std.specs.List.{list_any, list_all, sum_by}
 use Rattle.kpn_net.specs.declared.token.Token.{Token}
 use Rattle.kpn_net.specs.declared.kinds.Card.{Card}
@@ -8,15 +8,15 @@ use Rattle.kpn_net.specs.declared.history.Entry.{Entry}
 use Rattle.kpn_net.specs.declared.history.End.{End}
 use Rattle.kpn_net.specs.declared.history.End.TheVariants.{Terminated, Deadlock, Ceiling, Budget, Memory}
 use Rattle.kpn_net.specs.Network.{Family, Network, card_of}
-use Rattle.kpn_net.specs.Machine.{State, status, IsEnabled}
+use Rattle.kpn_net.specs.Machine.{State, status, wants, IsEnabled}
 use Rattle.kpn_net.specs.Determinacy.{IsRun}
 use Rattle.kpn_net.specs.Moments.{IsBound}
 use Rattle.kpn_body.specs.Input.{Input}
-use Rattle.kpn_machine.specs.Story.{Story, story}
-use Rattle.kpn_machine.specs.declared.standing.Standing.{Standing}
-use Rattle.kpn_machine.specs.declared.standing.Standing.TheVariants.{Ready, Out, Parked, Stopped as Ended}
-use Rattle.kpn_machine.specs.Standings.{place, is_busy, is_ready, Keeps}
-use Rattle.kpn_machine.specs.Settling.{EndsBy}
+use Rattle.kpn_rings.specs.Story.{Story, story}
+use Rattle.kpn_steps.specs.declared.standing.Standing.{Standing}
+use Rattle.kpn_steps.specs.declared.standing.Standing.TheVariants.{Ready, Out, Parked, Stopped as Ended}
+use Rattle.kpn_steps.specs.Standings.{place, is_busy, is_ready, parked_answer, Keeps}
+use Rattle.kpn_steps.specs.Settling.{EndsBy}
 
 -- the network, its state, the entries that led to it, where each process stands, how the run ended,
 -- and how many answers were taken
@@ -94,6 +94,7 @@ pub record IsSound (kinds : Family) (admits : Card → List ℕ → Option Token
   pub few : length s.history ≤ s.network.budget + 2
   pub ends : EndIs kinds s.network s.state s.history s.end
   pub busy : s.end ≡ None → list_any is_busy s.places ≡ true
+  pub idle : (end : End) → s.end ≡ Some end → end ≢ Budget → list_any is_busy s.places ≡ false
   pub asked : s.end ≡ None → s.commits ≤ length s.history + sum_by waits s.places
   pub laid : s.commits ≤ length s.history + sum_by stays_in s.places
 
@@ -102,14 +103,17 @@ EndHolds kinds net E M None = Unit {0}
 EndHolds kinds net E M (Some end) = IsBound kinds net E M end
 
 -- what holds of each machine at each time: its history is a run from the start to its state; an end
--- that stands is bound; who can go on is ready or out, and while no end stands some process is so;
--- there are at most two entries more than the budget, and at most as many answers were taken as
--- there are entries and processes
+-- that stands is bound; who can go on is ready or out, and who is neither wants what it answered;
+-- while no end stands some process is ready or out, and none is where one stands that isn't the
+-- budget's; there are at most two entries more than the budget, and at most as many answers were
+-- taken as there are entries and processes
 pub record IsFaithful (kinds : Family) (s : Scheduler) : Type 0 where
   pub run : IsRun kinds s.network s.history s.state
   pub bound : EndHolds kinds s.network s.history s.state s.end
   pub none_held_back : (p : ℕ) → IsEnabled kinds s.network s.state p → is_busy (place s.places p) ≡ true
+  pub wanted : (p : ℕ) → is_busy (place s.places p) ≡ false → wants kinds s.network s.state p ≡ parked_answer (place s.places p)
   pub some_busy : s.end ≡ None → list_any is_busy s.places ≡ true
+  pub none_busy : (end : End) → s.end ≡ Some end → end ≢ Budget → list_any is_busy s.places ≡ false
   pub few_entries : length s.history ≤ s.network.budget + 2
   pub few_commits : s.commits ≤ length s.history + length s.network.processes
 

@@ -4,19 +4,19 @@ ghost use Rattle.kpn_net.specs.Network.{card_of};
 ghost use Rattle.kpn_net.specs.Machine.{status, start};
 ghost use Rattle.kpn_machine.specs.Opening.{cards_of, IsRefused};
 ghost use Rattle.kpn_net.specs.declared.history.Status.TheVariants.{Live};
-ghost use Rattle.kpn_machine.specs.declared.standing.Standing.TheVariants.{Out, Ready as ReadyV};
-ghost use Rattle.kpn_machine.specs.Standings.{place, is_out, Keeps};
+ghost use Rattle.kpn_steps.specs.declared.standing.Standing.TheVariants.{Out, Ready as ReadyV};
+ghost use Rattle.kpn_steps.specs.Standings.{place, is_out, Keeps};
 ghost use Rattle.kpn_machine.specs.Scheduler.{scheduler, IsOut, IsOutAt, TakesOut, IsFaithful, IsFresh};
 ghost use Rattle.kpn_machine.specs.Commits.{Commits, Appends, EndsAs, GoesOn, TellsEnabled, number};
 
 use crate::opening::{OpenFault, Start, misfit, prepare, seat_all};
-use crate::outcome::Outcome;
 use crate::same::{same_card, same_last, same_local};
-use crate::standing::{Standing, all_ready, find_ready};
-use crate::store::Store;
-use crate::work::work;
 use kpn_body::{Body, Finished, Task};
 use kpn_net::{End, Entry, Net, Status};
+use kpn_rings::Store;
+use kpn_steps::standing::{all_ready, find_ready};
+use kpn_steps::work::work;
+use kpn_steps::{Outcome, Standing};
 use std::alloc::Global;
 use std::marker::Model;
 
@@ -123,6 +123,13 @@ impl<B: Body> Machine<B> {
         ensures { result.now ≡ self.now.network }
     {
         &self.net
+    }
+
+    /// Where each process stands, in order.
+    pub fn standings(&self) -> &[Standing]
+        ensures { result.now ≡ self.now.places }
+    {
+        self.places.as_slice()
     }
 
     /// How many processes are out.

@@ -1,18 +1,17 @@
 //! What a machine begins with.
-ghost use Rattle.std.specs.Prelude.{◌≡◌, ℕ, ◌<◌, ◌+◌, length, [], Some, None, IfOk, OnOk, IfSome, IfNone, map, option_map, replicate};
+ghost use Rattle.std.specs.Prelude.{◌≡◌, ℕ, ◌<◌, ◌+◌, length, [], All, Some, None, IsSome, IfOk, OnOk, IfSome, IfNone, map, option_map, replicate};
 ghost use Rattle.std.specs.Vec.{vec_capacity};
 ghost use Rattle.kpn_net.specs.Network.{card_of};
 ghost use Rattle.kpn_net.specs.Machine.{start};
-ghost use Rattle.kpn_machine.specs.declared.standing.Standing.TheVariants.{Ready};
-ghost use Rattle.kpn_machine.specs.Story.{story};
+ghost use Rattle.kpn_steps.specs.declared.standing.Standing.TheVariants.{Ready};
+ghost use Rattle.kpn_rings.specs.Story.{story};
 ghost use Rattle.kpn_machine.specs.Opening.{starting, filled, cards_of, IsRefused, AreSeated};
 
-use crate::ring::Ring;
 use crate::same::same_card;
-use crate::standing::Standing;
-use crate::store::Store;
 use kpn_body::Body;
-use kpn_net::{Kinds, Net, Status};
+use kpn_net::{Card, Kinds, Net, Status};
+use kpn_rings::{Ring, Store};
+use kpn_steps::Standing;
 use std::alloc::{AllocError, Global};
 
 /// Why a machine was not opened, the first that applies: the bodies are not as many as the
@@ -22,6 +21,20 @@ pub enum OpenFault {
     Bodies,
     Card,
     Memory,
+}
+
+/// The cards of a network's processes, in order: those of the bodies with which a machine is opened.
+///
+/// Each has a signature. The error is want of memory.
+pub fn cards_of<K: Kinds>(alloc: Global, net: &Net<K>) -> Result<Vec<Card>, AllocError>
+    ensures cards { IfOk result (λ v. v.items ≡ cards_of net.now.processes) }
+    ensures signed { IfOk result (λ v. All (λ card. IsSome (K.signature_of card)) v.items) }
+{
+    let mut cards = Vec::with_capacity(alloc, net.processes())?;
+    for process in 0..net.processes() {
+        cards.push(net.card(process))?;
+    }
+    Ok(cards)
 }
 
 /// What is wrong with the bodies, if anything is.

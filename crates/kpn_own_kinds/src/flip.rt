@@ -6,7 +6,6 @@ ghost use Rattle.kpn_own_kinds.specs.Flip.{number_named, ports, HasLine, answer,
 use crate::asked::answer_of;
 use kpn_body::{Body, Call};
 use kpn_net::{Act, Answer, Card, Kinds, Local, Signature, Sort, Token};
-use kpn_plain::Answering;
 use std::alloc::{AllocError, Global};
 
 /// The family whose one kind is `flip`, of number 0, with no argument, an input and an output of
@@ -55,7 +54,7 @@ impl Kinds for Flips {
 }
 
 /// What stands in a line of the table, by the token of the read just done.
-fn line_of(last: Option<Token>) -> Answer
+pub(crate) fn line_of(last: Option<Token>) -> Answer
     ensures { result ≡ answer last }
 {
     match last {
@@ -67,13 +66,6 @@ fn line_of(last: Option<Token>) -> Answer
             next: [1, 0, 0, 0],
             act: Act::Read(0),
         },
-    }
-}
-
-/// So a network of flips can be run, by the machine that takes answers from the family itself.
-impl Answering for Flips {
-    fn answer(_card: Card, _local: Local, last: Option<Token>) -> Answer {
-        line_of(last)
     }
 }
 

@@ -7,6 +7,7 @@
 pub mod asked;
 pub mod bodies;
 pub mod flip;
+pub mod runs;
 pub mod scale;
 #[cfg(test)]
 mod tests;
@@ -14,4 +15,5 @@ mod tests;
 pub use asked::{answer_of, first_answer};
 pub use bodies::first_answers;
 pub use flip::{FlipBody, Flips, flip_answer};
+pub use runs::run_flips;
 pub use scale::scale_answer;

@@ -2,9 +2,7 @@
 use crate::*;
 use kpn_net::Act::{Read, Write};
 use kpn_net::Token::{Flag, Word};
-use kpn_net::{End, Net, read_sketch};
-use kpn_plain::{Halt, run_plain};
-use kpn_report::{report_of, report_text};
+use kpn_net::{Net, read_sketch};
 use std::test::Fail;
 
 const COUNTER_INTO_SINK: &str = "version = 1
@@ -86,17 +84,15 @@ fn a_network_of_flips_runs(rt: HostRuntime) -> Result<(), Fail> {
     let alloc = rt.alloc();
     let sketch = read_sketch(alloc, FLIP_LOOP.as_bytes())?;
     let net: Net<Flips> = Net::check(alloc, &sketch)?;
-    let run = run_plain(alloc, &net)?;
-    assert_eq!(rt; run.halt, Halt::Ended(End::Deadlock));
-    let places = run.places;
-    let report = report_of(alloc, &net, run.history.as_slice(), places, End::Deadlock)?;
-    let text = report_text(alloc, &net, &report, Some(0))?;
+    let mut out = Vec::new(alloc);
+    let status = run_flips(alloc, net, Some("c0"), &mut out)?;
     let lines = "end deadlock
 process k reads c0 steps 0
 channel c0 put 0 left 0 capacity 1
 entries 0
 stream c0
 ";
-    assert!(rt; text.as_str() == lines);
+    assert_eq!(rt; status, 5);
+    assert!(rt; out.as_slice() == lines.as_bytes());
     Ok(())
 }

@@ -1,5 +1,5 @@
 //! The detail of a report.
-ghost use Rattle.std.specs.Prelude.{◌≡◌, ◌<◌, ◌^◌, [], ℕ, List, drop, length, map, IfOk, OnOk};
+ghost use Rattle.std.specs.Prelude.{◌≡◌, ◌<◌, ◌^◌, [], ℕ, true, List, drop, length, map, IfOk, OnOk};
 ghost use Rattle.kpn_net.specs.declared.history.End.{End as EndV};
 ghost use Rattle.kpn_net.specs.Network.{Family};
 ghost use Rattle.kpn_net.specs.Machine.{State, wants};
@@ -159,7 +159,8 @@ pub struct Report {
     pub detail: Option<Detail>,
 }
 
-/// The report of a history that ended so, of which it is known where it left each process.
+/// The report of a history that ended so, of which it is known where it left each process, if it has
+/// a detail.
 ///
 /// There is a detail exactly for `Terminated`, `Deadlock` and `Ceiling`. The error is want of memory.
 pub fn report_of<K: Kinds>(
@@ -170,7 +171,7 @@ pub fn report_of<K: Kinds>(
     end: End,
 ) -> Result<Report, AllocError>
     ensures end { IfOk result (λ r. r.end ≡ end) }
-    ensures detail { IfOk result (λ r. (kinds : Family) (M : State) → places.items ≡ each_process net.now (λ p. place_of net.now p (wants kinds net.now M p)) → IsReport kinds net.now end history.now M r.detail) }
+    ensures detail { IfOk result (λ r. (kinds : Family) (M : State) → (has_detail end ≡ true → places.items ≡ each_process net.now (λ p. place_of net.now p (wants kinds net.now M p))) → IsReport kinds net.now end history.now M r.detail) }
 {
     if has_detail(end) {
         let detail = Some(detail_of(alloc, net, history, places)?);

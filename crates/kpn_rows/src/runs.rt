@@ -1,6 +1,9 @@
 //! Whole runs: what is written of each worked network, and the exit status.
-use crate::texts::{COUNTER, DEAD, FLAGS, NOTHING, PARKS, WRAPS};
-use kpn_execute::execute_alone;
+use crate::texts::{
+    CEILING, COUNTER, DEAD, ENDLESS, FLAGS, NOTHING, PARKS, STOPPED_WRITER, TWO_FULL, TWO_STEPS,
+    WRAPS,
+};
+use kpn_execute::execute_standard;
 use kpn_front::load::load;
 use kpn_net::{Net, NetFault};
 use kpn_standard::Standard;
@@ -22,7 +25,7 @@ fn outcome_of(alloc: Global, text: &str, show: Option<&str>) -> Result<Told, All
     let mut source = text.as_bytes();
     let net: Result<Net<Standard>, NetFault> = load(alloc, &mut source);
     let status = match net {
-        Ok(net) => execute_alone(alloc, net, show, &mut out),
+        Ok(net) => execute_standard(alloc, net, show, &mut out),
         Err(fault) => kpn_front::say::say_refused(&fault, &mut out),
     };
     Ok(Told { status, text: out })
@@ -39,7 +42,7 @@ fn outcome_of_edit(
 }
 
 /// A description, the channel to show, the exit status, and what is written.
-static RUNS: [(&str, Option<&str>, u8, &str); 9] = [
+static RUNS: [(&str, Option<&str>, u8, &str); 14] = [
     (
         COUNTER,
         Some("c0"),
@@ -115,7 +118,84 @@ entries 63
 stream c3 false true false true false true
 ",
     ),
-    (PARKS, Some("c3"), 9, "end full\n"),
+    (
+        PARKS,
+        Some("c3"),
+        5,
+        "end deadlock
+process src stopped steps 4
+process cp reads c0 steps 9
+process wv reads c1 steps 12
+process snk stopped steps 7
+channel c0 put 3 left 0 capacity 1
+channel c1 put 3 left 0 capacity 1
+channel c2 put 3 left 0 capacity 2
+channel c3 put 6 left 0 capacity 1
+grew c2 2
+entries 33
+stream c3 1 2 3 1 2 3
+",
+    ),
+    (
+        TWO_FULL,
+        None,
+        0,
+        "end terminated
+process a stopped steps 3
+process b stopped steps 3
+process x stopped steps 1
+process y stopped steps 1
+channel c0 put 2 left 2 capacity 2
+channel c1 put 2 left 2 capacity 2
+grew c0 2
+grew c1 2
+entries 10
+",
+    ),
+    (
+        TWO_STEPS,
+        None,
+        0,
+        "end terminated
+process a stopped steps 4
+process b stopped steps 4
+process x stopped steps 1
+process y stopped steps 1
+channel c0 put 3 left 3 capacity 3
+channel c1 put 3 left 3 capacity 3
+grew c1 2
+grew c0 3
+grew c1 3
+entries 13
+",
+    ),
+    (
+        STOPPED_WRITER,
+        None,
+        0,
+        "end terminated
+process a stopped steps 2
+process b stopped steps 4
+process x stopped steps 1
+process y stopped steps 1
+channel c0 put 1 left 1 capacity 1
+channel c1 put 3 left 3 capacity 3
+grew c1 3
+entries 9
+",
+    ),
+    (
+        CEILING,
+        None,
+        6,
+        "end ceiling
+process src writes c0 steps 65535
+process snk stopped steps 1
+channel c0 put 65535 left 65535 capacity 65535
+entries 65536
+",
+    ),
+    (ENDLESS, None, 3, "end budget\n"),
     (PARKS, Some("c9"), 1, "no channel c9\n"),
     (COUNTER, Some("c9"), 1, "no channel c9\n"),
     ("", None, 2, "refused 2\n"),
@@ -155,7 +235,18 @@ channel c0 put 3 left 1 capacity 1
 entries 7
 ",
     ),
-    ("args = [3]", "args = [1]", 9, "end full\n"),
+    (
+        "args = [3]",
+        "args = [1]",
+        0,
+        "end terminated
+process src stopped steps 4
+process snk stopped steps 2
+channel c0 put 3 left 2 capacity 2
+grew c0 2
+entries 7
+",
+    ),
     (
         "version = 1",
         "version = 1\nbudget = 8",

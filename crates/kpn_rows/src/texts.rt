@@ -225,3 +225,163 @@ name = \"c3\"
 from = \"wv\"
 to = \"snk\"
 ";
+
+/// Two counters of two tokens each into sinks that read nothing.
+pub(crate) const TWO_FULL: &str = "version = 1
+
+[[process]]
+name = \"a\"
+kind = \"count\"
+args = [1, 2]
+
+[[process]]
+name = \"b\"
+kind = \"count\"
+args = [1, 2]
+
+[[process]]
+name = \"x\"
+kind = \"sink\"
+args = [0]
+
+[[process]]
+name = \"y\"
+kind = \"sink\"
+args = [0]
+
+[[channel]]
+name = \"c0\"
+from = \"a\"
+to = \"x\"
+
+[[channel]]
+name = \"c1\"
+from = \"b\"
+to = \"y\"
+";
+
+/// The same with counters of three, where the first channel begins with two places.
+pub(crate) const TWO_STEPS: &str = "version = 1
+
+[[process]]
+name = \"a\"
+kind = \"count\"
+args = [1, 3]
+
+[[process]]
+name = \"b\"
+kind = \"count\"
+args = [1, 3]
+
+[[process]]
+name = \"x\"
+kind = \"sink\"
+args = [0]
+
+[[process]]
+name = \"y\"
+kind = \"sink\"
+args = [0]
+
+[[channel]]
+name = \"c0\"
+from = \"a\"
+to = \"x\"
+capacity = 2
+
+[[channel]]
+name = \"c1\"
+from = \"b\"
+to = \"y\"
+";
+
+/// The same with a counter of one, which stops and leaves the smaller channel full.
+pub(crate) const STOPPED_WRITER: &str = "version = 1
+
+[[process]]
+name = \"a\"
+kind = \"count\"
+args = [1, 1]
+
+[[process]]
+name = \"b\"
+kind = \"count\"
+args = [1, 3]
+
+[[process]]
+name = \"x\"
+kind = \"sink\"
+args = [0]
+
+[[process]]
+name = \"y\"
+kind = \"sink\"
+args = [0]
+
+[[channel]]
+name = \"c0\"
+from = \"a\"
+to = \"x\"
+
+[[channel]]
+name = \"c1\"
+from = \"b\"
+to = \"y\"
+capacity = 2
+";
+
+/// More tokens than a channel can ever hold, into a sink that reads nothing.
+pub(crate) const CEILING: &str = "version = 1
+budget = 1000000
+
+[[process]]
+name = \"src\"
+kind = \"count\"
+args = [1, 65537]
+
+[[process]]
+name = \"snk\"
+kind = \"sink\"
+args = [0]
+
+[[channel]]
+name = \"c0\"
+from = \"src\"
+to = \"snk\"
+capacity = 65535
+";
+
+/// A loop that goes on for ever.
+pub(crate) const ENDLESS: &str = "version = 1
+budget = 10
+
+[[process]]
+name = \"p\"
+kind = \"prefix\"
+args = [1]
+
+[[process]]
+name = \"cp\"
+kind = \"copy\"
+
+[[process]]
+name = \"snk\"
+kind = \"sink\"
+args = [2]
+
+[[channel]]
+name = \"c0\"
+from = \"p\"
+to = \"cp\"
+
+[[channel]]
+name = \"c1\"
+from = \"cp\"
+to = \"p\"
+
+[[channel]]
+name = \"c2\"
+from = \"cp\"
+out = 1
+to = \"snk\"
+";

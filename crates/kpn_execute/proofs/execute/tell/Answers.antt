@@ -4,12 +4,22 @@ use Rattle.kpn_net.specs.declared.fault.NetFault.TheVariants.{Memory}
 use Rattle.kpn_front.specs.Lines.{refused_line}
 use Rattle.kpn_execute.proofs.execute.tell.Goals as goal
 
-pub returns-in-Err : goal.returns-in-Err
-returns-in-Err g c =
+pub returns-in_default : goal.returns-in_default
+returns-in_default g c =
     record {
       status = 4;
       text = refused_line Memory;
       told = inl (record { status_is = refl; text_is = refl });
       written = c.say_refused.ensures.said;
       room = c.say_refused.ensures.room;
+    }
+
+pub returns : goal.returns
+returns g c =
+    record {
+      status = 4;
+      text = refused_line Memory;
+      told = inl (record { status_is = refl; text_is = refl });
+      written = c.say_refused-in-Err.ensures.said;
+      room = c.say_refused-in-Err.ensures.room;
     }

@@ -8,5 +8,5 @@ returns-in_ok-detail_of-clause-detail g c = λ kinds M places.
     let has : has_detail c.args.end ≡ true = search rules in
     record {
       none = λ e. cc;
-      some = λ _. (c.in_ok-detail_of.field-0, refl, c.in_ok-detail_of.ensures kinds M c.args.end places);
+      some = λ _. (c.in_ok-detail_of.field-0, refl, c.in_ok-detail_of.ensures kinds M c.args.end (places has));
     }

@@ -1,4 +1,0 @@
-pub mod State
-pub mod Starting
-pub mod Turns
-pub mod Halts

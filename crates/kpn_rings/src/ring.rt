@@ -1,0 +1,75 @@
+//! A channel as a ring of tokens.
+ghost use Rattle.std.specs.Prelude.{◌≡◌, ◌<◌, ◌≤◌, ◌++◌, ◌∷◌, ◌^◌, [], IfOk, OnOk, OnErr, length, drop};
+ghost use Rattle.kpn_rings.specs.Story.{held};
+
+use circular_buffer::HeapCircularBuffer;
+use kpn_net::Token;
+use std::alloc::{AllocError, Global};
+use std::marker::Model;
+
+/// A channel: the tokens that it holds, the first token first, and how many it may hold.
+#[derive(Drop)]
+pub struct Ring {
+    buffer: HeapCircularBuffer<Token>,
+}
+
+impl Model for Ring {
+    ghost use Rattle.kpn_net.specs.Machine.{Held};
+    ghost use Rattle.kpn_rings.specs.Story.{held};
+
+    ghost Value = { Held };
+
+    ghost view = { λ r. held r.buffer.items r.buffer.capacity };
+}
+
+impl Ring {
+    /// A channel that holds these tokens, with room for its capacity.
+    pub fn new(alloc: Global, tokens: &[Token], capacity: usize) -> Result<Ring, AllocError>
+        requires { length tokens.now ≤ capacity }
+        ensures { IfOk result (λ r. r ≡ held tokens.now capacity) }
+    {
+        let mut buffer = HeapCircularBuffer::with_capacity(alloc, capacity)?;
+        buffer.fill_from_slice(tokens);
+        Ok(Ring { buffer })
+    }
+
+    /// How many tokens it holds, and how many it may hold.
+    pub fn filling(&self) -> (usize, usize)
+        ensures tokens { result.0 ≡ length self.now.tokens }
+        ensures capacity { result.1 ≡ self.now.capacity }
+        ensures within { result.0 ≤ result.1 }
+    {
+        (self.buffer.len(), self.buffer.capacity())
+    }
+
+    /// The first token leaves.
+    pub fn take(&mut self) -> Token
+        requires { 0 < length self.old.tokens }
+        ensures first { self.old.tokens ≡ result ∷ drop 1 self.old.tokens }
+        ensures rest { self.new ≡ held (drop 1 self.old.tokens) self.old.capacity }
+    {
+        match self.buffer.pop_front() {
+            Some(token) => token,
+            None => unreachable!(),
+        }
+    }
+
+    /// A token goes to the end.
+    pub fn put(&mut self, token: Token)
+        requires { length self.old.tokens < self.old.capacity }
+        ensures { self.new ≡ held (self.old.tokens ++ token ∷ []) self.old.capacity }
+    {
+        if self.buffer.try_push_back(token).is_err() {
+            unreachable!()
+        }
+    }
+
+    /// It may hold more tokens. The error is want of memory, and it is then as it was.
+    pub fn grow(&mut self, to: usize) -> Result<(), AllocError>
+        requires { length self.old.tokens ≤ to }
+        ensures ok { OnOk result (self.new ≡ held self.old.tokens to) }
+        ensures err { OnErr result (self.new ≡ self.old) }
+    {
+        self.buffer.resize(to)
+    }
+}

@@ -1,0 +1,154 @@
+//! Processes, channels and the history, changed one entry at a time.
+ghost use Rattle.std.specs.Prelude.{◌≡◌, ◌<◌, ◌≤◌, ◌++◌, ◌∷◌, [], length, drop, Some, None, OnOk, OnErr};
+ghost use Rattle.std.specs.Vec.{vec_capacity};
+ghost use Rattle.kpn_net.specs.Machine.{status, tokens, capacity, with_status, with_channel};
+ghost use Rattle.kpn_net.specs.declared.history.Status.TheVariants.{Live, Done};
+ghost use Rattle.kpn_net.specs.declared.history.Entry.TheVariants.{Did, Grew};
+ghost use Rattle.kpn_net.specs.declared.history.Deed.TheVariants.{Took, Put, Stopped};
+ghost use Rattle.kpn_rings.specs.Story.{state, story, more};
+
+use crate::ring::Ring;
+use kpn_net::{Deed, Entry, Local, Status, Token};
+use std::alloc::AllocError;
+use std::marker::Model;
+
+/// Each process, each channel, and the history, which has room for so many entries.
+#[derive(Drop)]
+pub struct Store {
+    statuses: Vec<Status>,
+    rings: Vec<Ring>,
+    history: Vec<Entry>,
+    room: usize,
+}
+
+impl Model for Store {
+    ghost use Rattle.std.specs.Prelude.{◌≤◌};
+    ghost use Rattle.std.specs.Vec.{vec_capacity};
+    ghost use Rattle.kpn_rings.specs.Story.{Story, story, state};
+
+    ghost Value = { Story };
+
+    ghost view = { λ s. story (state s.statuses.items s.rings.items) s.history.items s.room };
+
+    ghost invariant = { λ s. s.room ≤ vec_capacity s.history };
+}
+
+impl Store {
+    /// These processes and channels, with this history and room for so many entries.
+    pub fn new(statuses: Vec<Status>, rings: Vec<Ring>, history: Vec<Entry>, room: usize) -> Self
+        requires { room ≤ vec_capacity history }
+        ensures { result ≡ story (state statuses.items rings.items) history.items room }
+    {
+        Store {
+            statuses,
+            rings,
+            history,
+            room,
+        }
+    }
+
+    /// The entries so far.
+    pub fn history(&self) -> &[Entry]
+        ensures { result.now ≡ self.now.history }
+    {
+        self.history.as_slice()
+    }
+
+    pub fn status(&self, process: usize) -> Status
+        requires { process < length self.now.state.processes }
+        ensures { result ≡ status self.now.state process }
+    {
+        self.statuses[process]
+    }
+
+    /// How many tokens a channel holds, and how many it may hold.
+    pub fn filling(&self, channel: usize) -> (usize, usize)
+        requires { channel < length self.now.state.channels }
+        ensures tokens { result.0 ≡ length (tokens self.now.state channel) }
+        ensures capacity { result.1 ≡ capacity self.now.state channel }
+        ensures within { result.0 ≤ result.1 }
+    {
+        let ring = &self.rings[channel];
+        ring.filling()
+    }
+
+    fn note(&mut self, entry: Entry)
+        requires { length self.old.history < self.old.room }
+        ensures { self.new ≡ more self.old self.old.state entry }
+    {
+        if self.history.push(entry).is_err() {
+            unreachable!()
+        }
+    }
+}
+
+impl Store {
+    /// A process stops.
+    pub fn stop(&mut self, process: usize)
+        requires process { process < length self.old.state.processes }
+        requires room { length self.old.history < self.old.room }
+        ensures { self.new ≡ more self.old (with_status self.old.state process Done) (Did process Stopped) }
+    {
+        self.statuses[process] = Status::Done;
+        self.note(Entry::Did {
+            process,
+            deed: Deed::Stopped,
+        });
+    }
+
+    /// A process reads the first token of a channel.
+    pub fn take(&mut self, process: usize, channel: usize, next: Local) -> Token
+        requires process { process < length self.old.state.processes }
+        requires channel { channel < length self.old.state.channels }
+        requires some { 0 < length (tokens self.old.state channel) }
+        requires room { length self.old.history < self.old.room }
+        ensures token { tokens self.old.state channel ≡ result ∷ drop 1 (tokens self.old.state channel) }
+        ensures entry { self.new ≡ more self.old (with_channel (with_status self.old.state process (Live next (Some result))) channel (drop 1 (tokens self.old.state channel)) (capacity self.old.state channel)) (Did process (Took channel result)) }
+    {
+        let ring = &mut self.rings[channel];
+        let token = ring.take();
+        self.statuses[process] = Status::Live {
+            local: next,
+            last: Some(token),
+        };
+        self.note(Entry::Did {
+            process,
+            deed: Deed::Took { channel, token },
+        });
+        token
+    }
+
+    /// A process writes a token to a channel.
+    pub fn put(&mut self, process: usize, channel: usize, next: Local, token: Token)
+        requires process { process < length self.old.state.processes }
+        requires channel { channel < length self.old.state.channels }
+        requires place { length (tokens self.old.state channel) < capacity self.old.state channel }
+        requires room { length self.old.history < self.old.room }
+        ensures { self.new ≡ more self.old (with_channel (with_status self.old.state process (Live next None)) channel (tokens self.old.state channel ++ token ∷ []) (capacity self.old.state channel)) (Did process (Put channel token)) }
+    {
+        let ring = &mut self.rings[channel];
+        ring.put(token);
+        self.statuses[process] = Status::Live {
+            local: next,
+            last: None,
+        };
+        self.note(Entry::Did {
+            process,
+            deed: Deed::Put { channel, token },
+        });
+    }
+
+    /// A channel grows. The error is want of memory, and all is then as it was.
+    pub fn grow(&mut self, channel: usize, to: usize) -> Result<(), AllocError>
+        requires channel { channel < length self.old.state.channels }
+        requires within { length (tokens self.old.state channel) ≤ to }
+        requires room { length self.old.history < self.old.room }
+        ensures ok { OnOk result (self.new ≡ more self.old (with_channel self.old.state channel (tokens self.old.state channel) to) (Grew channel to)) }
+        ensures err { OnErr result (self.new ≡ self.old) }
+    {
+        let ring = &mut self.rings[channel];
+        ring.grow(to)?;
+        self.note(Entry::Grew { channel, to });
+        Ok(())
+    }
+}

@@ -1,0 +1,105 @@
+-- Where processes stand, one moved and the others as before.
+use Rattle.std.proofs.Common.{◌≡◌, ◌≢◌, ⊎_elim, List, [], ◌∷◌, length, refl, sym, ◌∙◌, ℕ, zero, suc, ◌<◌, ◌||◌, ◌&&◌, Bool, true, false, set, get_or-set_same, get_or-set_other}
+use Rattle.std.proofs.lemmas.Bool.{cases_lt}
+use Rattle.std.proofs.lemmas.List.{get_or_past}
+use Rattle.std.specs.List.{list_any, list_all}
+use Rattle.kpn_net.specs.declared.kinds.Answer.{Answer}
+use Rattle.kpn_net.specs.declared.history.Deed.{Deed}
+use Rattle.kpn_net.specs.declared.history.Deed.TheVariants.{Took, Put, Stopped}
+use Rattle.kpn_steps.specs.declared.standing.Standing.{Standing}
+use Rattle.kpn_steps.specs.declared.standing.Standing.TheVariants.{Ready, Out, Parked, Stopped as Ended}
+use Rattle.kpn_steps.specs.Standings.{place, is_busy, has_stopped, place_after}
+
+-- a process that is moved stands where it was moved to
+pub place_set_same : (places : List Standing) (p : ℕ) (x : Standing) → p < length places → place (set places p x) p ≡ x
+place_set_same places p x h = get_or-set_same places p x Ended h
+
+-- and each other where it stood
+pub place_set_other : (places : List Standing) (p q : ℕ) (x : Standing) → q ≢ p → place (set places p x) q ≡ place places q
+place_set_other places p q x h = get_or-set_other places p q x Ended h
+
+-- a process that has not stopped is there
+pub place_within : (places : List Standing) (p : ℕ) → place places p ≢ Ended → p < length places
+place_within places p h = ⊎_elim (λ within. within) (λ past. absurd (h (get_or_past places p Ended past))) (cases_lt p (length places))
+
+-- a process that is not there isn't ready
+pub none_past : (places : List Standing) (p : ℕ) (x : Standing) → x ≢ Ended → ((q : ℕ) → q < length places → place places q ≢ x) → place places p ≢ x
+none_past places p x other h e = h p (place_within places p (λ f. other (sym e ∙ f))) e
+
+pub ready_not_ended : Ready ≢ Ended
+ready_not_ended e = cc
+
+pub out_not_ended : Out ≢ Ended
+out_not_ended e = cc
+
+pub parked_not_ended : (a : Answer) → Parked a ≢ Ended
+parked_not_ended a e = cc
+
+-- after its deed a process isn't parked
+pub acted_not_parked : (d : Deed) (a : Answer) → place_after d ≢ Parked a
+acted_not_parked (Took c t) a e = cc
+acted_not_parked (Put c t) a e = cc
+acted_not_parked Stopped a e = cc
+
+-- nor out
+pub acted_not_out : (d : Deed) → place_after d ≢ Out
+acted_not_out (Took c t) e = cc
+acted_not_out (Put c t) e = cc
+acted_not_out Stopped e = cc
+
+-- an answer with which a process is parked is the only one
+pub parked_same : (a b : Answer) → Parked a ≡ Parked b → a ≡ b
+parked_same a b e = cc
+
+or_left : (a b : Bool) → (a || b) ≡ false → a ≡ false
+or_left true b e = cc
+or_left false b e = refl
+
+or_right : (a b : Bool) → (a || b) ≡ false → b ≡ false
+or_right true b e = cc
+or_right false b e = e
+
+and_left : (a b : Bool) → (a && b) ≡ true → a ≡ true
+and_left true b e = refl
+and_left false b e = cc
+
+and_right : (a b : Bool) → (a && b) ≡ true → b ≡ true
+and_right true b e = e
+and_right false b e = cc
+
+-- where none is busy, this one isn't
+pub idle_at : (places : List Standing) (p : ℕ) → list_any is_busy places ≡ false → is_busy (place places p) ≡ false
+idle_at [] p h = refl
+idle_at (x ∷ xs) zero h = or_left (is_busy x) _ h
+idle_at (x ∷ xs) (suc p) h = idle_at xs p (or_right (is_busy x) _ h)
+
+-- where one is busy, some is
+pub busy_at : (places : List Standing) (p : ℕ) → is_busy (place places p) ≡ true → list_any is_busy places ≡ true
+busy_at places p h = by_cases _ refl
+  where
+    by_cases : (b : Bool) → list_any is_busy places ≡ b → list_any is_busy places ≡ true
+    by_cases true e = e
+    by_cases false e = absurd (true_false _ h (idle_at places p e))
+      where
+        true_false : (b : Bool) → b ≡ true → b ≡ false → ⊥
+        true_false b e f = cc
+
+-- where all have stopped, this one has
+pub stopped_at : (places : List Standing) (p : ℕ) → list_all has_stopped places ≡ true → place places p ≡ Ended
+stopped_at [] p h = refl
+stopped_at (x ∷ xs) zero h = ended x (and_left (has_stopped x) _ h)
+  where
+    ended : (x : Standing) → has_stopped x ≡ true → x ≡ Ended
+    ended Ready e = cc
+    ended Out e = cc
+    ended (Parked a) e = cc
+    ended Ended e = refl
+stopped_at (x ∷ xs) (suc p) h = stopped_at xs p (and_right (has_stopped x) _ h)
+
+-- where not all have stopped, some has not
+pub one_live : (places : List Standing) → list_all has_stopped places ≡ false → (p : ℕ) × (place places p ≢ Ended)
+one_live [] h = cc
+one_live (Ready ∷ xs) h = (zero, λ e. cc)
+one_live (Out ∷ xs) h = (zero, λ e. cc)
+one_live (Parked a ∷ xs) h = (zero, λ e. cc)
+one_live (Ended ∷ xs) h = let r = one_live xs h in (suc r.0, r.1)

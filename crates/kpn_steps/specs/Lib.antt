@@ -1,0 +1,5 @@
+pub mod Standings
+pub mod Reactions
+pub mod Choice
+pub mod Settling
+pub mod Works

@@ -1,0 +1,81 @@
+-- Where each process stands, and how that fits the state.
+use Rattle.std.specs.Prelude.{◌≡◌, ◌≢◌, ℕ, ◌<◌, ◌≤◌, Bool, true, false, List, Option, Some, None, length, get_or}
+use Rattle.kpn_net.specs.declared.token.Token.{Token}
+use Rattle.kpn_net.specs.declared.kinds.Card.{Card}
+use Rattle.kpn_net.specs.declared.kinds.Answer.{Answer}
+use Rattle.kpn_net.specs.declared.history.Deed.{Deed}
+use Rattle.kpn_net.specs.declared.history.Deed.TheVariants.{Took, Put, Stopped}
+use Rattle.kpn_net.specs.declared.history.Status.TheVariants.{Done}
+use Rattle.kpn_net.specs.Network.{Family, Network, channel_of}
+use Rattle.kpn_net.specs.Machine.{State, status, capacity, wants, IsPossible}
+use Rattle.kpn_net.specs.Valid.{IsSorted}
+use Rattle.kpn_steps.specs.declared.standing.Standing.{Standing}
+use Rattle.kpn_steps.specs.declared.standing.Standing.TheVariants.{Ready, Out, Parked, Stopped as Ended}
+
+-- where process p stands; a process that is not there has stopped
+abbrev pub place : List Standing → ℕ → Standing
+place places p = get_or places p Ended
+
+-- a process that is ready or out
+abbrev pub is_busy : Standing → Bool
+is_busy Ready = true
+is_busy Out = true
+is_busy (Parked a) = false
+is_busy Ended = false
+
+abbrev pub is_ready : Standing → Bool
+is_ready Ready = true
+is_ready Out = false
+is_ready (Parked a) = false
+is_ready Ended = false
+
+abbrev pub is_out : Standing → Bool
+is_out Ready = false
+is_out Out = true
+is_out (Parked a) = false
+is_out Ended = false
+
+-- what a parked process answered
+abbrev pub parked_answer : Standing → Option Answer
+parked_answer Ready = None
+parked_answer Out = None
+parked_answer (Parked a) = Some a
+parked_answer Ended = None
+
+abbrev pub has_stopped : Standing → Bool
+has_stopped Ready = false
+has_stopped Out = false
+has_stopped (Parked a) = false
+has_stopped Ended = true
+
+-- where a process stands after its deed
+abbrev pub place_after : Deed → Standing
+place_after (Took c t) = Ready
+place_after (Put c t) = Ready
+place_after Stopped = Ended
+
+-- the process at the other end of the deed's channel
+abbrev pub partner : Network → Deed → Option ℕ
+partner net (Took c t) = Some (channel_of net c).writer
+partner net (Put c t) = Some (channel_of net c).reader
+partner net Stopped = None
+
+-- the deed's channel is there
+abbrev pub HasChannel : Network → Deed → Type 0
+HasChannel net (Took c t) = c < length net.channels
+HasChannel net (Put c t) = c < length net.channels
+HasChannel net Stopped = Unit {0}
+
+-- the state is one of the network, with tokens of their sorts; each process stands where its status
+-- says; each parked process wants what it answered and, but for the spared one, can't do it
+pub record Keeps (kinds : Family) (admits : Card → List ℕ → Option Token → Type 0) (net : Network) (spared : Option ℕ) (M : State) (places : List Standing) : Type 0 where
+  pub processes : length M.processes ≡ length net.processes
+  pub channels : length M.channels ≡ length net.channels
+  pub standing : length places ≡ length net.processes
+  pub sorted : IsSorted admits net M
+  pub smallest : (c : ℕ) → c < length net.channels → 1 ≤ capacity M c
+  pub greatest : (c : ℕ) → capacity M c ≤ net.ceiling
+  pub stopped : (p : ℕ) → place places p ≡ Ended → status M p ≡ Done
+  pub done : (p : ℕ) → status M p ≡ Done → place places p ≡ Ended
+  pub wanted : (p : ℕ) (a : Answer) → place places p ≡ Parked a → wants kinds net M p ≡ Some a
+  pub blocked : (p : ℕ) (a : Answer) → spared ≢ Some p → place places p ≡ Parked a → IsPossible kinds net M p a.act → ⊥

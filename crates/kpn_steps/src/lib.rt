@@ -1,0 +1,17 @@
+//! What the answer of a process does to a network: its deed or its wait, the deed of the parked
+//! process that it enables, and, where no process is ready or out, the run's end or a growth (Kahn
+//! 1974, Parks 1995).
+#![tactic(auto)]
+
+pub mod act;
+pub mod choose;
+pub mod outcome;
+pub mod places;
+pub mod react;
+pub mod settle;
+pub mod standing;
+pub mod work;
+
+pub use outcome::Outcome;
+pub use places::places_of;
+pub use standing::Standing;

@@ -1,0 +1,45 @@
+//! Where a network came to rest.
+ghost use Rattle.std.specs.Prelude.{◌≡◌, IfOk};
+ghost use Rattle.kpn_net.specs.History.{each_process, place_of};
+ghost use Rattle.kpn_steps.specs.Standings.{place as standing_of, parked_answer};
+
+use crate::standing::{Standing, parked};
+use kpn_net::{Act, Answer, Kinds, Net, Place};
+use std::alloc::{AllocError, Global};
+
+/// The place of a process that wants this.
+fn place<K: Kinds>(net: &Net<K>, process: usize, wanted: Option<Answer>) -> Place
+    ensures { result ≡ place_of net.now process wanted }
+{
+    match wanted.map(|answer| answer.act) {
+        Some(Act::Read(port)) => match net.in_of(process, usize::from(port)) {
+            Some(channel) => Place::Reads(channel),
+            None => Place::Stopped,
+        },
+        Some(Act::Write(port, _)) => match net.out_of(process, usize::from(port)) {
+            Some(channel) => Place::Writes(channel),
+            None => Place::Stopped,
+        },
+        Some(Act::Stop) | None => Place::Stopped,
+    }
+}
+
+/// The place of each process in a network at rest: a parked process reads or writes the channel for
+/// which it waits, and each other counts as stopped.
+///
+/// Where no process is ready or out, these are the places that a report of the run tells. The error
+/// is want of memory.
+pub fn places_of<K: Kinds>(
+    alloc: Global,
+    net: &Net<K>,
+    standings: &[Standing],
+) -> Result<Vec<Place>, AllocError>
+    ensures { IfOk result (λ v. v.items ≡ each_process net.now (λ p. place_of net.now p (parked_answer (standing_of standings.now p)))) }
+{
+    let mut places = Vec::with_capacity(alloc, net.processes())?;
+    for process in 0..net.processes() {
+        let wanted = parked(standings, process);
+        places.push(place(net, process, wanted))?;
+    }
+    Ok(places)
+}

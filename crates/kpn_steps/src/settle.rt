@@ -1,0 +1,67 @@
+//! What follows where no process is ready or out.
+ghost use Rattle.std.specs.Prelude.{◌≡◌, ◌<◌, ◌≤◌, ◌+◌, min, length, None, false};
+ghost use Rattle.std.specs.List.{list_any};
+ghost use Rattle.kpn_steps.specs.Standings.{Keeps, is_busy};
+ghost use Rattle.kpn_steps.specs.Settling.{Settles};
+
+use crate::act::advance;
+use crate::choose::choose;
+use crate::standing::{Standing, all_stopped, any_busy, parked};
+use kpn_net::{End, Kinds, Net};
+use kpn_rings::Store;
+
+/// What was found: some process is ready or out; or none is, and the run ended, or a channel grew
+/// and its writer's token was put.
+#[derive(Clone, Copy, Debug, PartialEq, Eq)]
+pub enum Settled {
+    Busy,
+    Ended(End),
+    Enlarged,
+}
+
+/// The capacity after a growth.
+fn enlarged(capacity: usize, step: usize, ceiling: usize) -> usize
+    requires { capacity < ceiling }
+    ensures { result ≡ min (capacity + step) ceiling }
+{
+    if step < ceiling - capacity {
+        capacity + step
+    } else {
+        ceiling
+    }
+}
+
+/// Where no process is ready or out, ends the run or lets the chosen channel grow and its writer put
+/// its token. Where the growth is refused memory, the run ends.
+pub fn settle<K: Kinds>(net: &Net<K>, store: &mut Store, places: &mut Vec<Standing>) -> Settled
+    requires keeps { Keeps K.family K.admits net.now None store.old.state places.old.items }
+    requires room { list_any is_busy places.old.items ≡ false → length store.old.history + 2 ≤ store.old.room }
+    ensures settles { Settles K.family net.now store.old places.old.items result store.new places.new.items }
+    ensures keeps { Keeps K.family K.admits net.now None store.new.state places.new.items }
+{
+    net.processes();
+    if any_busy(places.as_slice()) {
+        return Settled::Busy;
+    }
+    if all_stopped(places.as_slice()) {
+        return Settled::Ended(End::Terminated);
+    }
+    let Some((channel, writer)) = choose(net, store, places.as_slice()) else {
+        return Settled::Ended(End::Deadlock);
+    };
+    let (_, capacity) = store.filling(channel);
+    if capacity >= net.ceiling() {
+        return Settled::Ended(End::Ceiling);
+    }
+    let Some(answer) = parked(places.as_slice(), writer) else {
+        unreachable!()
+    };
+    let to = enlarged(capacity, net.step(), net.ceiling());
+    let Ok(()) = store.grow(channel, to) else {
+        return Settled::Ended(End::Memory);
+    };
+    let Some(_) = advance(net, store, places, writer, answer) else {
+        unreachable!()
+    };
+    Settled::Enlarged
+}

@@ -1,0 +1,92 @@
+//! Where each process stands.
+ghost use Rattle.std.specs.Prelude.{◌≡◌, ◌≢◌, ◌<◌, ℕ, length, IfSome, IfNone};
+ghost use Rattle.std.specs.List.{list_any, list_all};
+ghost use Rattle.kpn_net.specs.declared.kinds.Answer.{Answer as AnswerV};
+ghost use Rattle.kpn_steps.specs.declared.standing.Standing.TheVariants.{Parked, Ready};
+ghost use Rattle.kpn_steps.specs.Standings.{place, is_busy, is_ready, has_stopped, parked_answer, place_after, partner, HasChannel};
+
+use kpn_net::{Answer, Deed, Kinds, Net};
+
+/// Where a process stands: it may be taken; it was taken and its answer has not come back; its
+/// answer came back and could not be done; or it has stopped.
+#[derive(Clone, Copy, Debug, PartialEq, Eq)]
+pub enum Standing {
+    Ready,
+    Out,
+    Parked(Answer),
+    Stopped,
+}
+
+/// Where a process stands after its deed.
+pub fn place_after(deed: Deed) -> Standing
+    ensures { result ≡ place_after deed }
+{
+    match deed {
+        Deed::Took { .. } | Deed::Put { .. } => Standing::Ready,
+        Deed::Stopped => Standing::Stopped,
+    }
+}
+
+/// The process at the other end of the deed's channel.
+pub fn partner<K: Kinds>(net: &Net<K>, deed: Deed) -> Option<usize>
+    requires { HasChannel net.now deed }
+    ensures { result ≡ partner net.now deed }
+{
+    match deed {
+        Deed::Took { channel, .. } => Some(net.ends(channel).writer),
+        Deed::Put { channel, .. } => Some(net.ends(channel).reader),
+        Deed::Stopped => None,
+    }
+}
+
+/// What a process that is parked wants.
+pub fn parked(places: &[Standing], process: usize) -> Option<Answer>
+    ensures is { result ≡ parked_answer (place places.now process) }
+    ensures some { IfSome result (λ a. place places.now process ≡ Parked a) }
+    ensures within { IfSome result (λ _. process < length places.now) }
+    ensures none { IfNone result ((a : AnswerV) → place places.now process ≢ Parked a) }
+{
+    match places.get(process) {
+        Some(Standing::Parked(answer)) => Some(*answer),
+        _ => None,
+    }
+}
+
+/// Whether a process is ready or out.
+pub fn any_busy(places: &[Standing]) -> bool
+    ensures { result ≡ list_any is_busy places.now }
+{
+    places
+        .iter()
+        .any(|place| matches!(place, Standing::Ready | Standing::Out))
+}
+
+/// Whether all processes have stopped.
+pub fn all_stopped(places: &[Standing]) -> bool
+    ensures { result ≡ list_all has_stopped places.now }
+{
+    places
+        .iter()
+        .all(|place| matches!(place, Standing::Stopped))
+}
+
+/// Whether all processes are ready.
+pub fn all_ready(places: &[Standing]) -> bool
+    ensures { result ≡ list_all is_ready places.now }
+{
+    places.iter().all(|place| matches!(place, Standing::Ready))
+}
+
+/// The first process that is ready.
+pub fn find_ready(places: &[Standing]) -> Option<usize>
+    ensures some { IfSome result (λ p. place places.now p ≡ Ready) }
+    ensures within { IfSome result (λ p. p < length places.now) }
+    ensures none { IfNone result ((p : ℕ) → place places.now p ≢ Ready) }
+{
+    for process in 0..places.len() {
+        if let Standing::Ready = places[process] {
+            return Some(process);
+        }
+    }
+    None
+}
