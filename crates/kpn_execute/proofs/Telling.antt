@@ -11,10 +11,10 @@ use Rattle.kpn_net.specs.Machine.{State, IsOver, wants}
 use Rattle.kpn_net.specs.History.{Digest, digest, each_process, place_of}
 use Rattle.kpn_net.specs.Determinacy.{IsFinal, OneDigest}
 use Rattle.kpn_net.specs.Moments.{IsBound}
-use Rattle.kpn_steps.specs.declared.standing.Standing.TheVariants.{Ready}
-use Rattle.kpn_steps.specs.Standings.{place, is_out, parked_answer}
+use Rattle.kpn_state.specs.declared.standing.Standing.TheVariants.{Ready}
+use Rattle.kpn_state.specs.Standings.{place, is_out, parked_answer}
 use Rattle.kpn_machine.specs.Scheduler.{Scheduler, EndHolds, IsFaithful}
-use Rattle.kpn_steps.proofs.Placed.{idle_at}
+use Rattle.kpn_state.proofs.Placed.{idle_at}
 use Rattle.kpn_report.specs.declared.detail.Detail.{Detail}
 use Rattle.kpn_report.specs.Text.{end_line, digest_text, text}
 use Rattle.kpn_report.specs.Digested.{IsReport, has_detail, report_text}

@@ -8,20 +8,20 @@ use Rattle.kpn_net.specs.Network.{Network, Family}
 use Rattle.kpn_net.specs.Machine.{State, IsOver}
 use Rattle.kpn_laws.proofs.Causes.{cause_same, over_grows_not}
 use Rattle.kpn_body.specs.Input.{Input}
-use Rattle.kpn_rings.specs.Story.{Story}
-use Rattle.kpn_steps.specs.declared.standing.Standing.{Standing}
-use Rattle.kpn_steps.specs.declared.standing.Standing.TheVariants.{Ready, Parked, Stopped as Ended}
+use Rattle.kpn_state.specs.Story.{Story}
+use Rattle.kpn_state.specs.declared.standing.Standing.{Standing}
+use Rattle.kpn_state.specs.declared.standing.Standing.TheVariants.{Ready, Parked, Stopped as Ended}
 use Rattle.kpn_steps.specs.declared.settle.Settled.{Settled}
 use Rattle.kpn_steps.specs.declared.settle.Settled.TheVariants.{Busy, Ended as Over, Enlarged}
 use Rattle.kpn_steps.specs.declared.outcome.Outcome.{Outcome}
-use Rattle.kpn_steps.specs.Standings.{is_busy}
+use Rattle.kpn_state.specs.Standings.{is_busy}
 use Rattle.kpn_steps.specs.Settling.{CanGrow, EndsBy, Settles, GrowsAndPuts}
 use Rattle.kpn_steps.specs.Works.{end_after}
 use Rattle.kpn_machine.specs.Scheduler.{Scheduler, story_of}
 use Rattle.kpn_machine.specs.Commits.{IsCause, EndsAs, WorksOn, Commits}
 use Rattle.kpn_steps.specs.declared.outcome.Outcome.TheVariants.{Done, Parked as Parks, LaidBack}
-use Rattle.kpn_steps.proofs.Placed.{place_set_same, place_within, busy_at}
-use Rattle.kpn_steps.specs.Standings.{place}
+use Rattle.kpn_state.proofs.Placed.{place_set_same, place_within, busy_at}
+use Rattle.kpn_state.specs.Standings.{place}
 
 true_false : (b : Bool) → b ≡ true → b ≡ false → ⊥
 true_false b x y = cc

@@ -7,8 +7,8 @@ use Rattle.kpn_net.specs.declared.history.Entry.TheVariants.{Did, Grew}
 use Rattle.kpn_net.specs.declared.history.End.{End}
 use Rattle.kpn_net.specs.Network.{Network, Family}
 use Rattle.kpn_net.specs.Machine.{State, Run, Step}
-use Rattle.kpn_rings.specs.Story.{Story, more}
-use Rattle.kpn_steps.specs.declared.standing.Standing.{Standing}
+use Rattle.kpn_state.specs.Story.{Story, more}
+use Rattle.kpn_state.specs.declared.standing.Standing.{Standing}
 use Rattle.kpn_steps.specs.declared.react.Reaction.{Reaction}
 use Rattle.kpn_steps.specs.declared.react.Reaction.TheVariants.{Waits, Acts, HandsOn}
 use Rattle.kpn_steps.specs.declared.settle.Settled.{Settled}

@@ -7,14 +7,14 @@ use Rattle.std.proofs.lemmas.List.Sums.{get_or-le-sum_by, sum_by-le}
 use Rattle.kpn_net.specs.Network.{Network, Family}
 use Rattle.kpn_net.specs.Machine.{State, Run}
 use Rattle.kpn_body.specs.Input.{Input}
-use Rattle.kpn_steps.specs.declared.standing.Standing.{Standing}
-use Rattle.kpn_steps.specs.declared.standing.Standing.TheVariants.{Ready, Out, Parked, Stopped as Ended}
+use Rattle.kpn_state.specs.declared.standing.Standing.{Standing}
+use Rattle.kpn_state.specs.declared.standing.Standing.TheVariants.{Ready, Out, Parked, Stopped as Ended}
 use Rattle.kpn_steps.specs.declared.outcome.Outcome.{Outcome}
 use Rattle.kpn_steps.specs.declared.outcome.Outcome.TheVariants.{Done, Parked as Parks, LaidBack}
-use Rattle.kpn_steps.specs.Standings.{place, is_busy, is_out}
+use Rattle.kpn_state.specs.Standings.{place, is_busy, is_out}
 use Rattle.kpn_machine.specs.Scheduler.{Scheduler, TakesOut}
 use Rattle.kpn_machine.specs.Commits.{Commits, Appends, GoesOn, number}
-use Rattle.kpn_steps.proofs.Placed.{place_set_other}
+use Rattle.kpn_state.proofs.Placed.{place_set_other}
 use Rattle.kpn_machine.proofs.Entries.{run_both}
 
 -- 1 for a process that is out

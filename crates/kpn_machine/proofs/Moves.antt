@@ -8,20 +8,20 @@ use Rattle.kpn_net.specs.declared.history.Deed.{Deed}
 use Rattle.kpn_net.specs.declared.history.Deed.TheVariants.{Took, Put, Stopped}
 use Rattle.kpn_net.specs.declared.history.End.{End}
 use Rattle.kpn_net.specs.Network.{Network, Family}
-use Rattle.kpn_rings.specs.Story.{Story}
-use Rattle.kpn_steps.specs.declared.standing.Standing.{Standing}
-use Rattle.kpn_steps.specs.declared.standing.Standing.TheVariants.{Ready, Out, Parked, Stopped as Ended}
+use Rattle.kpn_state.specs.Story.{Story}
+use Rattle.kpn_state.specs.declared.standing.Standing.{Standing}
+use Rattle.kpn_state.specs.declared.standing.Standing.TheVariants.{Ready, Out, Parked, Stopped as Ended}
 use Rattle.kpn_steps.specs.declared.react.Reaction.{Reaction}
 use Rattle.kpn_steps.specs.declared.react.Reaction.TheVariants.{Waits, Acts, HandsOn}
 use Rattle.kpn_steps.specs.declared.settle.Settled.{Settled}
 use Rattle.kpn_steps.specs.declared.settle.Settled.TheVariants.{Busy, Ended as Over, Enlarged}
 use Rattle.kpn_steps.specs.declared.outcome.Outcome.{Outcome}
-use Rattle.kpn_steps.specs.Standings.{place, place_after}
+use Rattle.kpn_state.specs.Standings.{place, place_after}
 use Rattle.kpn_steps.specs.Reactions.{Handed, Reacts}
 use Rattle.kpn_steps.specs.Settling.{Settles, GrowsAndPuts}
 use Rattle.kpn_steps.specs.Works.{Works, acted_entries, settled_entries}
 use Rattle.kpn_machine.specs.Scheduler.{waits, stays_in}
-use Rattle.kpn_steps.proofs.Placed.{place_set_same, place_set_other, acted_not_out, place_within, parked_not_ended}
+use Rattle.kpn_state.proofs.Placed.{place_set_same, place_set_other, acted_not_out, place_within, parked_not_ended}
 
 parked_not_out : (a : Answer) → Parked a ≢ Out
 parked_not_out a e = cc

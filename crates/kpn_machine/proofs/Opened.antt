@@ -13,11 +13,11 @@ use Rattle.kpn_net.specs.Network.{Network, Family, no_channel, card_of, no_proce
 use Rattle.kpn_net.specs.Machine.{nothing_held, start}
 use Rattle.kpn_net.specs.Valid.{IsValid}
 use Rattle.kpn_laws.proofs.SortedDeeds.{sorted_start}
-use Rattle.kpn_steps.specs.declared.standing.Standing.TheVariants.{Ready, Parked, Stopped as Ended}
-use Rattle.kpn_steps.specs.Standings.{place, is_busy, Keeps}
+use Rattle.kpn_state.specs.declared.standing.Standing.TheVariants.{Ready, Parked, Stopped as Ended}
+use Rattle.kpn_state.specs.Standings.{place, is_busy, Keeps}
 use Rattle.kpn_machine.specs.Opening.{cards_of, AreSeated}
 use Rattle.kpn_machine.specs.Scheduler.{scheduler, IsSound}
-use Rattle.kpn_steps.proofs.Placed.{busy_at}
+use Rattle.kpn_state.proofs.Placed.{busy_at}
 use Rattle.kpn_machine.proofs.Seats.{card_at}
 
 -- each process is ready

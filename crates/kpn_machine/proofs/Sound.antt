@@ -17,22 +17,22 @@ use Rattle.kpn_net.specs.Machine.{State, status, answered, wants, start}
 use Rattle.kpn_net.specs.Determinacy.{IsRun}
 use Rattle.kpn_laws.proofs.EachMoment.{enabled_can_do}
 use Rattle.kpn_body.specs.Input.{Input, answer_to}
-use Rattle.kpn_rings.specs.Story.{Story, story}
-use Rattle.kpn_steps.specs.declared.standing.Standing.{Standing}
-use Rattle.kpn_steps.specs.declared.standing.Standing.TheVariants.{Ready, Out, Parked, Stopped as Ended}
+use Rattle.kpn_state.specs.Story.{Story, story}
+use Rattle.kpn_state.specs.declared.standing.Standing.{Standing}
+use Rattle.kpn_state.specs.declared.standing.Standing.TheVariants.{Ready, Out, Parked, Stopped as Ended}
 use Rattle.kpn_steps.specs.declared.react.Reaction.{Reaction}
 use Rattle.kpn_steps.specs.declared.react.Reaction.TheVariants.{Waits, Acts, HandsOn}
 use Rattle.kpn_steps.specs.declared.settle.Settled.{Settled}
 use Rattle.kpn_steps.specs.declared.settle.Settled.TheVariants.{Busy, Ended as Over, Enlarged}
 use Rattle.kpn_steps.specs.declared.outcome.Outcome.{Outcome}
 use Rattle.kpn_steps.specs.declared.outcome.Outcome.TheVariants.{Done, Parked as Parks, LaidBack}
-use Rattle.kpn_steps.specs.Standings.{place, is_busy, parked_answer, Keeps}
+use Rattle.kpn_state.specs.Standings.{place, is_busy, parked_answer, Keeps}
 use Rattle.kpn_steps.specs.Reactions.{Reacts}
 use Rattle.kpn_steps.specs.Settling.{EndsBy, Settles}
 use Rattle.kpn_steps.specs.Works.{Works, acted_entries, settled_entries, outcome_of, end_after}
 use Rattle.kpn_machine.specs.Scheduler.{Scheduler, scheduler, IsOutAt, HasBodies, EndIs, waits, stays_in, IsSound, EndHolds, IsFaithful}
 use Rattle.kpn_machine.specs.Commits.{number, Appends, WorksOn, Commits, TellsEnabled}
-use Rattle.kpn_steps.proofs.Placed.{place_set_same, place_set_other, place_within, busy_at, out_not_ended, ready_not_ended}
+use Rattle.kpn_state.proofs.Placed.{place_set_same, place_set_other, place_within, busy_at, out_not_ended, ready_not_ended}
 use Rattle.kpn_steps.proofs.Keeping.{keeps_moved}
 use Rattle.kpn_steps.proofs.Idle.{enabled_busy}
 use Rattle.kpn_steps.proofs.Working.{handed_busy}

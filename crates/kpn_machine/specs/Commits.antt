@@ -7,11 +7,11 @@ use Rattle.kpn_net.specs.declared.history.End.TheVariants.{Terminated, Deadlock,
 use Rattle.kpn_net.specs.Network.{Family}
 use Rattle.kpn_net.specs.Machine.{Run, IsEnabled, IsOver}
 use Rattle.kpn_body.specs.Input.{Input, answer_to}
-use Rattle.kpn_steps.specs.declared.standing.Standing.TheVariants.{Ready}
+use Rattle.kpn_state.specs.declared.standing.Standing.TheVariants.{Ready}
 use Rattle.kpn_steps.specs.declared.settle.Settled.TheVariants.{Enlarged}
 use Rattle.kpn_steps.specs.declared.outcome.Outcome.{Outcome}
 use Rattle.kpn_steps.specs.declared.outcome.Outcome.TheVariants.{Done, Parked, LaidBack}
-use Rattle.kpn_steps.specs.Standings.{is_busy}
+use Rattle.kpn_state.specs.Standings.{is_busy}
 use Rattle.kpn_steps.specs.Settling.{CanGrow}
 use Rattle.kpn_steps.specs.Works.{Works}
 use Rattle.kpn_machine.specs.Scheduler.{Scheduler, story_of}

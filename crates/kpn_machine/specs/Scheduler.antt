@@ -12,10 +12,10 @@ use Rattle.kpn_net.specs.Machine.{State, status, wants, IsEnabled}
 use Rattle.kpn_net.specs.Determinacy.{IsRun}
 use Rattle.kpn_net.specs.Moments.{IsBound}
 use Rattle.kpn_body.specs.Input.{Input}
-use Rattle.kpn_rings.specs.Story.{Story, story}
-use Rattle.kpn_steps.specs.declared.standing.Standing.{Standing}
-use Rattle.kpn_steps.specs.declared.standing.Standing.TheVariants.{Ready, Out, Parked, Stopped as Ended}
-use Rattle.kpn_steps.specs.Standings.{place, is_busy, is_ready, parked_answer, Keeps}
+use Rattle.kpn_state.specs.Story.{Story, story}
+use Rattle.kpn_state.specs.declared.standing.Standing.{Standing}
+use Rattle.kpn_state.specs.declared.standing.Standing.TheVariants.{Ready, Out, Parked, Stopped as Ended}
+use Rattle.kpn_state.specs.Standings.{place, is_busy, is_ready, parked_answer, Keeps}
 use Rattle.kpn_steps.specs.Settling.{EndsBy}
 
 -- the network, its state, the entries that led to it, where each process stands, how the run ended,

@@ -8,6 +8,7 @@ mod same;
 #[cfg(test)]
 mod tests;
 
-pub use kpn_steps::{Outcome, Standing, places_of};
+pub use kpn_state::{Standing, places_of};
+pub use kpn_steps::Outcome;
 pub use machine::{Machine, OpenRefused, Stranger};
 pub use opening::{OpenFault, cards_of};

@@ -4,8 +4,8 @@ ghost use Rattle.kpn_net.specs.Network.{card_of};
 ghost use Rattle.kpn_net.specs.Machine.{status, start};
 ghost use Rattle.kpn_machine.specs.Opening.{cards_of, IsRefused};
 ghost use Rattle.kpn_net.specs.declared.history.Status.TheVariants.{Live};
-ghost use Rattle.kpn_steps.specs.declared.standing.Standing.TheVariants.{Out, Ready as ReadyV};
-ghost use Rattle.kpn_steps.specs.Standings.{place, is_out, Keeps};
+ghost use Rattle.kpn_state.specs.declared.standing.Standing.TheVariants.{Out, Ready as ReadyV};
+ghost use Rattle.kpn_state.specs.Standings.{place, is_out, Keeps};
 ghost use Rattle.kpn_machine.specs.Scheduler.{scheduler, IsOut, IsOutAt, TakesOut, IsFaithful, IsFresh};
 ghost use Rattle.kpn_machine.specs.Commits.{Commits, Appends, EndsAs, GoesOn, TellsEnabled, number};
 
@@ -13,10 +13,10 @@ use crate::opening::{OpenFault, Start, misfit, prepare, seat_all};
 use crate::same::{same_card, same_last, same_local};
 use kpn_body::{Body, Finished, Task};
 use kpn_net::{End, Entry, Net, Status};
-use kpn_rings::Store;
-use kpn_steps::standing::{all_ready, find_ready};
+use kpn_state::standing::{all_ready, find_ready};
+use kpn_state::{Standing, Store};
+use kpn_steps::Outcome;
 use kpn_steps::work::work;
-use kpn_steps::{Outcome, Standing};
 use std::alloc::Global;
 use std::marker::Model;
 

@@ -3,15 +3,14 @@ ghost use Rattle.std.specs.Prelude.{◌≡◌, ℕ, ◌<◌, ◌+◌, length, []
 ghost use Rattle.std.specs.Vec.{vec_capacity};
 ghost use Rattle.kpn_net.specs.Network.{card_of};
 ghost use Rattle.kpn_net.specs.Machine.{start};
-ghost use Rattle.kpn_steps.specs.declared.standing.Standing.TheVariants.{Ready};
-ghost use Rattle.kpn_rings.specs.Story.{story};
+ghost use Rattle.kpn_state.specs.declared.standing.Standing.TheVariants.{Ready};
+ghost use Rattle.kpn_state.specs.Story.{story};
 ghost use Rattle.kpn_machine.specs.Opening.{starting, filled, cards_of, IsRefused, AreSeated};
 
 use crate::same::same_card;
 use kpn_body::Body;
 use kpn_net::{Card, Kinds, Net, Status};
-use kpn_rings::{Ring, Store};
-use kpn_steps::Standing;
+use kpn_state::{Ring, Standing, Store};
 use std::alloc::{AllocError, Global};
 
 /// Why a machine was not opened, the first that applies: the bodies are not as many as the

@@ -12,7 +12,7 @@ use Rattle.kpn_net.specs.Network.{Network, Family, channel_of, in_of, out_of}
 use Rattle.kpn_net.specs.Machine.{State, tokens, capacity, with_status, IsPossible, IsDeed, after_deed}
 use Rattle.kpn_laws.proofs.States.{in_of-reader, out_of-writer, tokens_set_other}
 use Rattle.kpn_laws.proofs.Steps.{capacity_after, took_read, put_write}
-use Rattle.kpn_steps.specs.Standings.{partner}
+use Rattle.kpn_state.specs.Standings.{partner}
 
 module _ (kinds : Family) (net : Network) where
   -- the deed is on channel c

@@ -6,11 +6,11 @@ use Rattle.kpn_net.specs.declared.history.End.TheVariants.{Terminated, Deadlock,
 use Rattle.kpn_net.specs.Network.{Network, Family}
 use Rattle.kpn_net.specs.Machine.{State}
 use Rattle.kpn_laws.proofs.Causes.{over_grows_not}
-use Rattle.kpn_rings.specs.Story.{Story}
-use Rattle.kpn_steps.specs.declared.standing.Standing.{Standing}
+use Rattle.kpn_state.specs.Story.{Story}
+use Rattle.kpn_state.specs.declared.standing.Standing.{Standing}
 use Rattle.kpn_steps.specs.declared.settle.Settled.{Settled}
 use Rattle.kpn_steps.specs.declared.settle.Settled.TheVariants.{Busy, Ended as Over, Enlarged}
-use Rattle.kpn_steps.specs.Standings.{is_busy}
+use Rattle.kpn_state.specs.Standings.{is_busy}
 use Rattle.kpn_steps.specs.Settling.{CanGrow, EndsBy, Settles}
 use Rattle.kpn_steps.specs.Works.{end_after}
 

@@ -13,13 +13,13 @@ use Rattle.kpn_net.specs.declared.history.Entry.TheVariants.{Did, Grew}
 use Rattle.kpn_net.specs.Network.{Network, Family, channel_of}
 use Rattle.kpn_net.specs.Machine.{State, tokens, capacity, with_channel, IsPossible, IsDeed, after_deed, Grows}
 use Rattle.kpn_laws.proofs.States.{out_of-writer}
-use Rattle.kpn_rings.specs.Story.{Story, more}
-use Rattle.kpn_steps.specs.declared.standing.Standing.{Standing}
-use Rattle.kpn_steps.specs.declared.standing.Standing.TheVariants.{Parked}
-use Rattle.kpn_steps.specs.Standings.{place, is_busy, place_after, partner, Keeps}
+use Rattle.kpn_state.specs.Story.{Story, more}
+use Rattle.kpn_state.specs.declared.standing.Standing.{Standing}
+use Rattle.kpn_state.specs.declared.standing.Standing.TheVariants.{Parked}
+use Rattle.kpn_state.specs.Standings.{place, is_busy, place_after, partner, Keeps}
 use Rattle.kpn_steps.specs.Choice.{written_by, awaited_by, awaited, IsSmallest}
 use Rattle.kpn_steps.specs.Settling.{GrowsAndPuts}
-use Rattle.kpn_steps.proofs.Placed.{place_within, parked_not_ended}
+use Rattle.kpn_state.proofs.Placed.{place_within, parked_not_ended}
 use Rattle.kpn_steps.proofs.Idle.{writing, awaits_blocked, smallest_chosen, smallest_artificial}
 use Rattle.kpn_steps.proofs.Growing.{keeps_grown, keeps_put, grown_possible}
 use Rattle.kpn_steps.proofs.Reacting.{acted}

@@ -13,10 +13,10 @@ use Rattle.kpn_net.specs.Machine.{State, tokens, capacity, with_status, with_cha
 use Rattle.kpn_net.specs.Valid.{IsOfSort}
 use Rattle.kpn_laws.proofs.States.{out_of-writer, tokens_set_same, tokens_set_other, capacity_set_same, capacity_set_other}
 use Rattle.kpn_laws.proofs.Steps.{capacity_after}
-use Rattle.kpn_steps.specs.declared.standing.Standing.{Standing}
-use Rattle.kpn_steps.specs.declared.standing.Standing.TheVariants.{Parked}
-use Rattle.kpn_steps.specs.Standings.{place, place_after, partner, Keeps}
-use Rattle.kpn_steps.proofs.Placed.{place_set_same, place_set_other, acted_not_parked}
+use Rattle.kpn_state.specs.declared.standing.Standing.{Standing}
+use Rattle.kpn_state.specs.declared.standing.Standing.TheVariants.{Parked}
+use Rattle.kpn_state.specs.Standings.{place, place_after, partner, Keeps}
+use Rattle.kpn_state.proofs.Placed.{place_set_same, place_set_other, acted_not_parked}
 use Rattle.kpn_steps.proofs.Keeping.{keeps_all}
 
 no_process : (p : ℕ) → None ≡ Some p → ⊥

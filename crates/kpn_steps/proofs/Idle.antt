@@ -12,11 +12,11 @@ use Rattle.kpn_net.specs.declared.history.Status.TheVariants.{Done}
 use Rattle.kpn_net.specs.Network.{Network, Family, out_of}
 use Rattle.kpn_net.specs.Machine.{State, status, tokens, capacity, wants, IsEnabled, IsPossible, IsQuiet, IsBlocked, IsArtificial, IsChosen}
 use Rattle.kpn_laws.proofs.Steps.{live_within, done_wants_none}
-use Rattle.kpn_steps.specs.declared.standing.Standing.{Standing}
-use Rattle.kpn_steps.specs.declared.standing.Standing.TheVariants.{Ready, Out, Parked, Stopped as Ended}
-use Rattle.kpn_steps.specs.Standings.{place, is_busy, has_stopped, Keeps}
+use Rattle.kpn_state.specs.declared.standing.Standing.{Standing}
+use Rattle.kpn_state.specs.declared.standing.Standing.TheVariants.{Ready, Out, Parked, Stopped as Ended}
+use Rattle.kpn_state.specs.Standings.{place, is_busy, has_stopped, Keeps}
 use Rattle.kpn_steps.specs.Choice.{written_by, awaited_by, awaited, IsSmallest}
-use Rattle.kpn_steps.proofs.Placed.{idle_at, stopped_at, one_live}
+use Rattle.kpn_state.proofs.Placed.{idle_at, stopped_at, one_live}
 
 none_some : (c : ℕ) → None ≡ Some c → ⊥
 none_some c e = cc

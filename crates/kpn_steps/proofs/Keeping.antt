@@ -14,10 +14,10 @@ use Rattle.kpn_net.specs.Machine.{State, status, answered, wants, IsPossible, Is
 use Rattle.kpn_net.specs.Valid.{IsValid}
 use Rattle.kpn_laws.proofs.SortedDeeds.{sorted_deed}
 use Rattle.kpn_laws.proofs.Steps.{after, processes_after, channels_after, live_within, status_after_same, status_after_other, capacity_after}
-use Rattle.kpn_steps.specs.declared.standing.Standing.{Standing}
-use Rattle.kpn_steps.specs.declared.standing.Standing.TheVariants.{Parked, Stopped as Ended}
-use Rattle.kpn_steps.specs.Standings.{place, place_after, partner, Keeps}
-use Rattle.kpn_steps.proofs.Placed.{place_set_same, place_set_other, acted_not_parked}
+use Rattle.kpn_state.specs.declared.standing.Standing.{Standing}
+use Rattle.kpn_state.specs.declared.standing.Standing.TheVariants.{Parked, Stopped as Ended}
+use Rattle.kpn_state.specs.Standings.{place, place_after, partner, Keeps}
+use Rattle.kpn_state.proofs.Placed.{place_set_same, place_set_other, acted_not_parked}
 use Rattle.kpn_steps.proofs.Deeds.{possible_before, partner_back}
 
 -- a process after its deed has stopped exactly where it stands so

@@ -1,4 +1,3 @@
-pub mod Placed
 pub mod Deeds
 pub mod Keeping
 pub mod Reacting

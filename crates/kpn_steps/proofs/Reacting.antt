@@ -8,10 +8,10 @@ use Rattle.kpn_net.specs.declared.history.Deed.{Deed}
 use Rattle.kpn_net.specs.declared.history.Entry.TheVariants.{Did}
 use Rattle.kpn_net.specs.Network.{Network, Family}
 use Rattle.kpn_net.specs.Machine.{State, wants, IsEnabled, IsPossible, IsDeed, after_deed}
-use Rattle.kpn_rings.specs.Story.{Story, more}
-use Rattle.kpn_steps.specs.declared.standing.Standing.{Standing}
-use Rattle.kpn_steps.specs.declared.standing.Standing.TheVariants.{Parked}
-use Rattle.kpn_steps.specs.Standings.{place, place_after, partner, Keeps}
+use Rattle.kpn_state.specs.Story.{Story, more}
+use Rattle.kpn_state.specs.declared.standing.Standing.{Standing}
+use Rattle.kpn_state.specs.declared.standing.Standing.TheVariants.{Parked}
+use Rattle.kpn_state.specs.Standings.{place, place_after, partner, Keeps}
 use Rattle.kpn_steps.specs.Reactions.{Acted, Handed}
 
 module _ (kinds : Family) (net : Network) where

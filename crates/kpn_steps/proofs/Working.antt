@@ -8,14 +8,14 @@ use Rattle.kpn_net.specs.declared.history.Entry.{Entry}
 use Rattle.kpn_net.specs.declared.history.Entry.TheVariants.{Did}
 use Rattle.kpn_net.specs.Network.{Network, Family}
 use Rattle.kpn_net.specs.Machine.{State}
-use Rattle.kpn_rings.specs.Story.{Story, more}
-use Rattle.kpn_steps.specs.declared.standing.Standing.{Standing}
-use Rattle.kpn_steps.specs.declared.standing.Standing.TheVariants.{Ready}
+use Rattle.kpn_state.specs.Story.{Story, more}
+use Rattle.kpn_state.specs.declared.standing.Standing.{Standing}
+use Rattle.kpn_state.specs.declared.standing.Standing.TheVariants.{Ready}
 use Rattle.kpn_steps.specs.declared.react.Reaction.{Reaction}
 use Rattle.kpn_steps.specs.declared.react.Reaction.TheVariants.{Waits, Acts, HandsOn}
-use Rattle.kpn_steps.specs.Standings.{place, is_busy, place_after, partner}
+use Rattle.kpn_state.specs.Standings.{place, is_busy, place_after, partner}
 use Rattle.kpn_steps.specs.Reactions.{Handed, Reacts}
-use Rattle.kpn_steps.proofs.Placed.{place_set_same, place_set_other, acted_not_parked, busy_at}
+use Rattle.kpn_state.proofs.Placed.{place_set_same, place_set_other, acted_not_parked, busy_at}
 
 -- one more entry makes the history longer by one
 pub longer : (s t : Story) (M : State) (e : Entry) → t ≡ more s M e → (length t.history ≡ length s.history + 1) × (t.room ≡ s.room)

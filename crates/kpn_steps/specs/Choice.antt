@@ -4,9 +4,9 @@ use Rattle.kpn_net.specs.declared.kinds.Act.{Act}
 use Rattle.kpn_net.specs.declared.kinds.Act.TheVariants.{Read, Write, Stop}
 use Rattle.kpn_net.specs.Network.{Network, out_of}
 use Rattle.kpn_net.specs.Machine.{State, capacity}
-use Rattle.kpn_steps.specs.declared.standing.Standing.{Standing}
-use Rattle.kpn_steps.specs.declared.standing.Standing.TheVariants.{Ready, Out, Parked, Stopped as Ended}
-use Rattle.kpn_steps.specs.Standings.{place}
+use Rattle.kpn_state.specs.declared.standing.Standing.{Standing}
+use Rattle.kpn_state.specs.declared.standing.Standing.TheVariants.{Ready, Out, Parked, Stopped as Ended}
+use Rattle.kpn_state.specs.Standings.{place}
 
 -- the channel to which p's act writes
 abbrev pub written_by : Network → ℕ → Act → Option ℕ

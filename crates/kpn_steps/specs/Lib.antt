@@ -1,4 +1,3 @@
-pub mod Standings
 pub mod Reactions
 pub mod Choice
 pub mod Settling

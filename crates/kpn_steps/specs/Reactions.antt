@@ -5,12 +5,12 @@ use Rattle.kpn_net.specs.declared.history.Deed.{Deed}
 use Rattle.kpn_net.specs.declared.history.Entry.TheVariants.{Did}
 use Rattle.kpn_net.specs.Network.{Family, Network}
 use Rattle.kpn_net.specs.Machine.{IsEnabled, Does}
-use Rattle.kpn_rings.specs.Story.{Story, more}
-use Rattle.kpn_steps.specs.declared.standing.Standing.{Standing}
-use Rattle.kpn_steps.specs.declared.standing.Standing.TheVariants.{Parked}
+use Rattle.kpn_state.specs.Story.{Story, more}
+use Rattle.kpn_state.specs.declared.standing.Standing.{Standing}
+use Rattle.kpn_state.specs.declared.standing.Standing.TheVariants.{Parked}
 use Rattle.kpn_steps.specs.declared.react.Reaction.{Reaction}
 use Rattle.kpn_steps.specs.declared.react.Reaction.TheVariants.{Waits, Acts, HandsOn}
-use Rattle.kpn_steps.specs.Standings.{place, place_after, partner}
+use Rattle.kpn_state.specs.Standings.{place, place_after, partner}
 
 -- p does what it wants: one entry, and p moves on
 pub record Acted (kinds : Family) (net : Network) (s : Story) (places : List Standing) (p : ℕ) (d : Deed) (t : Story) (moved : List Standing) : Type 0 where

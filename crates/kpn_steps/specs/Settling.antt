@@ -9,12 +9,12 @@ use Rattle.kpn_net.specs.declared.history.End.{End}
 use Rattle.kpn_net.specs.declared.history.End.TheVariants.{Terminated, Deadlock, Ceiling, Budget, Memory}
 use Rattle.kpn_net.specs.Network.{Family, Network}
 use Rattle.kpn_net.specs.Machine.{State, Grows, IsOver}
-use Rattle.kpn_rings.specs.Story.{Story, more}
-use Rattle.kpn_steps.specs.declared.standing.Standing.{Standing}
-use Rattle.kpn_steps.specs.declared.standing.Standing.TheVariants.{Parked}
+use Rattle.kpn_state.specs.Story.{Story, more}
+use Rattle.kpn_state.specs.declared.standing.Standing.{Standing}
+use Rattle.kpn_state.specs.declared.standing.Standing.TheVariants.{Parked}
 use Rattle.kpn_steps.specs.declared.settle.Settled.{Settled}
 use Rattle.kpn_steps.specs.declared.settle.Settled.TheVariants.{Busy, Ended, Enlarged}
-use Rattle.kpn_steps.specs.Standings.{place, is_busy}
+use Rattle.kpn_state.specs.Standings.{place, is_busy}
 use Rattle.kpn_steps.specs.Reactions.{Acted}
 
 -- a growth is due

@@ -4,8 +4,8 @@ use Rattle.kpn_net.specs.declared.kinds.Answer.{Answer}
 use Rattle.kpn_net.specs.declared.history.End.{End}
 use Rattle.kpn_net.specs.declared.history.End.TheVariants.{Budget}
 use Rattle.kpn_net.specs.Network.{Family, Network}
-use Rattle.kpn_rings.specs.Story.{Story}
-use Rattle.kpn_steps.specs.declared.standing.Standing.{Standing}
+use Rattle.kpn_state.specs.Story.{Story}
+use Rattle.kpn_state.specs.declared.standing.Standing.{Standing}
 use Rattle.kpn_steps.specs.declared.react.Reaction.{Reaction}
 use Rattle.kpn_steps.specs.declared.react.Reaction.TheVariants.{Waits, Acts, HandsOn}
 use Rattle.kpn_steps.specs.declared.settle.Settled.{Settled}

@@ -4,12 +4,12 @@ ghost use Rattle.kpn_net.specs.Network.{card_of};
 ghost use Rattle.kpn_net.specs.Lawful.{NamesPort, LeadsOn, read_by};
 ghost use Rattle.kpn_net.specs.Machine.{wants, IsPossible, IsDeed, after_deed};
 ghost use Rattle.kpn_net.specs.declared.history.Entry.TheVariants.{Did};
-ghost use Rattle.kpn_rings.specs.Story.{more};
-ghost use Rattle.kpn_steps.specs.Standings.{Keeps, place_after, partner, HasChannel};
+ghost use Rattle.kpn_state.specs.Story.{more};
+ghost use Rattle.kpn_state.specs.Standings.{Keeps, place_after, partner, HasChannel};
 
-use crate::standing::{Standing, place_after};
 use kpn_net::{Act, Answer, Card, Deed, Kinds, Local, Net, Status, Token};
-use kpn_rings::Store;
+use kpn_state::standing::place_after;
+use kpn_state::{Standing, Store};
 
 /// Reads, where the channel holds a token.
 fn read<K: Kinds>(

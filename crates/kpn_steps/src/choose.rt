@@ -2,9 +2,9 @@
 ghost use Rattle.std.specs.Prelude.{◌≡◌, ◌<◌, ◌≤◌, length, IfSome, IsTrue, false};
 ghost use Rattle.kpn_steps.specs.Choice.{awaited, IsSmallest, IsNoLater};
 
-use crate::standing::{Standing, parked};
 use kpn_net::{Act, Kinds, Net};
-use kpn_rings::Store;
+use kpn_state::standing::parked;
+use kpn_state::{Standing, Store};
 
 /// The channel to which a parked process waits to write.
 fn awaited<K: Kinds>(net: &Net<K>, places: &[Standing], process: usize) -> Option<usize>

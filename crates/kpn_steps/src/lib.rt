@@ -6,12 +6,8 @@
 pub mod act;
 pub mod choose;
 pub mod outcome;
-pub mod places;
 pub mod react;
 pub mod settle;
-pub mod standing;
 pub mod work;
 
 pub use outcome::Outcome;
-pub use places::places_of;
-pub use standing::Standing;

@@ -2,14 +2,14 @@
 ghost use Rattle.std.specs.Prelude.{◌≡◌, ◌≢◌, ◌<◌, ◌≤◌, ◌+◌, length, Some, None};
 ghost use Rattle.kpn_net.specs.Machine.{wants, status};
 ghost use Rattle.kpn_net.specs.declared.history.Status.TheVariants.{Done};
-ghost use Rattle.kpn_steps.specs.Standings.{Keeps, place};
-ghost use Rattle.kpn_steps.specs.declared.standing.Standing.TheVariants.{Out};
+ghost use Rattle.kpn_state.specs.Standings.{Keeps, place};
+ghost use Rattle.kpn_state.specs.declared.standing.Standing.TheVariants.{Out};
 ghost use Rattle.kpn_steps.specs.Reactions.{Reacts};
 
 use crate::act::advance;
-use crate::standing::{Standing, parked, partner};
 use kpn_net::{Answer, Kinds, Net};
-use kpn_rings::Store;
+use kpn_state::standing::{parked, partner};
+use kpn_state::{Standing, Store};
 
 /// What a process's answer led to: it could not be done and waits; it was done; or it was done, and
 /// then the parked process at the other end of the channel did what it had answered.

@@ -1,14 +1,14 @@
 //! What follows where no process is ready or out.
 ghost use Rattle.std.specs.Prelude.{◌≡◌, ◌<◌, ◌≤◌, ◌+◌, min, length, None, false};
 ghost use Rattle.std.specs.List.{list_any};
-ghost use Rattle.kpn_steps.specs.Standings.{Keeps, is_busy};
+ghost use Rattle.kpn_state.specs.Standings.{Keeps, is_busy};
 ghost use Rattle.kpn_steps.specs.Settling.{Settles};
 
 use crate::act::advance;
 use crate::choose::choose;
-use crate::standing::{Standing, all_stopped, any_busy, parked};
 use kpn_net::{End, Kinds, Net};
-use kpn_rings::Store;
+use kpn_state::standing::{all_stopped, any_busy, parked};
+use kpn_state::{Standing, Store};
 
 /// What was found: some process is ready or out; or none is, and the run ended, or a channel grew
 /// and its writer's token was put.

@@ -1,15 +1,14 @@
 //! The work of a commit.
 ghost use Rattle.std.specs.Prelude.{◌≡◌, ◌<◌, ◌≤◌, ◌+◌, length, Some, None};
 ghost use Rattle.kpn_net.specs.Machine.{wants};
-ghost use Rattle.kpn_steps.specs.Standings.{Keeps};
+ghost use Rattle.kpn_state.specs.Standings.{Keeps};
 ghost use Rattle.kpn_steps.specs.Works.{Works, outcome_of, end_after, settled_entries};
 
 use crate::outcome::Outcome;
 use crate::react::{Reaction, react};
 use crate::settle::{Settled, settle};
-use crate::standing::Standing;
 use kpn_net::{Answer, End, Kinds, Net};
-use kpn_rings::Store;
+use kpn_state::{Standing, Store};
 
 /// How many entries were appended where no process was ready or out.
 fn settled_entries(settled: Settled) -> usize

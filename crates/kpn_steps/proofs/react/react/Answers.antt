@@ -2,9 +2,9 @@
 use Rattle.std.proofs.Common.{◌≡◌, ℕ, sym, ap, ◌∙◌, Some, subst}
 use Rattle.kpn_net.specs.declared.kinds.Answer.{Answer}
 use Rattle.kpn_net.specs.Machine.{IsPossible}
-use Rattle.kpn_steps.specs.declared.standing.Standing.TheVariants.{Parked}
-use Rattle.kpn_steps.specs.Standings.{place}
-use Rattle.kpn_steps.proofs.Placed.{parked_same}
+use Rattle.kpn_state.specs.declared.standing.Standing.TheVariants.{Parked}
+use Rattle.kpn_state.specs.Standings.{place}
+use Rattle.kpn_state.proofs.Placed.{parked_same}
 use Rattle.kpn_steps.proofs.Keeping.{keeps_sparing, keeps_all, keeps_handed}
 use Rattle.kpn_steps.proofs.Reacting.{acted, handed}
 use Rattle.kpn_steps.proofs.react.react.Goals as goal

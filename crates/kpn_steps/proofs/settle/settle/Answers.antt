@@ -2,8 +2,8 @@
 use Rattle.std.proofs.Common.{◌≡◌, ◌<◌, ◌+◌, min, length, sym, ap, ◌∙◌, arith, refl, true, false, Bool, List}
 use Rattle.std.specs.List.{list_any, list_all}
 use Rattle.kpn_net.specs.Machine.{capacity}
-use Rattle.kpn_steps.specs.declared.standing.Standing.{Standing}
-use Rattle.kpn_steps.specs.Standings.{is_busy, has_stopped}
+use Rattle.kpn_state.specs.declared.standing.Standing.{Standing}
+use Rattle.kpn_state.specs.Standings.{is_busy, has_stopped}
 use Rattle.kpn_steps.proofs.Idle.{idle_quiet, some_live, all_done, none_blocked, smallest_artificial, smallest_chosen}
 use Rattle.kpn_steps.proofs.Enlarging.{growth, grows_and_puts, keeps_enlarged, keeps_after_put}
 use Rattle.kpn_steps.proofs.settle.settle.Goals as goal

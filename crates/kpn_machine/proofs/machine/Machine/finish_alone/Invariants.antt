@@ -1,6 +1,6 @@
 use Rattle.std.proofs.Common.{◌≡◌, ◌+◌, ◌-◌, length}
 use Rattle.std.specs.List.{count_by}
-use Rattle.kpn_steps.specs.Standings.{is_out}
+use Rattle.kpn_state.specs.Standings.{is_out}
 use Rattle.kpn_machine.specs.Commits.{GoesOn}
 use Rattle.kpn_machine.proofs.machine.Machine.finish_alone.Given as goal
 

@@ -2,8 +2,8 @@
 ghost use Rattle.std.specs.Prelude.{◌≡◌, ◌≢◌, ◌<◌, ℕ, length, IfSome, IfNone};
 ghost use Rattle.std.specs.List.{list_any, list_all};
 ghost use Rattle.kpn_net.specs.declared.kinds.Answer.{Answer as AnswerV};
-ghost use Rattle.kpn_steps.specs.declared.standing.Standing.TheVariants.{Parked, Ready};
-ghost use Rattle.kpn_steps.specs.Standings.{place, is_busy, is_ready, has_stopped, parked_answer, place_after, partner, HasChannel};
+ghost use Rattle.kpn_state.specs.declared.standing.Standing.TheVariants.{Parked, Ready};
+ghost use Rattle.kpn_state.specs.Standings.{place, is_busy, is_ready, has_stopped, parked_answer, place_after, partner, HasChannel};
 
 use kpn_net::{Answer, Deed, Kinds, Net};
 

@@ -5,7 +5,7 @@ ghost use Rattle.kpn_net.specs.Machine.{status, tokens, capacity, with_status, w
 ghost use Rattle.kpn_net.specs.declared.history.Status.TheVariants.{Live, Done};
 ghost use Rattle.kpn_net.specs.declared.history.Entry.TheVariants.{Did, Grew};
 ghost use Rattle.kpn_net.specs.declared.history.Deed.TheVariants.{Took, Put, Stopped};
-ghost use Rattle.kpn_rings.specs.Story.{state, story, more};
+ghost use Rattle.kpn_state.specs.Story.{state, story, more};
 
 use crate::ring::Ring;
 use kpn_net::{Deed, Entry, Local, Status, Token};
@@ -24,7 +24,7 @@ pub struct Store {
 impl Model for Store {
     ghost use Rattle.std.specs.Prelude.{◌≤◌};
     ghost use Rattle.std.specs.Vec.{vec_capacity};
-    ghost use Rattle.kpn_rings.specs.Story.{Story, story, state};
+    ghost use Rattle.kpn_state.specs.Story.{Story, story, state};
 
     ghost Value = { Story };
 

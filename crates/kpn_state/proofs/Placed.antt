@@ -6,9 +6,9 @@ use Rattle.std.specs.List.{list_any, list_all}
 use Rattle.kpn_net.specs.declared.kinds.Answer.{Answer}
 use Rattle.kpn_net.specs.declared.history.Deed.{Deed}
 use Rattle.kpn_net.specs.declared.history.Deed.TheVariants.{Took, Put, Stopped}
-use Rattle.kpn_steps.specs.declared.standing.Standing.{Standing}
-use Rattle.kpn_steps.specs.declared.standing.Standing.TheVariants.{Ready, Out, Parked, Stopped as Ended}
-use Rattle.kpn_steps.specs.Standings.{place, is_busy, has_stopped, place_after}
+use Rattle.kpn_state.specs.declared.standing.Standing.{Standing}
+use Rattle.kpn_state.specs.declared.standing.Standing.TheVariants.{Ready, Out, Parked, Stopped as Ended}
+use Rattle.kpn_state.specs.Standings.{place, is_busy, has_stopped, place_after}
 
 -- a process that is moved stands where it was moved to
 pub place_set_same : (places : List Standing) (p : ℕ) (x : Standing) → p < length places → place (set places p x) p ≡ x

@@ -9,8 +9,8 @@ use Rattle.kpn_net.specs.declared.history.Status.TheVariants.{Done}
 use Rattle.kpn_net.specs.Network.{Family, Network, channel_of}
 use Rattle.kpn_net.specs.Machine.{State, status, capacity, wants, IsPossible}
 use Rattle.kpn_net.specs.Valid.{IsSorted}
-use Rattle.kpn_steps.specs.declared.standing.Standing.{Standing}
-use Rattle.kpn_steps.specs.declared.standing.Standing.TheVariants.{Ready, Out, Parked, Stopped as Ended}
+use Rattle.kpn_state.specs.declared.standing.Standing.{Standing}
+use Rattle.kpn_state.specs.declared.standing.Standing.TheVariants.{Ready, Out, Parked, Stopped as Ended}
 
 -- where process p stands; a process that is not there has stopped
 abbrev pub place : List Standing → ℕ → Standing

@@ -1,6 +1,6 @@
 //! A channel as a ring of tokens.
 ghost use Rattle.std.specs.Prelude.{◌≡◌, ◌<◌, ◌≤◌, ◌++◌, ◌∷◌, ◌^◌, [], IfOk, OnOk, OnErr, length, drop};
-ghost use Rattle.kpn_rings.specs.Story.{held};
+ghost use Rattle.kpn_state.specs.Story.{held};
 
 use circular_buffer::HeapCircularBuffer;
 use kpn_net::Token;
@@ -15,7 +15,7 @@ pub struct Ring {
 
 impl Model for Ring {
     ghost use Rattle.kpn_net.specs.Machine.{Held};
-    ghost use Rattle.kpn_rings.specs.Story.{held};
+    ghost use Rattle.kpn_state.specs.Story.{held};
 
     ghost Value = { Held };
 

@@ -1,0 +1,13 @@
+//! The state of a network, with its channels as rings; the history that led to it; and where each
+//! process stands.
+#![tactic(auto)]
+
+pub mod places;
+pub mod ring;
+pub mod standing;
+pub mod store;
+
+pub use places::places_of;
+pub use ring::Ring;
+pub use standing::Standing;
+pub use store::Store;
