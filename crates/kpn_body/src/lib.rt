@@ -2,16 +2,18 @@
 //! that come back.
 #![tactic(auto)]
 
+pub mod answered;
 pub mod body;
 pub mod standard;
 pub mod task;
 #[cfg(test)]
 mod tests;
 
+pub use answered::Answered;
 pub use body::Body;
 pub use kpn_standard::{
     Standard, add, answer, copy, count, divides, merge, prefix, scale, select, sink, switch, take,
     weave,
 };
 pub use standard::{Call, StandardBody};
-pub use task::{Answered, Finished, Task};
+pub use task::{Finished, Task};

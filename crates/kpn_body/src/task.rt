@@ -2,9 +2,10 @@
 ghost use Rattle.std.specs.Prelude.{◌≡◌, IsSome};
 ghost use Rattle.kpn_body.specs.Input.{input, answer_to};
 
+use crate::answered::Answered;
 use crate::body::Body;
 use kpn_net::{Answer, Card, Kinds, Local, Token};
-use std::marker::{Model, PhantomData};
+use std::marker::Model;
 
 /// A process that is asked for its next act, with the body that answers for it: the family admits
 /// its local state and last token for the body's card.
@@ -76,87 +77,16 @@ impl<B: Body> Task<B> {
     pub fn call(self) -> Finished<B>
         ensures { result ≡ self }
     {
-        let card = self.body.card();
-        let answer = self.body.answer(self.local, self.last);
         let Task {
             process,
             body,
             local,
             last,
         } = self;
-        Finished {
-            answered: Answered {
-                process,
-                card,
-                local,
-                last,
-                answer,
-                kinds: PhantomData,
-            },
-            body,
-        }
-    }
-}
-
-/// What a process was asked, and the answer that its card gives for it.
-///
-/// It is made by `Task::call` alone, and can't be copied.
-#[derive(Drop)]
-pub struct Answered<K: Kinds> {
-    process: usize,
-    card: Card,
-    local: Local,
-    last: Option<Token>,
-    answer: Answer,
-    kinds: PhantomData<K>,
-}
-
-impl<K: Kinds> Model for Answered<K> {
-    ghost use Rattle.kpn_body.specs.Input.{Input, input, IsAnswerTo};
-
-    ghost Value = { Input };
-
-    ghost view = { λ a. input a.process a.card a.local a.last };
-
-    ghost invariant = { λ a. IsAnswerTo K.signature_of K.admits K.family (input a.process a.card a.local a.last) a.answer };
-}
-
-impl<K: Kinds> Answered<K> {
-    /// The number of the process.
-    pub fn process(&self) -> usize
-        ensures { result ≡ self.now.process }
-    {
-        self.process
-    }
-
-    /// The card, which has a signature.
-    pub fn card(&self) -> Card
-        ensures card { result ≡ self.now.card }
-        ensures signed { IsSome (K.signature_of self.now.card) }
-    {
-        self.card
-    }
-
-    /// The local state in which the process was asked, which is admitted with the last token.
-    pub fn local(&self) -> Local
-        ensures local { result ≡ self.now.local }
-        ensures admitted { K.admits self.now.card self.now.local self.now.last }
-    {
-        self.local
-    }
-
-    /// The token of the read just done, when the process was asked.
-    pub fn last(&self) -> Option<Token>
-        ensures { result ≡ self.now.last }
-    {
-        self.last
-    }
-
-    /// The answer: the card's for this local state and last token.
-    pub fn answer(&self) -> Answer
-        ensures { result ≡ answer_to K.family self.now }
-    {
-        self.answer
+        let card = body.card();
+        let answer = body.answer(local, last);
+        let answered = Answered::new(process, card, local, last, answer);
+        Finished { answered, body }
     }
 }
 

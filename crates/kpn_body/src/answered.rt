@@ -1,0 +1,89 @@
+//! The answer of a task.
+ghost use Rattle.std.specs.Prelude.{◌≡◌, IsSome};
+ghost use Rattle.kpn_body.specs.Input.{input, answer_to, IsAnswerTo};
+
+use kpn_net::{Answer, Card, Kinds, Local, Token};
+use std::marker::{Model, PhantomData};
+
+/// What a process was asked, and the answer that its card gives for it.
+///
+/// It is made by `Task::call` alone, and can't be copied.
+#[derive(Drop)]
+pub struct Answered<K: Kinds> {
+    process: usize,
+    card: Card,
+    local: Local,
+    last: Option<Token>,
+    answer: Answer,
+    kinds: PhantomData<K>,
+}
+
+impl<K: Kinds> Model for Answered<K> {
+    ghost use Rattle.kpn_body.specs.Input.{Input, input, IsAnswerTo};
+
+    ghost Value = { Input };
+
+    ghost view = { λ a. input a.process a.card a.local a.last };
+
+    ghost invariant = { λ a. IsAnswerTo K.signature_of K.admits K.family (input a.process a.card a.local a.last) a.answer };
+}
+
+impl<K: Kinds> Answered<K> {
+    /// The answer of a process that was asked so.
+    pub(crate) fn new(
+        process: usize,
+        card: Card,
+        local: Local,
+        last: Option<Token>,
+        answer: Answer,
+    ) -> Self
+        requires { IsAnswerTo K.signature_of K.admits K.family (input process card local last) answer }
+        ensures { result ≡ input process card local last }
+    {
+        Answered {
+            process,
+            card,
+            local,
+            last,
+            answer,
+            kinds: PhantomData,
+        }
+    }
+
+    /// The number of the process.
+    pub fn process(&self) -> usize
+        ensures { result ≡ self.now.process }
+    {
+        self.process
+    }
+
+    /// The card, which has a signature.
+    pub fn card(&self) -> Card
+        ensures card { result ≡ self.now.card }
+        ensures signed { IsSome (K.signature_of self.now.card) }
+    {
+        self.card
+    }
+
+    /// The local state in which the process was asked, which is admitted with the last token.
+    pub fn local(&self) -> Local
+        ensures local { result ≡ self.now.local }
+        ensures admitted { K.admits self.now.card self.now.local self.now.last }
+    {
+        self.local
+    }
+
+    /// The token of the read just done, when the process was asked.
+    pub fn last(&self) -> Option<Token>
+        ensures { result ≡ self.now.last }
+    {
+        self.last
+    }
+
+    /// The answer: the card's for this local state and last token.
+    pub fn answer(&self) -> Answer
+        ensures { result ≡ answer_to K.family self.now }
+    {
+        self.answer
+    }
+}
