@@ -1,8 +1,5 @@
 //! Whole runs: what is written of each worked network, and the exit status.
-use crate::texts::{
-    CEILING, COUNTER, DEAD, ENDLESS, FLAGS, NOTHING, PARKS, STOPPED_WRITER, TWO_FULL, TWO_STEPS,
-    WRAPS,
-};
+use crate::texts::{CEILING, COUNTER, DEAD, ENDLESS, FLAGS, NOTHING, PARKS, TWO_FULL, WRAPS};
 use kpn_execute::execute_standard;
 use kpn_front::load::load;
 use kpn_net::{Net, NetFault};
@@ -31,18 +28,17 @@ fn outcome_of(alloc: Global, text: &str, show: Option<&str>) -> Result<Told, All
     Ok(Told { status, text: out })
 }
 
-fn outcome_of_edit(
-    alloc: Global,
-    old: &str,
-    new: &str,
-    show: Option<&str>,
-) -> Result<Told, AllocError> {
-    let text = COUNTER.replace(alloc, old, new)?;
-    outcome_of(alloc, text.as_str(), show)
+/// The same of a description in which parts are replaced.
+fn outcome_of_edits(alloc: Global, text: &str, edits: &[(&str, &str)]) -> Result<Told, AllocError> {
+    let mut edited = format!(in alloc; "{text}")?;
+    for (old, new) in edits {
+        edited = edited.replace(alloc, old, new)?;
+    }
+    outcome_of(alloc, edited.as_str(), None)
 }
 
 /// A description, the channel to show, the exit status, and what is written.
-static RUNS: [(&str, Option<&str>, u8, &str); 14] = [
+static RUNS: [(&str, Option<&str>, u8, &str); 12] = [
     (
         COUNTER,
         Some("c0"),
@@ -153,38 +149,6 @@ entries 10
 ",
     ),
     (
-        TWO_STEPS,
-        None,
-        0,
-        "end terminated
-process a stopped steps 4
-process b stopped steps 4
-process x stopped steps 1
-process y stopped steps 1
-channel c0 put 3 left 3 capacity 3
-channel c1 put 3 left 3 capacity 3
-grew c1 2
-grew c0 3
-grew c1 3
-entries 13
-",
-    ),
-    (
-        STOPPED_WRITER,
-        None,
-        0,
-        "end terminated
-process a stopped steps 2
-process b stopped steps 4
-process x stopped steps 1
-process y stopped steps 1
-channel c0 put 1 left 1 capacity 1
-channel c1 put 3 left 3 capacity 3
-grew c1 3
-entries 9
-",
-    ),
-    (
         CEILING,
         None,
         6,
@@ -211,11 +175,18 @@ fn runs_tell_their_outcome(rt: HostRuntime) -> Result<(), Fail> {
     Ok(())
 }
 
-/// A part of the counter's description, what takes its place, the exit status, and what is written.
-static EDITS: [(&str, &str, u8, &str); 6] = [
+/// A description, its parts and what takes their places, the exit status, and what is written.
+type Row = (
+    &'static str,
+    &'static [(&'static str, &'static str)],
+    u8,
+    &'static str,
+);
+
+static EDITS: [Row; 8] = [
     (
-        "args = [3]",
-        "args = [4]",
+        COUNTER,
+        &[("args = [3]", "args = [4]")],
         5,
         "end deadlock
 process src stopped steps 4
@@ -225,8 +196,8 @@ entries 7
 ",
     ),
     (
-        "args = [3]",
-        "args = [2]",
+        COUNTER,
+        &[("args = [3]", "args = [2]")],
         0,
         "end terminated
 process src stopped steps 4
@@ -236,8 +207,8 @@ entries 7
 ",
     ),
     (
-        "args = [3]",
-        "args = [1]",
+        COUNTER,
+        &[("args = [3]", "args = [1]")],
         0,
         "end terminated
 process src stopped steps 4
@@ -248,8 +219,8 @@ entries 7
 ",
     ),
     (
-        "version = 1",
-        "version = 1\nbudget = 8",
+        COUNTER,
+        &[("version = 1", "version = 1\nbudget = 8")],
         0,
         "end terminated
 process src stopped steps 4
@@ -258,15 +229,62 @@ channel c0 put 3 left 0 capacity 1
 entries 8
 ",
     ),
-    ("version = 1", "version = 1\nbudget = 7", 3, "end budget\n"),
-    ("\"sink\"", "\"filter\"", 2, "refused 6\n"),
+    (
+        COUNTER,
+        &[("version = 1", "version = 1\nbudget = 7")],
+        3,
+        "end budget\n",
+    ),
+    (COUNTER, &[("\"sink\"", "\"filter\"")], 2, "refused 6\n"),
+    (
+        TWO_FULL,
+        &[
+            ("args = [1, 2]", "args = [1, 3]"),
+            ("to = \"x\"", "to = \"x\"\ncapacity = 2"),
+        ],
+        0,
+        "end terminated
+process a stopped steps 4
+process b stopped steps 4
+process x stopped steps 1
+process y stopped steps 1
+channel c0 put 3 left 3 capacity 3
+channel c1 put 3 left 3 capacity 3
+grew c1 2
+grew c0 3
+grew c1 3
+entries 13
+",
+    ),
+    (
+        TWO_FULL,
+        &[
+            ("args = [1, 2]", "args = [1, 3]"),
+            (
+                "\"a\"\nkind = \"count\"\nargs = [1, 3]",
+                "\"a\"\nkind = \"count\"\nargs = [1, 1]",
+            ),
+            ("to = \"y\"", "to = \"y\"\ncapacity = 2"),
+        ],
+        0,
+        "end terminated
+process a stopped steps 2
+process b stopped steps 4
+process x stopped steps 1
+process y stopped steps 1
+channel c0 put 1 left 1 capacity 1
+channel c1 put 3 left 3 capacity 3
+grew c1 3
+entries 9
+",
+    ),
 ];
 
 #[test]
 fn edits_tell_their_outcome(rt: HostRuntime) -> Result<(), Fail> {
-    for (old, new, status, lines) in EDITS {
-        let told = outcome_of_edit(rt.alloc(), old, new, None)?;
-        assert_eq!(rt; told.status, status);
+    for (text, edits, status, lines) in &EDITS {
+        let told = outcome_of_edits(rt.alloc(), text, edits)?;
+        assert_eq!(rt; told.status, *status);
         assert!(rt; told.text.as_slice() == lines.as_bytes());
     }
     Ok(())
