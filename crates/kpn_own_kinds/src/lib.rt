@@ -1,13 +1,14 @@
 //! How a caller brings kinds of processes of its own, and closures of its own for the standard ones.
 //!
-//! `flip` holds a family with one kind, from the table of its lines to a run; `docs/own-kinds.md`
-//! explains it step by step.
+//! `flip` holds a family with one kind, from the table of its lines to its bodies, and `runs`, beside
+//! the tests, runs a network of it; `docs/own-kinds.md` explains it step by step.
 #![tactic(auto)]
 
 pub mod asked;
 pub mod bodies;
 pub mod flip;
-pub mod runs;
+#[cfg(test)]
+mod runs;
 pub mod scale;
 #[cfg(test)]
 mod tests;
@@ -15,5 +16,4 @@ mod tests;
 pub use asked::{answer_of, first_answer};
 pub use bodies::first_answers;
 pub use flip::{FlipBody, Flips, flip_answer};
-pub use runs::run_flips;
 pub use scale::scale_answer;

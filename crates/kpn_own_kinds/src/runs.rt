@@ -17,7 +17,7 @@ use std::alloc::{AllocError, Global};
 ///
 /// The answer is the exit status, as `execute_alone` gives it. The error is want of memory for the
 /// bodies; nothing was then written.
-pub fn run_flips<S: Sink>(
+pub(crate) fn run_flips<S: Sink>(
     alloc: Global,
     net: Net<Flips>,
     show: Option<&str>,

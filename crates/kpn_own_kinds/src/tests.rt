@@ -1,4 +1,5 @@
 //! The lines of flip; a scale by three; and what a counter of three and a sink of three answer first.
+use crate::runs::run_flips;
 use crate::*;
 use kpn_net::Act::{Read, Write};
 use kpn_net::Token::{Flag, Word};
