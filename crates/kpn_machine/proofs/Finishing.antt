@@ -83,6 +83,10 @@ module _ (kinds : Family) where
   commits_more s i LaidBack t h = ap (λ (x : Scheduler). x.commits) h.1
 
   module _ (s : Scheduler) (i : Input) (mid : Scheduler) (o : Outcome) (t : Scheduler) (taken : TakesOut s i mid) (commits : Commits kinds mid i o t) where
+    -- one process taken and committed is one more commit
+    pub round_commits : t.commits ≡ s.commits + 1
+    round_commits = commits_more mid i o t commits ∙ ap (λ n. n + 1) (ap (λ (x : Scheduler). x.commits) taken.after)
+
     -- one process taken and committed goes on with the run
     pub round_goes : (first : Scheduler) → GoesOn kinds first s → Appends kinds mid t (number o) → GoesOn kinds first t
     round_goes first goes appends =
@@ -91,6 +95,7 @@ module _ (kinds : Family) where
         let history : mid.history ≡ s.history = ap (λ (x : Scheduler). x.history) taken.after in
         record {
           network = commits_network mid i o t commits ∙ same;
+          commits = let before = goes.commits in let more = round_commits in omega arith;
           entries = goes.entries ++ appends.entries;
           history = appends.history ∙ ap (λ l. l ++ appends.entries) (history ∙ goes.history) ∙ append_assoc first.history goes.entries appends.entries;
           run = run_both kinds first.network first.state s.state t.state goes.entries appends.entries goes.run
@@ -104,10 +109,6 @@ module _ (kinds : Family) where
         let places = ap (λ (x : Scheduler). x.places) taken.after in
         ⊎_elim (λ (x : p ≡ i.process). back (ap (λ y. place t.places y) (sym x) ∙ e))
         (λ ne. none p (sym (place_set_other s.places i.process p Out ne) ∙ ap (λ (l : List Standing). place l p) (sym places) ∙ (others p ne).0 e)) (cases_eq p i.process)
-
-    -- with one more commit
-    pub round_commits : t.commits ≡ s.commits + 1
-    round_commits = commits_more mid i o t commits ∙ ap (λ n. n + 1) (ap (λ (x : Scheduler). x.commits) taken.after)
 
     pub round_network : t.network ≡ s.network
     round_network = commits_network mid i o t commits ∙ ap (λ (x : Scheduler). x.network) taken.after

@@ -28,9 +28,10 @@ pub record Appends (kinds : Family) (s t : Scheduler) (n : ℕ) : Type 0 where
   pub run : Run kinds s.network s.state entries t.state
   pub count : length entries ≡ n
 
--- the history goes on as a run, in the same network
+-- the history goes on as a run, in the same network, and no fewer answers were taken
 pub record GoesOn (kinds : Family) (s t : Scheduler) : Type 0 where
   pub network : t.network ≡ s.network
+  pub commits : s.commits ≤ t.commits
   pub entries : List Entry
   pub history : t.history ≡ s.history ++ entries
   pub run : Run kinds s.network s.state entries t.state
