@@ -1,5 +1,5 @@
 -- The report of the run, as its text.
-use Rattle.std.proofs.Common.{string_bytes, sym, ◌∙◌}
+use Rattle.std.proofs.Common.{string_bytes, sym}
 use Rattle.kpn_execute.proofs.Telling.{run_told}
 use Rattle.kpn_execute.proofs.execute.told_of.Goals as goal
 

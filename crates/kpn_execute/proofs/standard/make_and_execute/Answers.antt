@@ -1,7 +1,5 @@
 -- One body more, with the next card.
-use Rattle.std.proofs.Common.{◌≡◌, ap, map, Some, sym, ◌∙◌, subst, Option, List}
-use Rattle.std.specs.Option.{IfSome}
-use Rattle.kpn_machine.specs.Opening.{cards_of}
+use Rattle.std.proofs.Common.{ap, Some, sym, ◌∙◌}
 use Rattle.kpn_machine.proofs.Cards.{one_more, of_all}
 use Rattle.kpn_execute.proofs.standard.make_and_execute.Goals as goal
 
