@@ -10,7 +10,7 @@ use Rattle.kpn_net.specs.declared.kinds.Signature.{Signature}
 use Rattle.kpn_net.specs.Network.{Network, channel_of, Family, card_of, no_process}
 use Rattle.kpn_net.specs.Machine.{State, status, wants, start, Step}
 use Rattle.kpn_net.specs.Determinacy.{IsRun}
-use Rattle.kpn_net.specs.Lawful.{read_by, NamesPort, LeadsOn, AreLawful}
+use Rattle.kpn_net.specs.Lawful.{read_by, CardFits, NamesPort, LeadsOn, AreLawful}
 use Rattle.kpn_net.specs.Valid.{IsValid, IsOfSort, IsSorted, AlwaysSorted}
 use Rattle.kpn_laws.proofs.Steps.{live_within}
 use Rattle.kpn_laws.proofs.Runs.{run_induction}
@@ -20,22 +20,22 @@ use Rattle.kpn_laws.proofs.KeptByRuns.{kept_run}
 use Rattle.kpn_laws.proofs.SortedDeeds.{live_of, sorted_deed, sorted_start}
 
 module _ (signature : Card → Option Signature) (admits : Card → List ℕ → Option Token → Type 0) (kinds : Family) (net : Network) (valid : IsValid signature net) (laws : AreLawful signature admits kinds) where
-  -- a process that is there has a signature
-  signed_at : (p : ℕ) → p < length net.processes → IsSome (signature (card_of net p))
-  signed_at p within = valid.signed p no_process within
+  -- a process that is there has a card with a signature, of numbers that fit
+  signed_at : (p : ℕ) → p < length net.processes → CardFits (card_of net p) × IsSome (signature (card_of net p))
+  signed_at p within = (valid.cards p no_process within, valid.signed p no_process within)
 
-  module _ (M : State) (sorted : IsSorted admits net M) (p : ℕ) (a : Answer) (w : wants kinds net M p ≡ Some a) (signed : IsSome (signature (card_of net p))) where
+  module _ (M : State) (sorted : IsSorted admits net M) (p : ℕ) (a : Answer) (w : wants kinds net M p ≡ Some a) (signed : CardFits (card_of net p) × IsSome (signature (card_of net p))) where
     -- what a process wants in a sorted state names a port of it
     names : NamesPort signature (card_of net p) a.act
     names =
         let l = live_of kinds net p (status M p) a w in
-        subst (λ (x : Answer). NamesPort signature (card_of net p) x.act) l.1.2 (laws.names_port (card_of net p) l.0 l.1.0 signed (sorted.locals p l.0 l.1.0 l.1.1))
+        subst (λ (x : Answer). NamesPort signature (card_of net p) x.act) l.1.2 (laws.names_port (card_of net p) l.0 l.1.0 signed.0 signed.1 (sorted.locals p l.0 l.1.0 l.1.1))
 
     -- and leads on to what is admitted
     leads : (t : Token) → LeadsOn signature admits (card_of net p) a t
     leads t =
         let l = live_of kinds net p (status M p) a w in
-        subst (λ (x : Answer). LeadsOn signature admits (card_of net p) x t) l.1.2 (laws.leads_on (card_of net p) l.0 l.1.0 t signed (sorted.locals p l.0 l.1.0 l.1.1))
+        subst (λ (x : Answer). LeadsOn signature admits (card_of net p) x t) l.1.2 (laws.leads_on (card_of net p) l.0 l.1.0 t signed.0 signed.1 (sorted.locals p l.0 l.1.0 l.1.1))
 
   -- each step leaves the state sorted
   sorted_step : (H : List Entry) (M : State) (e : Entry) (N : State) → Kept kinds net (start kinds net) H M → IsSorted admits net M → Step kinds net M e N → IsSorted admits net N
@@ -54,7 +54,7 @@ module _ (signature : Card → Option Signature) (admits : Card → List ℕ →
   sorted_run : (E : List Entry) (M : State) → IsRun kinds net E M → IsSorted admits net M
   sorted_run =
       run_induction kinds net (λ _ M. IsSorted admits net M) (start kinds net)
-      (sorted_start signature admits kinds net valid (λ p within. laws.starts (card_of net p) (signed_at p within)))
+      (sorted_start signature admits kinds net valid (λ p within. let s = signed_at p within in laws.starts (card_of net p) s.0 s.1))
       (λ H M e N before ih s. sorted_step H M e N (kept_run kinds net (start kinds net) (fresh_start kinds net) H M before) ih s)
 
 -- each run of a valid network of lawful kinds is sorted at each moment

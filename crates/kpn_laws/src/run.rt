@@ -3,7 +3,6 @@ ghost use Rattle.std.specs.Prelude.{Option};
 ghost use Rattle.kpn_net.specs.declared.kinds.Card.{Card};
 ghost use Rattle.kpn_net.specs.declared.kinds.Signature.{Signature};
 ghost use Rattle.kpn_net.specs.Network.{Family};
-ghost use Rattle.kpn_net.specs.Lawful.{AreLawful};
 ghost use Rattle.kpn_net.specs.Moments.{OneState, FrontsAreRuns, AlwaysWithin, HistoryTellsState, BudgetSuffices, EnabledCanDo, OneCause};
 ghost use Rattle.kpn_net.specs.Valid.{AlwaysSorted};
 ghost use Rattle.kpn_laws.specs.ValidRuns.{StartsWithin, StaysWithin};
@@ -33,9 +32,11 @@ pub fn valid_runs()
     ensures within { (signature : Card → Option Signature) (kinds : Family) → StaysWithin signature kinds }
 {}
 
-/// Where the kinds of a family are lawful, each run of a valid network is sorted at each moment: each
-/// token in a channel fits and has the channel's sort, and each live process is in a state that its
-/// card admits.
+/// Each run of a valid network is well-typed at each moment: each token in a channel fits and has the
+/// channel's sort, and each live process is in a state that its card admits. It rests on the laws of
+/// the family, which each implementation of `Kinds` proves.
 pub fn sorted_runs<K: Kinds>()
-    ensures { AreLawful K.signature_of K.admits K.family → AlwaysSorted K.signature_of K.admits K.family }
-{}
+    ensures { AlwaysSorted K.signature_of K.admits K.family }
+{
+    K::lawful();
+}

@@ -20,7 +20,7 @@ use Rattle.kpn_net.specs.declared.parts.Channel.{Channel}
 use Rattle.kpn_net.specs.declared.kinds.Card.{Card}
 use Rattle.kpn_net.specs.declared.kinds.Signature.{Signature}
 use Rattle.kpn_net.specs.Name.{is_name}
-use Rattle.kpn_net.specs.Lawful.{port_at, in_sort, out_sort}
+use Rattle.kpn_net.specs.Lawful.{CardFits, port_at, in_sort, out_sort}
 use Rattle.kpn_net.specs.Faults.{any_pair, is_outside, is_sort, same_process, same_channel, port_sort, card_with, signature_of, has_wrong_args, takes_other_count, out_sort as sketch_out, in_sort as sketch_in, is_unused, is_unused_out, is_unused_in, has_unused_port, has_unknown_kind, same_out, same_in, has_fault, first_fault}
 use Rattle.kpn_net.specs.Network.{Network, no_process, card_of}
 use Rattle.kpn_net.specs.Sketched.{net_of, process_in, channel_in, index_of}
@@ -277,8 +277,8 @@ module _ (named : List ℕ → Option (ℕ × ℕ)) (signature : Card → Option
     pub start_fits : All (λ c. length c.tokens ≤ c.capacity) net.channels
     start_fits = All-map (channel_in s.processes) (λ c. length c.tokens ≤ c.capacity) s.channels (λ k d l. omega arith)
 
-    pub valid : IsValid signature net
-    valid = record {
+    pub valid : All (λ p. CardFits p.card) net.processes → IsValid signature net
+    valid cards = record {
       some_process = some_process;
       few_processes = few_processes;
       few_channels = few_channels;
@@ -286,6 +286,7 @@ module _ (named : List ℕ → Option (ℕ × ℕ)) (signature : Card → Option
       channel_names = channel_names;
       processes_apart = processes_apart;
       channels_apart = channels_apart;
+      cards = cards;
       signed = signed;
       ends = ends;
       writers = writers;
@@ -294,6 +295,8 @@ module _ (named : List ℕ → Option (ℕ × ℕ)) (signature : Card → Option
       start_tokens = start_tokens;
       start_fits = start_fits;
       some_step = lit≤ tt;
+      small_step = lit≤ tt;
+      small_ceiling = lit≤ tt;
       some_budget = budget.0;
       small_budget = budget.1;
     }

@@ -1,5 +1,6 @@
 -- The ports of cards, and the laws of a family of kinds.
-use Rattle.std.specs.Prelude.{◌≡◌, ℕ, ◌<◌, ◌^◌, false, List, Option, Some, None, IsSome, option_and_then, slice_get}
+use Rattle.std.specs.Prelude.{◌≡◌, ℕ, ◌<◌, ◌^◌, Bool, true, false, List, [], ◌∷◌, length, slice_get, Option, Some, None, IsSome, is_none, option_and_then}
+use Rattle.std.specs.List.{All, list_all}
 use Rattle.kpn_net.specs.declared.token.Token.{Token}
 use Rattle.kpn_net.specs.declared.token.Token.TheVariants.{Word, Flag}
 use Rattle.kpn_net.specs.declared.token.Sort.{Sort}
@@ -23,11 +24,23 @@ abbrev pub Fits : Token → Type 0
 Fits (Word n) = n < 2 ^ 64
 Fits (Flag b) = Unit {0}
 
+-- the numbers of a card are such as it can hold: a kind of 16 bits, and three arguments of 64
+pub record CardFits (card : Card) : Type 0 where
+  pub kind : card.kind < 2 ^ 16
+  pub three : length card.args ≡ 3
+  pub args : All (λ n. n < 2 ^ 64) card.args
+
 -- the token that a deed read; after another deed any stands for it
 abbrev pub read_by : Deed → Token
 read_by (Took c t) = t
 read_by (Put c t) = Flag false
 read_by Stopped = Flag false
+
+-- the ports that are there come first
+abbrev pub is_filled : List (Option Sort) → Bool
+is_filled [] = true
+is_filled (Some sort ∷ ports) = is_filled ports
+is_filled (None ∷ ports) = list_all is_none ports
 
 -- the sort of port k, where it is there
 abbrev pub port_at : List (Option Sort) → ℕ → Option Sort
@@ -57,8 +70,8 @@ module _ (signature : Card → Option Signature) where
     abbrev pub LeadsOn : Card → Answer → Token → Type 0
     LeadsOn card answer token = AfterAct card answer.next answer.act token
 
-    -- the laws of a family, of cards that have a signature
+    -- the laws of a family, of the cards that have a signature
     pub record AreLawful (kinds : Family) : Type 0 where
-      pub names_port : (card : Card) (local : List ℕ) (last : Option Token) → IsSome (signature card) → admits card local last → NamesPort card (kinds.answer card local last).act
-      pub leads_on : (card : Card) (local : List ℕ) (last : Option Token) (token : Token) → IsSome (signature card) → admits card local last → LeadsOn card (kinds.answer card local last) token
-      pub starts : (card : Card) → IsSome (signature card) → admits card (kinds.start card) None
+      pub names_port : (card : Card) (local : List ℕ) (last : Option Token) → CardFits card → IsSome (signature card) → admits card local last → NamesPort card (kinds.answer card local last).act
+      pub leads_on : (card : Card) (local : List ℕ) (last : Option Token) (token : Token) → CardFits card → IsSome (signature card) → admits card local last → LeadsOn card (kinds.answer card local last) token
+      pub starts : (card : Card) → CardFits card → IsSome (signature card) → admits card (kinds.start card) None

@@ -10,7 +10,7 @@ use Rattle.kpn_net.specs.declared.history.Entry.{Entry}
 use Rattle.kpn_net.specs.declared.history.Status.TheVariants.{Live}
 use Rattle.kpn_net.specs.Name.{is_name}
 use Rattle.kpn_net.specs.Network.{Family, Network, card_of, channel_of}
-use Rattle.kpn_net.specs.Lawful.{sort_of, Fits, in_sort, out_sort}
+use Rattle.kpn_net.specs.Lawful.{sort_of, Fits, CardFits, in_sort, out_sort}
 use Rattle.kpn_net.specs.Machine.{State, status, tokens}
 use Rattle.kpn_net.specs.Determinacy.{IsRun}
 
@@ -39,6 +39,7 @@ module _ (signature : Card → Option Signature) (net : Network) where
     pub channel_names : All (λ c. is_name c.name ≡ true) net.channels
     pub processes_apart : AllPairs (λ p q. p.name ≢ q.name) net.processes
     pub channels_apart : AllPairs (λ c d. c.name ≢ d.name) net.channels
+    pub cards : All (λ p. CardFits p.card) net.processes
     pub signed : All (λ p. IsSome (signature p.card)) net.processes
     pub ends : All HasEnds net.channels
     pub writers : (p k : ℕ) → p < length net.processes → k < 3 → IsSome (out_sort signature (card_of net p) k) → JustOne (λ (c : Channel). (c.writer ≡ p) × (c.out ≡ k)) net.channels
@@ -47,6 +48,8 @@ module _ (signature : Card → Option Signature) (net : Network) where
     pub start_tokens : All (λ c. AllByRecursion (IsOfSort c.sort) c.tokens) net.channels
     pub start_fits : All (λ c. length c.tokens ≤ c.capacity) net.channels
     pub some_step : 1 ≤ net.step
+    pub small_step : net.step ≤ 1024
+    pub small_ceiling : net.ceiling ≤ 1000000
     pub some_budget : 1 ≤ net.budget
     pub small_budget : net.budget ≤ 1000000
 

@@ -3,6 +3,7 @@ ghost use Rattle.std.specs.Prelude.{◌≡◌, ◌&&◌, ◌||◌, not, Bool, op
 ghost use Rattle.std.specs.List.{find, list_any, list_all};
 ghost use Rattle.std.specs.Ordering.{int_eq};
 ghost use Rattle.std.specs.Str.{bytes_eq};
+ghost use Rattle.kpn_net.specs.Lawful.{CardFits};
 ghost use Rattle.kpn_net.specs.Name.{is_letter, is_name_byte, is_name};
 ghost use Rattle.kpn_net.specs.Faults.{any_pair, is_outside, same_process, same_channel, same_out, same_in, port_sort, is_sort, card_with, signature_of, has_unknown_kind, takes_other_count, has_wrong_args, signature_named, out_sort, in_sort, is_unused_out, is_unused_in, is_unused, has_unused_port, has_fault, first_fault};
 
@@ -145,7 +146,8 @@ fn arg(args: &[i64], k: usize) -> u64
 
 /// The card of a kind with these arguments.
 pub(crate) fn card_with(kind: u16, args: &[i64]) -> Card
-    ensures { result ≡ card_with kind args.now }
+    ensures is { result ≡ card_with kind args.now }
+    ensures fits { CardFits result }
 {
     Card {
         kind,

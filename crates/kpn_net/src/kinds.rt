@@ -1,5 +1,6 @@
 //! Cards, answers, and families of kinds.
-ghost use Rattle.std.specs.Prelude.{◌≡◌, ℕ, List, Option, None, IsSome};
+ghost use Rattle.std.specs.Prelude.{◌≡◌, ℕ, List, Option, None, IsSome, IfSome, IsTrue};
+ghost use Rattle.kpn_net.specs.Lawful.{CardFits};
 
 use crate::token::{Sort, Token};
 
@@ -47,12 +48,16 @@ pub struct Answer {
 /// `family` says how processes begin and what they answer, `signature_of` which ports a card has,
 /// `named` which kind a name means, and `admits` with which local states and last tokens a process
 /// of a card may be asked: it holds only of locals of four numbers and of words, all below 2^64.
+///
+/// The laws of a family are functions that do nothing: a caller that calls one may use what it
+/// ensures. An implementation proves them in `lawful`; `names_port`, `leads_on` and `starts`, which
+/// tell them of the values at hand, come with the trait.
 pub trait Kinds: Send + Sync {
     ghost use Rattle.kpn_net.specs.declared.kinds.Card.{Card};
     ghost use Rattle.kpn_net.specs.declared.kinds.Signature.{Signature};
     ghost use Rattle.kpn_net.specs.declared.token.Token.{Token};
     ghost use Rattle.kpn_net.specs.Network.{Family};
-    ghost use Rattle.kpn_net.specs.Lawful.{NamesPort, LeadsOn};
+    ghost use Rattle.kpn_net.specs.Lawful.{AreLawful, NamesPort, LeadsOn, is_filled};
 
     ghost named: { List ℕ → Option (ℕ × ℕ) };
 
@@ -70,29 +75,56 @@ pub trait Kinds: Send + Sync {
     /// The ports of a card; `None` where the family has no such kind, or where the kind refuses these
     /// arguments.
     fn signature(card: &Card) -> Option<Signature>
-        ensures { result ≡ signature_of card.now };
+        ensures is { result ≡ signature_of card.now }
+        ensures filled { IfSome result (λ s. IsTrue (is_filled s.ins) × IsTrue (is_filled s.outs)) };
 
     /// The local state with which a process of a card begins. The card has a signature.
     fn start(card: &Card) -> Local
         requires { IsSome (signature_of card.now) }
         ensures { result ≡ family.start card.now };
 
+    /// The laws of the family, of every card that has a signature: an admitted answer names a port of
+    /// the card, and a written token has the port's sort; what follows an admitted answer is
+    /// admitted; the start is admitted. Each implementation proves them here.
+    fn lawful()
+        ensures { AreLawful signature_of admits family };
+
     /// The law that an admitted answer names a port of the card, and that a written token has the
     /// port's sort.
     fn names_port(card: Card, local: Local, last: Option<Token>)
         requires signed { IsSome (signature_of card) }
         requires admitted { admits card local last }
-        ensures { NamesPort signature_of card (family.answer card local last).act };
+        ensures { NamesPort signature_of card (family.answer card local last).act }
+    {
+        Self::lawful();
+        card_fits(card);
+    }
 
     /// The law that what follows an admitted answer is admitted: after a read, with each token of
     /// the port's sort; after a write, with none.
     fn leads_on(card: Card, local: Local, last: Option<Token>, token: Token)
         requires signed { IsSome (signature_of card) }
         requires admitted { admits card local last }
-        ensures { LeadsOn signature_of admits card (family.answer card local last) token };
+        ensures { LeadsOn signature_of admits card (family.answer card local last) token }
+    {
+        Self::lawful();
+        card_fits(card);
+    }
 
     /// The law that the start is admitted, with no token read.
     fn starts(card: Card)
         requires { IsSome (signature_of card) }
-        ensures { admits card (family.start card) None };
+        ensures { admits card (family.start card) None }
+    {
+        Self::lawful();
+        card_fits(card);
+    }
+}
+
+/// The numbers of a card are such as it can hold.
+fn card_fits(card: Card)
+    ensures { CardFits card }
+{
+    let _kind = card.kind;
+    let [_first, _second, _third] = card.args;
 }

@@ -1,7 +1,8 @@
 //! Networks.
-ghost use Rattle.std.specs.Prelude.{◌≡◌, ◌≢◌, ◌<◌, ◌≤◌, ℕ, List, Some, None, IsSome, IfOk, IfErr, IfSome, map, length, slice_get, option_map, position};
+ghost use Rattle.std.specs.Prelude.{All, ◌≡◌, ◌≢◌, ◌<◌, ◌≤◌, ℕ, List, Some, None, IsSome, IfOk, IfErr, IfSome, map, length, slice_get, option_map, position};
 ghost use Rattle.std.specs.Str.{bytes_eq};
 ghost use Rattle.kpn_net.specs.Faults.{first_fault};
+ghost use Rattle.kpn_net.specs.Lawful.{CardFits};
 ghost use Rattle.kpn_net.specs.Network.{card_of, channel_of, in_of, out_of};
 ghost use Rattle.kpn_net.specs.Sketched.{net_of, process_in, channel_in, index_of};
 ghost use Rattle.kpn_net.specs.Valid.{IsValid};
@@ -175,7 +176,7 @@ impl<K: Kinds> Net<K> {
         self.budget
     }
 
-    /// How many places a growth of a channel adds: at least 1 (Parks 1995 enlarges a full channel
+    /// How many places a growth of a channel adds: 1 to 1,024 (Parks 1995 enlarges a full channel
     /// where a run cannot go on without).
     pub fn step(&self) -> usize
         ensures { result ≡ self.now.step }
@@ -183,7 +184,7 @@ impl<K: Kinds> Net<K> {
         self.step
     }
 
-    /// The capacity beyond which no channel grows, in tokens.
+    /// The capacity beyond which no channel grows, in tokens: at most 1,000,000.
     pub fn ceiling(&self) -> usize
         ensures { result ≡ self.now.ceiling }
     {
@@ -215,6 +216,7 @@ impl<K: Kinds> Net<K> {
 
 fn process_in<K: Kinds>(alloc: Global, sketch: &ProcessSketch) -> Result<Process, NetFault>
     ensures ok { IfOk result (λ p. p ≡ process_in K.named sketch.now) }
+    ensures fits { IfOk result (λ p. CardFits p.card) }
     ensures memory { IfErr result (λ e. e ≡ NetFault.Memory) }
 {
     let kind = match K::named(sketch.kind.as_str()) {
@@ -267,6 +269,7 @@ fn processes_of<K: Kinds>(
     sketches: &[ProcessSketch],
 ) -> Result<Vec<Process>, NetFault>
     ensures ok { IfOk result (λ v. v.items ≡ map (process_in K.named) sketches.now) }
+    ensures fit { IfOk result (λ v. All (λ p. CardFits p.card) v.items) }
     ensures memory { IfErr result (λ e. e ≡ NetFault.Memory) }
 {
     let mut processes = Vec::new(alloc);

@@ -56,11 +56,7 @@ impl Kinds for CountAndSink {
         [0, 0, 0, 0]
     }
 
-    fn names_port(_card: Card, _local: Local, _last: Option<Token>) {}
-
-    fn leads_on(_card: Card, _local: Local, _last: Option<Token>, _token: Token) {}
-
-    fn starts(_card: Card) {}
+    fn lawful() {}
 }
 
 /// A counter of three into a sink of three.

@@ -46,11 +46,7 @@ impl Kinds for Flips {
         [0; 4]
     }
 
-    fn names_port(_card: Card, _local: Local, _last: Option<Token>) {}
-
-    fn leads_on(_card: Card, _local: Local, _last: Option<Token>, _token: Token) {}
-
-    fn starts(_card: Card) {}
+    fn lawful() {}
 }
 
 /// What stands in a line of the table, by the token of the read just done.

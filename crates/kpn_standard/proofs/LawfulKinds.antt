@@ -1,9 +1,9 @@
 -- The laws of the standard kinds, for every card.
-use Rattle.std.proofs.Common.{ℕ, zero, suc, ◌<◌, ◌^◌, List, Option, None, IsSome, sym, arith, ltb-true}
+use Rattle.std.proofs.Common.{ℕ, zero, suc, ◌<◌, List, Option, None, IsSome, sym, arith, ltb-true}
 use Rattle.std.proofs.lemmas.Bool.{and_parts}
 use Rattle.kpn_net.specs.declared.token.Token.{Token}
 use Rattle.kpn_net.specs.declared.kinds.Card.{Card}
-use Rattle.kpn_net.specs.Lawful.{NamesPort, LeadsOn}
+use Rattle.kpn_net.specs.Lawful.{CardFits, AreLawful}
 use Rattle.kpn_net.specs.Standard.{at, got, by_number, standard}
 use Rattle.kpn_standard.specs.Signatures.{card, signature}
 use Rattle.kpn_standard.specs.Locals.{IsLocal, LastFits, one}
@@ -46,7 +46,7 @@ AnswerWell args kind =
     IsSome (signature (card kind args)) → (local : List ℕ) (last : Option Token) → IsLocal local → LastFits last → HasLine kind args local last → IsLawful (card kind args) (by_number kind args local (got last))
 
 -- an admitted answer is lawful
-pub answers_lawful : (c : Card) (local : List ℕ) (last : Option Token) → AreArguments c.args → IsSome (signature c) → Admitted c local last → IsLawful c (standard.answer c local last)
+answers_lawful : (c : Card) (local : List ℕ) (last : Option Token) → AreArguments c.args → IsSome (signature c) → Admitted c local last → IsLawful c (standard.answer c local last)
 answers_lawful c local last small signed admitted =
     by_kind (AnswerWell c.args)
     (count_lawful c.args small)
@@ -64,20 +64,12 @@ answers_lawful c local last small signed admitted =
     (λ kind h signed. absurd (no_signature kind c.args h signed))
     c.kind signed local last admitted.local_fits admitted.last_fits admitted.line
 
--- which is the first law
-pub names_a_port : (c : Card) (local : List ℕ) (last : Option Token) → at c.args 0 < 2 ^ 64 → at c.args 1 < 2 ^ 64 → IsSome (signature c) → Admitted c local last → NamesPort signature c (standard.answer c local last).act
-names_a_port c local last first second signed admitted = (answers_lawful c local last (record { first = first; second = second }) signed admitted).names_port
-
--- and the second
-pub goes_on : (c : Card) (local : List ℕ) (last : Option Token) (token : Token) → at c.args 0 < 2 ^ 64 → at c.args 1 < 2 ^ 64 → IsSome (signature c) → Admitted c local last → LeadsOn signature Admitted c (standard.answer c local last) token
-goes_on c local last token first second signed admitted = (answers_lawful c local last (record { first = first; second = second }) signed admitted).leads_on token
-
 -- the start has a line
 abbrev Starts : List ℕ → ℕ → Type 0
 Starts args kind = IsSome (signature (card kind args)) → HasLine kind args (one 0) None
 
 -- the start is admitted
-pub starts_admitted : (c : Card) → IsSome (signature c) → Admitted c (standard.start c) None
+starts_admitted : (c : Card) → IsSome (signature c) → Admitted c (standard.start c) None
 starts_admitted c signed =
     record {
       local_fits = omega arith;
@@ -98,4 +90,17 @@ starts_admitted c signed =
           (λ signed. select_reads_flag)
           (λ kind h signed. absurd (no_signature kind c.args h signed))
           c.kind signed;
+    }
+
+-- the arguments of a card
+arguments : (c : Card) → CardFits c → AreArguments c.args
+arguments c fits = record { first = fits.args 0 0 (omega (arith, fits.three)); second = fits.args 1 0 (omega (arith, fits.three)) }
+
+-- the laws of the standard kinds
+pub standard_lawful : AreLawful signature Admitted standard
+standard_lawful =
+    record {
+      names_port = λ card local last fits signed admitted. (answers_lawful card local last (arguments card fits) signed admitted).names_port;
+      leads_on = λ card local last token fits signed admitted. (answers_lawful card local last (arguments card fits) signed admitted).leads_on token;
+      starts = λ card fits signed. starts_admitted card signed;
     }

@@ -5,7 +5,7 @@ ghost use Rattle.kpn_standard.specs.Signatures.{signature as standard_signature}
 ghost use Rattle.kpn_standard.specs.Admitted.{Admitted};
 
 use crate::numbers::*;
-use kpn_net::{Card, Kinds, Local, Signature, Sort, Token};
+use kpn_net::{Card, Kinds, Local, Signature, Sort};
 
 /// The family of the twelve standard kinds.
 pub struct Standard;
@@ -61,19 +61,8 @@ impl Kinds for Standard {
         [0; 4]
     }
 
-    // To read the arguments tells the proof that they have 64 bits.
-    #[tactic(auto, using(crate::proofs::LawfulKinds::names_a_port))]
-    fn names_port(card: Card, _local: Local, _last: Option<Token>) {
-        let [_first, _second, _] = card.args;
-    }
-
-    #[tactic(auto, using(crate::proofs::LawfulKinds::goes_on))]
-    fn leads_on(card: Card, _local: Local, _last: Option<Token>, _token: Token) {
-        let [_first, _second, _] = card.args;
-    }
-
-    #[tactic(auto, using(crate::proofs::LawfulKinds::starts_admitted))]
-    fn starts(_card: Card) {}
+    #[tactic(auto, using(crate::proofs::LawfulKinds::standard_lawful))]
+    fn lawful() {}
 }
 
 const WORDS: Option<Sort> = Some(Sort::Words);

@@ -3,4 +3,4 @@ use Rattle.kpn_laws.proofs.Sorted.{always_sorted}
 use Rattle.kpn_laws.proofs.run.sorted_runs.Goals as goal
 
 pub returns : goal.returns
-returns g c = always_sorted _ _ _
+returns g c = always_sorted _ _ _ c.lawful.ensures

@@ -1,21 +1,28 @@
 -- What is built is the network of the sketch, which is valid where the sketch has no fault.
-use Rattle.std.proofs.Common.{◌≡◌, None, rules}
+use Rattle.std.proofs.Common.{◌≡◌, None, rules, subst}
+use Rattle.std.specs.List.{All}
 use Rattle.kpn_net.specs.Faults.{first_fault}
+use Rattle.kpn_net.specs.Lawful.{CardFits}
 use Rattle.kpn_net.specs.Network.{Network}
 use Rattle.kpn_net.specs.Sketched.{net_of}
 use Rattle.kpn_net.proofs.ValidNet.{valid}
 use Rattle.kpn_net.proofs.net.Net.check.Goals as goal
+
+abbrev HasCards : Network → Type 0
+HasCards net = All (λ p. CardFits p.card) net.processes
 
 pub invariant_of-result : goal.invariant_of-result
 invariant_of-result g c =
     let fine : first_fault g.K.Kinds.named g.K.Kinds.signature_of c.args.sketch.now ≡ None = search rules in
     let made : Network = record { processes = c.in_ok-processes_of.field-0.items; channels = c.in_ok-channels_of.field-0.items; budget = c.unsigned_abs.result; step = 1; ceiling = 65535 } in
     let is_net : made ≡ net_of g.K.Kinds.named c.args.sketch.now = search rules in
-    rw is_net (valid g.K.Kinds.named g.K.Kinds.signature_of c.args.sketch.now fine)
+    let fits : HasCards made = search rules in
+    rw is_net (valid g.K.Kinds.named g.K.Kinds.signature_of c.args.sketch.now fine (subst HasCards is_net fits))
 
 pub returns-clause-valid : goal.returns-clause-valid
 returns-clause-valid g c =
     let fine : first_fault g.K.Kinds.named g.K.Kinds.signature_of c.args.sketch.now ≡ None = search rules in
     let made : Network = record { processes = c.in_ok-processes_of.field-0.items; channels = c.in_ok-channels_of.field-0.items; budget = c.unsigned_abs.result; step = 1; ceiling = 65535 } in
     let is_net : made ≡ net_of g.K.Kinds.named c.args.sketch.now = search rules in
-    rw is_net (valid g.K.Kinds.named g.K.Kinds.signature_of c.args.sketch.now fine)
+    let fits : HasCards made = search rules in
+    rw is_net (valid g.K.Kinds.named g.K.Kinds.signature_of c.args.sketch.now fine (subst HasCards is_net fits))
