@@ -65,25 +65,25 @@ module _ (kinds : Family) (net : Network) where
 
 -- where a run came to its own end, what the parked processes answered is what all want
 at_rest :
-    (kinds : Family) (s : Scheduler) (cause : End) → IsFaithful kinds s → s.end ≡ Some cause → has_detail cause ≡ true
+    (kinds : Family) (admits : Card → List ℕ → Option Token → Type 0) (s : Scheduler) (cause : End) → IsFaithful kinds admits s → s.end ≡ Some cause → has_detail cause ≡ true
     → each_process s.network (λ p. place_of s.network p (parked_answer (place s.places p))) ≡ each_process s.network (λ p. place_of s.network p (wants kinds s.network s.state p))
-at_rest kinds s cause faithful ended has =
+at_rest kinds admits s cause faithful ended has =
     let same : (λ (p : ℕ). place_of s.network p (parked_answer (place s.places p))) ≡ (λ (p : ℕ). place_of s.network p (wants kinds s.network s.state p)) = fun_ext (λ p. ap (place_of s.network p) (sym (faithful.wanted p (idle_at s.places p (faithful.none_busy cause ended (not_budget kinds s.network cause has)))))) in
     ap (each_process s.network) same
 
 -- an end that stands is bound
-bound_by : (kinds : Family) (s : Scheduler) (cause : End) → IsFaithful kinds s → s.end ≡ Some cause → IsBound kinds s.network s.history s.state cause
-bound_by kinds s cause faithful ended = subst (EndHolds kinds s.network s.history s.state) ended faithful.bound
+bound_by : (kinds : Family) (admits : Card → List ℕ → Option Token → Type 0) (s : Scheduler) (cause : End) → IsFaithful kinds admits s → s.end ≡ Some cause → IsBound kinds s.network s.history s.state cause
+bound_by kinds admits s cause faithful ended = subst (EndHolds kinds s.network s.history s.state) ended faithful.bound
 
 -- a run that ended is told by its report
 pub run_told :
-    (kinds : Family) (s : Scheduler) (cause : End) (places : List Place) (detail : Option Detail) (channel : Option ℕ) (status : ℕ) (bytes : List ℕ) → IsFaithful kinds s → s.end ≡ Some cause
+    (kinds : Family) (admits : Card → List ℕ → Option Token → Type 0) (s : Scheduler) (cause : End) (places : List Place) (detail : Option Detail) (channel : Option ℕ) (status : ℕ) (bytes : List ℕ) → IsFaithful kinds admits s → s.end ≡ Some cause
     → places ≡ each_process s.network (λ p. place_of s.network p (parked_answer (place s.places p))) → OneDigest kinds
     → ((has_detail cause ≡ true → places ≡ each_process s.network (λ p. place_of s.network p (wants kinds s.network s.state p))) → IsReport kinds s.network cause s.history s.state detail)
     → status ≡ status_of cause → bytes ≡ report_text s.network cause detail channel → TellsRun kinds s.network channel status bytes
-run_told kinds s cause places detail channel status bytes faithful ended places_are one report status_is bytes_are =
-    let bound = bound_by kinds s cause faithful ended in
-    let told : bytes ≡ text kinds s.network cause s.history s.state channel = bytes_are ∙ report_told kinds s.network cause s.history s.state detail channel (report (λ has. places_are ∙ at_rest kinds s cause faithful ended has)) in
+run_told kinds admits s cause places detail channel status bytes faithful ended places_are one report status_is bytes_are =
+    let bound = bound_by kinds admits s cause faithful ended in
+    let told : bytes ≡ text kinds s.network cause s.history s.state channel = bytes_are ∙ report_told kinds s.network cause s.history s.state detail channel (report (λ has. places_are ∙ at_rest kinds admits s cause faithful ended has)) in
     record {
       history = s.history;
       state = s.state;

@@ -7,6 +7,7 @@ use Rattle.std.specs.Option.{is_some}
 use Rattle.std.specs.List.{list_any}
 use Rattle.kpn_net.specs.declared.token.Token.{Token}
 use Rattle.kpn_net.specs.declared.kinds.Card.{Card}
+use Rattle.kpn_net.specs.declared.kinds.Signature.{Signature}
 use Rattle.kpn_net.specs.declared.kinds.Answer.{Answer}
 use Rattle.kpn_net.specs.declared.history.Entry.{Entry}
 use Rattle.kpn_net.specs.declared.history.Status.TheVariants.{Done as Halted}
@@ -15,7 +16,10 @@ use Rattle.kpn_net.specs.declared.history.End.TheVariants.{Terminated, Deadlock,
 use Rattle.kpn_net.specs.Network.{Network, Family, card_of}
 use Rattle.kpn_net.specs.Machine.{State, status, answered, wants, start}
 use Rattle.kpn_net.specs.Determinacy.{IsRun}
-use Rattle.kpn_laws.proofs.EachMoment.{enabled_can_do}
+use Rattle.kpn_net.specs.Moments.{IsWithin, AtEachMoment}
+use Rattle.kpn_net.specs.Valid.{IsValid, IsSorted, AlwaysSorted}
+use Rattle.kpn_laws.specs.ValidRuns.{StaysWithin}
+use Rattle.kpn_laws.proofs.EachMoment.{enabled_can_do, fronts}
 use Rattle.kpn_body.specs.Input.{Input, answer_to}
 use Rattle.kpn_state.specs.Story.{Story, story}
 use Rattle.kpn_state.specs.declared.standing.Standing.{Standing}
@@ -132,13 +136,23 @@ module _ (kinds : Family) (admits : Card → List ℕ → Option Token → Type 
   idle_wants net M places p (Parked a) k e idle = k.wanted p a e
   idle_wants net M places p Ended k e idle = ap (answered kinds net p) (k.stopped p e)
 
-  pub sound_faithful : (s : Scheduler) (room : ℕ) (bodies : List (Option Card)) → IsSound kinds admits s room bodies → IsFaithful kinds s
-  sound_faithful s room bodies h =
+  -- what holds of every state that a run leads to holds at each moment of a run
+  at_each_moment : (net : Network) (E : List Entry) (M : State) (P : State → Type 0) → IsRun kinds net E M → ((F : List Entry) (N : State) → IsRun kinds net F N → P N) → AtEachMoment kinds net E P
+  at_each_moment net E M P run holds F G is =
+      let parts = fronts kinds net (start kinds net) M F G (subst (λ H. IsRun kinds net H M) (sym is) run) in
+      (parts.0, parts.1, holds F parts.0 parts.1)
+
+  pub sound_faithful :
+      (signature : Card → Option Signature) (s : Scheduler) (room : ℕ) (bodies : List (Option Card)) → IsValid signature s.network → StaysWithin signature kinds → AlwaysSorted signature admits kinds
+      → IsSound kinds admits s room bodies → IsFaithful kinds admits s
+  sound_faithful signature s room bodies valid within well_typed h =
       let most = in_within s.places in
       let many = h.keeps.standing in
       let laid = h.laid in
       record {
         run = h.run;
+        within = at_each_moment s.network s.history s.state IsWithin h.run (within s.network valid);
+        well_typed = at_each_moment s.network s.history s.state (IsSorted admits s.network) h.run (well_typed s.network valid);
         bound = end_holds kinds s.network s.state s.history s.end h.few h.ends;
         none_held_back = enabled_busy kinds admits s.network s.state s.places h.keeps;
         wanted = λ p idle. idle_wants s.network s.state s.places p _ h.keeps refl idle;

@@ -10,7 +10,8 @@ use Rattle.kpn_net.specs.declared.history.End.TheVariants.{Terminated, Deadlock,
 use Rattle.kpn_net.specs.Network.{Family, Network, card_of}
 use Rattle.kpn_net.specs.Machine.{State, status, wants, IsEnabled}
 use Rattle.kpn_net.specs.Determinacy.{IsRun}
-use Rattle.kpn_net.specs.Moments.{IsBound}
+use Rattle.kpn_net.specs.Moments.{IsWithin, AtEachMoment, IsBound}
+use Rattle.kpn_net.specs.Valid.{IsSorted}
 use Rattle.kpn_body.specs.Input.{Input}
 use Rattle.kpn_state.specs.Story.{Story, story}
 use Rattle.kpn_state.specs.declared.standing.Standing.{Standing}
@@ -102,13 +103,16 @@ abbrev pub EndHolds : Family → Network → List Entry → State → Option End
 EndHolds kinds net E M None = Unit {0}
 EndHolds kinds net E M (Some end) = IsBound kinds net E M end
 
--- what holds of each machine at each time: its history is a run from the start to its state; an end
--- that stands is bound; who can go on is ready or out, and who is neither wants what it answered;
--- while no end stands some process is ready or out, and none is where one stands that isn't the
--- budget's; there are at most two entries more than the budget, and at most as many answers were
--- taken as there are entries and processes
-pub record IsFaithful (kinds : Family) (s : Scheduler) : Type 0 where
+-- what holds of each machine at each time: its history is a run from the start to its state, which at
+-- each moment has no channel above its capacity and is well-typed; an end that stands is bound; who
+-- can go on is ready or out, and who is neither wants what it answered; while no end stands some
+-- process is ready or out, and none is where one stands that isn't the budget's; there are at most
+-- two entries more than the budget, and at most as many answers were taken as there are entries and
+-- processes
+pub record IsFaithful (kinds : Family) (admits : Card → List ℕ → Option Token → Type 0) (s : Scheduler) : Type 0 where
   pub run : IsRun kinds s.network s.history s.state
+  pub within : AtEachMoment kinds s.network s.history IsWithin
+  pub well_typed : AtEachMoment kinds s.network s.history (IsSorted admits s.network)
   pub bound : EndHolds kinds s.network s.history s.state s.end
   pub none_held_back : (p : ℕ) → IsEnabled kinds s.network s.state p → is_busy (place s.places p) ≡ true
   pub wanted : (p : ℕ) → is_busy (place s.places p) ≡ false → wants kinds s.network s.state p ≡ parked_answer (place s.places p)

@@ -12,6 +12,7 @@ ghost use Rattle.kpn_machine.specs.Commits.{Commits, Appends, EndsAs, GoesOn, Te
 use crate::opening::{OpenFault, Start, misfit, prepare, seat_all};
 use crate::same::{same_card, same_last, same_local};
 use kpn_body::{Body, Finished, Task};
+use kpn_laws::{sorted_runs, valid_runs};
 use kpn_net::{End, Entry, Net, Status};
 use kpn_state::standing::{all_ready, find_ready};
 use kpn_state::{Standing, Store};
@@ -106,8 +107,11 @@ impl<B: Body> Machine<B> {
     /// How the run ended, where it did.
     pub fn end(&self) -> Option<End>
         ensures end { result ≡ self.now.end }
-        ensures faithful { IsFaithful B.Kinds.family self.now }
+        ensures faithful { IsFaithful B.Kinds.family B.Kinds.admits self.now }
     {
+        self.net.processes();
+        valid_runs();
+        sorted_runs::<B::Kinds>();
         self.end
     }
 
@@ -316,7 +320,7 @@ impl<B: Body> Machine<B> {
         requires { count_by is_out self.old.places ≡ 0 }
         ensures goes { GoesOn B.Kinds.family self.old self.new }
         ensures end { IsSome self.new.end }
-        ensures faithful { IsFaithful B.Kinds.family self.new }
+        ensures faithful { IsFaithful B.Kinds.family B.Kinds.admits self.new }
     {
         while self.end().is_none() {
             let Some(task) = self.take() else {

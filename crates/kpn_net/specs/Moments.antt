@@ -17,6 +17,10 @@ tally E = (length E, length (growths E))
 abbrev pub IsWithin : State → Type 0
 IsWithin M = (c : ℕ) → length (tokens M c) ≤ capacity M c
 
+-- each prefix of the history leads from the start to a state of which this holds
+abbrev pub AtEachMoment : Family → Network → List Entry → (State → Type 0) → Type 0
+AtEachMoment kinds net E P = (F G : List Entry) → F ++ G ≡ E → (N : State) × IsRun kinds net F N × P N
+
 -- the run E from the start to M may end so
 abbrev pub IsBound : Family → Network → List Entry → State → End → Type 0
 IsBound kinds net E M Budget = (net.budget ≤ length E) × (length E ≤ net.budget + 2)
