@@ -60,8 +60,8 @@ fn say_words_refused<R: Print + Eprint>(rt: &R, fault: &WordsFault) -> u8 {
 }
 
 fn status_of_choice<R: Input + Print + Eprint + AllocGlobal>(rt: &R, choice: Choice<'_>) -> u8 {
-    let mut sink = Fallible(io::writer(rt));
-    let mut source = Fallible(rt.reader());
+    let mut sink = Fallible::new(io::writer(rt));
+    let mut source = Fallible::new(rt.reader());
     let net: Net<Standard> = match load(rt.alloc(), &mut source) {
         Ok(net) => net,
         Err(fault) => return say_fault(rt, &fault),
@@ -75,5 +75,5 @@ fn status_of_choice<R: Input + Print + Eprint + AllocGlobal>(rt: &R, choice: Cho
 /// The number of the fault goes to standard output, and what it means to standard error.
 fn say_fault<R: Print + Eprint>(rt: &R, fault: &NetFault) -> u8 {
     let _ = eprintln!(rt; "kpn: {fault}");
-    say_refused(fault, &mut Fallible(io::writer(rt)))
+    say_refused(fault, &mut Fallible::new(io::writer(rt)))
 }

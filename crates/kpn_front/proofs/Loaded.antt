@@ -10,7 +10,7 @@ use Rattle.kpn_net.specs.Description.{Describes}
 use Rattle.kpn_net.specs.Faults.{first_fault, has_fault}
 use Rattle.kpn_net.specs.Network.{Network}
 use Rattle.kpn_net.specs.Sketched.{net_of}
-use Rattle.kpn_front.specs.Loading.{Loads, IsLoadFault, longest}
+use Rattle.kpn_front.specs.Loading.{Loads, IsWhole, IsLoadFault}
 
 -- where the first item or a later one is found, it passes the test
 found_at : {A : Type 0} (p : A → Bool) (y x : A) (rest : Option A) (b : Bool) → p y ≡ b → (rest ≡ Some x → p x ≡ true) → cond b (Some y) rest ≡ Some x → p x ≡ true
@@ -28,33 +28,33 @@ module _ (named : List ℕ → Option (ℕ × ℕ)) (signature : Card → Option
   no_other sketch e h = found_passes (has_fault named signature sketch) (Version ∷ Counts ∷ Name ∷ Kind ∷ Args ∷ NoEnd ∷ Twice ∷ Unused ∷ Sorts ∷ Capacity ∷ Budget ∷ []) e h
 
   -- the fault of `check` is a fault of loading
-  fault_from : (steady : Bool) (text : List ℕ) (sketch : Sketch) (e : NetFault) → length text ≤ longest → Describes text sketch → (e ≢ Memory → first_fault named signature sketch ≡ Some e) → IsLoadFault named signature steady text e
-  fault_from steady text sketch NotToml short d h = let bad : false ≡ true = no_other sketch NotToml (h (λ x. cc)) in cc
-  fault_from steady text sketch Keys short d h = let bad : false ≡ true = no_other sketch Keys (h (λ x. cc)) in cc
-  fault_from steady text sketch Input short d h = let bad : false ≡ true = no_other sketch Input (h (λ x. cc)) in cc
-  fault_from steady text sketch Memory short d h = tt
-  fault_from steady text sketch Version short d h = (short, sketch, d, h (λ x. cc))
-  fault_from steady text sketch Counts short d h = (short, sketch, d, h (λ x. cc))
-  fault_from steady text sketch Name short d h = (short, sketch, d, h (λ x. cc))
-  fault_from steady text sketch Kind short d h = (short, sketch, d, h (λ x. cc))
-  fault_from steady text sketch Args short d h = (short, sketch, d, h (λ x. cc))
-  fault_from steady text sketch NoEnd short d h = (short, sketch, d, h (λ x. cc))
-  fault_from steady text sketch Twice short d h = (short, sketch, d, h (λ x. cc))
-  fault_from steady text sketch Unused short d h = (short, sketch, d, h (λ x. cc))
-  fault_from steady text sketch Sorts short d h = (short, sketch, d, h (λ x. cc))
-  fault_from steady text sketch Capacity short d h = (short, sketch, d, h (λ x. cc))
-  fault_from steady text sketch Budget short d h = (short, sketch, d, h (λ x. cc))
+  fault_from : (failed : Bool) (text : List ℕ) (sketch : Sketch) (e : NetFault) → IsWhole named signature failed text → Describes text sketch → (e ≢ Memory → first_fault named signature sketch ≡ Some e) → IsLoadFault named signature failed text e
+  fault_from failed text sketch NotToml short d h = let bad : false ≡ true = no_other sketch NotToml (h (λ x. cc)) in cc
+  fault_from failed text sketch Keys short d h = let bad : false ≡ true = no_other sketch Keys (h (λ x. cc)) in cc
+  fault_from failed text sketch Input short d h = let bad : false ≡ true = no_other sketch Input (h (λ x. cc)) in cc
+  fault_from failed text sketch Memory short d h = short.0
+  fault_from failed text sketch Version short d h = (short, (sketch, d, h (λ x. cc)))
+  fault_from failed text sketch Counts short d h = (short, (sketch, d, h (λ x. cc)))
+  fault_from failed text sketch Name short d h = (short, (sketch, d, h (λ x. cc)))
+  fault_from failed text sketch Kind short d h = (short, (sketch, d, h (λ x. cc)))
+  fault_from failed text sketch Args short d h = (short, (sketch, d, h (λ x. cc)))
+  fault_from failed text sketch NoEnd short d h = (short, (sketch, d, h (λ x. cc)))
+  fault_from failed text sketch Twice short d h = (short, (sketch, d, h (λ x. cc)))
+  fault_from failed text sketch Unused short d h = (short, (sketch, d, h (λ x. cc)))
+  fault_from failed text sketch Sorts short d h = (short, (sketch, d, h (λ x. cc)))
+  fault_from failed text sketch Capacity short d h = (short, (sketch, d, h (λ x. cc)))
+  fault_from failed text sketch Budget short d h = (short, (sketch, d, h (λ x. cc)))
 
   -- the answer of `check`, where this is the whole text
-  loads_from : (steady : Bool) (text : List ℕ) (sketch : Sketch) (r : Result Network NetFault) → length text ≤ longest → Describes text sketch
+  loads_from : (failed : Bool) (text : List ℕ) (sketch : Sketch) (r : Result Network NetFault) → IsWhole named signature failed text → Describes text sketch
       → IfOk r (λ n. (first_fault named signature sketch ≡ None) × (n ≡ net_of named sketch))
-      → IfErr r (λ e. e ≢ Memory → first_fault named signature sketch ≡ Some e) → Loads named signature steady text r
-  loads_from steady text sketch (Ok n) short d ok fault = (short, sketch, d, ok.0, ok.1)
-  loads_from steady text sketch (Err e) short d ok fault = fault_from steady text sketch e short d fault
+      → IfErr r (λ e. e ≢ Memory → first_fault named signature sketch ≡ Some e) → Loads named signature failed text r
+  loads_from failed text sketch (Ok n) short d ok fault = (short, (sketch, d, ok.0, ok.1))
+  loads_from failed text sketch (Err e) short d ok fault = fault_from failed text sketch e short d fault
 
   -- where the text is all that the source had
-  pub loads_known : (steady : Bool) (known : Option (List ℕ)) (text : List ℕ) (sketch : Sketch) (r : Result Network NetFault) → IfSome known (λ t. text ≡ t) → length text ≤ longest → Describes text sketch
+  pub loads_known : (failed : Bool) (known : Option (List ℕ)) (text : List ℕ) (sketch : Sketch) (r : Result Network NetFault) → IfSome known (λ t. text ≡ t) → IsWhole named signature failed text → Describes text sketch
       → IfOk r (λ n. (first_fault named signature sketch ≡ None) × (n ≡ net_of named sketch))
-      → IfErr r (λ e. e ≢ Memory → first_fault named signature sketch ≡ Some e) → IfSome known (λ t. Loads named signature steady t r)
-  loads_known steady None text sketch r same short d ok fault = tt
-  loads_known steady (Some t) text sketch r same short d ok fault = rw (← same) (loads_from steady text sketch r short d ok fault)
+      → IfErr r (λ e. e ≢ Memory → first_fault named signature sketch ≡ Some e) → IfSome known (λ t. Loads named signature failed t r)
+  loads_known failed None text sketch r same short d ok fault = tt
+  loads_known failed (Some t) text sketch r same short d ok fault = rw (← same) (loads_from failed text sketch r short d ok fault)

@@ -1,5 +1,5 @@
 -- What is loaded from a source of bytes.
-use Rattle.std.specs.Prelude.{◌≡◌, ◌≤◌, ◌<◌, ℕ, Bool, true, List, length, Option, Some, None, Result, MatchResult}
+use Rattle.std.specs.Prelude.{◌≡◌, ◌⊎◌, ◌≤◌, ◌<◌, ℕ, Bool, true, false, List, length, Option, Some, None, Result, MatchResult}
 use Rattle.std.specs.Io.KnownBytes.{Consumes}
 use Rattle.kpn_net.specs.declared.fault.NetFault.{NetFault}
 use Rattle.kpn_net.specs.declared.fault.NetFault.TheVariants.{NotToml, Keys, Memory, Input}
@@ -19,19 +19,24 @@ longest = 1048576
 abbrev pub TakesAtMost : ℕ → Option (List ℕ) → Option (List ℕ) → Type 0
 TakesAtMost n old new = (bytes : List ℕ) × Consumes old new bytes × (length bytes ≤ n)
 
-module _ (named : List ℕ → Option (ℕ × ℕ)) (signature : Card → Option Signature) (is_steady : Bool) (text : List ℕ) where
+module _ (named : List ℕ → Option (ℕ × ℕ)) (signature : Card → Option Signature) (failed : Bool) (text : List ℕ) where
+  -- no read failed, and the text is no longer than a description may be
+  abbrev pub IsWhole : Type 0
+  IsWhole = (failed ≡ false) × (length text ≤ longest)
+
   -- the text describes a sketch without a fault, and the network is that sketch's
   abbrev pub IsNet : Network → Type 0
-  IsNet net = (length text ≤ longest) × (sketch : Sketch) × Describes text sketch × (first_fault named signature sketch ≡ None) × (net ≡ net_of named sketch)
+  IsNet net = IsWhole × ((sketch : Sketch) × Describes text sketch × (first_fault named signature sketch ≡ None) × (net ≡ net_of named sketch))
 
-  -- a longer text is not read, and nothing is where a read fails; a shorter one has a fault of
-  -- reading, or the sketch that it describes has
+  -- nothing is made of a text of which a read failed, nor of one that is too long; another has a fault
+  -- of reading, or the sketch that it describes has
   abbrev pub IsLoadFault : NetFault → Type 0
-  IsLoadFault Memory = Unit {0}
-  IsLoadFault Input = is_steady ≡ true → longest < length text
-  IsLoadFault NotToml = (length text ≤ longest) × IsReadFault text NotToml
-  IsLoadFault Keys = (length text ≤ longest) × IsReadFault text Keys
-  IsLoadFault e = (length text ≤ longest) × (sketch : Sketch) × Describes text sketch × (first_fault named signature sketch ≡ Some e)
+  IsLoadFault Memory = failed ≡ false
+  IsLoadFault Input = (failed ≡ true) ⊎ (longest < length text)
+  IsLoadFault NotToml = IsWhole × IsReadFault text NotToml
+  IsLoadFault Keys = IsWhole × IsReadFault text Keys
+  IsLoadFault e = IsWhole × ((sketch : Sketch) × Describes text sketch × (first_fault named signature sketch ≡ Some e))
 
+  -- what is loaded of a source that has this text, a read of which failed or not
   abbrev pub Loads : Result Network NetFault → Type 0
   Loads result = MatchResult result IsNet IsLoadFault

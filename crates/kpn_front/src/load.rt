@@ -1,5 +1,5 @@
 //! Reading a network from a source.
-ghost use Rattle.std.specs.Prelude.{◌≡◌, ◌≤◌, ◌<◌, ◌+◌, ◌⊎◌, true, IfOk, IfErr, IfSome, length};
+ghost use Rattle.std.specs.Prelude.{◌≡◌, ◌≢◌, false, ◌≤◌, ◌<◌, ◌+◌, ◌⊎◌, true, IfOk, IfErr, IfSome, length};
 ghost use Rattle.kpn_front.specs.Loading.{Loads, TakesAtMost, longest};
 
 use crate::streams::Source;
@@ -21,7 +21,9 @@ const CHUNK: usize = 4096;
 /// `Net::check` in what they describe, or `Memory` where memory was refused. After a fault no network
 /// was made, and what was read is gone from the source.
 pub fn load<K: Kinds, S: Source>(alloc: Global, source: &mut S) -> Result<Net<K>, NetFault>
-    ensures loads { IfSome (S.remaining source.old) (λ text. Loads K.named K.signature_of (S.is_steady source.old) text result) }
+    ensures loads { S.has_failed source.old ≡ false → IfSome (S.remaining source.old) (λ text. Loads K.named K.signature_of (S.has_failed source.new) text result) }
+    ensures failed { S.has_failed source.old ≡ false → S.has_failed source.new ≡ true → result ≡ Err NetFault.Input }
+    ensures steady { S.is_steady source.old ≡ true → S.has_failed source.new ≡ S.has_failed source.old }
     ensures taken { TakesAtMost (longest + 1) (S.remaining source.old) (S.remaining source.new) }
 {
     let text = read_text(alloc, source)?;
@@ -32,8 +34,10 @@ pub fn load<K: Kinds, S: Source>(alloc: Global, source: &mut S) -> Result<Net<K>
 /// The bytes of a source, where they are no more than a description may have.
 fn read_text<S: Source>(alloc: Global, source: &mut S) -> Result<Vec<u8>, NetFault>
     ensures ok { IfOk result (λ t. (length t.items ≤ longest) × IfSome (S.remaining source.old) (λ text. t.items ≡ text)) }
-    ensures input { result ≡ Err NetFault.Input → IfSome (S.remaining source.old) (λ text. S.is_steady source.old ≡ true → longest < length text) }
+    ensures input { result ≡ Err NetFault.Input → (S.has_failed source.new ≡ true) ⊎ IfSome (S.remaining source.old) (λ text. longest < length text) }
     ensures fault { IfErr result (λ e. (e ≡ NetFault.Input) ⊎ (e ≡ NetFault.Memory)) }
+    ensures failed { result ≢ Err NetFault.Input → S.has_failed source.new ≡ S.has_failed source.old }
+    ensures steady { S.is_steady source.old ≡ true → S.has_failed source.new ≡ S.has_failed source.old }
     ensures taken { TakesAtMost (longest + 1) (S.remaining source.old) (S.remaining source.new) }
 {
     let mut text = Vec::new(alloc);

@@ -1,5 +1,5 @@
 //! Readers and writers whose contracts also say where they can't fail.
-ghost use Rattle.std.specs.Prelude.{◌≡◌, ◌+◌, ℕ, Bool, true, false, List, Option, Some, OnOk, IsOk, length, vec_len, vec_capacity, nat_le};
+ghost use Rattle.std.specs.Prelude.{◌||◌, not, is_ok, ◌≡◌, ◌+◌, ℕ, Bool, true, false, List, Option, Some, OnOk, IsOk, length, vec_len, vec_capacity, nat_le};
 ghost use Rattle.std.specs.Io.{ReadsAtMost};
 ghost use Rattle.std.specs.Io.KnownBytes.{ReadConsumes, Appends};
 
@@ -8,12 +8,14 @@ use std::io::{Read, Write};
 
 /// A source of bytes.
 ///
-/// `remaining` is what is left to read, where that is known, and `is_steady` says that no read
-/// fails.
+/// `remaining` is what is left to read, where that is known, `is_steady` says that no read fails,
+/// and `has_failed` that some read has failed.
 pub trait Source {
     ghost remaining: { Self → Option (List ℕ) };
 
     ghost is_steady: { Self → Bool };
+
+    ghost has_failed: { Self → Bool };
 
     /// Reads the next bytes into the front of `buf`, and answers how many they are: no more than
     /// `buf` has room for, and 0 only at the end or where `buf` is empty.
@@ -22,7 +24,8 @@ pub trait Source {
     fn read(&mut self, buf: &mut [u8]) -> io::Result<usize>
         ensures bound { ReadsAtMost result buf.new }
         ensures bytes { ReadConsumes (remaining self.old) (remaining self.new) result buf.new }
-        ensures steady { is_steady self.old ≡ true → IsOk result × (is_steady self.new ≡ true) };
+        ensures steady { is_steady self.old ≡ true → IsOk result × (is_steady self.new ≡ true) }
+        ensures failed { has_failed self.new ≡ (has_failed self.old || not (is_ok result)) };
 }
 
 /// A sink of bytes.
@@ -43,27 +46,48 @@ pub trait Sink {
         ensures left { (n : ℕ) → takes self.old (length bytes.now + n) ≡ true → IsOk result × (takes self.new n ≡ true) };
 }
 
-/// A reader or a writer that may fail at any time, as a file or a terminal may.
+/// A reader or a writer that may fail at any time, as a file or a terminal may. It remembers whether a
+/// read has failed.
 #[derive(Drop)]
-pub struct Fallible<S>(pub S);
+pub struct Fallible<S> {
+    inner: S,
+    has_failed: bool,
+}
+
+impl<S> Fallible<S> {
+    /// Of a reader or a writer of which no read has failed.
+    pub fn new(inner: S) -> Fallible<S>
+        ensures inner { result.inner ≡ inner }
+        ensures has_failed { result.has_failed ≡ false }
+    {
+        Fallible {
+            inner,
+            has_failed: false,
+        }
+    }
+}
 
 impl<R: Read> Source for Fallible<R> {
-    ghost remaining = { λ s. R.remaining s.0 };
+    ghost remaining = { λ s. R.remaining s.inner };
 
     ghost is_steady = { λ _. false };
 
+    ghost has_failed = { λ s. s.has_failed };
+
     fn read(&mut self, buf: &mut [u8]) -> io::Result<usize> {
-        self.0.read(buf)
+        let read = self.inner.read(buf);
+        self.has_failed = self.has_failed || read.is_err();
+        read
     }
 }
 
 impl<W: Write> Sink for Fallible<W> {
-    ghost contents = { λ s. W.contents s.0 };
+    ghost contents = { λ s. W.contents s.inner };
 
     ghost takes = { λ _ _. false };
 
     fn write_all(&mut self, bytes: &[u8]) -> io::Result<()> {
-        self.0.write_all(bytes)
+        self.inner.write_all(bytes)
     }
 }
 
@@ -72,6 +96,8 @@ impl Source for &[u8] {
     ghost remaining = { λ s. Some s.now };
 
     ghost is_steady = { λ _. true };
+
+    ghost has_failed = { λ _. false };
 
     fn read(&mut self, buf: &mut [u8]) -> io::Result<usize> {
         Read::read(self, buf)

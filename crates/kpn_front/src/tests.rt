@@ -302,16 +302,20 @@ fn refuses_every_beginning(rt: HostRuntime) -> Result<(), Fail> {
     Ok(())
 }
 
-/// Gives or takes one byte a call, and fails after so many bytes.
+/// Gives or takes one byte a call, and fails after so many calls: from then on, or just once.
 #[derive(Drop)]
 struct Failing<'a> {
     bytes: &'a [u8],
     before: usize,
+    fails_once: bool,
 }
 
 impl<'a> Read for Failing<'a> {
     fn read(&mut self, buf: &mut [u8]) -> io::Result<usize> {
         if self.before == 0 {
+            if self.fails_once {
+                self.before = usize::MAX;
+            }
             return Err(io::ErrorKind::Other.into());
         }
         self.before -= 1;
@@ -347,19 +351,26 @@ fn meets_failures_in_mid_stream(rt: HostRuntime) -> Result<(), Fail> {
         (COUNTER.len(), 15),
         (COUNTER.len() + 1, 0),
     ] {
-        let mut source = Fallible(Failing {
-            bytes: COUNTER.as_bytes(),
-            before,
-        });
-        let net: Result<Net<CountAndSink>, NetFault> = load(alloc, &mut source);
-        assert_eq!(rt;
-            net.err().map_or(0, |fault| fault.number()),
-            number,
-            "at {before}"
-        );
+        for fails_once in [false, true] {
+            let mut source = Fallible::new(Failing {
+                bytes: COUNTER.as_bytes(),
+                before,
+                fails_once,
+            });
+            let net: Result<Net<CountAndSink>, NetFault> = load(alloc, &mut source);
+            assert_eq!(rt;
+                net.err().map_or(0, |fault| fault.number()),
+                number,
+                "at {before}"
+            );
+        }
     }
     for (before, status) in [(0, 7), (10, 7), (11, 4)] {
-        let mut sink = Fallible(Failing { bytes: b"", before });
+        let mut sink = Fallible::new(Failing {
+            bytes: b"",
+            before,
+            fails_once: false,
+        });
         assert_eq!(rt;
             say_refused(&NetFault::Memory, &mut sink),
             status,

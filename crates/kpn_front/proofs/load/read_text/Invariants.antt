@@ -6,6 +6,7 @@ abbrev pub invariant-loop-chunk : goal.invariant-loop-chunk
 invariant-loop-chunk g l = record {
   short : length l.text.items ≤ 1048577;
   steady : g.S.Source.is_steady l.initial.source ≡ true → g.S.Source.is_steady l.source ≡ true;
+  unfailed : g.S.Source.has_failed l.source ≡ g.S.Source.has_failed l.initial.source;
   bytes : Consumes (g.S.Source.remaining l.initial.source) (g.S.Source.remaining l.source) l.text.items;
 }
 
