@@ -1,13 +1,10 @@
 //! Checks and runs Kahn process networks that are described on standard input.
 #![tactic(auto)]
 
-use kpn_execute::execute_standard;
-use kpn_front::load::load;
-use kpn_front::say::{WRITE_FAILED, say_checked, say_refused};
+use kpn_execute::serve;
+use kpn_front::say::WRITE_FAILED;
 use kpn_front::streams::Fallible;
-use kpn_front::words::{Choice, WordsFault, read_words};
-use kpn_net::{Net, NetFault};
-use kpn_standard::Standard;
+use kpn_front::words::WordsFault;
 use std::process::ExitCode;
 use std::rt::Env;
 use std::{env, io};
@@ -22,15 +19,28 @@ fn main(rt: HostRuntime) -> ExitCode {
 /// Reads the words, does what they ask for, and answers the exit status.
 fn status_of<R: Env + Input + Print + Eprint + AllocGlobal>(rt: &R) -> u8 {
     let Ok(words) = words_of(rt) else {
-        return REFUSED;
+        return say_no_memory(rt);
     };
     let Ok(texts) = texts_of(rt, &words) else {
-        return REFUSED;
+        return say_no_memory(rt);
     };
-    match read_words(rt.alloc(), texts.as_slice()) {
-        Ok(choice) => status_of_choice(rt, choice),
+    let mut source = Fallible::new(rt.reader());
+    let mut sink = Fallible::new(io::writer(rt));
+    match serve(rt.alloc(), texts.as_slice(), &mut source, &mut sink) {
+        Ok(served) => {
+            if let Some(fault) = served.fault {
+                let _ = eprintln!(rt; "kpn: {fault}");
+            }
+            served.status
+        }
         Err(fault) => say_words_refused(rt, &fault),
     }
+}
+
+/// The words could not be collected, for want of memory.
+fn say_no_memory<R: Eprint>(rt: &R) -> u8 {
+    let _ = eprintln!(rt; "kpn: memory was refused while the words were read");
+    REFUSED
 }
 
 fn words_of<R: Env + AllocGlobal>(rt: &R) -> io::Result<Vec<String>> {
@@ -57,23 +67,4 @@ fn say_words_refused<R: Print + Eprint>(rt: &R, fault: &WordsFault) -> u8 {
         Ok(()) => fault.status(),
         Err(_) => WRITE_FAILED,
     }
-}
-
-fn status_of_choice<R: Input + Print + Eprint + AllocGlobal>(rt: &R, choice: Choice<'_>) -> u8 {
-    let mut sink = Fallible::new(io::writer(rt));
-    let mut source = Fallible::new(rt.reader());
-    let net: Net<Standard> = match load(rt.alloc(), &mut source) {
-        Ok(net) => net,
-        Err(fault) => return say_fault(rt, &fault),
-    };
-    match choice {
-        Choice::Check => say_checked(&net, &mut sink),
-        Choice::Run { show, .. } => execute_standard(rt.alloc(), net, show, &mut sink),
-    }
-}
-
-/// The number of the fault goes to standard output, and what it means to standard error.
-fn say_fault<R: Print + Eprint>(rt: &R, fault: &NetFault) -> u8 {
-    let _ = eprintln!(rt; "kpn: {fault}");
-    say_refused(fault, &mut Fallible::new(io::writer(rt)))
 }

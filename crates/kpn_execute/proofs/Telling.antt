@@ -2,6 +2,8 @@
 use Rattle.std.proofs.Common.{◌≡◌, ◌≢◌, ◌++◌, ℕ, zero, suc, true, List, Option, Some, replicate, refl, sym, ap, ◌∙◌, subst}
 use Rattle.std.proofs.Math.Path.{fun_ext}
 use Rattle.std.specs.List.{count_by}
+use Rattle.kpn_net.specs.declared.token.Token.{Token}
+use Rattle.kpn_net.specs.declared.kinds.Card.{Card}
 use Rattle.kpn_net.specs.declared.history.Entry.{Entry}
 use Rattle.kpn_net.specs.declared.history.End.{End}
 use Rattle.kpn_net.specs.declared.history.End.TheVariants.{Terminated, Deadlock, Ceiling, Budget, Memory}

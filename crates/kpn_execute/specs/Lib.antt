@@ -1,1 +1,2 @@
 pub mod Execution
+pub mod Program

@@ -1,0 +1,37 @@
+-- What the program does, from its words and its input to what it writes.
+use Rattle.std.specs.Prelude.{◌≡◌, ℕ, Bool, true, false, List, Option, Some, None, IfSome, option_map, Result, Ok, Err}
+use Rattle.kpn_net.specs.declared.fault.NetFault.{NetFault}
+use Rattle.kpn_net.specs.declared.fault.NetFault.TheVariants.{Input}
+use Rattle.kpn_net.specs.Network.{Network}
+use Rattle.kpn_net.specs.Standard.{standard}
+use Rattle.kpn_standard.specs.Names.{named}
+use Rattle.kpn_standard.specs.Signatures.{signature}
+use Rattle.kpn_front.specs.declared.words.Choice.{Choice}
+use Rattle.kpn_front.specs.declared.words.Choice.TheVariants.{Check, Run}
+use Rattle.kpn_front.specs.Lines.{checked_line, refused_line, status_of}
+use Rattle.kpn_front.specs.Loading.{Loads}
+use Rattle.kpn_execute.specs.Execution.{TellsOfBodies, Writes}
+
+-- the fault of a description that was refused
+abbrev pub fault_of : Result Network NetFault → Option NetFault
+fault_of (Ok net) = None
+fault_of (Err fault) = Some fault
+
+-- what is told of a network: that it is one, or how it ran
+abbrev pub TellsOf : Choice → Network → ℕ → List ℕ → Type 0
+TellsOf Check net status text = (status ≡ 0) × (text ≡ checked_line net)
+TellsOf (Run workers show) net status text = TellsOfBodies standard net (option_map (λ s. s.now) show) status text
+
+-- what is told of a description that was loaded, or refused
+abbrev pub TellsLoaded : Choice → Result Network NetFault → ℕ → List ℕ → Type 0
+TellsLoaded choice (Ok net) status text = TellsOf choice net status text
+TellsLoaded choice (Err fault) status text = (status ≡ status_of fault) × (text ≡ refused_line fault)
+
+-- the input is loaded, and what is told of it by the choice is written; of the input are known its
+-- bytes, where they are, and whether a read had failed before and after
+pub record Serves (choice : Choice) (input : Option (List ℕ)) (failed_before failed_after : Bool) (takes : ℕ → Bool) (before after : Option (List ℕ)) (status : ℕ) (fault : Option NetFault) : Type 0 where
+  pub loaded : Result Network NetFault
+  pub loads : failed_before ≡ false → IfSome input (λ text. Loads named signature failed_after text loaded)
+  pub failed : failed_before ≡ false → failed_after ≡ true → loaded ≡ Err Input
+  pub fault_is : fault ≡ fault_of loaded
+  pub writes : Writes (TellsLoaded choice loaded) takes before after status

@@ -1,0 +1,75 @@
+//! The program, from its words and its input to what it writes.
+ghost use Rattle.std.specs.Prelude.{◌≡◌, ◌+◌, IfOk, IfErr, OnErr, map};
+ghost use Rattle.kpn_front.specs.Choices.{IsChoice, IsWordsFault};
+ghost use Rattle.kpn_front.specs.Loading.{TakesAtMost, longest};
+ghost use Rattle.kpn_front.specs.declared.words.Choice.{Choice as ChoiceV};
+ghost use Rattle.kpn_execute.specs.Program.{Serves};
+
+use crate::standard::execute_standard;
+use kpn_body::Standard;
+use kpn_front::load::load;
+use kpn_front::say::{say_checked, say_refused};
+use kpn_front::streams::{Sink, Source};
+use kpn_front::words::{Choice, WordsFault, read_words};
+use kpn_net::{Net, NetFault};
+use std::alloc::Global;
+
+/// What came of a choice: the exit status, and the fault of the description where it was refused.
+#[derive(Drop)]
+pub struct Served {
+    pub status: u8,
+    pub fault: Option<NetFault>,
+}
+
+/// Does what the words ask for, of which the first is the program's name: reads a description from
+/// the source, and writes that it is a network (`check`), or how its run ended (`run`), or that it is
+/// refused.
+///
+/// The status is 2 where the description is refused (4 for want of memory), and 7 where a write fails;
+/// else 0 for `check`, and for `run` the one that `execute_standard` answers.
+///
+/// The error is the fault of words that ask for neither, as `read_words` finds it: nothing was then
+/// read or written.
+pub fn serve<'a, I: Source, O: Sink>(
+    alloc: Global,
+    words: &'a [&'a str],
+    source: &mut I,
+    sink: &mut O,
+) -> Result<Served, WordsFault>
+    ensures served { IfOk result (λ served. (choice : ChoiceV) × IsChoice (map (λ w. w.now) words.entry.now) choice × Serves choice (I.remaining source.old) (I.has_failed source.old) (I.has_failed source.new) (O.takes sink.old) (O.contents sink.old) (O.contents sink.new) served.status served.fault) }
+    ensures words { IfErr result (IsWordsFault (map (λ w. w.now) words.entry.now)) }
+    ensures untouched { OnErr result ((source.new ≡ source.old) × (sink.new ≡ sink.old)) }
+    ensures taken { TakesAtMost (longest + 1) (I.remaining source.old) (I.remaining source.new) }
+{
+    let choice = read_words(alloc, words)?;
+    Ok(serve_choice(alloc, choice, source, sink))
+}
+
+/// Does what is chosen.
+fn serve_choice<I: Source, O: Sink>(
+    alloc: Global,
+    choice: Choice<'_>,
+    source: &mut I,
+    sink: &mut O,
+) -> Served
+    ensures served { Serves choice.entry (I.remaining source.old) (I.has_failed source.old) (I.has_failed source.new) (O.takes sink.old) (O.contents sink.old) (O.contents sink.new) result.status result.fault }
+    ensures taken { TakesAtMost (longest + 1) (I.remaining source.old) (I.remaining source.new) }
+{
+    let net: Net<Standard> = match load(alloc, source) {
+        Ok(net) => net,
+        Err(fault) => {
+            return Served {
+                status: say_refused(&fault, sink),
+                fault: Some(fault),
+            };
+        }
+    };
+    let status = match choice {
+        Choice::Check => say_checked(&net, sink),
+        Choice::Run { show, .. } => execute_standard(alloc, net, show, sink),
+    };
+    Served {
+        status,
+        fault: None,
+    }
+}
