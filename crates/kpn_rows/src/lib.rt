@@ -4,6 +4,12 @@
 #[cfg(test)]
 mod beginnings;
 #[cfg(test)]
+mod counting;
+#[cfg(test)]
+mod describing;
+#[cfg(test)]
+mod large;
+#[cfg(test)]
 mod runs;
 #[cfg(test)]
 mod texts;

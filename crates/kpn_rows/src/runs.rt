@@ -1,31 +1,45 @@
 //! Whole runs: what is written of each worked network, and the exit status.
 use crate::texts::{CEILING, COUNTER, DEAD, ENDLESS, FLAGS, NOTHING, PARKS, TWO_FULL, WRAPS};
-use kpn_execute::execute_standard;
-use kpn_front::load::load;
-use kpn_net::{Net, NetFault};
-use kpn_standard::Standard;
+use kpn_execute::serve;
 use std::alloc::{AllocError, Global};
 use std::test::Fail;
 
-/// What is written of a description, and the exit status: that of a run, or the fault's number and 2.
+/// The exit status, the number of the description's fault or 0, and what is written.
 #[derive(Drop)]
-struct Told {
-    status: u8,
-    text: Vec<u8>,
+pub(crate) struct Told {
+    pub(crate) status: u8,
+    pub(crate) fault: u8,
+    pub(crate) text: Vec<u8>,
 }
 
 /// Room for every text here, taken before the run.
-const ROOM: usize = 1024;
+const ROOM: usize = 16384;
 
-fn outcome_of(alloc: Global, text: &str, show: Option<&str>) -> Result<Told, AllocError> {
+/// The outcome of `kpn run` on a description, with the stream of a channel where one is named.
+pub(crate) fn outcome_of(
+    alloc: Global,
+    text: &str,
+    show: Option<&str>,
+) -> Result<Told, AllocError> {
+    match show {
+        None => outcome_of_words(alloc, &["kpn", "run"], text),
+        Some(name) => outcome_of_words(alloc, &["kpn", "run", "--show", name], text),
+    }
+}
+
+/// The outcome of the program on these words and this input.
+fn outcome_of_words(alloc: Global, words: &[&str], text: &str) -> Result<Told, AllocError> {
     let mut out = Vec::with_capacity(alloc, ROOM)?;
     let mut source = text.as_bytes();
-    let net: Result<Net<Standard>, NetFault> = load(alloc, &mut source);
-    let status = match net {
-        Ok(net) => execute_standard(alloc, net, show, &mut out),
-        Err(fault) => kpn_front::say::say_refused(&fault, &mut out),
+    let (status, fault) = match serve(alloc, words, &mut source, &mut out) {
+        Ok(served) => (served.status, served.fault.map_or(0, |fault| fault.number())),
+        Err(fault) => (fault.status(), 0),
     };
-    Ok(Told { status, text: out })
+    Ok(Told {
+        status,
+        fault,
+        text: out,
+    })
 }
 
 /// The same of a description in which parts are replaced.
@@ -302,6 +316,32 @@ fn shows_the_named_stream(rt: HostRuntime) -> Result<(), Fail> {
         let told = outcome_of(rt.alloc(), FLAGS, Some(name))?;
         assert_eq!(rt; told.status, 5);
         assert!(rt; told.text.as_slice().ends_with(end.as_bytes()));
+    }
+    Ok(())
+}
+
+/// Words, a description, the exit status, the number of the fault or 0, and what is written.
+static CHECKS: [(&[&str], &str, u8, u8, &str); 5] = [
+    (
+        &["kpn", "check"],
+        COUNTER,
+        0,
+        0,
+        "ok 2 processes 1 channels\n",
+    ),
+    (&["kpn", "check"], "", 2, 2, "refused 2\n"),
+    (&["kpn", "run"], "version = ", 2, 1, "refused 1\n"),
+    (&["kpn", "walk"], COUNTER, 1, 0, ""),
+    (&["kpn", "--help"], COUNTER, 0, 0, ""),
+];
+
+#[test]
+fn words_choose_what_is_done(rt: HostRuntime) -> Result<(), Fail> {
+    for (words, text, status, fault, lines) in CHECKS {
+        let told = outcome_of_words(rt.alloc(), words, text)?;
+        assert_eq!(rt; told.status, status);
+        assert_eq!(rt; told.fault, fault);
+        assert!(rt; told.text.as_slice() == lines.as_bytes());
     }
     Ok(())
 }

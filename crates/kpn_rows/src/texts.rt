@@ -315,3 +315,119 @@ from = \"cp\"
 out = 1
 to = \"snk\"
 ";
+
+/// Hamming's numbers, ten of which a sink takes: one is put first, and twice, three times and five
+/// times each number are merged in order.
+pub(crate) const HAMMING: &str = "version = 1
+budget = 1000
+
+[[process]]
+name = \"p\"
+kind = \"prefix\"
+args = [1]
+
+[[process]]
+name = \"k1\"
+kind = \"copy\"
+
+[[process]]
+name = \"k2\"
+kind = \"copy\"
+
+[[process]]
+name = \"k3\"
+kind = \"copy\"
+
+[[process]]
+name = \"s2\"
+kind = \"scale\"
+args = [2]
+
+[[process]]
+name = \"s3\"
+kind = \"scale\"
+args = [3]
+
+[[process]]
+name = \"s5\"
+kind = \"scale\"
+args = [5]
+
+[[process]]
+name = \"m1\"
+kind = \"merge\"
+
+[[process]]
+name = \"m2\"
+kind = \"merge\"
+
+[[process]]
+name = \"out\"
+kind = \"sink\"
+args = [10]
+
+[[channel]]
+name = \"c0\"
+from = \"p\"
+to = \"k1\"
+
+[[channel]]
+name = \"c1\"
+from = \"k1\"
+to = \"out\"
+
+[[channel]]
+name = \"c2\"
+from = \"k1\"
+out = 1
+to = \"k2\"
+
+[[channel]]
+name = \"c3\"
+from = \"k2\"
+to = \"s2\"
+
+[[channel]]
+name = \"c4\"
+from = \"k2\"
+out = 1
+to = \"k3\"
+
+[[channel]]
+name = \"c5\"
+from = \"k3\"
+to = \"s3\"
+
+[[channel]]
+name = \"c6\"
+from = \"k3\"
+out = 1
+to = \"s5\"
+
+[[channel]]
+name = \"c7\"
+from = \"s3\"
+to = \"m1\"
+
+[[channel]]
+name = \"c8\"
+from = \"s5\"
+to = \"m1\"
+in = 1
+
+[[channel]]
+name = \"c9\"
+from = \"s2\"
+to = \"m2\"
+
+[[channel]]
+name = \"c10\"
+from = \"m1\"
+to = \"m2\"
+in = 1
+
+[[channel]]
+name = \"c11\"
+from = \"m2\"
+to = \"p\"
+";
