@@ -1,3 +1,4 @@
 pub mod Opening
 pub mod Scheduler
 pub mod Commits
+pub mod OpenFaults

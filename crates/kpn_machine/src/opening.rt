@@ -5,6 +5,7 @@ ghost use Rattle.kpn_net.specs.Network.{card_of};
 ghost use Rattle.kpn_net.specs.Machine.{start};
 ghost use Rattle.kpn_state.specs.declared.standing.Standing.TheVariants.{Ready};
 ghost use Rattle.kpn_state.specs.Story.{story};
+ghost use Rattle.kpn_machine.specs.OpenFaults.{number_of};
 ghost use Rattle.kpn_machine.specs.Opening.{starting, filled, cards_of, IsRefused, AreSeated};
 
 use crate::same::same_card;
@@ -20,6 +21,19 @@ pub enum OpenFault {
     Bodies,
     Card,
     Memory,
+}
+
+impl OpenFault {
+    /// The number of a fault, by which programs tell it: 1 to 3, in the order above.
+    pub fn number(&self) -> u8
+        ensures { result ≡ number_of self.now }
+    {
+        match self {
+            OpenFault::Bodies => 1,
+            OpenFault::Card => 2,
+            OpenFault::Memory => 3,
+        }
+    }
 }
 
 /// The cards of a network's processes, in order: those of the bodies with which a machine is opened.

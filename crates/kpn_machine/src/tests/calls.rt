@@ -260,10 +260,12 @@ fn an_answer_after_the_end_is_laid_back(rt: HostRuntime) -> Result<(), Fail> {
     Ok(())
 }
 
-/// What the machine refuses to open with, and hands back: the fault, and the cards of the bodies.
+/// What the machine refuses to open with, and hands back: the fault with its number, and the cards of
+/// the bodies.
 #[derive(Clone, Copy)]
 pub(super) struct Misfit {
     fault: OpenFault,
+    number: u8,
     cards: &'static [Card],
 }
 
@@ -280,6 +282,7 @@ pub(super) fn open_misfit<R: Abort, B: Body>(
         .err()
         .expect(rt, "opened with bodies that do not fit");
     assert_eq!(rt; refused.fault, due.fault);
+    assert_eq!(rt; refused.fault.number(), due.number);
     assert_eq!(rt; refused.net.processes(), 2);
     assert_cards(rt, refused.bodies.as_slice(), due.cards);
     Ok(())
@@ -293,6 +296,7 @@ fn bodies_that_do_not_fit_are_handed_back(rt: HostRuntime) -> Result<(), Fail> {
     };
     let too_few = Misfit {
         fault: OpenFault::Bodies,
+        number: 1,
         cards: &[COUNTER],
     };
     play(&rt, rt.alloc(), &one, Scene::Misfit(too_few))?;
@@ -302,6 +306,7 @@ fn bodies_that_do_not_fit_are_handed_back(rt: HostRuntime) -> Result<(), Fail> {
     };
     let wrong_order = Misfit {
         fault: OpenFault::Card,
+        number: 2,
         cards: &[SINK, COUNTER],
     };
     play(&rt, rt.alloc(), &turned, Scene::Misfit(wrong_order))?;

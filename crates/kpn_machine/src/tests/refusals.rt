@@ -21,6 +21,7 @@ fn open_again<R: Abort, B: Body>(
         Err(refused) => refused,
     };
     assert_eq!(rt; refused.fault, OpenFault::Memory);
+    assert_eq!(rt; refused.fault.number(), 3);
     assert_eq!(rt; refused.net.processes(), 2);
     assert_eq!(rt; refused.bodies.len(), 2);
     let opening = Machine::open(alloc, refused.net, refused.bodies);

@@ -1,0 +1,9 @@
+-- The numbers of the faults of a machine that was not opened.
+use Rattle.std.specs.Prelude.{ℕ}
+use Rattle.kpn_machine.specs.declared.opening.OpenFault.{OpenFault}
+use Rattle.kpn_machine.specs.declared.opening.OpenFault.TheVariants.{Bodies, Card, Memory}
+
+abbrev pub number_of : OpenFault → ℕ
+number_of Bodies = 1
+number_of Card = 2
+number_of Memory = 3
