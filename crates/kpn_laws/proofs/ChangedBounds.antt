@@ -16,7 +16,7 @@ use Rattle.kpn_laws.specs.ChangedRules.{RunBy, EarlyGrowth}
 use Rattle.kpn_laws.specs.ChangedBounds.{GrowsBelowBy, GreatestGrows, EachBelowItsOwn, StaysUpTo}
 use Rattle.kpn_laws.proofs.Schedule.{Turn, Go, Grow}
 use Rattle.kpn_laws.proofs.Replay.{played_sound, full_sound, chosen_sound, still_sound}
-use Rattle.kpn_laws.proofs.WorkedRoom.{led, bounded_sound, ends_by, two_places_suffice}
+use Rattle.kpn_laws.proofs.WorkedRoom.{led, bounded_sound, ends_by, ends_in_two}
 
 module _ (rule : State → Entry → State → Type 0) (net : Network) (allows : (M : State) (p : ℕ) (d : Deed) (N : State) → Does standard net M p d N → rule M (Did p d) N) where
   -- a run without growths is one by a rule with the same deeds
@@ -93,7 +93,7 @@ greatest_grows_fails h =
     then_by (GreatestGrows net) net (λ M p d N s. s) (start standard net) both_blocked.0 K (Grew 0 2 ∷ blocked_again.0) L
     (deeds_by (GreatestGrows net) net (λ M p d N s. s) (start standard net) both_blocked.0 K refl until_blocked_run)
     (counter_grown, first, deeds_by (GreatestGrows net) net (λ M p d N s. s) counter_grown blocked_again.0 L refl (played_sound standard net (Go 0 ∷ []) counter_grown blocked_again refl)) in
-    let two_below_two : 2 < 2 = h net 2 (inl two_places_suffice) (both_blocked.0 ++ Grew 0 2 ∷ blocked_again.0) L (with_channel L 0 (tokens L 0) 3) 0 3 run second in
+    let two_below_two : 2 < 2 = h net 2 (inl ends_in_two) (both_blocked.0 ++ Grew 0 2 ∷ blocked_again.0) L (with_channel L 0 (tokens L 0) 3) 0 3 run second in
     omega arith
 
 -- the counter has put one token on the channel, which the sink can take
@@ -114,9 +114,9 @@ early_growth_fails h =
 
 -- each below its own: the counter's channel grows from one place, where the others have enough for it to need no more
 pub each_below_its_own_fails : EachBelowItsOwn → ⊥
-unfolding two_places_suffice ends_by
+unfolding ends_in_two ends_by
 each_below_its_own_fails h =
-    let s = two_places_suffice in
+    let s = ends_in_two in
     let one_below_one : 1 < 1 = h longer_parks_case s.sizes s.history s.state s.cause s.final s.natural both_blocked.0 both_blocked.1 0 until_blocked_run blocked_artificial blocked_chosen in
     omega arith
 

@@ -52,11 +52,16 @@ two_for_one c = get_or (1 ∷ 1 ∷ 2 ∷ 1 ∷ []) c 0
 abbrev pub to_the_end : List Turn
 to_the_end = Go 0 ∷ Go 1 ∷ Go 0 ∷ Go 1 ∷ Go 2 ∷ Go 1 ∷ Go 2 ∷ Go 3 ∷ Go 1 ∷ Go 0 ∷ Go 1 ∷ Go 2 ∷ Go 1 ∷ Go 2 ∷ Go 3 ∷ Go 1 ∷ Go 0 ∷ Go 1 ∷ Go 2 ∷ Go 2 ∷ Go 3 ∷ Go 2 ∷ Go 1 ∷ Go 2 ∷ Go 3 ∷ Go 1 ∷ Go 2 ∷ Go 0 ∷ Go 1 ∷ Go 2 ∷ Go 3 ∷ Go 0 ∷ Go 1 ∷ Go 2 ∷ Go 1 ∷ Go 2 ∷ Go 3 ∷ Go 2 ∷ Go 1 ∷ Go 2 ∷ Go 3 ∷ Go 1 ∷ Go 2 ∷ Go 2 ∷ Go 3 ∷ Go 3 ∷ []
 
--- two places suffice for Parks's case with a counter of five
-unfoldable pub two_places_suffice : TwoPlacesSuffice
-two_places_suffice =
+-- two places are enough for Parks's case with a counter of five to end
+unfoldable pub ends_in_two : EndsWithin standard longer_parks_case 2
+ends_in_two =
     ends_by longer_parks_case two_for_one 2 Deadlock to_the_end
     (led (resized longer_parks_case two_for_one) (start standard (resized longer_parks_case two_for_one)) to_the_end) refl refl tt refl
+
+-- and it ends after 46 entries
+pub two_places_suffice : TwoPlacesSuffice
+unfolding ends_in_two ends_by
+two_places_suffice = (ends_in_two, refl)
 
 -- so no channel of it ever has three
 pub never_three : NeverThree
@@ -64,7 +69,7 @@ never_three E M run c =
     ⊎_elim
     (λ (same : capacity M c ≡ (channel_of longer_parks_case c).capacity). let one = begins_with_one c in omega arith)
     (λ few. few)
-    (stays_below standard longer_parks_case 2 (inl two_places_suffice) E M run c)
+    (stays_below standard longer_parks_case 2 (inl ends_in_two) E M run c)
   where
     begins_with_one : (c : ℕ) → (channel_of longer_parks_case c).capacity ≤ 1
     begins_with_one zero = omega arith

@@ -1,5 +1,5 @@
 -- Networks of the standard kinds for which a known number of places suffices.
-use Rattle.std.specs.Prelude.{ℕ, ◌<◌, codes, List, [], ◌∷◌}
+use Rattle.std.specs.Prelude.{◌≡◌, ℕ, ◌<◌, codes, List, [], ◌∷◌, length}
 use Rattle.kpn_net.specs.declared.parts.Process.{Process}
 use Rattle.kpn_net.specs.declared.parts.Channel.{Channel}
 use Rattle.kpn_net.specs.declared.history.Entry.{Entry}
@@ -25,9 +25,9 @@ longer_parks_case =
     (process_named (codes "src") (count 1 5) ∷ process_named (codes "cp") copy ∷ process_named (codes "wv") (weave 3 3) ∷ process_named (codes "snk") (sink 8) ∷ [])
     (channel_named (codes "c0") (words (0, 0) (1, 0) 1) ∷ channel_named (codes "c1") (words (1, 0) (2, 0) 1) ∷ channel_named (codes "c2") (words (1, 1) (2, 1) 1) ∷ channel_named (codes "c3") (words (2, 0) (3, 0) 1) ∷ [])
 
--- two places suffice for it
+-- two places suffice for it, in a run of 46 entries
 abbrev pub TwoPlacesSuffice : Type 0
-TwoPlacesSuffice = EndsWithin standard longer_parks_case 2
+TwoPlacesSuffice = (s : EndsWithin standard longer_parks_case 2) × (length s.history ≡ 46)
 
 -- so whatever the schedule no channel ever has three
 abbrev pub NeverThree : Type 0
