@@ -14,9 +14,9 @@ use Rattle.kpn_laws.specs.Growing.{growth_step}
 use Rattle.kpn_laws.specs.WorkedRoom.{longer_parks_case}
 use Rattle.kpn_laws.specs.ChangedRules.{RunBy, EarlyGrowth}
 use Rattle.kpn_laws.specs.ChangedBounds.{GrowsBelowBy, GreatestGrows, EachBelowItsOwn, StaysUpTo}
-use Rattle.kpn_laws.proofs.Schedule.{Turn, Go, Grow}
+use Rattle.kpn_laws.proofs.Schedule.{Turn, Go, Grow, led}
 use Rattle.kpn_laws.proofs.Replay.{played_sound, full_sound, chosen_sound, still_sound}
-use Rattle.kpn_laws.proofs.WorkedRoom.{led, bounded_sound, ends_by, ends_in_two}
+use Rattle.kpn_laws.proofs.WorkedRoom.{bounded_sound, ends_by, ends_in_two}
 
 module _ (rule : State → Entry → State → Type 0) (net : Network) (allows : (M : State) (p : ℕ) (d : Deed) (N : State) → Does standard net M p d N → rule M (Did p d) N) where
   -- a run without growths is one by a rule with the same deeds

@@ -1,5 +1,5 @@
 -- Networks for which a known number of places suffices, each shown by a schedule.
-use Rattle.std.proofs.Common.{◌≡◌, ◌≤◌, inl, ⊎_elim, ℕ, ◌+◌, zero, suc, List, [], ◌∷◌, ◌++◌, Bool, true, ◌&&◌, nat_le, Some, get_or, length, unwrap_or, refl, subst, arith, leb-true}
+use Rattle.std.proofs.Common.{◌≡◌, ◌≤◌, inl, ⊎_elim, ℕ, ◌+◌, zero, suc, List, [], ◌∷◌, ◌++◌, Bool, true, ◌&&◌, nat_le, Some, get_or, length, refl, subst, arith, leb-true}
 use Rattle.kpn_net.specs.declared.history.Entry.{Entry}
 use Rattle.kpn_net.specs.declared.history.End.{End}
 use Rattle.kpn_net.specs.declared.history.End.TheVariants.{Deadlock}
@@ -10,13 +10,9 @@ use Rattle.kpn_net.specs.Determinacy.{IsNatural}
 use Rattle.kpn_net.specs.Standard.{standard}
 use Rattle.kpn_laws.specs.Sufficient.{EndsWithin}
 use Rattle.kpn_laws.specs.WorkedRoom.{longer_parks_case, TwoPlacesSuffice, NeverThree, ring, RingLasts}
-use Rattle.kpn_laws.proofs.Schedule.{Turn, Go, played, is_over}
+use Rattle.kpn_laws.proofs.Schedule.{Turn, Go, played, led, is_over}
 use Rattle.kpn_laws.proofs.Replay.{both_true, played_sound, over_sound}
 use Rattle.kpn_laws.proofs.LeastRoom.{stays_below}
-
--- the history and the state that a schedule leads to
-abbrev pub led : Network → State → List Turn → List Entry × State
-led net M ts = unwrap_or (played standard net M ts) ([], M)
 
 -- all of these channels have at most b places
 abbrev pub all_bounded : List Held → ℕ → Bool
