@@ -17,6 +17,7 @@ use Rattle.kpn_state.specs.declared.standing.Standing.TheVariants.{Ready}
 use Rattle.kpn_state.specs.Standings.{place, is_out, parked_answer}
 use Rattle.kpn_machine.specs.Scheduler.{Scheduler, EndHolds, IsFaithful}
 use Rattle.kpn_state.proofs.Placed.{idle_at}
+use Rattle.kpn_laws.specs.RoomOfRun.{TakesLeastRoom}
 use Rattle.kpn_report.specs.declared.detail.Detail.{Detail}
 use Rattle.kpn_report.specs.Text.{end_line, digest_text, text}
 use Rattle.kpn_report.specs.Digested.{IsReport, has_detail, report_text}
@@ -79,11 +80,11 @@ bound_by kinds admits s cause faithful ended = subst (EndHolds kinds s.network s
 
 -- a run that ended is told by its report
 pub run_told :
-    (kinds : Family) (admits : Card → List ℕ → Option Token → Type 0) (s : Scheduler) (cause : End) (places : List Place) (detail : Option Detail) (channel : Option ℕ) (status : ℕ) (bytes : List ℕ) → IsFaithful kinds admits s → s.end ≡ Some cause
+    (kinds : Family) (admits : Card → List ℕ → Option Token → Type 0) (s : Scheduler) (cause : End) (places : List Place) (detail : Option Detail) (channel : Option ℕ) (status : ℕ) (bytes : List ℕ) → IsFaithful kinds admits s → TakesLeastRoom kinds s.network s.history s.state → s.end ≡ Some cause
     → places ≡ each_process s.network (λ p. place_of s.network p (parked_answer (place s.places p))) → OneDigest kinds
     → ((has_detail cause ≡ true → places ≡ each_process s.network (λ p. place_of s.network p (wants kinds s.network s.state p))) → IsReport kinds s.network cause s.history s.state detail)
     → status ≡ status_of cause → bytes ≡ report_text s.network cause detail channel → TellsRun kinds s.network channel status bytes
-run_told kinds admits s cause places detail channel status bytes faithful ended places_are one report status_is bytes_are =
+run_told kinds admits s cause places detail channel status bytes faithful room ended places_are one report status_is bytes_are =
     let bound = bound_by kinds admits s cause faithful ended in
     let told : bytes ≡ text kinds s.network cause s.history s.state channel = bytes_are ∙ report_told kinds s.network cause s.history s.state detail channel (report (λ has. places_are ∙ at_rest kinds admits s cause faithful ended has)) in
     record {
@@ -92,6 +93,7 @@ run_told kinds admits s cause places detail channel status bytes faithful ended 
       cause = cause;
       run = faithful.run;
       bound = bound;
+      room = room;
       status_is = status_is;
       text_is = told;
       settled = λ has F N b final.

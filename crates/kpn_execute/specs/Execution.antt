@@ -10,6 +10,7 @@ use Rattle.kpn_net.specs.Network.{Family, Network}
 use Rattle.kpn_net.specs.Machine.{State}
 use Rattle.kpn_net.specs.Determinacy.{IsRun, IsFinal}
 use Rattle.kpn_net.specs.Moments.{IsBound}
+use Rattle.kpn_laws.specs.RoomOfRun.{TakesLeastRoom}
 use Rattle.kpn_report.specs.Text.{text as report_text}
 use Rattle.kpn_report.specs.Digested.{has_detail}
 use Rattle.kpn_front.specs.Lines.{refused_line, no_channel_line}
@@ -48,13 +49,14 @@ pub record TellsRefused (status : ℕ) (text : List ℕ) : Type 0 where
 abbrev pub IsSettled : Family → Network → Option ℕ → List ℕ → Type 0
 IsSettled kinds net channel text = (F : List Entry) (N : State) (b : End) → IsFinal kinds net F N b → text ≡ report_text kinds net b F N channel
 
--- a run from the start ended for a cause to which it is bound
+-- a run from the start ended for a cause to which it is bound; it took no more room than the network needs
 pub record TellsRun (kinds : Family) (net : Network) (channel : Option ℕ) (status : ℕ) (text : List ℕ) : Type 0 where
   pub history : List Entry
   pub state : State
   pub cause : End
   pub run : IsRun kinds net history state
   pub bound : IsBound kinds net history state cause
+  pub room : TakesLeastRoom kinds net history state
   pub status_is : status ≡ status_of cause
   pub text_is : text ≡ report_text kinds net cause history state channel
   pub settled : has_detail cause ≡ true → IsSettled kinds net channel text

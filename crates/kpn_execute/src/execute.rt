@@ -23,7 +23,7 @@ struct Told {
 /// the report of the run, with the stream of a channel where `show` names one.
 ///
 /// Where the run came to its own end, each run of the network that is over tells the same, whatever
-/// the schedule.
+/// the schedule. Whatever number of places a channel suffices for the network, the run takes no more.
 ///
 /// The answer is the exit status: 0, 5 or 6 where the run terminated, ended in a deadlock or at the
 /// ceiling, 3 where its budget was spent, 1 where `show` is the name of no channel (nothing is then

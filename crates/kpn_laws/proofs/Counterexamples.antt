@@ -1,5 +1,5 @@
 -- A small network for each changed definition, of which the law fails.
-use Rattle.std.proofs.Common.{◌≡◌, ◌≤◌, ℕ, zero, suc, List, [], ◌∷◌, ◌++◌, unwrap_or, refl, sym, ap, ◌∙◌, subst, arith, ◌==◌, false, eq-eqb}
+use Rattle.std.proofs.Common.{◌≡◌, ◌≤◌, ℕ, zero, suc, List, [], ◌∷◌, ◌++◌, refl, sym, ap, ◌∙◌, subst, arith, ◌==◌, false, eq-eqb}
 use Rattle.kpn_net.specs.declared.token.Token.TheVariants.{Word}
 use Rattle.kpn_net.specs.declared.kinds.Act.{Act}
 use Rattle.kpn_net.specs.declared.kinds.Act.TheVariants.{Read, Write, Stop}
@@ -16,17 +16,13 @@ use Rattle.kpn_net.specs.Standard.{standard}
 use Rattle.kpn_laws.specs.Ends.{counter_into_sink}
 use Rattle.kpn_laws.specs.Growing.{counter_outlives_sink, equal_capacities}
 use Rattle.kpn_laws.specs.ChangedRules.{RunBy, OneDigestBy, AlwaysWithinBy, EarlyGrowth, IsDeedAnyway, PutIntoFull, AnyOfEqual, TakenTells}
-use Rattle.kpn_laws.proofs.Schedule.{Turn, Go, Grow, played}
+use Rattle.kpn_laws.proofs.Schedule.{Go, Grow, led}
 use Rattle.kpn_laws.proofs.Replay.{played_sound, full_sound, chosen_sound, still_sound, over_sound}
 use Rattle.kpn_laws.proofs.WorkedNetworks.{has_counter_into_sink, has_counter_outlives_sink, has_equal_capacities}
 
 -- numbers that a test tells apart are not one
 different : (m n : ℕ) → m ≡ n → (m == n) ≡ false → ⊥
 different m n e f = let same = eq-eqb m n e in cc
-
--- the history and the state that a schedule leads to
-abbrev led : Network → State → List Turn → List Entry × State
-led net M ts = unwrap_or (played standard net M ts) ([], M)
 
 module _ (rule : State → Entry → State → Type 0) (net : Network) (allows : (M : State) (e : Entry) (N : State) → Step standard net M e N → rule M e N) where
   -- a run is one by a rule that allows its steps

@@ -112,7 +112,7 @@ module _ (kinds : Family) (net : Network) where
           ih q
 
   -- a history's growths begin with those of its front
-  growths_down : (E H : List Entry) (e : Entry) → IsFrontOf (growths (H ++ e ∷ [])) (growths E) → IsFrontOf (growths H) (growths E)
+  pub growths_down : (E H : List Entry) (e : Entry) → IsFrontOf (growths (H ++ e ∷ [])) (growths E) → IsFrontOf (growths H) (growths E)
   growths_down E H (Did p d) f = subst (λ g. IsFrontOf g (growths E)) (growths_push_did H p d) f
   growths_down E H (Grew c to) f = front_trans _ _ _ (front_of_push (growths H) (c, to)) (subst (λ g. IsFrontOf g (growths E)) (growths_push_grew H c to) f)
 

@@ -24,7 +24,7 @@ use Rattle.kpn_laws.proofs.Steps.{live_within, done_wants_none}
 use Rattle.kpn_laws.proofs.Digests.{one_digest}
 
 -- if a test of both holds, both do
-both_true : (a b : Bool) → (a && b) ≡ true → (a ≡ true) × (b ≡ true)
+pub both_true : (a b : Bool) → (a && b) ≡ true → (a ≡ true) × (b ≡ true)
 both_true true true e = (refl, refl)
 both_true true false e = cc
 both_true false b e = cc
@@ -51,7 +51,7 @@ module _ (kinds : Family) (net : Network) where
       room true g h = let x : Put c t ≡ d = cc in subst (λ y. IsDeed kinds net M p (Write k t) y) x (e, refl, ltb-true _ _ g)
 
   -- the deed computed for an act is one
-  deed_sound : (M : State) (p : ℕ) (a : Act) (d : Deed) → act_deed kinds net M p a ≡ Some d → IsDeed kinds net M p a d
+  pub deed_sound : (M : State) (p : ℕ) (a : Act) (d : Deed) → act_deed kinds net M p a ≡ Some d → IsDeed kinds net M p a d
   deed_sound M p Stop d h = let x : Stopped ≡ d = cc in subst (λ y. IsDeed kinds net M p Stop y) x tt
   deed_sound M p (Read k) d h = read_sound M p k (in_of net p k) d refl h
   deed_sound M p (Write k t) d h = write_sound M p k t (out_of net p k) d refl h
@@ -72,7 +72,7 @@ module _ (kinds : Family) (net : Network) where
       cc
 
   -- nor can a process with such an answer go on
-  still_answer : (M : State) (p : ℕ) (o : Option Answer) (a : Answer) → answer_deed kinds net M p o ≡ None → o ≡ Some a → IsPossible kinds net M p a.act → ⊥
+  pub still_answer : (M : State) (p : ℕ) (o : Option Answer) (a : Answer) → answer_deed kinds net M p o ≡ None → o ≡ Some a → IsPossible kinds net M p a.act → ⊥
   still_answer M p o a h e x = still_act M p a.act (ap (λ y. answer_deed kinds net M p y) (sym e) ∙ h) x
 
   -- what is tested to be nothing is nothing
@@ -122,7 +122,7 @@ module _ (kinds : Family) (net : Network) where
   full_sound M p c h = full_answer M p (wants kinds net M p) c h refl
 
   -- and one that is blocked has such a channel
-  full_complete : (M : State) (p c : ℕ) → IsBlocked kinds net M p c → full_of kinds net M p ≡ Some c
+  pub full_complete : (M : State) (p c : ℕ) → IsBlocked kinds net M p c → full_of kinds net M p ≡ Some c
   full_complete M p c b =
       ap (λ o. answer_full kinds net M p o) b.wanted ∙ ap (λ x. act_full kinds net M p x) b.act ∙ ap (λ o. full_at M o) b.at
       ∙ ap (λ x. if x then Some c else None) (le-leb (capacity M c) (length (tokens M c)) b.full)
@@ -213,14 +213,14 @@ module _ (kinds : Family) (net : Network) where
       on (Some s) e h ih = rest_on s (turned_sound M t s e) (played kinds net s.1 ts) (ih s.1) h
 
   -- if all are found done, each is
-  done_all : (ss : List Status) → all_done kinds net ss ≡ true → (p : ℕ) → get_or ss p Done ≡ Done
+  pub done_all : (ss : List Status) → all_done kinds net ss ≡ true → (p : ℕ) → get_or ss p Done ≡ Done
   done_all [] h p = refl
   done_all (Done ∷ ss) h zero = refl
   done_all (Done ∷ ss) h (suc p) = done_all ss h p
   done_all (Live local last ∷ ss) h p = cc
 
   -- if not, some process is live
-  live_some : (ss : List Status) → all_done kinds net ss ≡ false → (p : ℕ) × (get_or ss p Done ≢ Done)
+  pub live_some : (ss : List Status) → all_done kinds net ss ≡ false → (p : ℕ) × (get_or ss p Done ≢ Done)
   live_some [] h = cc
   live_some (Done ∷ ss) h = let r = live_some ss h in (suc r.0, r.1)
   live_some (Live local last ∷ ss) h = (0, λ e. cc)

@@ -1,5 +1,5 @@
 -- A run computed from a schedule: which process goes on next, or which blocked writer's channel grows.
-use Rattle.std.specs.Prelude.{min, ℕ, zero, suc, ◌+◌, ◌==◌, ◌&&◌, ◌||◌, not, nat_lt, nat_le, if◌then◌else◌, Bool, true, false, List, [], ◌∷◌, Option, Some, None, length, is_none}
+use Rattle.std.specs.Prelude.{min, ℕ, zero, suc, ◌+◌, ◌==◌, ◌&&◌, ◌||◌, not, nat_lt, nat_le, if◌then◌else◌, Bool, true, false, List, [], ◌∷◌, Option, Some, None, length, is_none, unwrap_or}
 use Rattle.kpn_net.specs.declared.token.Token.{Token}
 use Rattle.kpn_net.specs.declared.kinds.Act.{Act}
 use Rattle.kpn_net.specs.declared.kinds.Act.TheVariants.{Read, Write, Stop}
@@ -15,6 +15,7 @@ use Rattle.kpn_net.specs.declared.history.Status.{Status}
 use Rattle.kpn_net.specs.declared.history.Status.TheVariants.{Live, Done}
 use Rattle.kpn_net.specs.Machine.{State, tokens, capacity, wants, start, after_deed, with_channel}
 use Rattle.kpn_net.specs.History.{Digest, digest}
+use Rattle.kpn_net.specs.Standard.{standard}
 
 -- a turn: this process goes on, or the channel to which it wants to write grows
 pub data Turn : Type 0 where
@@ -161,3 +162,7 @@ module _ (kinds : Family) (net : Network) where
   -- the digest of the run of this schedule, if it can be run and is over for this cause
   abbrev pub digest_of : End → List Turn → Option Digest
   digest_of cause ts = digested cause (played (start kinds net) ts)
+
+-- the history and the state that a schedule of a network of the standard kinds leads to
+abbrev pub led : Network → State → List Turn → List Entry × State
+led net M ts = unwrap_or (played standard net M ts) ([], M)

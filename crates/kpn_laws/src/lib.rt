@@ -1,16 +1,24 @@
 //! The laws of Kahn process networks with bounded channels, over the definitions of kpn_net alone.
 //!
 //! A function here does nothing: what it ensures is proved, the laws for every family of kinds and every
-//! network, and a caller that calls it may use them from there on. docs/determinacy.md tells the
-//! proof's idea.
+//! network, and a caller that calls it may use them from there on. docs/determinacy.md and
+//! docs/least-room.md tell the proofs' ideas.
 #![tactic(auto)]
 
+mod bounds;
 mod changed;
+mod ending;
 mod outcome;
+mod room;
 mod run;
+mod sufficing;
 mod worked;
 
+pub use bounds::changed_bounds;
 pub use changed::changed_definitions;
+pub use ending::{completion, completion_of};
 pub use outcome::{determinacy, determinacy_of};
+pub use room::{least_room, least_room_of};
 pub use run::{moments, sorted_runs, valid_runs};
+pub use sufficing::worked_room;
 pub use worked::worked_networks;

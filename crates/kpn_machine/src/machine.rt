@@ -8,11 +8,12 @@ ghost use Rattle.kpn_state.specs.declared.standing.Standing.TheVariants.{Out, Re
 ghost use Rattle.kpn_state.specs.Standings.{place, is_out, Keeps};
 ghost use Rattle.kpn_machine.specs.Scheduler.{scheduler, IsOut, IsOutAt, TakesOut, IsFaithful, IsFresh};
 ghost use Rattle.kpn_machine.specs.Commits.{Commits, Appends, EndsAs, GoesOn, TellsEnabled, number};
+ghost use Rattle.kpn_laws.specs.RoomOfRun.{TakesLeastRoom};
 
 use crate::opening::{OpenFault, Start, misfit, prepare, seat_all};
 use crate::same::{same_card, same_last, same_local};
 use kpn_body::{Body, Finished, Task};
-use kpn_laws::{sorted_runs, valid_runs};
+use kpn_laws::{least_room_of, sorted_runs, valid_runs};
 use kpn_net::{End, Entry, Net, Status};
 use kpn_state::standing::{all_ready, find_ready};
 use kpn_state::{Standing, Store};
@@ -108,10 +109,12 @@ impl<B: Body> Machine<B> {
     pub fn end(&self) -> Option<End>
         ensures end { result ≡ self.now.end }
         ensures faithful { IsFaithful B.Kinds.family B.Kinds.admits self.now }
+        ensures room { TakesLeastRoom B.Kinds.family self.now.network self.now.history self.now.state }
     {
         self.net.processes();
         valid_runs();
         sorted_runs::<B::Kinds>();
+        least_room_of::<B::Kinds>();
         self.end
     }
 
@@ -315,12 +318,14 @@ impl<B: Body> Machine<B> {
 }
 
 impl<B: Body> Machine<B> {
-    /// Runs to an end in the calling thread, where no process is out.
+    /// Runs to an end in the calling thread, where no process is out. Whatever number of places a channel
+    /// suffices for the network, the run takes no more (Parks 1995).
     pub fn finish_alone(&mut self)
         requires { count_by is_out self.old.places ≡ 0 }
         ensures goes { GoesOn B.Kinds.family self.old self.new }
         ensures end { IsSome self.new.end }
         ensures faithful { IsFaithful B.Kinds.family B.Kinds.admits self.new }
+        ensures room { TakesLeastRoom B.Kinds.family self.new.network self.new.history self.new.state }
     {
         while self.end().is_none() {
             let Some(task) = self.take() else {

@@ -1,0 +1,45 @@
+-- The bound of the least room changed in four ways. Each is said of the networks of the standard kinds, and fails.
+use Rattle.std.specs.Prelude.{min, ◌≡◌, ◌⊎◌, ℕ, ◌+◌, ◌<◌, ◌≤◌, List}
+use Rattle.kpn_net.specs.declared.history.Entry.{Entry}
+use Rattle.kpn_net.specs.declared.history.Entry.TheVariants.{Did, Grew}
+use Rattle.kpn_net.specs.declared.history.End.{End}
+use Rattle.kpn_net.specs.Network.{Network, channel_of, resized}
+use Rattle.kpn_net.specs.Machine.{State, start, tokens, capacity, with_channel, Does, IsBlocked, IsArtificial, IsChosen}
+use Rattle.kpn_net.specs.Determinacy.{IsRun, IsFinal, IsNatural}
+use Rattle.kpn_net.specs.Standard.{standard}
+use Rattle.kpn_laws.specs.Sufficient.{Suffices}
+use Rattle.kpn_laws.specs.ChangedRules.{RunBy}
+
+-- where b places suffice, a growth by this rule is from fewer
+abbrev pub GrowsBelowBy : (Network → State → Entry → State → Type 0) → Type 0
+GrowsBelowBy rule =
+    (net : Network) (b : ℕ) → Suffices standard net b → (E : List Entry) (M N : State) (c to : ℕ)
+    → RunBy (rule net) (start standard net) E M → rule net M (Grew c to) N → capacity M c < b
+
+-- of the channels with a blocked writer the one of greatest capacity grows; of equal ones that of least number
+pub record GrowsGreatest (net : Network) (M : State) (c to : ℕ) (N : State) : Type 0 where
+  pub artificial : IsArtificial standard net M
+  pub writer : ℕ
+  pub blocked : IsBlocked standard net M writer c
+  pub no_greater : (q d : ℕ) → IsBlocked standard net M q d → capacity M d ≤ capacity M c
+  pub no_earlier : (q d : ℕ) → IsBlocked standard net M q d → capacity M c ≡ capacity M d → c ≤ d
+  pub below : capacity M c < net.ceiling
+  pub to_is : to ≡ min (capacity M c + net.step) net.ceiling
+  pub leaves : N ≡ with_channel M c (tokens M c) to
+
+-- a step, where growths are such
+abbrev pub GreatestGrows : Network → State → Entry → State → Type 0
+GreatestGrows net M (Did p d) N = Does standard net M p d N
+GreatestGrows net M (Grew c to) N = GrowsGreatest net M c to N
+
+-- where some capacities suffice, the chosen channel of an artificial deadlock has fewer places than it has among them
+abbrev pub EachBelowItsOwn : Type 0
+EachBelowItsOwn =
+    (net : Network) (sizes : ℕ → ℕ) (F : List Entry) (N : State) (a : End) → IsFinal standard (resized net sizes) F N a → IsNatural a
+    → (E : List Entry) (M : State) (c : ℕ) → IsRun standard net E M → IsArtificial standard net M → IsChosen standard net M c → capacity M c < capacity N c
+
+-- where b places suffice, each channel has its starting capacity, or no more than b places, whatever the step
+abbrev pub StaysUpTo : Type 0
+StaysUpTo =
+    (net : Network) (b : ℕ) → Suffices standard net b → (E : List Entry) (M : State) → IsRun standard net E M
+    → (c : ℕ) → (capacity M c ≡ (channel_of net c).capacity) ⊎ (capacity M c ≤ b)

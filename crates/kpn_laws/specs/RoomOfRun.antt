@@ -1,0 +1,29 @@
+-- What is known of the room and the length of one run of one network.
+use Rattle.std.specs.Prelude.{◌≡◌, ◌⊎◌, ℕ, ◌+◌, ◌*◌, ◌<◌, ◌≤◌, List, ◌∷◌, ◌++◌, length}
+use Rattle.kpn_net.specs.declared.history.Entry.{Entry}
+use Rattle.kpn_net.specs.declared.history.Entry.TheVariants.{Grew}
+use Rattle.kpn_net.specs.declared.history.End.TheVariants.{Ceiling}
+use Rattle.kpn_net.specs.Network.{Family, Network, channel_of}
+use Rattle.kpn_net.specs.Machine.{State, capacity, IsOver}
+use Rattle.kpn_net.specs.History.{growths, grown}
+use Rattle.kpn_net.specs.Determinacy.{IsRun}
+use Rattle.kpn_laws.specs.Sufficient.{EndsWithin, Suffices}
+
+-- the run E to M takes, but for the step, no more than b places a channel: each growth is from fewer than
+-- b, to fewer than b and a step; each channel has its starting capacity, or fewer than that; there are
+-- at most b growths times the number of channels; and a ceiling of b or more is not in the way
+pub record TakesAtMost (kinds : Family) (net : Network) (E : List Entry) (M : State) (b : ℕ) : Type 0 where
+  pub growths_below : (F G : List Entry) (c to : ℕ) → E ≡ F ++ Grew c to ∷ G → (grown (channel_of net c).capacity (growths F) c < b) × (to < b + net.step)
+  pub capacities_below : (c : ℕ) → (capacity M c ≡ (channel_of net c).capacity) ⊎ (capacity M c < b + net.step)
+  pub few_growths : 0 < net.step → length (growths E) ≤ length net.channels * b
+  pub below_ceiling : b ≤ net.ceiling → IsOver kinds net M Ceiling → ⊥
+
+-- whatever number of places suffices for the network, the run takes no more; and it has at most so many
+-- entries as another that comes to its end in b places, and b for each channel
+pub record TakesLeastRoom (kinds : Family) (net : Network) (E : List Entry) (M : State) : Type 0 where
+  pub within : (b : ℕ) → Suffices kinds net b → TakesAtMost kinds net E M b
+  pub few_entries : (b : ℕ) (s : EndsWithin kinds net b) → 0 < net.step → length E ≤ length s.history + length net.channels * b
+
+-- so does each run
+abbrev pub EachTakesLeastRoom : Family → Type 0
+EachTakesLeastRoom kinds = (net : Network) (E : List Entry) (M : State) → IsRun kinds net E M → TakesLeastRoom kinds net E M

@@ -1,0 +1,42 @@
+-- Networks of the standard kinds for which a known number of places suffices.
+use Rattle.std.specs.Prelude.{◌≡◌, ℕ, ◌<◌, codes, List, [], ◌∷◌, length}
+use Rattle.kpn_net.specs.declared.parts.Process.{Process}
+use Rattle.kpn_net.specs.declared.parts.Channel.{Channel}
+use Rattle.kpn_net.specs.declared.history.Entry.{Entry}
+use Rattle.kpn_net.specs.Network.{Network}
+use Rattle.kpn_net.specs.Machine.{State, capacity}
+use Rattle.kpn_net.specs.Determinacy.{IsRun}
+use Rattle.kpn_net.specs.Standard.{standard}
+use Rattle.kpn_laws.specs.Sufficient.{EndsWithin, LastsWithin}
+use Rattle.kpn_laws.specs.Building.{count, sink, copy, scale, weave, words, holding, numbers, network}
+
+-- a process and a channel with a name, as a description gives them
+abbrev pub process_named : List ℕ → Process → Process
+process_named name p = record p { name = name }
+
+abbrev pub channel_named : List ℕ → Channel → Channel
+channel_named name c = record c { name = name }
+
+-- Parks's case with a counter of five: where both the counter and the copy are blocked, one more place
+-- for the copy is enough, and more room for the counter is of no help
+abbrev pub longer_parks_case : Network
+longer_parks_case =
+    network
+    (process_named (codes "src") (count 1 5) ∷ process_named (codes "cp") copy ∷ process_named (codes "wv") (weave 3 3) ∷ process_named (codes "snk") (sink 8) ∷ [])
+    (channel_named (codes "c0") (words (0, 0) (1, 0) 1) ∷ channel_named (codes "c1") (words (1, 0) (2, 0) 1) ∷ channel_named (codes "c2") (words (1, 1) (2, 1) 1) ∷ channel_named (codes "c3") (words (2, 0) (3, 0) 1) ∷ [])
+
+-- two places suffice for it, in a run of 46 entries
+abbrev pub TwoPlacesSuffice : Type 0
+TwoPlacesSuffice = (s : EndsWithin standard longer_parks_case 2) × (length s.history ≡ 46)
+
+-- so whatever the schedule no channel ever has three
+abbrev pub NeverThree : Type 0
+NeverThree = (E : List Entry) (M : State) → IsRun standard longer_parks_case E M → (c : ℕ) → capacity M c < 3
+
+-- a process that passes one token on to itself for ever
+abbrev pub ring : Network
+ring = network (scale 1 ∷ []) (holding (numbers (7 ∷ [])) (words (0, 0) (0, 0) 1) ∷ [])
+
+-- one place suffices for it, for any number of deeds
+abbrev pub RingLasts : Type 0
+RingLasts = (n : ℕ) → LastsWithin standard ring 1 n

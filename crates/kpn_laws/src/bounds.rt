@@ -1,0 +1,17 @@
+//! Bounds that would not do.
+ghost use Rattle.kpn_laws.specs.ChangedRules.{EarlyGrowth};
+ghost use Rattle.kpn_laws.specs.ChangedBounds.{GrowsBelowBy, GreatestGrows, EachBelowItsOwn, StaysUpTo};
+
+/// The bound of `least_room` changed in four ways, each of which fails, of networks of the standard
+/// kinds.
+///
+/// `greatest_first`: where of the full channels the greatest grows, one may grow from as many places as
+/// suffice. `early`: so it is where a growth does not wait until no process can go on. `each_its_own`:
+/// the chosen channel may have as many places as suffice for it, where the others have as many as
+/// suffice for them. `no_step`: with a step above one a channel may grow to more places than suffice.
+pub fn changed_bounds()
+    ensures greatest_first { GrowsBelowBy GreatestGrows → ⊥ }
+    ensures early { GrowsBelowBy EarlyGrowth → ⊥ }
+    ensures each_its_own { EachBelowItsOwn → ⊥ }
+    ensures no_step { StaysUpTo → ⊥ }
+{}

@@ -1,0 +1,31 @@
+//! What can come to its end in bounded room comes to its end.
+ghost use Rattle.kpn_net.specs.Network.{Family};
+ghost use Rattle.kpn_laws.specs.Completion.{GoesOn, FewEntries, Completes, HasEnd, NeverEnds};
+
+use kpn_net::Kinds;
+
+/// What can come to its end in bounded room comes to its end, and what can go on for ever goes on, from
+/// any starting capacities and whatever the schedule, for every family of kinds and every network.
+///
+/// `goes_on`: in every state some entry can follow, or it is over, or the chosen channel is above the
+/// ceiling. `few_entries`: where b places suffice for a run to its end, and the step is not 0, each run has
+/// at most the entries of that run and b for each channel. `completes`: with b within the ceiling, each
+/// run can go on until it terminates or ends in a deadlock. `has_end`: so each run goes on to such an
+/// end. `never_ends`: where b places suffice for any number of deeds, and b is within the ceiling, each
+/// run can go on.
+pub fn completion()
+    ensures goes_on { (kinds : Family) → GoesOn kinds }
+    ensures few_entries { (kinds : Family) → FewEntries kinds }
+    ensures completes { (kinds : Family) → Completes kinds }
+    ensures has_end { (kinds : Family) → HasEnd kinds }
+    ensures never_ends { (kinds : Family) → NeverEnds kinds }
+{}
+
+/// The laws of completion for a family that is given as a type.
+pub fn completion_of<K: Kinds>()
+    ensures goes_on { GoesOn K.family }
+    ensures few_entries { FewEntries K.family }
+    ensures completes { Completes K.family }
+    ensures has_end { HasEnd K.family }
+    ensures never_ends { NeverEnds K.family }
+{}

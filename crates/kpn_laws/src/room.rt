@@ -1,0 +1,51 @@
+//! No run takes more room than the network needs.
+ghost use Rattle.kpn_net.specs.Network.{Family};
+ghost use Rattle.kpn_laws.specs.Sufficient.{OwnEndSuffices, KeepsCapacities};
+ghost use Rattle.kpn_laws.specs.LeastRoom.{Dominates, ChosenHasFewer, GrowsBelow, StaysBelow, LeastPossible, FewGrowths, CeilingSuffices};
+ghost use Rattle.kpn_laws.specs.RoomOfRun.{EachTakesLeastRoom};
+
+use kpn_net::Kinds;
+
+/// Growth of the smallest full channel takes, but for the step, no more room than any capacities that
+/// suffice, for every family of kinds and every network (Parks 1995).
+///
+/// b places suffice where from some starting capacities, with or without growths, a run terminates or
+/// ends in a deadlock with no channel of more than b places, or where there are such runs of any number
+/// of deeds. `chosen_has_fewer`: then in each artificial deadlock, from the network's own capacities, the
+/// chosen channel has fewer than b places. `grows_below`: so each growth of a history is from fewer than
+/// b, to fewer than b and a step. `stays_below`: so at each moment each channel has its starting
+/// capacity, or fewer places than b and a step. `least_possible`: with a step of one none ever has more
+/// than b, if none has at the start. `few_growths`: if the step is not 0 there are at most b growths times
+/// the number of channels. `ceiling_suffices`: no run is over at a ceiling of b or more.
+///
+/// `dominates`: in a run to an artificial deadlock each process does all that it does in any run, from any
+/// starting capacities, in which no channel has more places than the chosen one. `own_end`: a run of the
+/// network itself that terminates or ends in a deadlock shows how many places suffice.
+/// `keeps_capacities`: a run without growths has no more places at its end than at its start.
+/// `each_run`: what all this says of one run.
+pub fn least_room()
+    ensures chosen_has_fewer { (kinds : Family) → ChosenHasFewer kinds }
+    ensures grows_below { (kinds : Family) → GrowsBelow kinds }
+    ensures stays_below { (kinds : Family) → StaysBelow kinds }
+    ensures least_possible { (kinds : Family) → LeastPossible kinds }
+    ensures few_growths { (kinds : Family) → FewGrowths kinds }
+    ensures ceiling_suffices { (kinds : Family) → CeilingSuffices kinds }
+    ensures dominates { (kinds : Family) → Dominates kinds }
+    ensures own_end { (kinds : Family) → OwnEndSuffices kinds }
+    ensures keeps_capacities { (kinds : Family) → KeepsCapacities kinds }
+    ensures each_run { (kinds : Family) → EachTakesLeastRoom kinds }
+{}
+
+/// The laws of the least room for a family that is given as a type.
+pub fn least_room_of<K: Kinds>()
+    ensures chosen_has_fewer { ChosenHasFewer K.family }
+    ensures grows_below { GrowsBelow K.family }
+    ensures stays_below { StaysBelow K.family }
+    ensures least_possible { LeastPossible K.family }
+    ensures few_growths { FewGrowths K.family }
+    ensures ceiling_suffices { CeilingSuffices K.family }
+    ensures dominates { Dominates K.family }
+    ensures own_end { OwnEndSuffices K.family }
+    ensures keeps_capacities { KeepsCapacities K.family }
+    ensures each_run { EachTakesLeastRoom K.family }
+{}

@@ -1,0 +1,14 @@
+//! Networks for which it is known how many places suffice.
+ghost use Rattle.kpn_laws.specs.WorkedRoom.{TwoPlacesSuffice, NeverThree, RingLasts};
+
+/// Networks of the standard kinds for which a known number of places suffices, so that the laws of
+/// `least_room` have their premise there.
+///
+/// `parks_case`: two places suffice for Parks's case with a counter of five, in a run of 46 entries.
+/// `never_three`: so whatever the schedule no channel of it ever has three. `ring`: one place suffices for a process that passes
+/// a token on to itself for ever.
+pub fn worked_room()
+    ensures parks_case { TwoPlacesSuffice }
+    ensures never_three { NeverThree }
+    ensures ring { RingLasts }
+{}

@@ -1,0 +1,29 @@
+-- What the run that ended says, by the law.
+use Rattle.std.proofs.Common.{◌∙◌}
+use Rattle.kpn_least_room.proofs.ParksCase.{never_three, few_growths, few_entries, no_ceiling, no_budget}
+use Rattle.kpn_least_room.proofs.running.finish.Goals as goal
+
+pub returns-clause-never_three : goal.returns-clause-never_three
+returns-clause-never_three g c =
+    let e = c.finish_alone.ensures in
+    never_three _ c.finish_alone.new.self c.requires.standard (e.goes.network ∙ c.requires.network) c.worked_room.ensures.parks_case e.faithful e.room
+
+pub returns-clause-few_growths : goal.returns-clause-few_growths
+returns-clause-few_growths g c =
+    let e = c.finish_alone.ensures in
+    few_growths _ c.finish_alone.new.self c.requires.standard (e.goes.network ∙ c.requires.network) c.worked_room.ensures.parks_case e.faithful e.room
+
+pub returns-clause-few_entries : goal.returns-clause-few_entries
+returns-clause-few_entries g c =
+    let e = c.finish_alone.ensures in
+    few_entries _ c.finish_alone.new.self c.requires.standard (e.goes.network ∙ c.requires.network) c.worked_room.ensures.parks_case e.faithful e.room
+
+pub returns-clause-no_ceiling : goal.returns-clause-no_ceiling
+returns-clause-no_ceiling g c =
+    let e = c.finish_alone.ensures in
+    no_ceiling _ c.finish_alone.new.self c.requires.standard (e.goes.network ∙ c.requires.network) c.worked_room.ensures.parks_case e.faithful e.room
+
+pub returns-clause-no_budget : goal.returns-clause-no_budget
+returns-clause-no_budget g c =
+    let e = c.finish_alone.ensures in
+    no_budget _ c.finish_alone.new.self c.requires.standard (e.goes.network ∙ c.requires.network) c.worked_room.ensures.parks_case e.faithful e.room

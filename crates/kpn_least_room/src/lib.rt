@@ -1,0 +1,13 @@
+//! How a caller uses the law of the least room on a network of the standard kinds.
+//!
+//! `longer_parks_case` makes a network for which two places a channel suffice, and `finish` runs it: whatever
+//! comes, no channel ever has three. docs/least-room.md tells the law.
+#![tactic(auto)]
+
+mod networks;
+mod running;
+#[cfg(test)]
+mod tests;
+
+pub use networks::longer_parks_case;
+pub use running::finish;
