@@ -3,9 +3,10 @@ ghost use Rattle.std.specs.Prelude.{count_by, ◌≡◌, ◌≢◌, ℕ, ◌<◌
 ghost use Rattle.kpn_net.specs.Network.{card_of};
 ghost use Rattle.kpn_net.specs.Machine.{status, start};
 ghost use Rattle.kpn_machine.specs.Opening.{cards_of, IsRefused};
-ghost use Rattle.kpn_net.specs.declared.history.Status.TheVariants.{Live};
+ghost use Rattle.kpn_net.specs.declared.history.Status.TheVariants.{Done, Live};
+ghost use Rattle.kpn_net.specs.Valid.{IsSorted};
 ghost use Rattle.kpn_state.specs.declared.standing.Standing.TheVariants.{Out, Ready as ReadyV};
-ghost use Rattle.kpn_state.specs.Standings.{place, is_out, Keeps};
+ghost use Rattle.kpn_state.specs.Standings.{place, is_out, is_ready, Keeps};
 ghost use Rattle.kpn_machine.specs.Scheduler.{scheduler, IsOut, IsOutAt, TakesOut, IsFaithful, IsFresh};
 ghost use Rattle.kpn_machine.specs.Commits.{Commits, Appends, EndsAs, GoesOn, TellsEnabled, number};
 ghost use Rattle.kpn_laws.specs.RoomOfRun.{TakesLeastRoom};
@@ -15,8 +16,8 @@ use crate::same::{same_card, same_last, same_local};
 use kpn_body::{Body, Finished, Task};
 use kpn_laws::{least_room_of, sorted_runs, valid_runs};
 use kpn_net::{End, Entry, Net, Status};
-use kpn_state::standing::{all_ready, find_ready};
-use kpn_state::{Standing, Store};
+use kpn_state::standing::all_ready;
+use kpn_state::{Roster, Standing, Store};
 use kpn_steps::Outcome;
 use kpn_steps::work::work;
 use std::alloc::Global;
@@ -28,7 +29,7 @@ use std::marker::Model;
 pub struct Machine<B: Body> {
     net: Net<B::Kinds>,
     store: Store,
-    places: Vec<Standing>,
+    places: Roster,
     bodies: Vec<Option<B>>,
     spare: Vec<B>,
     end: Option<End>,
@@ -42,9 +43,9 @@ impl<B: Body> Model for Machine<B> {
 
     ghost Value = { Scheduler };
 
-    ghost view = { λ m. scheduler m.net m.store.state m.store.history m.places.items m.end m.commits };
+    ghost view = { λ m. scheduler m.net m.store.state m.store.history m.places m.end m.commits };
 
-    ghost invariant = { λ m. IsSound B.Kinds.family B.Kinds.admits (scheduler m.net m.store.state m.store.history m.places.items m.end m.commits) m.store.room (map (option_map B.card) m.bodies.items) × HasRoom m.net m.spare.items (vec_capacity m.spare) };
+    ghost invariant = { λ m. IsSound B.Kinds.family B.Kinds.admits (scheduler m.net m.store.state m.store.history m.places m.end m.commits) m.store.room (map (option_map B.card) m.bodies.items) × HasRoom m.net m.spare.items (vec_capacity m.spare) };
 }
 
 /// What a machine was to be opened with, handed back, and why it was not.
@@ -139,14 +140,18 @@ impl<B: Body> Machine<B> {
         self.places.as_slice()
     }
 
+    /// How many processes are ready.
+    pub fn ready(&self) -> usize
+        ensures { result ≡ count_by is_ready self.now.places }
+    {
+        self.places.ready()
+    }
+
     /// How many processes are out.
     pub fn out(&self) -> usize
         ensures { result ≡ count_by is_out self.now.places }
     {
-        self.places
-            .iter()
-            .filter(|place| matches!(place, Standing::Out))
-            .count()
+        self.places.out()
     }
 
     /// Whether the machine is as it was opened: no entry, no commit, no end, and every process ready.
@@ -177,34 +182,26 @@ impl<B: Body> Machine<B> {
         if self.end.is_some() {
             return None;
         }
-        let process = find_ready(self.places.as_slice())?;
-        Some(take_out(
-            &self.net,
-            &self.store,
-            &mut self.places,
-            &mut self.bodies,
-            process,
-        ))
+        let process = self.places.send_out()?;
+        Some(take_out(&self.net, &self.store, &mut self.bodies, process))
     }
 }
 
-/// A ready process goes out.
+/// The task of a live process, with its body.
 fn take_out<B: Body>(
     net: &Net<B::Kinds>,
     store: &Store,
-    places: &mut Vec<Standing>,
     bodies: &mut Vec<Option<B>>,
     process: usize,
 ) -> Task<B>
-    requires keeps { Keeps B.Kinds.family B.Kinds.admits net.now None store.now.state places.old.items }
-    requires process { process < length places.old.items }
+    requires process { process < length store.now.state.processes }
     requires bodies { process < length bodies.old.items }
-    requires ready { place places.old.items process ≡ ReadyV }
+    requires live { status store.now.state process ≢ Done }
+    requires sorted { IsSorted B.Kinds.admits net.now store.now.state }
     requires has_body { get_or (map (option_map B.card) bodies.old.items) process None ≡ Some (card_of net.now process) }
     ensures process { result.process ≡ process }
     ensures card { card_of net.now process ≡ result.card }
     ensures live { status store.now.state process ≡ Live result.local result.last }
-    ensures places { places.new.items ≡ set places.old.items process Out }
     ensures bodies { bodies.new.items ≡ set bodies.old.items process None }
 {
     let Status::Live { local, last } = store.status(process) else {
@@ -213,7 +210,6 @@ fn take_out<B: Body>(
     let Some(body) = bodies[process].take() else {
         unreachable!()
     };
-    places[process] = Standing::Out;
     Task::new(process, body, local, last)
 }
 
@@ -275,7 +271,7 @@ impl<B: Body> Machine<B> {
         self.bodies[process] = Some(finished.into_body());
         self.commits += 1;
         if self.end.is_some() {
-            self.places[process] = Standing::Ready;
+            self.places.update(process, Standing::Ready);
             return Ok(Outcome::LaidBack);
         }
         let (outcome, end) = work(

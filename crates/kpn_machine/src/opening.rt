@@ -11,7 +11,7 @@ ghost use Rattle.kpn_machine.specs.Opening.{starting, filled, cards_of, IsRefuse
 use crate::same::same_card;
 use kpn_body::Body;
 use kpn_net::{Card, Kinds, Net, Status};
-use kpn_state::{Ring, Standing, Store};
+use kpn_state::{Ring, Roster, Store};
 use std::alloc::{AllocError, Global};
 
 /// Why a machine was not opened, the first that applies: the bodies are not as many as the
@@ -108,17 +108,6 @@ fn start_store<K: Kinds>(alloc: Global, net: &Net<K>) -> Result<Store, AllocErro
     Ok(Store::new(statuses, rings, history, room))
 }
 
-/// All processes ready.
-fn start_places(alloc: Global, count: usize) -> Result<Vec<Standing>, AllocError>
-    ensures { IfOk result (λ v. v.items ≡ replicate count Ready) }
-{
-    let mut places = Vec::with_capacity(alloc, count)?;
-    for _p in 0..count {
-        places.push(Standing::Ready)?;
-    }
-    Ok(places)
-}
-
 /// A place for each body.
 fn empty_slots<B: Body>(alloc: Global, count: usize) -> Result<Vec<Option<B>>, AllocError>
     ensures { IfOk result (λ v. length v.items ≡ count) }
@@ -135,20 +124,20 @@ fn empty_slots<B: Body>(alloc: Global, count: usize) -> Result<Vec<Option<B>>, A
 #[derive(Drop)]
 pub(crate) struct Start<B: Body> {
     pub(crate) store: Store,
-    pub(crate) places: Vec<Standing>,
+    pub(crate) places: Roster,
     pub(crate) slots: Vec<Option<B>>,
 }
 
 /// The start of a network.
 pub(crate) fn prepare<B: Body>(alloc: Global, net: &Net<B::Kinds>) -> Result<Start<B>, AllocError>
     ensures store { IfOk result (λ r. r.store ≡ story (start B.Kinds.family net.now) [] (net.now.budget + 2)) }
-    ensures places { IfOk result (λ r. r.places.items ≡ replicate (length net.now.processes) Ready) }
+    ensures places { IfOk result (λ r. r.places ≡ replicate (length net.now.processes) Ready) }
     ensures slots { IfOk result (λ r. length r.slots.items ≡ length net.now.processes) }
     ensures admitted { OnOk result ((p : ℕ) → p < length net.now.processes → B.Kinds.admits (card_of net.now p) (B.Kinds.family.start (card_of net.now p)) None) }
 {
     Ok(Start {
         store: start_store(alloc, net)?,
-        places: start_places(alloc, net.processes())?,
+        places: Roster::new(alloc, net.processes())?,
         slots: empty_slots(alloc, net.processes())?,
     })
 }

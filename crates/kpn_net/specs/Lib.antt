@@ -12,3 +12,4 @@ pub mod Form
 pub mod Description
 pub mod Faults
 pub mod Sketched
+pub mod Ports

@@ -10,6 +10,7 @@ pub mod history;
 pub mod kinds;
 pub mod net;
 pub mod parts;
+mod ports;
 pub mod read;
 pub mod sketch;
 pub mod small;

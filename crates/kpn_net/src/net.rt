@@ -11,6 +11,7 @@ use crate::check::{card_with, first_fault};
 use crate::fault::NetFault;
 use crate::kinds::{Card, Kinds};
 use crate::parts::{Channel, Ends, Process};
+use crate::ports::{Ports, find_in, find_out, table_of};
 use crate::sketch::{ChannelSketch, ProcessSketch, Sketch};
 use crate::small::{Listed, Text};
 use crate::token::{Sort, Token};
@@ -33,6 +34,7 @@ const CEILING: usize = 65535;
 pub struct Net<K: Kinds> {
     processes: Vec<Process>,
     channels: Vec<Channel>,
+    ports: Vec<Ports>,
     budget: u64,
     step: usize,
     ceiling: usize,
@@ -44,11 +46,13 @@ impl<K: Kinds> Model for Net<K> {
 
     ghost Value = { Network };
 
+    ghost use Rattle.std.specs.Prelude.{length};
     ghost use Rattle.kpn_net.specs.Valid.{IsValid};
+    ghost use Rattle.kpn_net.specs.Ports.{HasPorts};
 
     ghost view = { λ n. record { processes = n.processes.items; channels = n.channels.items; budget = n.budget; step = n.step; ceiling = n.ceiling } };
 
-    ghost invariant = { λ n. IsValid K.signature_of (record { processes = n.processes.items; channels = n.channels.items; budget = n.budget; step = n.step; ceiling = n.ceiling }) };
+    ghost invariant = { λ n. IsValid K.signature_of (record { processes = n.processes.items; channels = n.channels.items; budget = n.budget; step = n.step; ceiling = n.ceiling }) × HasPorts n.channels.items (length n.processes.items) n.ports.items };
 }
 
 impl<K: Kinds> Net<K> {
@@ -67,10 +71,14 @@ impl<K: Kinds> Net<K> {
         if let Some(fault) = first_fault::<K>(sketch) {
             return Err(fault);
         }
-        let processes = sketch.processes.as_slice();
+        let sketches = sketch.processes.as_slice();
+        let processes = processes_of::<K>(alloc, sketches)?;
+        let channels = channels_of(alloc, sketches, sketch.channels.as_slice())?;
+        let ports = table_of(alloc, channels.as_slice(), processes.len())?;
         Ok(Net {
-            processes: processes_of::<K>(alloc, processes)?,
-            channels: channels_of(alloc, processes, sketch.channels.as_slice())?,
+            processes,
+            channels,
+            ports,
             budget: sketch.budget.unsigned_abs(),
             step: STEP,
             ceiling: CEILING,
@@ -197,9 +205,11 @@ impl<K: Kinds> Net<K> {
         ensures is { result ≡ in_of self.now p port }
         ensures within { IfSome result (λ c. c < length self.now.channels) }
     {
-        self.channels
-            .iter()
-            .position(|c| c.reader == p && c.input == port)
+        if p < self.ports.len() && port < 3 {
+            self.ports[p].ins[port]
+        } else {
+            find_in(self.channels.as_slice(), p, port)
+        }
     }
 
     /// The number of the channel that leads from output `port` of process `p`; `None` where there is
@@ -208,9 +218,11 @@ impl<K: Kinds> Net<K> {
         ensures is { result ≡ out_of self.now p port }
         ensures within { IfSome result (λ c. c < length self.now.channels) }
     {
-        self.channels
-            .iter()
-            .position(|c| c.writer == p && c.out == port)
+        if p < self.ports.len() && port < 3 {
+            self.ports[p].outs[port]
+        } else {
+            find_out(self.channels.as_slice(), p, port)
+        }
     }
 }
 

@@ -8,7 +8,7 @@ use Rattle.kpn_net.specs.declared.history.Deed.{Deed}
 use Rattle.kpn_net.specs.declared.history.Deed.TheVariants.{Took, Put, Stopped}
 use Rattle.kpn_state.specs.declared.standing.Standing.{Standing}
 use Rattle.kpn_state.specs.declared.standing.Standing.TheVariants.{Ready, Out, Parked, Stopped as Ended}
-use Rattle.kpn_state.specs.Standings.{place, is_busy, has_stopped, place_after}
+use Rattle.kpn_state.specs.Standings.{place, is_busy, is_ready, has_stopped, place_after}
 
 -- a process that is moved stands where it was moved to
 pub place_set_same : (places : List Standing) (p : ℕ) (x : Standing) → p < length places → place (set places p x) p ≡ x
@@ -95,6 +95,18 @@ stopped_at (x ∷ xs) zero h = ended x (and_left (has_stopped x) _ h)
     ended (Parked a) e = cc
     ended Ended e = refl
 stopped_at (x ∷ xs) (suc p) h = stopped_at xs p (and_right (has_stopped x) _ h)
+
+-- where all are ready, this one isn't out
+pub ready_not_out_at : (places : List Standing) (p : ℕ) → list_all is_ready places ≡ true → place places p ≢ Out
+ready_not_out_at [] p h e = cc
+ready_not_out_at (x ∷ xs) zero h e = not_out x (and_left (is_ready x) _ h) e
+  where
+    not_out : (x : Standing) → is_ready x ≡ true → x ≢ Out
+    not_out Ready h e = cc
+    not_out Out h e = cc
+    not_out (Parked a) h e = cc
+    not_out Ended h e = cc
+ready_not_out_at (x ∷ xs) (suc p) h e = ready_not_out_at xs p (and_right (is_ready x) _ h) e
 
 -- where not all have stopped, some has not
 pub one_live : (places : List Standing) → list_all has_stopped places ≡ false → (p : ℕ) × (place places p ≢ Ended)

@@ -1,2 +1,3 @@
 pub mod Story
 pub mod Standings
+pub mod Rosters

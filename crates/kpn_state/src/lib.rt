@@ -4,10 +4,12 @@
 
 pub mod places;
 pub mod ring;
+pub mod roster;
 pub mod standing;
 pub mod store;
 
 pub use places::places_of;
 pub use ring::Ring;
+pub use roster::Roster;
 pub use standing::Standing;
 pub use store::Store;

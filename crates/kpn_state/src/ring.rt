@@ -8,18 +8,24 @@ use std::alloc::{AllocError, Global};
 use std::marker::Model;
 
 /// A channel: the tokens that it holds, the first token first, and how many it may hold.
+///
+/// There may be room for more than its capacity, so that not each growth copies its tokens.
 #[derive(Drop)]
 pub struct Ring {
     buffer: HeapCircularBuffer<Token>,
+    capacity: usize,
 }
 
 impl Model for Ring {
+    ghost use Rattle.std.specs.Prelude.{◌≤◌, length};
     ghost use Rattle.kpn_net.specs.Machine.{Held};
     ghost use Rattle.kpn_state.specs.Story.{held};
 
     ghost Value = { Held };
 
-    ghost view = { λ r. held r.buffer.items r.buffer.capacity };
+    ghost view = { λ r. held r.buffer.items r.capacity };
+
+    ghost invariant = { λ r. (length r.buffer.items ≤ r.capacity) × (r.capacity ≤ r.buffer.capacity) };
 }
 
 impl Ring {
@@ -30,7 +36,7 @@ impl Ring {
     {
         let mut buffer = HeapCircularBuffer::with_capacity(alloc, capacity)?;
         buffer.fill_from_slice(tokens);
-        Ok(Ring { buffer })
+        Ok(Ring { buffer, capacity })
     }
 
     /// How many tokens it holds, and how many it may hold.
@@ -39,7 +45,7 @@ impl Ring {
         ensures capacity { result.1 ≡ self.now.capacity }
         ensures within { result.0 ≤ result.1 }
     {
-        (self.buffer.len(), self.buffer.capacity())
+        (self.buffer.len(), self.capacity)
     }
 
     /// The first token leaves.
@@ -64,12 +70,32 @@ impl Ring {
         }
     }
 
-    /// It may hold more tokens. The error is want of memory, and it is then as it was.
+    /// It may hold so many tokens. The error is want of memory, and it is then as it was.
     pub fn grow(&mut self, to: usize) -> Result<(), AllocError>
         requires { length self.old.tokens ≤ to }
         ensures ok { OnOk result (self.new ≡ held self.old.tokens to) }
         ensures err { OnErr result (self.new ≡ self.old) }
     {
-        self.buffer.resize(to)
+        if self.buffer.capacity() < to {
+            make_room(&mut self.buffer, to)?;
+        }
+        self.capacity = to;
+        Ok(())
     }
+}
+
+/// Makes room for so many tokens: twice the room that there was, where that is more and is granted,
+/// so that a growth by n places, one at a time, copies no more than 2n tokens. The error is want of
+/// memory, and the buffer is then as it was.
+fn make_room(buffer: &mut HeapCircularBuffer<Token>, needed: usize) -> Result<(), AllocError>
+    requires { buffer.old.capacity < needed }
+    ensures items { OnOk result (buffer.new.items ≡ buffer.old.items) }
+    ensures room { OnOk result (needed ≤ buffer.new.capacity) }
+    ensures err { OnErr result (buffer.new ≡ buffer.old) }
+{
+    let twice = 2 * buffer.capacity();
+    if needed < twice && buffer.resize(twice).is_ok() {
+        return Ok(());
+    }
+    buffer.resize(needed)
 }

@@ -1,9 +1,9 @@
 //! Where each process stands.
-ghost use Rattle.std.specs.Prelude.{◌≡◌, ◌≢◌, ◌<◌, ℕ, length, IfSome, IfNone};
-ghost use Rattle.std.specs.List.{list_any, list_all};
+ghost use Rattle.std.specs.Prelude.{◌≡◌, ◌≢◌, ◌<◌, length, IfSome, IfNone};
+ghost use Rattle.std.specs.List.{list_all};
 ghost use Rattle.kpn_net.specs.declared.kinds.Answer.{Answer as AnswerV};
-ghost use Rattle.kpn_state.specs.declared.standing.Standing.TheVariants.{Parked, Ready};
-ghost use Rattle.kpn_state.specs.Standings.{place, is_busy, is_ready, has_stopped, parked_answer, place_after, partner, HasChannel};
+ghost use Rattle.kpn_state.specs.declared.standing.Standing.TheVariants.{Parked};
+ghost use Rattle.kpn_state.specs.Standings.{place, is_ready, parked_answer, place_after, partner, HasChannel};
 
 use kpn_net::{Answer, Deed, Kinds, Net};
 
@@ -52,41 +52,9 @@ pub fn parked(places: &[Standing], process: usize) -> Option<Answer>
     }
 }
 
-/// Whether a process is ready or out.
-pub fn any_busy(places: &[Standing]) -> bool
-    ensures { result ≡ list_any is_busy places.now }
-{
-    places
-        .iter()
-        .any(|place| matches!(place, Standing::Ready | Standing::Out))
-}
-
-/// Whether all processes have stopped.
-pub fn all_stopped(places: &[Standing]) -> bool
-    ensures { result ≡ list_all has_stopped places.now }
-{
-    places
-        .iter()
-        .all(|place| matches!(place, Standing::Stopped))
-}
-
 /// Whether all processes are ready.
 pub fn all_ready(places: &[Standing]) -> bool
     ensures { result ≡ list_all is_ready places.now }
 {
     places.iter().all(|place| matches!(place, Standing::Ready))
-}
-
-/// The first process that is ready.
-pub fn find_ready(places: &[Standing]) -> Option<usize>
-    ensures some { IfSome result (λ p. place places.now p ≡ Ready) }
-    ensures within { IfSome result (λ p. p < length places.now) }
-    ensures none { IfNone result ((p : ℕ) → place places.now p ≢ Ready) }
-{
-    for process in 0..places.len() {
-        if let Standing::Ready = places[process] {
-            return Some(process);
-        }
-    }
-    None
 }

@@ -1,5 +1,5 @@
 -- A growth follows exactly where it is due.
-use Rattle.std.proofs.Common.{◌≡◌, ◌≢◌, ◌↔◌, List, Option, Some, Bool, true, false, refl, sym, ap, ◌∙◌, subst, ℕ}
+use Rattle.std.proofs.Common.{◌≡◌, ◌≢◌, ◌↔◌, List, Some, Bool, true, false, refl, ap, ℕ}
 use Rattle.std.specs.List.{list_any}
 use Rattle.kpn_net.specs.declared.history.End.{End}
 use Rattle.kpn_net.specs.declared.history.End.TheVariants.{Terminated, Deadlock, Ceiling, Budget, Memory}

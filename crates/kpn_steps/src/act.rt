@@ -1,17 +1,19 @@
 //! Doing what a process wants, where it can be done.
-ghost use Rattle.std.specs.Prelude.{◌≡◌, ◌<◌, length, set, Some, IfSome, IfNone, IsSome};
+ghost use Rattle.std.specs.Prelude.{◌≡◌, ◌≢◌, ◌<◌, length, set, Some, IfSome, IfNone, IsSome};
 ghost use Rattle.kpn_net.specs.Network.{card_of};
 ghost use Rattle.kpn_net.specs.Lawful.{NamesPort, LeadsOn, read_by};
 ghost use Rattle.kpn_net.specs.Machine.{wants, IsPossible, IsDeed, after_deed};
 ghost use Rattle.kpn_net.specs.declared.history.Entry.TheVariants.{Did};
 ghost use Rattle.kpn_state.specs.Story.{more};
-ghost use Rattle.kpn_state.specs.Standings.{Keeps, place_after, partner, HasChannel};
+ghost use Rattle.kpn_state.specs.declared.standing.Standing.TheVariants.{Ready};
+ghost use Rattle.kpn_state.specs.Standings.{Keeps, place, place_after, partner, HasChannel};
 
 use kpn_net::{Act, Answer, Card, Deed, Kinds, Local, Net, Status, Token};
 use kpn_state::standing::place_after;
-use kpn_state::{Standing, Store};
+use kpn_state::{Roster, Store};
 
 /// Reads, where the channel holds a token.
+#[inline(always)]
 fn read<K: Kinds>(
     net: &Net<K>,
     store: &mut Store,
@@ -37,6 +39,7 @@ fn read<K: Kinds>(
 }
 
 /// Writes, where the channel holds fewer tokens than it may.
+#[inline(always)]
 fn write<K: Kinds>(
     net: &Net<K>,
     store: &mut Store,
@@ -63,6 +66,7 @@ fn write<K: Kinds>(
 }
 
 /// Does what a process answered, where it can be done.
+#[inline(always)]
 fn perform<K: Kinds>(
     net: &Net<K>,
     store: &mut Store,
@@ -103,25 +107,27 @@ fn obey<K: Kinds>(card: Card, local: Local, last: Option<Token>, deed: Deed)
 }
 
 /// Does what a process answered, where it can be done, and moves the process on.
+#[inline(always)]
 pub fn advance<K: Kinds>(
     net: &Net<K>,
     store: &mut Store,
-    places: &mut Vec<Standing>,
+    places: &mut Roster,
     process: usize,
     answer: Answer,
 ) -> Option<Deed>
-    requires keeps { Keeps K.family K.admits net.now (Some process) store.old.state places.old.items }
-    requires process { process < length places.old.items }
+    requires keeps { Keeps K.family K.admits net.now (Some process) store.old.state places.old }
+    requires process { process < length places.old }
+    requires idle { place places.old process ≢ Ready }
     requires wants { wants K.family net.now store.old.state process ≡ Some answer }
     requires room { length store.old.history < store.old.room }
     ensures is_deed { IfSome result (IsDeed K.family net.now store.old.state process answer.act) }
     ensures entry { IfSome result (λ deed. store.new ≡ more store.old (after_deed K.family net.now store.old.state process answer.next deed) (Did process deed)) }
-    ensures place { IfSome result (λ deed. places.new.items ≡ set places.old.items process (place_after deed)) }
+    ensures place { IfSome result (λ deed. places.new ≡ set places.old process (place_after deed)) }
     ensures channel { IfSome result (HasChannel net.now) }
-    ensures keeps { IfSome result (λ deed. Keeps K.family K.admits net.now (partner net.now deed) store.new.state places.new.items) }
+    ensures keeps { IfSome result (λ deed. Keeps K.family K.admits net.now (partner net.now deed) store.new.state places.new) }
     ensures cannot { IfNone result (IsPossible K.family net.now store.old.state process answer.act → ⊥) }
     ensures same { IfNone result (store.new ≡ store.old) }
-    ensures same_places { IfNone result (places.new.items ≡ places.old.items) }
+    ensures same_places { IfNone result (places.new ≡ places.old) }
 {
     net.processes();
     let card = net.card(process);
@@ -130,6 +136,6 @@ pub fn advance<K: Kinds>(
     };
     let deed = perform(net, store, process, answer)?;
     obey::<K>(card, local, last, deed);
-    places[process] = place_after(deed);
+    places.update(process, place_after(deed));
     Some(deed)
 }

@@ -9,7 +9,7 @@ ghost use Rattle.kpn_steps.specs.Reactions.{Reacts};
 use crate::act::advance;
 use kpn_net::{Answer, Kinds, Net};
 use kpn_state::standing::{parked, partner};
-use kpn_state::{Standing, Store};
+use kpn_state::{Roster, Standing, Store};
 
 /// What a process's answer led to: it could not be done and waits; it was done; or it was done, and
 /// then the parked process at the other end of the channel did what it had answered.
@@ -22,22 +22,24 @@ pub enum Reaction {
 
 /// Does the answer of a process that is out or parks it with it, and does the deed of the parked
 /// process that it enables.
+#[inline(always)]
 pub fn react<K: Kinds>(
     net: &Net<K>,
     store: &mut Store,
-    places: &mut Vec<Standing>,
+    places: &mut Roster,
     process: usize,
     answer: Answer,
 ) -> Reaction
-    requires keeps { Keeps K.family K.admits net.now None store.old.state places.old.items }
-    requires process { process < length places.old.items }
+    requires keeps { Keeps K.family K.admits net.now None store.old.state places.old }
+    requires process { process < length places.old }
+    requires out { place places.old process ≡ Out }
     requires wants { wants K.family net.now store.old.state process ≡ Some answer }
     requires room { length store.old.history + 2 ≤ store.old.room }
-    ensures reacts { Reacts K.family net.now store.old places.old.items process answer result store.new places.new.items }
-    ensures keeps { Keeps K.family K.admits net.now None store.new.state places.new.items }
+    ensures reacts { Reacts K.family net.now store.old places.old process answer result store.new places.new }
+    ensures keeps { Keeps K.family K.admits net.now None store.new.state places.new }
 {
     let Some(deed) = advance(net, store, places, process, answer) else {
-        places[process] = Standing::Parked(answer);
+        places.update(process, Standing::Parked(answer));
         return Reaction::Waits;
     };
     let Some(other) = partner(net, deed) else {

@@ -7,8 +7,8 @@ ghost use Rattle.kpn_steps.specs.Settling.{Settles};
 use crate::act::advance;
 use crate::choose::choose;
 use kpn_net::{End, Kinds, Net};
-use kpn_state::standing::{all_stopped, any_busy, parked};
-use kpn_state::{Standing, Store};
+use kpn_state::standing::parked;
+use kpn_state::{Roster, Store};
 
 /// What was found: some process is ready or out; or none is, and the run ended, or a channel grew
 /// and its writer's token was put.
@@ -31,19 +31,19 @@ fn enlarged(capacity: usize, step: usize, ceiling: usize) -> usize
     }
 }
 
-/// Where no process is ready or out, ends the run or lets the chosen channel grow and its writer put
-/// its token. Where the growth is refused memory, the run ends.
-pub fn settle<K: Kinds>(net: &Net<K>, store: &mut Store, places: &mut Vec<Standing>) -> Settled
-    requires keeps { Keeps K.family K.admits net.now None store.old.state places.old.items }
-    requires room { list_any is_busy places.old.items ≡ false → length store.old.history + 2 ≤ store.old.room }
-    ensures settles { Settles K.family net.now store.old places.old.items result store.new places.new.items }
-    ensures keeps { Keeps K.family K.admits net.now None store.new.state places.new.items }
+/// Ends the run or lets the chosen channel grow and its writer put its token. Where the growth is
+/// refused memory, the run ends.
+#[cold]
+#[inline(never)]
+fn settle_idle<K: Kinds>(net: &Net<K>, store: &mut Store, places: &mut Roster) -> Settled
+    requires keeps { Keeps K.family K.admits net.now None store.old.state places.old }
+    requires idle { list_any is_busy places.old ≡ false }
+    requires room { length store.old.history + 2 ≤ store.old.room }
+    ensures settles { Settles K.family net.now store.old places.old result store.new places.new }
+    ensures keeps { Keeps K.family K.admits net.now None store.new.state places.new }
 {
     net.processes();
-    if any_busy(places.as_slice()) {
-        return Settled::Busy;
-    }
-    if all_stopped(places.as_slice()) {
+    if places.all_stopped() {
         return Settled::Ended(End::Terminated);
     }
     let Some((channel, writer)) = choose(net, store, places.as_slice()) else {
@@ -64,4 +64,20 @@ pub fn settle<K: Kinds>(net: &Net<K>, store: &mut Store, places: &mut Vec<Standi
         unreachable!()
     };
     Settled::Enlarged
+}
+
+/// Where no process is ready or out, ends the run or lets the chosen channel grow and its writer put
+/// its token. Where the growth is refused memory, the run ends.
+#[inline(always)]
+pub fn settle<K: Kinds>(net: &Net<K>, store: &mut Store, places: &mut Roster) -> Settled
+    requires keeps { Keeps K.family K.admits net.now None store.old.state places.old }
+    requires room { list_any is_busy places.old ≡ false → length store.old.history + 2 ≤ store.old.room }
+    ensures settles { Settles K.family net.now store.old places.old result store.new places.new }
+    ensures keeps { Keeps K.family K.admits net.now None store.new.state places.new }
+{
+    if places.any_busy() {
+        Settled::Busy
+    } else {
+        settle_idle(net, store, places)
+    }
 }

@@ -1,14 +1,15 @@
 //! The work of a commit.
 ghost use Rattle.std.specs.Prelude.{◌≡◌, ◌<◌, ◌≤◌, ◌+◌, length, Some, None};
 ghost use Rattle.kpn_net.specs.Machine.{wants};
-ghost use Rattle.kpn_state.specs.Standings.{Keeps};
+ghost use Rattle.kpn_state.specs.declared.standing.Standing.TheVariants.{Out};
+ghost use Rattle.kpn_state.specs.Standings.{Keeps, place};
 ghost use Rattle.kpn_steps.specs.Works.{Works, outcome_of, end_after, settled_entries};
 
 use crate::outcome::Outcome;
 use crate::react::{Reaction, react};
 use crate::settle::{Settled, settle};
 use kpn_net::{Answer, End, Kinds, Net};
-use kpn_state::{Standing, Store};
+use kpn_state::{Roster, Store};
 
 /// How many entries were appended where no process was ready or out.
 fn settled_entries(settled: Settled) -> usize
@@ -50,19 +51,21 @@ fn end_after(settled: Settled, budget: u64, entries: u64) -> Option<End>
 }
 
 /// Takes the answer of a process that is out, where no end stands: the outcome, and the end.
+#[inline(always)]
 pub fn work<K: Kinds>(
     net: &Net<K>,
     store: &mut Store,
-    places: &mut Vec<Standing>,
+    places: &mut Roster,
     process: usize,
     answer: Answer,
 ) -> (Outcome, Option<End>)
-    requires keeps { Keeps K.family K.admits net.now None store.old.state places.old.items }
-    requires process { process < length places.old.items }
+    requires keeps { Keeps K.family K.admits net.now None store.old.state places.old }
+    requires process { process < length places.old }
+    requires out { place places.old process ≡ Out }
     requires wants { wants K.family net.now store.old.state process ≡ Some answer }
     requires room { length store.old.history + 3 ≤ store.old.room }
-    ensures works { Works K.family net.now store.old places.old.items process answer result.0 store.new places.new.items result.1 }
-    ensures keeps { Keeps K.family K.admits net.now None store.new.state places.new.items }
+    ensures works { Works K.family net.now store.old places.old process answer result.0 store.new places.new result.1 }
+    ensures keeps { Keeps K.family K.admits net.now None store.new.state places.new }
 {
     let reaction = react(net, store, places, process, answer);
     let settled = settle(net, store, places);

@@ -77,15 +77,18 @@ fn an_answer_that_was_not_asked_for_is_handed_back(rt: HostRuntime) -> Result<()
     Ok(())
 }
 
-/// Compares where the processes stand, how many are out, and how many answers were taken.
+/// Compares where the processes stand, how many are ready and how many out, and how many answers
+/// were taken.
 fn assert_stand<R: Abort, B: Body>(
     rt: &R,
     machine: &Machine<B>,
     standings: [Standing; 2],
+    ready: usize,
     out: usize,
     commits: u64,
 ) {
     assert_eq!(rt; machine.standings(), standings.as_slice());
+    assert_eq!(rt; machine.ready(), ready);
     assert_eq!(rt; machine.out(), out);
     assert_eq!(rt; machine.commits(), commits);
     assert_eq!(rt; machine.is_fresh(), out == 0 && commits == 0);
@@ -102,25 +105,25 @@ pub(super) fn whole_run<R: Abort, B: Body>(
     let mut machine = opened(rt, alloc, net, bodies)?;
     let mut tasks = Vec::with_capacity(alloc, 2)?;
     assert_eq!(rt; machine.net().channels(), 1);
-    assert_stand(rt, &machine, [Ready, Ready], 0, 0);
+    assert_stand(rt, &machine, [Ready, Ready], 2, 0, 0);
     let first = machine.take().expect(rt, "none is ready");
     let one_out = match first.process() {
         0 => [Out, Ready],
         _ => [Ready, Out],
     };
-    assert_stand(rt, &machine, one_out, 1, 0);
+    assert_stand(rt, &machine, one_out, 1, 1, 0);
     tasks.push(first)?;
     take_all(&mut machine, &mut tasks)?;
-    assert_stand(rt, &machine, [Out, Out], 2, 0);
+    assert_stand(rt, &machine, [Out, Out], 0, 2, 0);
     assert!(rt; machine.take().is_none());
     commit_of(rt, &mut machine, &mut tasks, 1)?;
-    assert_stand(rt, &machine, [Out, SINK_WAITS], 1, 1);
+    assert_stand(rt, &machine, [Out, SINK_WAITS], 0, 1, 1);
     commit_of(rt, &mut machine, &mut tasks, 0)?;
-    assert_stand(rt, &machine, [Ready, Ready], 0, 2);
+    assert_stand(rt, &machine, [Ready, Ready], 2, 0, 2);
     for process in [0, 1, 0, 1, 0, 1] {
         commit_of(rt, &mut machine, &mut tasks, process)?;
     }
-    assert_stand(rt, &machine, [Stopped, Stopped], 0, 8);
+    assert_stand(rt, &machine, [Stopped, Stopped], 0, 0, 8);
     assert_eq!(rt; machine.end(), Some(End::Terminated));
     Ok(())
 }
@@ -240,12 +243,12 @@ pub(super) fn late_answer<R: Abort, B: Body>(
     let outcome = commit_of(rt, &mut machine, &mut tasks, 0)?;
     assert_eq!(rt; outcome, Done(1));
     assert_eq!(rt; machine.end(), Some(End::Budget));
-    assert_stand(rt, &machine, [Standing::Ready, Standing::Out], 1, 1);
+    assert_stand(rt, &machine, [Standing::Ready, Standing::Out], 1, 1, 1);
     let outcome = commit_of(rt, &mut machine, &mut tasks, 1)?;
     assert_eq!(rt; outcome, LaidBack);
     assert_eq!(rt; machine.end(), Some(End::Budget));
     assert_eq!(rt; machine.history(), [PUT_1].as_slice());
-    assert_stand(rt, &machine, [Standing::Ready, Standing::Ready], 0, 2);
+    assert_stand(rt, &machine, [Standing::Ready, Standing::Ready], 2, 0, 2);
     assert!(rt; machine.take().is_none());
     Ok(())
 }

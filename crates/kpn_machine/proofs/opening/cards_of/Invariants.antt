@@ -1,4 +1,3 @@
-use Rattle.std.proofs.Common.{map}
 use Rattle.kpn_machine.specs.Opening.{cards_of}
 use Rattle.kpn_machine.proofs.Cards.{IsFront}
 use Rattle.kpn_machine.proofs.opening.cards_of.Given as goal

@@ -7,8 +7,27 @@ use Rattle.kpn_net.specs.declared.parts.Process.{Process}
 use Rattle.kpn_net.specs.Network.{no_process}
 use Rattle.kpn_machine.specs.Opening.{cards_of}
 use Rattle.kpn_machine.specs.Scheduler.{Scheduler}
-use Rattle.kpn_machine.proofs.Seats.{slot_at, kept_later, back_more, same_lists}
+use Rattle.std.proofs.Common.{Some, true}
+use Rattle.std.specs.List.{list_all}
+use Rattle.kpn_net.specs.declared.kinds.Card.{Card}
+use Rattle.kpn_state.specs.Standings.{is_ready}
+use Rattle.kpn_state.proofs.Placed.{ready_not_out_at}
+use Rattle.kpn_machine.proofs.Seats.{card_at, slot_at, kept_later, back_more, same_lists}
 use Rattle.kpn_machine.proofs.machine.Machine.into_parts.Goals as goal
+
+pub loop-p-init : goal.loop-p-init
+loop-p-init g c =
+    let ready : list_all is_ready c.self.inside.places ≡ true = rw (← c.self.view_is) at c.requires.all_ready in
+    let all = length-map c.self.inside.bodies.items (option_map g.B.Body.card) in
+    let sound = c.self.invariant.0 in
+    let spare = c.self.invariant.1 in
+    rw (← c.self.view_is) (record {
+      kept = λ q from below. sound.has_bodies q below (ready_not_out_at c.self.inside.places q ready) ∙ ap (λ (x : Card). Some x) (sym (card_at c.self.inside.net.processes q));
+      back = λ q below. absurd (omega arith);
+      many = ap length spare.emptied;
+      slots = sym all ∙ sound.many_bodies;
+      room = spare.enough;
+    })
 
 pub unreachable-requires : goal.unreachable-requires
 unreachable-requires g c =

@@ -4,9 +4,9 @@ use Rattle.std.proofs.lemmas.List.{map-set}
 use Rattle.kpn_machine.proofs.Sound.{sound_taken, none_of}
 use Rattle.kpn_machine.proofs.machine.Machine.take.Goals as goal
 
-pub invariant_of-self : goal.invariant_of-self
-invariant_of-self g c = (
-  rw (c.take_out.ensures.places, c.take_out.ensures.bodies, map-set)
-      (sound_taken g.B.Kinds.Kinds.family g.B.Kinds.Kinds.admits _ _ _ _ _ _ _ _ c.self.invariant.0 c.in_ok-process.process (none_of _ (sym c.is_some.ensures ∙ c.if-is_some.false)) (rw c.as_slice.ensures.value at c.in_ok-process.ensures.some)),
+pub invariant_of-self-2 : goal.invariant_of-self-2
+invariant_of-self-2 g c = (
+  rw (c.in_ok-process.ensures.out, c.take_out.ensures.bodies, map-set)
+      (sound_taken g.B.Kinds.Kinds.family g.B.Kinds.Kinds.admits _ _ _ _ _ _ _ _ c.self.invariant.0 c.in_ok-process.process (none_of _ (sym c.is_some.ensures ∙ c.if-is_some.false)) c.in_ok-process.ensures.some),
   c.self.invariant.1,
 )

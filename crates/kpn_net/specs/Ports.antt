@@ -1,0 +1,22 @@
+-- The channels at the ports of each process, as a table.
+use Rattle.std.specs.Prelude.{◌≡◌, ℕ, ◌<◌, ◌==◌, ◌&&◌, List, [], ◌∷◌, Option, length, get_or, position}
+use Rattle.kpn_net.specs.declared.parts.Channel.{Channel}
+use Rattle.kpn_net.specs.declared.ports.Ports.{Ports}
+
+-- the channel at p's port k
+abbrev pub in_at : List Channel → ℕ → ℕ → Option ℕ
+in_at channels p k = position (λ l. (l.reader == p) && (l.input == k)) channels
+
+abbrev pub out_at : List Channel → ℕ → ℕ → Option ℕ
+out_at channels p k = position (λ l. (l.writer == p) && (l.out == k)) channels
+
+abbrev pub ports_at : List Channel → ℕ → Ports
+ports_at channels p = record { ins = in_at channels p 0 ∷ in_at channels p 1 ∷ in_at channels p 2 ∷ []; outs = out_at channels p 0 ∷ out_at channels p 1 ∷ out_at channels p 2 ∷ [] }
+
+abbrev pub no_ports : Ports
+no_ports = record { ins = []; outs = [] }
+
+-- the table holds the channels at the ports of the first processes
+pub record HasPorts (channels : List Channel) (count : ℕ) (ports : List Ports) : Type 0 where
+  pub many : length ports ≡ count
+  pub each : (p : ℕ) → p < count → get_or ports p no_ports ≡ ports_at channels p

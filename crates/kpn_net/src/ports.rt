@@ -1,0 +1,68 @@
+//! The channels at the ports of the processes, as a table.
+ghost use Rattle.std.specs.Prelude.{◌≡◌, ◌<◌, length, IfOk, IfErr, IfSome};
+ghost use Rattle.kpn_net.specs.Ports.{in_at, out_at, ports_at, HasPorts};
+
+use crate::fault::NetFault;
+use crate::parts::Channel;
+use std::alloc::Global;
+
+/// The numbers of the channels at the inputs and at the outputs of a process.
+#[derive(Clone, Copy, Debug, PartialEq, Eq)]
+pub struct Ports {
+    pub ins: [Option<usize>; 3],
+    pub outs: [Option<usize>; 3],
+}
+
+/// The channel that leads to input `port` of process `p`: all channels are looked through.
+pub(crate) fn find_in(channels: &[Channel], p: usize, port: usize) -> Option<usize>
+    ensures is { result ≡ in_at channels.now p port }
+    ensures within { IfSome result (λ c. c < length channels.now) }
+{
+    channels
+        .iter()
+        .position(|c| c.reader == p && c.input == port)
+}
+
+/// The channel that leads from output `port` of process `p`: all channels are looked through.
+pub(crate) fn find_out(channels: &[Channel], p: usize, port: usize) -> Option<usize>
+    ensures is { result ≡ out_at channels.now p port }
+    ensures within { IfSome result (λ c. c < length channels.now) }
+{
+    channels.iter().position(|c| c.writer == p && c.out == port)
+}
+
+/// The channels at the ports of one process.
+fn ports_at(channels: &[Channel], p: usize) -> Ports
+    ensures { result ≡ ports_at channels.now p }
+{
+    Ports {
+        ins: [
+            find_in(channels, p, 0),
+            find_in(channels, p, 1),
+            find_in(channels, p, 2),
+        ],
+        outs: [
+            find_out(channels, p, 0),
+            find_out(channels, p, 1),
+            find_out(channels, p, 2),
+        ],
+    }
+}
+
+/// The channels at the ports of so many processes.
+pub(crate) fn table_of(
+    alloc: Global,
+    channels: &[Channel],
+    count: usize,
+) -> Result<Vec<Ports>, NetFault>
+    ensures ok { IfOk result (λ v. HasPorts channels.now count v.items) }
+    ensures memory { IfErr result (λ e. e ≡ NetFault.Memory) }
+{
+    let mut table = Vec::new(alloc);
+    for p in 0..count {
+        if table.push(ports_at(channels, p)).is_err() {
+            return Err(NetFault::Memory);
+        }
+    }
+    Ok(table)
+}

@@ -1,0 +1,156 @@
+//! Where each process stands, with the ready ones in a queue.
+ghost use Rattle.std.specs.Prelude.{◌≡◌, ◌≢◌, ◌<◌, ◌≤◌, ℕ, length, set, replicate, if◌then◌else◌, count_by, IsTrue, IfOk, IfSome, IfNone};
+ghost use Rattle.std.specs.List.{list_any, list_all};
+ghost use Rattle.kpn_state.specs.declared.standing.Standing.TheVariants.{Ready, Out};
+ghost use Rattle.kpn_state.specs.Standings.{place, is_busy, is_out, is_ready, has_stopped};
+ghost use Rattle.kpn_state.specs.Rosters.{queue_after};
+
+use crate::standing::Standing;
+use circular_buffer::HeapCircularBuffer;
+use std::alloc::{AllocError, Global};
+use std::marker::Model;
+
+/// Where each process stands, in order.
+///
+/// The numbers of the ready processes stand in a queue, first in, first out, and those that are out
+/// and those that have stopped are counted; so no call but `new` goes through all processes. All
+/// memory is taken by `new`.
+#[derive(Drop)]
+pub struct Roster {
+    places: Vec<Standing>,
+    // The two counts stand apart: side by side they are loaded and stored as one value of 16 bytes,
+    // and such a load waits where one of them was stored alone just before.
+    out: usize,
+    queue: HeapCircularBuffer<usize>,
+    stopped: usize,
+}
+
+impl Model for Roster {
+    ghost use Rattle.std.specs.Prelude.{List};
+    ghost use Rattle.kpn_state.specs.declared.standing.Standing.{Standing as StandingV};
+    ghost use Rattle.kpn_state.specs.Rosters.{Agrees};
+
+    ghost Value = { List StandingV };
+
+    ghost view = { λ r. r.places.items };
+
+    ghost invariant = { λ r. Agrees r.places.items r.queue.items r.queue.capacity r.out r.stopped };
+}
+
+impl Roster {
+    /// So many processes, all ready, queued in order. The error is want of memory.
+    pub fn new(alloc: Global, count: usize) -> Result<Roster, AllocError>
+        ensures { IfOk result (λ r. r ≡ replicate count Ready) }
+    {
+        let mut places = Vec::with_capacity(alloc, count)?;
+        let mut queue = HeapCircularBuffer::with_capacity(alloc, count)?;
+        for process in 0..count {
+            places.push(Standing::Ready)?;
+            enqueue(&mut queue, process, &Standing::Ready);
+        }
+        Ok(Roster {
+            places,
+            out: 0,
+            queue,
+            stopped: 0,
+        })
+    }
+
+    /// Where each process stands.
+    pub fn as_slice(&self) -> &[Standing]
+        ensures value { result.now ≡ self.now }
+    {
+        self.places.as_slice()
+    }
+
+    /// Whether a process is ready or out.
+    pub fn any_busy(&self) -> bool
+        ensures { result ≡ list_any is_busy self.now }
+    {
+        self.ready() + self.out > 0
+    }
+
+    /// Whether all processes have stopped.
+    pub fn all_stopped(&self) -> bool
+        ensures { result ≡ list_all has_stopped self.now }
+    {
+        self.stopped == self.places.len()
+    }
+
+    /// How many processes are ready.
+    pub fn ready(&self) -> usize
+        ensures { result ≡ count_by is_ready self.now }
+    {
+        self.queue.len()
+    }
+
+    /// How many processes are out.
+    pub fn out(&self) -> usize
+        ensures { result ≡ count_by is_out self.now }
+    {
+        self.out
+    }
+
+    /// The process that has been ready for the longest time goes out; `None` where none is ready.
+    pub fn send_out(&mut self) -> Option<usize>
+        ensures some { IfSome result (λ p. place self.old p ≡ Ready) }
+        ensures within { IfSome result (λ p. p < length self.old) }
+        ensures out { IfSome result (λ p. self.new ≡ set self.old p Out) }
+        ensures none { IfNone result ((p : ℕ) → place self.old p ≢ Ready) }
+        ensures same { IfNone result (self.new ≡ self.old) }
+    {
+        let process = self.queue.pop_front()?;
+        self.places[process] = Standing::Out;
+        self.out += 1;
+        Some(process)
+    }
+
+    /// A process that was not ready stands so from now on; where it is ready, it goes to the end of
+    /// the queue.
+    pub fn update(&mut self, process: usize, standing: Standing)
+        requires process { process < length self.old }
+        requires idle { place self.old process ≢ Ready }
+        ensures { self.new ≡ set self.old process standing }
+    {
+        let before = self.places[process];
+        self.out = self.out - out_weight(&before) + out_weight(&standing);
+        self.stopped = self.stopped - stopped_weight(&before) + stopped_weight(&standing);
+        enqueue(&mut self.queue, process, &standing);
+        self.places[process] = standing;
+    }
+}
+
+/// How much a process that stands so adds to the count of those that are out.
+fn out_weight(standing: &Standing) -> usize
+    ensures value { result ≡ if is_out standing.now then 1 else 0 }
+    ensures few { result ≤ 1 }
+{
+    match standing {
+        Standing::Out => 1,
+        Standing::Ready | Standing::Parked(_) | Standing::Stopped => 0,
+    }
+}
+
+/// How much a process that stands so adds to the count of those that have stopped.
+fn stopped_weight(standing: &Standing) -> usize
+    ensures value { result ≡ if has_stopped standing.now then 1 else 0 }
+    ensures few { result ≤ 1 }
+{
+    match standing {
+        Standing::Stopped => 1,
+        Standing::Ready | Standing::Out | Standing::Parked(_) => 0,
+    }
+}
+
+/// A process that now stands so goes to the end of the queue where it is ready.
+fn enqueue(queue: &mut HeapCircularBuffer<usize>, process: usize, standing: &Standing)
+    requires { IsTrue (is_ready standing.now) → length queue.old.items < queue.old.capacity }
+    ensures items { queue.new.items ≡ queue_after queue.old.items process standing.now }
+    ensures room { queue.new.capacity ≡ queue.old.capacity }
+{
+    if let Standing::Ready = standing {
+        if queue.try_push_back(process).is_err() {
+            unreachable!()
+        }
+    }
+}
