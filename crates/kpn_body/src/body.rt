@@ -7,9 +7,8 @@ use kpn_net::{Answer, Card, Kinds, Local, Token};
 ///
 /// A body promises that its answer is its family's for its card, wherever the family admits the
 /// local state and the last token, so what a process does depends on what it has read alone (Kahn
-/// 1974): not on how often or when the body is called, nor on what other processes do. It may be
-/// called for as long as it likes. The engine calls it outside any lock, in a thread of its own
-/// choice, so that bodies of several processes run at the same time.
+/// 1974): not on how often or when the body is called, nor on what other processes do. A call may
+/// take as long as it likes. A body is `Send`: whoever holds a task may call it in any thread.
 ///
 /// A family's bodies are a type that implements this trait, and not one type for all families: such
 /// a type stores a boxed closure beside facts about the family's answers, and these can be stated
