@@ -1,5 +1,5 @@
 -- What `Net::check` answers is what is loaded.
-use Rattle.std.proofs.Common.{◌≡◌, ◌≢◌, ◌≤◌, ℕ, Bool, true, false, cond, List, [], ◌∷◌, length, Option, Some, None, Result, Ok, Err, IfOk, IfErr, IfSome, refl}
+use Rattle.std.proofs.Common.{◌≡◌, ◌≢◌, ℕ, Bool, true, false, cond, List, [], ◌∷◌, Option, Some, None, Result, Ok, Err, IfOk, IfErr, IfSome, refl}
 use Rattle.std.specs.List.{find}
 use Rattle.kpn_net.specs.declared.fault.NetFault.{NetFault}
 use Rattle.kpn_net.specs.declared.fault.NetFault.TheVariants.{NotToml, Keys, Version, Counts, Name, Kind, Args, NoEnd, Twice, Unused, Sorts, Capacity, Budget, Memory, Input}

@@ -106,7 +106,10 @@ fn nothing_is_run_for_an_unknown_channel(rt: HostRuntime) -> Result<(), Fail> {
         let count = Arc::new(alloc, AtomicU64::new(0))?;
         let bodies = bodies_of(alloc, &net, &count)?;
         let mut out = Vec::with_capacity(alloc, 1024)?;
-        assert_eq!(rt; execute_alone(alloc, net, bodies, Some(name), &mut out), status);
+        assert_eq!(rt;
+            execute_alone(alloc, net, bodies, Some(name), &mut out),
+            status
+        );
         assert!(rt; out.as_slice() == lines.as_bytes());
         assert_eq!(rt; count.load(Ordering::SeqCst), calls, "at {name}");
     }
@@ -153,11 +156,10 @@ fn taken_from(alloc: Global, history: &[Entry], channel: usize) -> Result<Vec<u6
     let mut words = Vec::new(alloc);
     for entry in history {
         if let Entry::Did {
-            deed:
-                Deed::Took {
-                    channel: from,
-                    token: Token::Word(word),
-                },
+            deed: Deed::Took {
+                channel: from,
+                token: Token::Word(word),
+            },
             ..
         } = entry
             && *from == channel

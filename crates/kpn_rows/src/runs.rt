@@ -32,7 +32,10 @@ fn outcome_of_words(alloc: Global, words: &[&str], text: &str) -> Result<Told, A
     let mut out = Vec::with_capacity(alloc, ROOM)?;
     let mut source = text.as_bytes();
     let (status, fault) = match serve(alloc, words, &mut source, &mut out) {
-        Ok(served) => (served.status, served.fault.map_or(0, |fault| fault.number())),
+        Ok(served) => (
+            served.status,
+            served.fault.map_or(0, |fault| fault.number()),
+        ),
         Err(fault) => (fault.status(), 0),
     };
     Ok(Told {

@@ -1,8 +1,7 @@
 -- What meets the premises of the laws.
-use Rattle.std.proofs.Common.{◌≡◌, ℕ, ◌<◌, ◌^◌, List, [], ◌∷◌, ◌++◌, map, None, refl, arith, lit<}
+use Rattle.std.proofs.Common.{ℕ, ◌<◌, ◌^◌, List, [], ◌∷◌, ◌++◌, map, None, refl, arith, lit<}
 use Rattle.std.proofs.lemmas.List.Elements.{All-nil, All-cons}
 use Rattle.std.specs.List.{All}
-use Rattle.kpn_net.specs.declared.kinds.Card.{Card}
 use Rattle.kpn_net.specs.declared.parts.Process.{Process}
 use Rattle.kpn_net.specs.Lawful.{CardFits}
 use Rattle.kpn_net.specs.Standard.{standard}

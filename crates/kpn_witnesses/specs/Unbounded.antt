@@ -1,5 +1,5 @@
 -- The laws of a family, asked of cards with any numbers at all. They ask too much.
-use Rattle.std.specs.Prelude.{ℕ, List, Option, None, IsSome}
+use Rattle.std.specs.Prelude.{ℕ, List, Option, IsSome}
 use Rattle.kpn_net.specs.declared.token.Token.{Token}
 use Rattle.kpn_net.specs.declared.kinds.Card.{Card}
 use Rattle.kpn_net.specs.declared.kinds.Signature.{Signature}

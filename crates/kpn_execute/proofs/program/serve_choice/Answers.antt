@@ -1,5 +1,5 @@
 -- What is told of the network that was loaded is told by the choice.
-use Rattle.std.proofs.Common.{Ok, None, refl}
+use Rattle.std.proofs.Common.{Ok, refl}
 use Rattle.kpn_front.specs.Lines.{checked_line}
 use Rattle.kpn_execute.proofs.program.serve_choice.Goals as goal
 

@@ -16,10 +16,9 @@ invariant_of-result g c =
     let fine : first_fault g.K.Kinds.named g.K.Kinds.signature_of c.args.sketch.now ≡ None = search rules in
     let made : Network = record { processes = c.in_ok-processes.processes.items; channels = c.in_ok-channels.channels.items; budget = c.unsigned_abs.result; step = 1; ceiling = 65535 } in
     let is_net : made ≡ net_of g.K.Kinds.named c.args.sketch.now = search rules in
-    let fits : HasCards made = search rules in
-    (
+    let fits : HasCards made = search rules in (
       rw is_net (valid g.K.Kinds.named g.K.Kinds.signature_of c.args.sketch.now fine (subst HasCards is_net fits)),
-      rw (c.as_slice-2.ensures.value, c.len.ensures, c.in_ok-processes.processes.ok.0) at c.in_ok-ports.ensures.ok
+      rw (c.as_slice-2.ensures.value, c.len.ensures, c.in_ok-processes.processes.ok.0) at c.in_ok-ports.ensures.ok,
     )
 
 pub returns-clause-valid : goal.returns-clause-valid
