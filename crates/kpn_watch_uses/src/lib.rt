@@ -2,10 +2,13 @@
 //! turn to the other.
 #![tactic(auto)]
 
-ghost use Rattle.std.specs.Prelude.{◌≡◌, ◌≢◌, ◌≤◌};
+ghost use Rattle.std.specs.Prelude.{◌≡◌, ◌≢◌, ◌<◌, ◌≤◌, ◌^◌, length, Some};
+ghost use mathlib.Core.List.{IsPrefix};
+ghost use Rattle.kpn_watch.specs.Phases.{phase_of};
 ghost use Rattle.kpn_watch.specs.declared.progress.Phase.TheVariants.{Running};
 
-use kpn_watch::{Board, Progress, Publisher, WatchFault, Watcher};
+use kpn_net::{End, Entry};
+use kpn_watch::{Board, CountingPublisher, Progress, Publisher, WatchFault, Watcher};
 
 /// What two looks of one watcher told.
 pub struct TwoLooks {
@@ -41,4 +44,22 @@ pub fn watch_first(
     requires { publisher.old.board ≡ first.now }
 {
     first.split(publisher)
+}
+
+/// Publishes a history that goes on, and then a longer one with its end.
+pub fn publish_in_two(
+    board: &Board,
+    publisher: &mut CountingPublisher,
+    before: &[Entry],
+    all: &[Entry],
+    end: End,
+)
+    requires board { publisher.old.board ≡ board.now }
+    requires running { publisher.old.phase ≡ Running }
+    requires goes_on { IsPrefix publisher.old.entries before.now × IsPrefix before.now all.now }
+    requires short { (length before.now < 2 ^ 22) × (length all.now < 2 ^ 22) }
+    ensures { publisher.new ≡ record publisher.old { entries = all.now; phase = phase_of (Some end) } }
+{
+    publisher.publish(board, before, None);
+    publisher.publish(board, all, Some(end));
 }
