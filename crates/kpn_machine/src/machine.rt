@@ -11,6 +11,7 @@ ghost use Rattle.kpn_machine.specs.Scheduler.{scheduler, IsOut, IsOutAt, TakesOu
 ghost use Rattle.kpn_machine.specs.Commits.{Commits, Appends, EndsAs, GoesOn, TellsEnabled, number};
 ghost use Rattle.kpn_laws.specs.RoomOfRun.{TakesLeastRoom};
 
+use crate::chronicle::Chronicle;
 use crate::opening::{OpenFault, Start, misfit, prepare, seat_all};
 use crate::same::{same_card, same_last, same_local};
 use kpn_body::{Body, Finished, Task};
@@ -73,6 +74,7 @@ impl<B: Body> Machine<B> {
         mut bodies: Vec<B>,
     ) -> Result<Machine<B>, OpenRefused<B>>
         ensures opened { IfOk result (λ m. m ≡ scheduler net (start B.Kinds.family net) [] (replicate (length net.processes) ReadyV) None 0) }
+        ensures fresh { IfOk result IsFresh }
         ensures cards { OnOk result (map B.card bodies.items ≡ cards_of net.processes) }
         ensures net_back { IfErr result (λ refused. refused.net ≡ net) }
         ensures bodies_back { IfErr result (λ refused. refused.bodies.items ≡ bodies.items) }
@@ -310,6 +312,25 @@ impl<B: Body> Machine<B> {
             spare.push_reserved(body);
         }
         (net, spare)
+    }
+}
+
+impl<B: Body> Machine<B> {
+    /// The machine without its bodies, as it stands. Takes no memory.
+    pub fn into_chronicle(self) -> Chronicle<B::Kinds>
+        ensures { result ≡ self }
+    {
+        self.end();
+        let Machine {
+            net,
+            store,
+            places,
+            bodies: _,
+            spare: _,
+            end,
+            commits,
+        } = self;
+        Chronicle::new(net, store, places, end, commits)
     }
 }
 
