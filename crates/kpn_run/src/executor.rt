@@ -7,8 +7,8 @@ ghost use Rattle.kpn_machine.specs.Scheduler.{IsFresh};
 ghost use Rattle.kpn_run.specs.Runs.{IsFinish, IsInLine, SparesBudget, StaysWithin};
 ghost use Rattle.kpn_body.specs.Input.{Input};
 
-use crate::slot::{WorkerSlot, leave_all, seat_all, work_all};
 use crate::finish::Finish;
+use crate::slot::{WorkerSlot, leave_all, seat_all, work_all};
 use crate::worker::Gate;
 use kpn_body::{Answered, Body, Finished};
 use kpn_laws::{determinacy_of, valid_runs};

@@ -195,11 +195,13 @@ pub(crate) fn run_bodies<R: Threads + Wait + Abort + Sync>(
     let mut bodies = bodies;
     let last = bodies.pop().expect(rt, "no body");
     let refused = run(rt, alloc, net, bodies, workers, &Open);
-    let Err(RunFault::Open {
-        net,
-        mut bodies,
-        fault,
-    }) = refused
+    let Err(
+        RunFault::Open {
+            net,
+            mut bodies,
+            fault,
+        },
+    ) = refused
     else {
         panic!(rt; "runs without a body");
     };
