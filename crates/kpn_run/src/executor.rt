@@ -41,7 +41,8 @@ pub enum RunFault<B: Body> {
         net: Net<B::Kinds>,
         bodies: Vec<B>,
     },
-    /// The machine refused a worker's answer. No caller can bring this about.
+    /// The machine refused a worker's answer. That this never comes is not proved: no contract of the
+    /// monitor can name what lies under the lock.
     Lost {
         answered: Answered<B::Kinds>,
         body: B,
