@@ -58,7 +58,12 @@ impl<K: Kinds, E: EntryLedger> Model for Closed<K, E> {
 }
 
 impl<K: Kinds, E: EntryLedger> Closed<K, E> {
-    pub(crate) fn new(chronicle: Chronicle<K>, receipts: u64, board: Board, publisher: CountingPublisher) -> Self
+    pub(crate) fn new(
+        chronicle: Chronicle<K>,
+        receipts: u64,
+        board: Board,
+        publisher: CountingPublisher,
+    ) -> Self
         requires network { chronicle.network ≡ E.net }
         requires faithful { IsFaithful K.family K.admits chronicle }
         requires shown { IsShown E.board chronicle publisher }

@@ -9,7 +9,7 @@ ghost use Rattle.kpn_net.specs.Machine.{State};
 ghost use Rattle.kpn_net.specs.Determinacy.{IsRun};
 ghost use Rattle.kpn_watch.specs.declared.progress.Phase.TheVariants.{Running};
 ghost use Rattle.kpn_watch.specs.Phases.{phase_of};
-ghost use Rattle.kpn_monitor.specs.Kept.{IsShown};
+ghost use Rattle.kpn_monitor.specs.Kept.{IsShown, HasEnded, WasCommitted, WasTaken};
 ghost use Rattle.kpn_body.specs.Input.{Input};
 ghost use Rattle.kpn_machine.specs.Scheduler.{EndHolds, IsFaithful, IsFresh, TakesOut};
 ghost use Rattle.kpn_machine.specs.Commits.{Commits, Appends, number};
@@ -94,6 +94,8 @@ impl<B: Body, E: EntryLedger, O: Ledger> Guarded<B, E, O> {
         ensures none { IfNone result ((seat.new ≡ seat.old) × (self.new ≡ self.old)) }
         ensures task { (t : Input) → result ≡ Some (Taken.Task t) → (seat.new ≡ seat.old) × TakesOut self.old.machine t self.new.machine }
         ensures over { (e : EndV) → result ≡ Some (Taken.Over e) → (seat.new ≡ record seat.old { overs = 1 }) × (self.old.machine.end ≡ Some e) × (self.new.machine ≡ self.old.machine) }
+        ensures taken { (t : Input) → result ≡ Some (Taken.Task t) → WasTaken B.Kinds.family E.net t }
+        ensures ended { (e : EndV) → result ≡ Some (Taken.Over e) → HasEnded B.Kinds.family E.net e }
     {
         match self.machine.end() {
             Some(end) => {
@@ -123,7 +125,9 @@ impl<B: Body, E: EntryLedger, O: Ledger> Guarded<B, E, O> {
         requires { board.now ≡ E.board }
         ensures machine { MatchResult result (λ o. Commits B.Kinds.family self.old.machine finished o self.new.machine × Appends B.Kinds.family self.old.machine self.new.machine (number o)) (λ s. (self.new ≡ self.old) × (s.finished ≡ finished)) }
         ensures seat { MatchResult result (λ o. seat.new ≡ record seat.old { entries = seat.old.entries + number o }) (λ _. seat.new ≡ seat.old) }
+        ensures committed { IfOk result (λ o. WasCommitted B.Kinds.family E.net finished o) }
     {
+        self.machine.end();
         match self.machine.commit(finished) {
             Ok(outcome) => {
                 let ended = self.machine.end();

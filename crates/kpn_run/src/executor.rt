@@ -7,8 +7,8 @@ ghost use Rattle.kpn_machine.specs.Scheduler.{IsFresh};
 ghost use Rattle.kpn_run.specs.Runs.{IsFinish, IsInLine, SparesBudget, StaysWithin};
 ghost use Rattle.kpn_body.specs.Input.{Input};
 
-use crate::slot::{WorkerSlot, leave_all, seat_all, work_all};
 use crate::finish::Finish;
+use crate::slot::{WorkerSlot, leave_all, seat_all, work_all};
 use crate::worker::Gate;
 use kpn_body::{Answered, Body, Finished};
 use kpn_laws::{determinacy_of, valid_runs};
@@ -41,7 +41,8 @@ pub enum RunFault<B: Body> {
         net: Net<B::Kinds>,
         bodies: Vec<B>,
     },
-    /// The machine refused a worker's answer. No caller can bring this about.
+    /// The machine refused a worker's answer. That this never comes is not proved: no contract of the
+    /// monitor can name what lies under the lock.
     Lost {
         answered: Answered<B::Kinds>,
         body: B,

@@ -6,7 +6,9 @@ ghost use Rattle.kpn_machine.specs.Opening.{cards_of};
 
 use crate::scenes::{Scene, play_scene};
 use crate::strangers::two_monitors;
-use crate::texts::{COPIED_AND_WOVEN, COUNTER_INTO_SINK};
+use crate::texts::{
+    COPIED_AND_WOVEN, COUNTER_INTO_SINK, COUNTER_INTO_SMALL_SINK, TWO_FULL_CHANNELS,
+};
 use kpn_body::{Call, Standard, StandardBody, answer};
 use kpn_machine::{OpenFault, Standing, cards_of};
 use kpn_net::Token::Word;
@@ -72,6 +74,47 @@ stream c3 1 2 3 1 2 3
 ",
     show: 3,
     stream: &[Word(1), Word(2), Word(3), Word(1), Word(2), Word(3)],
+};
+
+/// The channel of one place grows once.
+const SMALL_SINK_ENDS: Due = Due {
+    end: End::Terminated,
+    entries: 7,
+    processes: 2,
+    stopped: 2,
+    text: "end terminated
+process src stopped steps 4
+process snk stopped steps 2
+channel c0 put 3 left 2 capacity 2
+grew c0 2
+entries 7
+stream c0 1 2 3
+",
+    show: 0,
+    stream: &[Word(1), Word(2), Word(3)],
+};
+
+/// The smallest full channel grows first, and of equal ones the one of least number.
+const TWO_FULL_END: Due = Due {
+    end: End::Terminated,
+    entries: 13,
+    processes: 4,
+    stopped: 4,
+    text: "end terminated
+process a stopped steps 4
+process b stopped steps 4
+process x stopped steps 1
+process y stopped steps 1
+channel c0 put 3 left 3 capacity 3
+channel c1 put 3 left 3 capacity 3
+grew c1 2
+grew c0 3
+grew c1 3
+entries 13
+stream c1 1 2 3
+",
+    show: 1,
+    stream: &[Word(1), Word(2), Word(3)],
 };
 
 /// A gate that counts how often it is asked: once for each answer, so at least once for each process,
@@ -195,11 +238,13 @@ pub(crate) fn run_bodies<R: Threads + Wait + Abort + Sync>(
     let mut bodies = bodies;
     let last = bodies.pop().expect(rt, "no body");
     let refused = run(rt, alloc, net, bodies, workers, &Open);
-    let Err(RunFault::Open {
-        net,
-        mut bodies,
-        fault,
-    }) = refused
+    let Err(
+        RunFault::Open {
+            net,
+            mut bodies,
+            fault,
+        },
+    ) = refused
     else {
         panic!(rt; "runs without a body");
     };
@@ -237,6 +282,8 @@ fn any_number_of_workers(rt: HostRuntime) -> Result<(), Fail> {
     let due = [
         (COUNTER_INTO_SINK, COUNTER_ENDS),
         (COPIED_AND_WOVEN, WOVEN_ENDS),
+        (COUNTER_INTO_SMALL_SINK, SMALL_SINK_ENDS),
+        (TWO_FULL_CHANNELS, TWO_FULL_END),
     ];
     for (text, due) in due {
         for workers in [1, 2, 16] {

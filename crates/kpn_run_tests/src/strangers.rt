@@ -84,14 +84,12 @@ fn running(entries: u32) -> Progress {
     }
 }
 
-fn stranger_between<
-    B: Body,
-    E: EntryLedger,
-    O: Ledger,
-    F: EntryLedger,
-    P: Ledger,
-    R: Wait + Abort,
->(rt: &R, alloc: Global, first: Opening<B>, second: Opening<B>) -> Result<(), AllocError>
+fn stranger_between<B: Body, E: EntryLedger, O: Ledger, F: EntryLedger, P: Ledger, R: Wait + Abort>(
+    rt: &R,
+    alloc: Global,
+    first: Opening<B>,
+    second: Opening<B>,
+) -> Result<(), AllocError>
     requires network { first.machine.network ≡ E.net }
     requires board { first.board ≡ E.board }
     requires entries { (first.entries.name ≡ E.name) × (first.entries.parts ≡ E.parts) }
