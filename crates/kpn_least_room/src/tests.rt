@@ -42,7 +42,7 @@ fn compare<R: Abort, B: Body>(
             return Err(AllocError);
         }
     };
-    finish(&mut machine);
+    assert_eq!(rt; finish(&mut machine), 2);
     let mut growths = Vec::new(alloc);
     for entry in machine.history() {
         if matches!(entry, Entry::Grew { .. }) {

@@ -109,9 +109,7 @@ impl<B: Body> Machine<B> {
     pub fn end(&self) -> Option<End>
         ensures end { result ≡ self.now.end }
         ensures faithful { IsFaithful B.Kinds.family self.now }
-        ensures room { TakesLeastRoom B.Kinds.family self.now.network self.now.history self.now.state }
     {
-        least_room_of::<B::Kinds>();
         self.end
     }
 
@@ -332,5 +330,6 @@ impl<B: Body> Machine<B> {
                 unreachable!()
             };
         }
+        least_room_of::<B::Kinds>();
     }
 }
