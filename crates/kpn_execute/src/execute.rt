@@ -6,7 +6,7 @@ ghost use Rattle.kpn_execute.specs.Execution.{status_of, Executes, TellsKnown, T
 use kpn_body::Body;
 use kpn_front::say::{say, say_no_channel, say_refused};
 use kpn_front::streams::Sink;
-use kpn_laws::determinacy_of;
+use kpn_laws::{determinacy_of, least_room_of};
 use kpn_machine::{Machine, places_of};
 use kpn_net::{End, Net, NetFault};
 use kpn_report::{report_of, report_text};
@@ -81,6 +81,7 @@ fn told_of<B: Body>(
         unreachable!()
     };
     determinacy_of::<B::Kinds>();
+    least_room_of::<B::Kinds>();
     let net = machine.net();
     let places = places_of(alloc, net, machine.standings())?;
     let report = report_of(alloc, net, machine.history(), places, end)?;

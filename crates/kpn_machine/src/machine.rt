@@ -112,12 +112,10 @@ impl<B: Body> Machine<B> {
     pub fn end(&self) -> Option<End>
         ensures end { result ≡ self.now.end }
         ensures faithful { IsFaithful B.Kinds.family B.Kinds.admits self.now }
-        ensures room { TakesLeastRoom B.Kinds.family self.now.network self.now.history self.now.state }
     {
         self.net.processes();
         valid_runs();
         sorted_runs::<B::Kinds>();
-        least_room_of::<B::Kinds>();
         self.end
     }
 
@@ -352,5 +350,6 @@ impl<B: Body> Machine<B> {
                 unreachable!()
             };
         }
+        least_room_of::<B::Kinds>();
     }
 }

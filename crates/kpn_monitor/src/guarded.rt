@@ -94,8 +94,8 @@ impl<B: Body, E: EntryLedger, O: Ledger> Guarded<B, E, O> {
         ensures none { IfNone result ((seat.new ≡ seat.old) × (self.new ≡ self.old)) }
         ensures task { (t : Input) → result ≡ Some (Taken.Task t) → (seat.new ≡ seat.old) × TakesOut self.old.machine t self.new.machine }
         ensures over { (e : EndV) → result ≡ Some (Taken.Over e) → (seat.new ≡ record seat.old { overs = 1 }) × (self.old.machine.end ≡ Some e) × (self.new.machine ≡ self.old.machine) }
-        ensures taken { (t : Input) → result ≡ Some (Taken.Task t) → WasTaken B.Kinds.family E.net t }
-        ensures ended { (e : EndV) → result ≡ Some (Taken.Over e) → HasEnded B.Kinds.family E.net e }
+        ensures taken { (t : Input) → result ≡ Some (Taken.Task t) → WasTaken B.Kinds.family B.Kinds.admits E.net t }
+        ensures ended { (e : EndV) → result ≡ Some (Taken.Over e) → HasEnded B.Kinds.family B.Kinds.admits E.net e }
     {
         match self.machine.end() {
             Some(end) => {
@@ -125,7 +125,7 @@ impl<B: Body, E: EntryLedger, O: Ledger> Guarded<B, E, O> {
         requires { board.now ≡ E.board }
         ensures machine { MatchResult result (λ o. Commits B.Kinds.family self.old.machine finished o self.new.machine × Appends B.Kinds.family self.old.machine self.new.machine (number o)) (λ s. (self.new ≡ self.old) × (s.finished ≡ finished)) }
         ensures seat { MatchResult result (λ o. seat.new ≡ record seat.old { entries = seat.old.entries + number o }) (λ _. seat.new ≡ seat.old) }
-        ensures committed { IfOk result (λ o. WasCommitted B.Kinds.family E.net finished o) }
+        ensures committed { IfOk result (λ o. WasCommitted B.Kinds.family B.Kinds.admits E.net finished o) }
     {
         self.machine.end();
         match self.machine.commit(finished) {

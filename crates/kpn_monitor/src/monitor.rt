@@ -73,8 +73,8 @@ impl<B: Body, E: EntryLedger, O: Ledger> Monitor<B, E, O> {
     pub fn take<R: Wait>(&self, rt: &R, seat: &mut Seat<E, O>) -> Taken<B>
         ensures task { (t : Input) → result ≡ Taken.Task t → seat.new ≡ seat.old }
         ensures over { (e : EndV) → result ≡ Taken.Over e → seat.new ≡ record seat.old { overs = 1 } }
-        ensures taken { (t : Input) → result ≡ Taken.Task t → WasTaken B.Kinds.family E.net t }
-        ensures ended { (e : EndV) → result ≡ Taken.Over e → HasEnded B.Kinds.family E.net e }
+        ensures taken { (t : Input) → result ≡ Taken.Task t → WasTaken B.Kinds.family B.Kinds.admits E.net t }
+        ensures ended { (e : EndV) → result ≡ Taken.Over e → HasEnded B.Kinds.family B.Kinds.admits E.net e }
     {
         let mut guarded = self.state.lock(rt);
         for _ in rt.forever() {
@@ -100,7 +100,7 @@ impl<B: Body, E: EntryLedger, O: Ledger> Monitor<B, E, O> {
     ) -> Result<Outcome, Stranger<B>>
         ensures seat { MatchResult result (λ o. seat.new ≡ record seat.old { entries = seat.old.entries + number o }) (λ _. seat.new ≡ seat.old) }
         ensures stranger { IfErr result (λ s. s.finished ≡ finished) }
-        ensures committed { IfOk result (λ o. WasCommitted B.Kinds.family E.net finished o) }
+        ensures committed { IfOk result (λ o. WasCommitted B.Kinds.family B.Kinds.admits E.net finished o) }
     {
         let mut guarded = self.state.lock(rt);
         let answer = guarded.commit(&self.board, finished, seat);

@@ -8,7 +8,7 @@ returns g c =
     let kinds = g.B.Kinds.Kinds.family in
     let machine = c.args.machine.now in
     let report = rw (c.net-net.ensures, c.history.ensures) at (c.in_ok-report.ensures.detail kinds machine.state) in
-    run_told kinds g.B.Kinds.Kinds.admits machine c.in-Some.end c.in_ok-places.places.items c.in_ok-report.report.detail c.args.channel c.status_of.result (string_bytes c.in_ok-text.text) c.in-Some.ensures.faithful c.in-Some.ensures.room (sym c.in-Some.ensures.end)
+    run_told kinds g.B.Kinds.Kinds.admits machine c.in-Some.end c.in_ok-places.places.items c.in_ok-report.report.detail c.args.channel c.status_of.result (string_bytes c.in_ok-text.text) c.in-Some.ensures.faithful (c.least_room_of.ensures.each_run _ _ _ c.in-Some.ensures.faithful.run) (sym c.in-Some.ensures.end)
     (rw (c.net-net.ensures, c.standings.ensures) at c.in_ok-places.ensures)
     c.determinacy_of.ensures.one_digest report
     c.status_of.ensures
