@@ -4,6 +4,8 @@
 #[cfg(test)]
 mod beginnings;
 #[cfg(test)]
+mod reports;
+#[cfg(test)]
 mod runs;
 #[cfg(test)]
 mod texts;
