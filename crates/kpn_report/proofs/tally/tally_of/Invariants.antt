@@ -1,7 +1,7 @@
 use Rattle.std.proofs.Common.{◌≡◌, take}
 use Rattle.kpn_net.specs.History.{growths}
 use Rattle.kpn_report.specs.Tally.{CountsSteps, KeepsAccounts}
-use Rattle.kpn_report.proofs.detail.read_once.Given as goal
+use Rattle.kpn_report.proofs.tally.tally_of.Given as goal
 
 abbrev pub invariant-loop-entry : goal.invariant-loop-entry
 invariant-loop-entry g l = record {

@@ -4,12 +4,17 @@ use Rattle.std.proofs.lemmas.List.{take_more, length-take-le}
 use Rattle.kpn_net.specs.declared.history.Entry.{Entry}
 use Rattle.kpn_net.specs.History.{growths}
 use Rattle.kpn_report.specs.Tally.{CountsSteps, KeepsAccounts}
-use Rattle.kpn_report.proofs.Tallies.{few_deeds, few_taken}
-use Rattle.kpn_report.proofs.detail.read_once.Goals as goal
+use Rattle.kpn_report.proofs.Tallies.{few_deeds, few_put, few_taken}
+use Rattle.kpn_report.proofs.tally.tally_of.Goals as goal
 
 pub note-requires-clause-few_deeds : goal.note-requires-clause-few_deeds
 note-requires-clause-few_deeds g c = λ p.
     let few = few_deeds c.args.net.now _ c.loop-entry.steps.items c.loop-entry.invariant.steps p in
+    omega (arith, length-take-le c.loop-entry.entry-index c.args.history.now (omega arith))
+
+pub note-requires-clause-few_put : goal.note-requires-clause-few_put
+note-requires-clause-few_put g c = λ b.
+    let few = few_put c.args.net.now _ c.loop-entry.accounts.items c.loop-entry.invariant.accounts b in
     omega (arith, length-take-le c.loop-entry.entry-index c.args.history.now (omega arith))
 
 pub note-requires-clause-few_taken : goal.note-requires-clause-few_taken

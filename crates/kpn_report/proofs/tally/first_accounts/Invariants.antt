@@ -1,6 +1,6 @@
 use Rattle.std.proofs.Common.{◌≡◌, ◌<◌, ℕ, [], length, get_or}
 use Rattle.kpn_report.specs.Tally.{account, no_account}
-use Rattle.kpn_report.proofs.detail.first_accounts.Given as goal
+use Rattle.kpn_report.proofs.tally.first_accounts.Given as goal
 
 abbrev pub invariant-loop-c : goal.invariant-loop-c
 invariant-loop-c g l = record {
