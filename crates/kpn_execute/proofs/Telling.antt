@@ -18,23 +18,11 @@ use Rattle.kpn_state.specs.Standings.{place, is_out, parked_answer}
 use Rattle.kpn_machine.specs.Scheduler.{Scheduler, EndHolds, IsFaithful}
 use Rattle.kpn_state.proofs.Placed.{idle_at}
 use Rattle.kpn_laws.specs.RoomOfRun.{TakesLeastRoom}
-use Rattle.kpn_report.specs.declared.detail.Detail.{Detail}
 use Rattle.kpn_report.specs.Text.{end_line, digest_text, text}
-use Rattle.kpn_report.specs.Digested.{IsReport, has_detail, report_text}
+use Rattle.kpn_report.specs.Digested.{has_detail}
 use Rattle.kpn_execute.specs.Execution.{status_of, TellsRun}
 
 module _ (kinds : Family) (net : Network) where
-  detailed : (cause : End) (digested : List ℕ) (detail : Option Detail) (d : Detail) (channel : Option ℕ) → detail ≡ Some d → report_text net cause (Some d) channel ≡ digested → report_text net cause detail channel ≡ digested
-  detailed cause digested detail d channel is same = ap (λ x. report_text net cause x channel) is ∙ same
-
-  -- the text of a report is that of the run
-  report_told : (cause : End) (E : List Entry) (M : State) (detail : Option Detail) (channel : Option ℕ) → IsReport kinds net cause E M detail → report_text net cause detail channel ≡ text kinds net cause E M channel
-  report_told Budget E M detail channel r = ap (λ x. report_text net Budget x channel) (r.none refl)
-  report_told Memory E M detail channel r = ap (λ x. report_text net Memory x channel) (r.none refl)
-  report_told Terminated E M detail channel r = let (d, is, same) = r.some refl in detailed Terminated _ detail d channel is (ap (λ x. end_line Terminated ++ digest_text net x channel) same)
-  report_told Deadlock E M detail channel r = let (d, is, same) = r.some refl in detailed Deadlock _ detail d channel is (ap (λ x. end_line Deadlock ++ digest_text net x channel) same)
-  report_told Ceiling E M detail channel r = let (d, is, same) = r.some refl in detailed Ceiling _ detail d channel is (ap (λ x. end_line Ceiling ++ digest_text net x channel) same)
-
   -- the text of a run that is over, from its digest
   abbrev text_of : Option ℕ → Digest → List ℕ
   text_of channel d = end_line d.cause ++ digest_text net d channel
@@ -78,15 +66,15 @@ at_rest kinds admits s cause faithful ended has =
 bound_by : (kinds : Family) (admits : Card → List ℕ → Option Token → Type 0) (s : Scheduler) (cause : End) → IsFaithful kinds admits s → s.end ≡ Some cause → IsBound kinds s.network s.history s.state cause
 bound_by kinds admits s cause faithful ended = subst (EndHolds kinds s.network s.history s.state) ended faithful.bound
 
--- a run that ended is told by its report
+-- a run that ended is told by the text of its history
 pub run_told :
-    (kinds : Family) (admits : Card → List ℕ → Option Token → Type 0) (s : Scheduler) (cause : End) (places : List Place) (detail : Option Detail) (channel : Option ℕ) (status : ℕ) (bytes : List ℕ) → IsFaithful kinds admits s → TakesLeastRoom kinds s.network s.history s.state → s.end ≡ Some cause
+    (kinds : Family) (admits : Card → List ℕ → Option Token → Type 0) (s : Scheduler) (cause : End) (places : List Place) (channel : Option ℕ) (status : ℕ) (bytes : List ℕ) → IsFaithful kinds admits s → TakesLeastRoom kinds s.network s.history s.state → s.end ≡ Some cause
     → places ≡ each_process s.network (λ p. place_of s.network p (parked_answer (place s.places p))) → OneDigest kinds
-    → ((has_detail cause ≡ true → places ≡ each_process s.network (λ p. place_of s.network p (wants kinds s.network s.state p))) → IsReport kinds s.network cause s.history s.state detail)
-    → status ≡ status_of cause → bytes ≡ report_text s.network cause detail channel → TellsRun kinds s.network channel status bytes
-run_told kinds admits s cause places detail channel status bytes faithful room ended places_are one report status_is bytes_are =
+    → ((has_detail cause ≡ true → places ≡ each_process s.network (λ p. place_of s.network p (wants kinds s.network s.state p))) → bytes ≡ text kinds s.network cause s.history s.state channel)
+    → status ≡ status_of cause → TellsRun kinds s.network channel status bytes
+run_told kinds admits s cause places channel status bytes faithful room ended places_are one report status_is =
     let bound = bound_by kinds admits s cause faithful ended in
-    let told : bytes ≡ text kinds s.network cause s.history s.state channel = bytes_are ∙ report_told kinds s.network cause s.history s.state detail channel (report (λ has. places_are ∙ at_rest kinds admits s cause faithful ended has)) in
+    let told = report (λ has. places_are ∙ at_rest kinds admits s cause faithful ended has) in
     record {
       history = s.history;
       state = s.state;

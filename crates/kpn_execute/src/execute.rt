@@ -6,10 +6,10 @@ ghost use Rattle.kpn_execute.specs.Execution.{status_of, Executes, TellsKnown, T
 use kpn_body::Body;
 use kpn_front::say::{say, say_no_channel, say_refused};
 use kpn_front::streams::Sink;
-use kpn_laws::determinacy_of;
+use kpn_laws::{determinacy_of, least_room_of};
 use kpn_machine::{Machine, places_of};
 use kpn_net::{End, Net, NetFault};
-use kpn_report::{report_of, report_text};
+use kpn_report::text_of;
 use std::alloc::{AllocError, Global};
 
 /// What is told of a run.
@@ -81,10 +81,17 @@ fn told_of<B: Body>(
         unreachable!()
     };
     determinacy_of::<B::Kinds>();
+    least_room_of::<B::Kinds>();
     let net = machine.net();
     let places = places_of(alloc, net, machine.standings())?;
-    let report = report_of(alloc, net, machine.history(), places, end)?;
-    let text = report_text(alloc, net, &report, channel)?;
+    let text = text_of(
+        alloc,
+        net,
+        machine.history(),
+        places.as_slice(),
+        end,
+        channel,
+    )?;
     Ok(Told {
         status: status_of(end),
         text,

@@ -1,6 +1,9 @@
 -- What the law of the least room says of Parks's case with a counter of five.
-use Rattle.std.proofs.Common.{◌≡◌, ◌≢◌, ℕ, ◌<◌, ◌≤◌, ⊎_elim, inl, zero, suc, List, Some, length, ap, arith, subst}
+use Rattle.std.proofs.Common.{◌≡◌, ◌≢◌, ℕ, ◌<◌, ◌≤◌, ⊎_elim, inl, zero, suc, List, ◌∷◌, refl, sym, cond, ◌+◌, Some, length, ap, arith, subst}
+use Rattle.std.specs.List.{count_by}
+use Rattle.std.proofs.lemmas.List.Recursion.{is_count_by}
 use Rattle.kpn_net.specs.declared.history.Entry.{Entry}
+use Rattle.kpn_net.specs.declared.history.Entry.TheVariants.{Did, Grew}
 use Rattle.kpn_net.specs.declared.history.End.{End}
 use Rattle.kpn_net.specs.declared.history.End.TheVariants.{Budget, Ceiling}
 use Rattle.kpn_net.specs.Network.{Family, Network, channel_of}
@@ -10,7 +13,17 @@ use Rattle.kpn_net.specs.Moments.{IsBound}
 use Rattle.kpn_net.specs.Standard.{standard}
 use Rattle.kpn_laws.specs.RoomOfRun.{TakesAtMost, TakesLeastRoom}
 use Rattle.kpn_laws.specs.WorkedRoom.{longer_parks_case, TwoPlacesSuffice}
+use Rattle.kpn_least_room.specs.Growth.{is_growth}
 use Rattle.kpn_machine.specs.Scheduler.{Scheduler, EndHolds, IsFaithful}
+
+-- one more growth, or one more deed
+counted_more : (e : Entry) (E : List Entry) → length (growths (e ∷ E)) ≡ cond (is_growth e) (1 + length (growths E)) (length (growths E))
+counted_more (Did p d) E = refl
+counted_more (Grew c to) E = omega arith
+
+-- the growths are counted
+pub counted : (E : List Entry) → count_by is_growth E ≡ length (growths E)
+counted E = sym (is_count_by (λ E. length (growths E)) is_growth refl counted_more E)
 
 -- the law at this network
 at_the_case :

@@ -1,1 +1,2 @@
 pub mod CaseSketch
+pub mod Growth

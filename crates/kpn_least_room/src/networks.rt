@@ -12,12 +12,14 @@ use std::alloc::{AllocError, Global};
 /// begins with one place, and grows by one.
 ///
 /// The error is want of memory.
-pub fn longer_parks_case(alloc: Global) -> Result<Net<Standard>, NetFault>
+pub fn longer_parks_case(alloc: Global) -> Result<Net<Standard>, AllocError>
     ensures { IfOk result (λ net. net ≡ the_case) }
 {
-    match sketch(alloc) {
-        Ok(sketch) => Net::check(alloc, &sketch),
-        Err(_) => Err(NetFault::Memory),
+    let sketch = sketch(alloc)?;
+    match Net::check(alloc, &sketch) {
+        Ok(net) => Ok(net),
+        Err(NetFault::Memory) => Err(AllocError),
+        Err(_) => unreachable!(),
     }
 }
 

@@ -9,7 +9,7 @@ ghost use Rattle.kpn_laws.specs.WorkedRoom.{longer_parks_case as the_case};
 use crate::*;
 use kpn_body::{Body, Call, Standard, StandardBody, answer};
 use kpn_machine::{Machine, OpenFault, cards_of};
-use kpn_net::{Answer, Card, End, Entry, Local, Net, NetFault, Token};
+use kpn_net::{Answer, Card, End, Entry, Local, Net, Token};
 use std::alloc::{AllocError, Global};
 use std::process::Abort;
 use std::test::Fail;
@@ -42,7 +42,7 @@ fn compare<R: Abort, B: Body>(
             return Err(AllocError);
         }
     };
-    finish(&mut machine);
+    assert_eq!(rt; finish(&mut machine), 2);
     let mut growths = Vec::new(alloc);
     for entry in machine.history() {
         if matches!(entry, Entry::Grew { .. }) {
@@ -96,13 +96,7 @@ fn signed_card(cards: &[Card], process: usize) -> Card
 #[test]
 fn parks_case_grows_two_channels_to_two_places(rt: HostRuntime) -> Result<(), Fail> {
     let alloc = rt.alloc();
-    let net = match longer_parks_case(alloc) {
-        Ok(net) => net,
-        Err(fault) => {
-            assert_eq!(rt; fault, NetFault::Memory);
-            return Err(Fail::from(AllocError));
-        }
-    };
+    let net = longer_parks_case(alloc)?;
     let cards = cards_of(alloc, &net)?;
     compare_with_bodies(&rt, alloc, cards.as_slice(), Some(net))?;
     Ok(())

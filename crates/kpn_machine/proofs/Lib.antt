@@ -6,3 +6,4 @@ pub mod Opened
 pub mod Finishing
 pub mod Ends
 pub mod Cards
+pub mod Fresh

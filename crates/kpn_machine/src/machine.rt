@@ -11,6 +11,7 @@ ghost use Rattle.kpn_machine.specs.Scheduler.{scheduler, IsOut, IsOutAt, TakesOu
 ghost use Rattle.kpn_machine.specs.Commits.{Commits, Appends, EndsAs, GoesOn, TellsEnabled, number};
 ghost use Rattle.kpn_laws.specs.RoomOfRun.{TakesLeastRoom};
 
+use crate::chronicle::Chronicle;
 use crate::opening::{OpenFault, Start, misfit, prepare, seat_all};
 use crate::same::{same_card, same_last, same_local};
 use kpn_body::{Body, Finished, Task};
@@ -73,6 +74,7 @@ impl<B: Body> Machine<B> {
         mut bodies: Vec<B>,
     ) -> Result<Machine<B>, OpenRefused<B>>
         ensures opened { IfOk result (λ m. m ≡ scheduler net (start B.Kinds.family net) [] (replicate (length net.processes) ReadyV) None 0) }
+        ensures fresh { IfOk result IsFresh }
         ensures cards { OnOk result (map B.card bodies.items ≡ cards_of net.processes) }
         ensures net_back { IfErr result (λ refused. refused.net ≡ net) }
         ensures bodies_back { IfErr result (λ refused. refused.bodies.items ≡ bodies.items) }
@@ -110,12 +112,10 @@ impl<B: Body> Machine<B> {
     pub fn end(&self) -> Option<End>
         ensures end { result ≡ self.now.end }
         ensures faithful { IsFaithful B.Kinds.family B.Kinds.admits self.now }
-        ensures room { TakesLeastRoom B.Kinds.family self.now.network self.now.history self.now.state }
     {
         self.net.processes();
         valid_runs();
         sorted_runs::<B::Kinds>();
-        least_room_of::<B::Kinds>();
         self.end
     }
 
@@ -314,6 +314,25 @@ impl<B: Body> Machine<B> {
 }
 
 impl<B: Body> Machine<B> {
+    /// The machine without its bodies, as it stands. Takes no memory.
+    pub fn into_chronicle(self) -> Chronicle<B::Kinds>
+        ensures { result ≡ self }
+    {
+        self.end();
+        let Machine {
+            net,
+            store,
+            places,
+            bodies: _,
+            spare: _,
+            end,
+            commits,
+        } = self;
+        Chronicle::new(net, store, places, end, commits)
+    }
+}
+
+impl<B: Body> Machine<B> {
     /// Runs to an end in the calling thread, where no process is out. Whatever number of places a channel
     /// suffices for the network, the run takes no more (Parks 1995).
     pub fn finish_alone(&mut self)
@@ -331,5 +350,6 @@ impl<B: Body> Machine<B> {
                 unreachable!()
             };
         }
+        least_room_of::<B::Kinds>();
     }
 }

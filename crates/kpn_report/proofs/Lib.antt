@@ -1,1 +1,3 @@
 pub mod Tallies
+pub mod Flows
+pub mod Counts

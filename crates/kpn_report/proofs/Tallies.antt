@@ -1,5 +1,5 @@
 -- What one more entry adds to what is kept of a history.
-use Rattle.std.proofs.Common.{◌≡◌, ◌≢◌, ◌<◌, ◌≤◌, ◌+◌, ◌==◌, Bool, suc, map, ⊎_elim, ℕ, true, false, cond, List, [], ◌∷◌, ◌++◌, length, get_or, set, refl, sym, ap, ◌∙◌, arith, append_assoc, append-nil, length-append, add-zero, eq-eqb, ne_eqb, get_or-set_same, get_or-set_other}
+use Rattle.std.proofs.Common.{◌≡◌, ◌≢◌, ◌<◌, ◌≤◌, ◌+◌, ◌==◌, Bool, suc, map, ⊎_elim, ℕ, true, false, cond, List, [], ◌∷◌, ◌++◌, length, get_or, set, refl, sym, ap, ◌∙◌, arith, append-nil, length-append, add-zero, eq-eqb, ne_eqb, get_or-set_same, get_or-set_other}
 use Rattle.std.proofs.lemmas.Bool.{cases_eq, cases_lt}
 use Rattle.std.proofs.lemmas.List.{get_or_past}
 use Rattle.std.proofs.lemmas.List.FromFn.{fill_by_all}
@@ -12,60 +12,60 @@ use Rattle.kpn_net.specs.declared.history.Deed.TheVariants.{Took, Put, Stopped}
 use Rattle.kpn_net.specs.declared.history.Entry.{Entry}
 use Rattle.kpn_net.specs.declared.history.Entry.TheVariants.{Did, Grew}
 use Rattle.kpn_net.specs.Network.{Network, channel_of}
-use Rattle.kpn_net.specs.History.{each_process, each_channel, deeds, put_on, stream, taken, growths, grown}
+use Rattle.kpn_net.specs.History.{each_process, each_channel, deeds, put_on, taken, growths, grown}
 use Rattle.kpn_laws.proofs.Views.{deeds_push_same, deeds_push_other, deeds_push_grew, put_on-append, taken-append, growths-append, grown_push}
 use Rattle.kpn_report.specs.declared.account.Account.{Account}
 use Rattle.kpn_report.specs.Tally.{account, no_account, account_at, with_put, with_taken, with_capacity, CountsSteps, KeepsAccounts}
 
 -- a list that is f place by place, of which one place is written, is f' place by place
-places_set : {X : Type 0} (xs : List X) (d : X) (f f' : ℕ → X) (n c : ℕ) (x : X) → length xs ≡ n → ((b : ℕ) → b < n → get_or xs b d ≡ f b) → (c < n → x ≡ f' c) → ((b : ℕ) → b ≢ c → f' b ≡ f b) → (b : ℕ) → b < n → get_or (set xs c x) b d ≡ f' b
+pub places_set : {X : Type 0} (xs : List X) (d : X) (f f' : ℕ → X) (n c : ℕ) (x : X) → length xs ≡ n → ((b : ℕ) → b < n → get_or xs b d ≡ f b) → (c < n → x ≡ f' c) → ((b : ℕ) → b ≢ c → f' b ≡ f b) → (b : ℕ) → b < n → get_or (set xs c x) b d ≡ f' b
 places_set xs d f f' n c x count each here others b within =
     ⊎_elim
     (λ (e : b ≡ c). let at : c < length xs = omega arith in let there : c < n = omega arith in ap (λ y. get_or (set xs c x) y d) e ∙ get_or-set_same xs c x d at ∙ here there ∙ ap f' (sym e))
     (λ ne. get_or-set_other xs c b x d ne ∙ each b within ∙ sym (others b ne))
     (cases_eq b c)
 
-flip : (b c : ℕ) → b ≢ c → (c == b) ≡ false
+pub flip : (b c : ℕ) → b ≢ c → (c == b) ≡ false
 flip b c ne = ne_eqb c b (λ e. ne (sym e))
 
-same_eqb : (c : ℕ) → (c == c) ≡ true
+pub same_eqb : (c : ℕ) → (c == c) ≡ true
 same_eqb c = eq-eqb c c refl
 
 module _ (net : Network) (E : List Entry) where
   -- one more entry adds its own parts
-  account_more : (e : Entry) (b : ℕ) → account net (E ++ e ∷ []) b ≡ record { stream = stream net E b ++ put_on (e ∷ []) b; taken = length (taken E b) + length (taken (e ∷ []) b); capacity = grown (channel_of net b).capacity (growths E ++ growths (e ∷ [])) b }
-  account_more e b = rw (put_on-append E (e ∷ []) b, taken-append E (e ∷ []) b, growths-append E (e ∷ []), length-append (taken E b) (taken (e ∷ []) b), append_assoc (channel_of net b).tokens (put_on E b) (put_on (e ∷ []) b))
+  account_more : (e : Entry) (b : ℕ) → account net (E ++ e ∷ []) b ≡ record { put = length (put_on E b) + length (put_on (e ∷ []) b); taken = length (taken E b) + length (taken (e ∷ []) b); capacity = grown (channel_of net b).capacity (growths E ++ growths (e ∷ [])) b }
+  account_more e b = rw (put_on-append E (e ∷ []) b, taken-append E (e ∷ []) b, growths-append E (e ∷ []), length-append (taken E b) (taken (e ∷ []) b), length-append (put_on E b) (put_on (e ∷ []) b))
 
-  put_same : (p c : ℕ) (t : Token) → account net (E ++ Did p (Put c t) ∷ []) c ≡ with_put (account net E c) t
+  put_same : (p c : ℕ) (t : Token) → account net (E ++ Did p (Put c t) ∷ []) c ≡ with_put (account net E c)
   put_same p c t = account_more (Did p (Put c t)) c ∙ rw (same_eqb c, append-nil (growths E), add-zero)
 
   put_other : (p c : ℕ) (t : Token) (b : ℕ) → b ≢ c → account net (E ++ Did p (Put c t) ∷ []) b ≡ account net E b
-  put_other p c t b ne = account_more (Did p (Put c t)) b ∙ rw (flip b c ne, append-nil (growths E), append-nil (stream net E b), add-zero)
+  put_other p c t b ne = account_more (Did p (Put c t)) b ∙ rw (flip b c ne, append-nil (growths E), add-zero, add-zero)
 
   took_same : (p c : ℕ) (t : Token) → account net (E ++ Did p (Took c t) ∷ []) c ≡ with_taken (account net E c)
-  took_same p c t = account_more (Did p (Took c t)) c ∙ rw (same_eqb c, append-nil (growths E), append-nil (stream net E c))
+  took_same p c t = account_more (Did p (Took c t)) c ∙ rw (same_eqb c, append-nil (growths E), add-zero)
 
   took_other : (p c : ℕ) (t : Token) (b : ℕ) → b ≢ c → account net (E ++ Did p (Took c t) ∷ []) b ≡ account net E b
-  took_other p c t b ne = account_more (Did p (Took c t)) b ∙ rw (flip b c ne, append-nil (growths E), append-nil (stream net E b), add-zero)
+  took_other p c t b ne = account_more (Did p (Took c t)) b ∙ rw (flip b c ne, append-nil (growths E), add-zero, add-zero)
 
   stopped_all : (p b : ℕ) → account net (E ++ Did p Stopped ∷ []) b ≡ account net E b
-  stopped_all p b = account_more (Did p Stopped) b ∙ rw (append-nil (growths E), append-nil (stream net E b), add-zero)
+  stopped_all p b = account_more (Did p Stopped) b ∙ rw (append-nil (growths E), add-zero, add-zero)
 
   grew_same : (c to : ℕ) → account net (E ++ Grew c to ∷ []) c ≡ with_capacity (account net E c) to
-  grew_same c to = account_more (Grew c to) c ∙ rw (append-nil (stream net E c), add-zero, grown_push (growths E) (channel_of net c).capacity c to c, same_eqb c)
+  grew_same c to = account_more (Grew c to) c ∙ rw (add-zero, add-zero, grown_push (growths E) (channel_of net c).capacity c to c, same_eqb c)
 
   grew_other : (c to b : ℕ) → b ≢ c → account net (E ++ Grew c to ∷ []) b ≡ account net E b
-  grew_other c to b ne = account_more (Grew c to) b ∙ rw (append-nil (stream net E b), add-zero, grown_push (growths E) (channel_of net b).capacity c to b, flip b c ne)
+  grew_other c to b ne = account_more (Grew c to) b ∙ rw (add-zero, add-zero, grown_push (growths E) (channel_of net b).capacity c to b, flip b c ne)
 
   module _ (accounts : List Account) (k : KeepsAccounts net E accounts) where
     -- the account at a channel that is there
     here : (c : ℕ) → c < length net.channels → account_at accounts c ≡ account net E c
     here c within = k.each c within
 
-    pub keeps_put : (p c : ℕ) (t : Token) → KeepsAccounts net (E ++ Did p (Put c t) ∷ []) (set accounts c (with_put (account_at accounts c) t))
+    pub keeps_put : (p c : ℕ) (t : Token) → KeepsAccounts net (E ++ Did p (Put c t) ∷ []) (set accounts c (with_put (account_at accounts c)))
     keeps_put p c t = record {
       count = length-set accounts c _ ∙ k.count;
-      each = places_set accounts no_account (account net E) (account net (E ++ Did p (Put c t) ∷ [])) (length net.channels) c (with_put (account_at accounts c) t) k.count k.each (λ within. ap (λ a. with_put a t) (here c within) ∙ sym (put_same p c t)) (put_other p c t);
+      each = places_set accounts no_account (account net E) (account net (E ++ Did p (Put c t) ∷ [])) (length net.channels) c (with_put (account_at accounts c)) k.count k.each (λ within. ap with_put (here c within) ∙ sym (put_same p c t)) (put_other p c t);
     }
 
     pub keeps_took : (p c : ℕ) (t : Token) → KeepsAccounts net (E ++ Did p (Took c t) ∷ []) (set accounts c (with_taken (account_at accounts c)))
@@ -114,6 +114,14 @@ taken_fewer (Did p (Put b t) ∷ es) c = omega (arith, taken_fewer es c)
 taken_fewer (Did p Stopped ∷ es) c = omega (arith, taken_fewer es c)
 taken_fewer (Grew b to ∷ es) c = omega (arith, taken_fewer es c)
 
+-- nor are more put on it
+put_fewer : (E : List Entry) (c : ℕ) → length (put_on E c) ≤ length E
+put_fewer [] c = omega arith
+put_fewer (Did p (Put b t) ∷ es) c = fewer_of_choice (b == c) t (put_on es c) (length es) (put_fewer es c)
+put_fewer (Did p (Took b t) ∷ es) c = omega (arith, put_fewer es c)
+put_fewer (Did p Stopped ∷ es) c = omega (arith, put_fewer es c)
+put_fewer (Grew b to ∷ es) c = omega (arith, put_fewer es c)
+
 -- so no count is more than the number of entries
 pub few_deeds : (net : Network) (E : List Entry) (steps : List ℕ) → CountsSteps net E steps → (p : ℕ) → get_or steps p 0 ≤ length E
 few_deeds net E steps k p =
@@ -127,6 +135,13 @@ few_taken net E accounts k c =
     ⊎_elim
     (λ within. let count : (account_at accounts c).taken ≡ length (taken E c) = ap (λ (a : Account). a.taken) (k.each c within) in omega (arith, taken_fewer E c))
     (λ past. let out : account_at accounts c ≡ no_account = get_or_past accounts c no_account (omega (arith, k.count)) in let none : (account_at accounts c).taken ≡ 0 = ap (λ (a : Account). a.taken) out in omega arith)
+    (cases_lt c (length net.channels))
+
+pub few_put : (net : Network) (E : List Entry) (accounts : List Account) → KeepsAccounts net E accounts → (c : ℕ) → (account_at accounts c).put ≤ length E
+few_put net E accounts k c =
+    ⊎_elim
+    (λ within. let count : (account_at accounts c).put ≡ length (put_on E c) = ap (λ (a : Account). a.put) (k.each c within) in omega (arith, put_fewer E c))
+    (λ past. let out : account_at accounts c ≡ no_account = get_or_past accounts c no_account (omega (arith, k.count)) in let none : (account_at accounts c).put ≡ 0 = ap (λ (a : Account). a.put) out in omega arith)
     (cases_lt c (length net.channels))
 
 -- the lists of the digest

@@ -51,32 +51,38 @@ module _ (net : Network) where
   abbrev pub growth_line : ℕ × ℕ → List ℕ
   growth_line g = codes "grew " ++ channel_name g.0 ++ codes " " ++ decimal g.1 ++ codes "\n"
 
+  abbrev pub process_line : List Place → List ℕ → ℕ → List ℕ
+  process_line places steps p =
+      codes "process " ++ process_name p ++ codes " " ++ place_text (slice_index_or places p Stopped)
+      ++ codes " steps " ++ decimal (slice_index steps p) ++ codes "\n"
+
+  abbrev pub channel_line : ℕ → ℕ → ℕ → ℕ → List ℕ
+  channel_line put left capacity c =
+      codes "channel " ++ channel_name c ++ codes " put " ++ decimal put
+      ++ codes " left " ++ decimal left ++ codes " capacity " ++ decimal capacity ++ codes "\n"
+
+  abbrev pub stream_line : List Token → ℕ → List ℕ
+  stream_line tokens c = codes "stream " ++ channel_name c ++ flat_map token_part tokens ++ codes "\n"
+
   module _ (d : Digest) where
     -- how many tokens were put on a channel: its stream without its start tokens
     abbrev pub put_count : ℕ → ℕ
     put_count c = length (slice_index_or d.streams c []) - length (channel_of net c).tokens
 
-    abbrev pub process_line : ℕ → List ℕ
-    process_line p =
-        codes "process " ++ process_name p ++ codes " " ++ place_text (slice_index_or d.places p Stopped)
-        ++ codes " steps " ++ decimal (slice_index d.steps p) ++ codes "\n"
+    abbrev pub left_count : ℕ → ℕ
+    left_count c = length (slice_index_or d.rests c [])
 
-    abbrev pub channel_line : ℕ → List ℕ
-    channel_line c =
-        codes "channel " ++ channel_name c ++ codes " put " ++ decimal (put_count c)
-        ++ codes " left " ++ decimal (length (slice_index_or d.rests c [])) ++ codes " capacity " ++ decimal (slice_index d.capacities c) ++ codes "\n"
-
-    abbrev pub stream_line : ℕ → List ℕ
-    stream_line c = codes "stream " ++ channel_name c ++ flat_map token_part (slice_index_or d.streams c []) ++ codes "\n"
+    abbrev pub digest_line : ℕ → List ℕ
+    digest_line c = channel_line (put_count c) (left_count c) (slice_index d.capacities c) c
 
     -- the line of the channel that is to be shown, if any is
     abbrev pub shown_line : Option ℕ → List ℕ
     shown_line None = []
-    shown_line (Some c) = stream_line c
+    shown_line (Some c) = stream_line (slice_index_or d.streams c []) c
 
     abbrev pub digest_text : Option ℕ → List ℕ
     digest_text show =
-        lines_upto process_line (length net.processes) ++ lines_upto channel_line (length net.channels)
+        lines_upto (process_line d.places d.steps) (length net.processes) ++ lines_upto digest_line (length net.channels)
         ++ flat_map growth_line d.growths ++ codes "entries " ++ decimal d.entries ++ codes "\n" ++ shown_line show
 
 -- the text of a run to M that ended for this cause: after a spent budget and after want of memory the cause alone

@@ -1,14 +1,15 @@
 //! The detail of a report.
-ghost use Rattle.std.specs.Prelude.{◌≡◌, ◌<◌, ◌^◌, [], ℕ, true, List, drop, length, map, IfOk, OnOk};
+ghost use Rattle.std.specs.Prelude.{◌≡◌, ◌<◌, [], ℕ, true, drop, get_or, length, map, IfOk};
 ghost use Rattle.kpn_net.specs.declared.history.End.{End as EndV};
 ghost use Rattle.kpn_net.specs.Network.{Family};
 ghost use Rattle.kpn_net.specs.Machine.{State, wants};
-ghost use Rattle.kpn_net.specs.History.{growths as growths_of, each_process, place_of, digest};
+ghost use Rattle.kpn_net.specs.History.{each_process, place_of, digest};
 ghost use Rattle.kpn_report.specs.Digested.{digest_with, has_detail, IsReport};
-ghost use Rattle.kpn_report.specs.Tally.{CountsSteps, KeepsAccounts};
+ghost use Rattle.kpn_report.specs.Tally.{account_at};
 
 use crate::account::Account;
-use crate::tally::note;
+use crate::streams::{Stream, Streams, streams_of};
+use crate::tally::tally_of;
 use kpn_net::{End, Entry, Kinds, Listed, Net, Place, Token};
 use std::alloc::{AllocError, Global};
 
@@ -20,12 +21,6 @@ pub type Steps = Listed<u64>;
 
 /// A number of tokens for each channel.
 pub type Sizes = Listed<usize>;
-
-/// The tokens that went through a channel, in order.
-pub type Stream = Listed<Token>;
-
-/// A stream for each channel.
-pub type Streams = Listed<Stream>;
 
 /// A channel and its new capacity for each growth, in order.
 pub type Growths = Listed<(usize, usize)>;
@@ -44,36 +39,23 @@ pub struct Detail {
     pub entries: u64,
 }
 
-/// No deed of any process yet.
-fn no_steps<K: Kinds>(alloc: Global, net: &Net<K>) -> Result<Vec<u64>, AllocError>
-    ensures { IfOk result (λ v. CountsSteps net.now [] v.items) }
+/// A stream without its first tokens, so many of which were taken.
+fn rest(alloc: Global, stream: &[Token], taken: usize) -> Result<Stream, AllocError>
+    ensures { IfOk result (λ r. r ≡ drop taken stream.now) }
 {
-    vec![in alloc; 0u64; net.processes()]
-}
-
-/// The account of each channel before any entry.
-fn first_accounts<K: Kinds>(alloc: Global, net: &Net<K>) -> Result<Vec<Account>, AllocError>
-    ensures { IfOk result (λ v. KeepsAccounts net.now [] v.items) }
-{
-    let mut accounts = Vec::with_capacity(alloc, net.channels())?;
-    for c in 0..net.channels() {
-        let account = Account {
-            stream: Listed::new(Vec::from_slice(alloc, net.tokens(c))?),
-            taken: 0,
-            capacity: net.capacity(c),
-        };
-        accounts.push(account)?;
-    }
-    Ok(accounts)
+    let from = taken.min(stream.len());
+    Ok(Listed::new(Vec::from_slice(alloc, &stream[from..])?))
 }
 
 /// What each channel still holds.
-fn rests(alloc: Global, accounts: &[Account]) -> Result<Vec<Stream>, AllocError>
-    ensures { IfOk result (λ v. v.items ≡ map (λ a. drop a.taken a.stream) accounts.now) }
+fn rests(alloc: Global, streams: &[Stream], accounts: &[Account]) -> Result<Vec<Stream>, AllocError>
+    requires { length accounts.now ≡ length streams.now }
+    ensures count { IfOk result (λ v. length v.items ≡ length streams.now) }
+    ensures each { IfOk result (λ v. (c : ℕ) → c < length streams.now → get_or v.items c [] ≡ drop (account_at accounts.now c).taken (get_or streams.now c [])) }
 {
-    let mut rests = Vec::with_capacity(alloc, accounts.len())?;
-    for account in accounts {
-        rests.push(account.rest(alloc)?)?;
+    let mut rests = Vec::with_capacity(alloc, streams.len())?;
+    for c in 0..streams.len() {
+        rests.push(rest(alloc, streams[c].as_slice(), accounts[c].taken)?)?;
     }
     Ok(rests)
 }
@@ -88,47 +70,9 @@ fn capacities(alloc: Global, accounts: &[Account]) -> Result<Vec<usize>, AllocEr
         .collect(alloc)
 }
 
-/// The stream of each channel.
-fn streams(alloc: Global, accounts: Vec<Account>) -> Result<Vec<Stream>, AllocError>
-    ensures { IfOk result (λ v. v.items ≡ map (λ a. a.stream) accounts.items) }
-{
-    let mut streams = Vec::with_capacity(alloc, accounts.len())?;
-    for account in accounts {
-        streams.push(account.stream)?;
-    }
-    Ok(streams)
-}
-
-/// What is kept of a whole history.
-#[derive(Drop)]
-struct Kept {
-    steps: Vec<u64>,
-    accounts: Vec<Account>,
-    growths: Vec<(usize, usize)>,
-}
-
-/// Reads a history once.
-fn read_once<K: Kinds>(alloc: Global, net: &Net<K>, history: &[Entry]) -> Result<Kept, AllocError>
-    ensures steps { IfOk result (λ k. CountsSteps net.now history.now k.steps.items) }
-    ensures accounts { IfOk result (λ k. KeepsAccounts net.now history.now k.accounts.items) }
-    ensures growths { IfOk result (λ k. k.growths.items ≡ growths_of history.now) }
-{
-    let mut steps = no_steps(alloc, net)?;
-    let mut accounts = first_accounts(alloc, net)?;
-    let mut growths = Vec::new(alloc);
-    for entry in history {
-        note(&mut steps, &mut accounts, &mut growths, *entry)?;
-    }
-    Ok(Kept {
-        steps,
-        accounts,
-        growths,
-    })
-}
-
 /// The detail of a history, of which it is known where it left each process.
 ///
-/// The history is read once. The error is want of memory.
+/// The history is read twice. The error is want of memory.
 pub fn detail_of<K: Kinds>(
     alloc: Global,
     net: &Net<K>,
@@ -137,17 +81,17 @@ pub fn detail_of<K: Kinds>(
 ) -> Result<Detail, AllocError>
     ensures { IfOk result (λ d. (kinds : Family) (M : State) (cause : EndV) → places.items ≡ each_process net.now (λ p. place_of net.now p (wants kinds net.now M p)) → digest_with cause d ≡ digest kinds net.now cause history.now M) }
 {
-    let kept = read_once(alloc, net, history)?;
-    let capacities = capacities(alloc, kept.accounts.as_slice())?;
-    let rests = rests(alloc, kept.accounts.as_slice())?;
-    let streams = streams(alloc, kept.accounts)?;
+    let tally = tally_of(alloc, net, history)?;
+    let streams = streams_of(alloc, net, history)?;
+    let capacities = capacities(alloc, tally.accounts.as_slice())?;
+    let rests = rests(alloc, streams.as_slice(), tally.accounts.as_slice())?;
     Ok(Detail {
         places: Listed::new(places),
-        steps: Listed::new(kept.steps),
+        steps: Listed::new(tally.steps),
         capacities: Listed::new(capacities),
         streams: Listed::new(streams),
         rests: Listed::new(rests),
-        growths: Listed::new(kept.growths),
+        growths: Listed::new(tally.growths),
         entries: history.len() as u64,
     })
 }
@@ -182,7 +126,7 @@ pub fn report_of<K: Kinds>(
 }
 
 /// Whether a run that ended so came to its own end, and so has a detail.
-fn has_detail(end: End) -> bool
+pub(crate) fn has_detail(end: End) -> bool
     ensures { result ≡ has_detail end }
 {
     matches!(end, End::Terminated | End::Deadlock | End::Ceiling)

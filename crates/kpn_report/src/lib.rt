@@ -3,10 +3,13 @@
 
 mod account;
 mod detail;
+mod lines;
+mod streams;
 mod tally;
 mod text;
+mod told;
 
-pub use detail::{
-    Detail, Growths, Places, Report, Sizes, Steps, Stream, Streams, detail_of, report_of,
-};
+pub use detail::{Detail, Growths, Places, Report, Sizes, Steps, detail_of, report_of};
+pub use streams::{Stream, Streams};
 pub use text::report_text;
+pub use told::text_of;

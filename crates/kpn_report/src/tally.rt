@@ -1,13 +1,22 @@
-//! What is counted and kept of a history, entry by entry.
-ghost use Rattle.std.specs.Prelude.{◌≡◌, ◌<◌, ◌+◌, ◌^◌, ◌++◌, ◌∷◌, [], ℕ, List, set, get_or, OnOk};
+//! What is counted of a history, entry by entry.
+ghost use Rattle.std.specs.Prelude.{◌≡◌, ◌<◌, ◌+◌, ◌^◌, ◌++◌, ◌∷◌, [], ℕ, List, set, get_or, IfOk, OnOk};
 ghost use Rattle.kpn_net.specs.declared.history.Entry.{Entry as EntryV};
 ghost use Rattle.kpn_net.specs.Network.{Network};
 ghost use Rattle.kpn_net.specs.History.{growths as growths_of};
-ghost use Rattle.kpn_report.specs.Tally.{CountsSteps, KeepsAccounts, no_account, with_put, with_taken, with_capacity, account_at};
+ghost use Rattle.kpn_report.specs.Tally.{CountsSteps, KeepsAccounts, with_put, with_taken, with_capacity, account_at};
 
 use crate::account::Account;
-use kpn_net::{Deed, Entry, Token};
-use std::alloc::AllocError;
+use kpn_net::{Deed, Entry, Kinds, Net};
+use std::alloc::{AllocError, Global};
+
+/// What is counted of a history: the deeds of each process; what was put on each channel and taken
+/// from it, and its last capacity; and the growths.
+#[derive(Drop)]
+pub(crate) struct Tally {
+    pub(crate) steps: Vec<u64>,
+    pub(crate) accounts: Vec<Account>,
+    pub(crate) growths: Vec<(usize, usize)>,
+}
 
 /// One more deed of a process.
 fn count_deed(steps: &mut Vec<u64>, process: usize)
@@ -19,19 +28,19 @@ fn count_deed(steps: &mut Vec<u64>, process: usize)
     }
 }
 
-/// One more token in the stream of a channel.
-fn note_put(accounts: &mut Vec<Account>, channel: usize, token: Token) -> Result<(), AllocError>
-    ensures { OnOk result (accounts.new.items ≡ set accounts.old.items channel (with_put (account_at accounts.old.items channel) token)) }
+/// One more token put on a channel.
+fn count_put(accounts: &mut Vec<Account>, channel: usize)
+    requires { (account_at accounts.old.items channel).put + 1 < 2 ^ 64 }
+    ensures { accounts.new.items ≡ set accounts.old.items channel (with_put (account_at accounts.old.items channel)) }
 {
     if channel < accounts.len() {
         let account = &mut accounts[channel];
-        account.stream.push(token)?;
+        account.put += 1;
     }
-    Ok(())
 }
 
 /// One more token taken from a channel.
-fn note_taken(accounts: &mut Vec<Account>, channel: usize)
+fn count_taken(accounts: &mut Vec<Account>, channel: usize)
     requires { (account_at accounts.old.items channel).taken + 1 < 2 ^ 64 }
     ensures { accounts.new.items ≡ set accounts.old.items channel (with_taken (account_at accounts.old.items channel)) }
 {
@@ -52,31 +61,27 @@ fn note_capacity(accounts: &mut Vec<Account>, channel: usize, to: usize)
 }
 
 /// What a deed puts or takes.
-fn note_deed(accounts: &mut Vec<Account>, process: usize, deed: Deed) -> Result<(), AllocError>
-    requires { (c : ℕ) → (account_at accounts.old.items c).taken + 1 < 2 ^ 64 }
-    ensures { OnOk result ((net : Network) (E : List EntryV) → KeepsAccounts net E accounts.old.items → KeepsAccounts net (E ++ Entry.Did process deed ∷ []) accounts.new.items) }
+fn note_deed(accounts: &mut Vec<Account>, process: usize, deed: Deed)
+    requires few_put { (c : ℕ) → (account_at accounts.old.items c).put + 1 < 2 ^ 64 }
+    requires few_taken { (c : ℕ) → (account_at accounts.old.items c).taken + 1 < 2 ^ 64 }
+    ensures { (net : Network) (E : List EntryV) → KeepsAccounts net E accounts.old.items → KeepsAccounts net (E ++ Entry.Did process deed ∷ []) accounts.new.items }
 {
     match deed {
-        Deed::Took { channel, .. } => {
-            note_taken(accounts, channel);
-            Ok(())
-        }
-        Deed::Put { channel, token } => {
-            note_put(accounts, channel, token)?;
-            Ok(())
-        }
-        Deed::Stopped => Ok(()),
+        Deed::Took { channel, .. } => count_taken(accounts, channel),
+        Deed::Put { channel, .. } => count_put(accounts, channel),
+        Deed::Stopped => {}
     }
 }
 
 /// What one more entry changes. The error is want of memory.
-pub(crate) fn note(
+fn note(
     steps: &mut Vec<u64>,
     accounts: &mut Vec<Account>,
     growths: &mut Vec<(usize, usize)>,
     entry: Entry,
 ) -> Result<(), AllocError>
     requires few_deeds { (p : ℕ) → get_or steps.old.items p 0 + 1 < 2 ^ 64 }
+    requires few_put { (c : ℕ) → (account_at accounts.old.items c).put + 1 < 2 ^ 64 }
     requires few_taken { (c : ℕ) → (account_at accounts.old.items c).taken + 1 < 2 ^ 64 }
     ensures steps { OnOk result ((net : Network) (E : List EntryV) → CountsSteps net E steps.old.items → CountsSteps net (E ++ entry ∷ []) steps.new.items) }
     ensures accounts { OnOk result ((net : Network) (E : List EntryV) → KeepsAccounts net E accounts.old.items → KeepsAccounts net (E ++ entry ∷ []) accounts.new.items) }
@@ -85,7 +90,7 @@ pub(crate) fn note(
     match entry {
         Entry::Did { process, deed } => {
             count_deed(steps, process);
-            note_deed(accounts, process, deed)?;
+            note_deed(accounts, process, deed);
             Ok(())
         }
         Entry::Grew { channel, to } => {
@@ -94,4 +99,49 @@ pub(crate) fn note(
             Ok(())
         }
     }
+}
+
+/// No deed of any process yet.
+fn no_steps<K: Kinds>(alloc: Global, net: &Net<K>) -> Result<Vec<u64>, AllocError>
+    ensures { IfOk result (λ v. CountsSteps net.now [] v.items) }
+{
+    vec![in alloc; 0u64; net.processes()]
+}
+
+/// The account of each channel before any entry.
+fn first_accounts<K: Kinds>(alloc: Global, net: &Net<K>) -> Result<Vec<Account>, AllocError>
+    ensures { IfOk result (λ v. KeepsAccounts net.now [] v.items) }
+{
+    let mut accounts = Vec::with_capacity(alloc, net.channels())?;
+    for c in 0..net.channels() {
+        accounts.push(Account {
+            put: 0,
+            taken: 0,
+            capacity: net.capacity(c),
+        })?;
+    }
+    Ok(accounts)
+}
+
+/// Counts a history, which is read once. The error is want of memory.
+pub(crate) fn tally_of<K: Kinds>(
+    alloc: Global,
+    net: &Net<K>,
+    history: &[Entry],
+) -> Result<Tally, AllocError>
+    ensures steps { IfOk result (λ t. CountsSteps net.now history.now t.steps.items) }
+    ensures accounts { IfOk result (λ t. KeepsAccounts net.now history.now t.accounts.items) }
+    ensures growths { IfOk result (λ t. t.growths.items ≡ growths_of history.now) }
+{
+    let mut steps = no_steps(alloc, net)?;
+    let mut accounts = first_accounts(alloc, net)?;
+    let mut growths = Vec::new(alloc);
+    for entry in history {
+        note(&mut steps, &mut accounts, &mut growths, *entry)?;
+    }
+    Ok(Tally {
+        steps,
+        accounts,
+        growths,
+    })
 }

@@ -10,6 +10,8 @@ mod describing;
 #[cfg(test)]
 mod large;
 #[cfg(test)]
+mod reports;
+#[cfg(test)]
 mod runs;
 #[cfg(test)]
 mod texts;

@@ -197,7 +197,17 @@ pub(super) fn end_of_run<R: Abort, B: Body>(
     assert_eq!(rt; machine.standings(), due.standings.as_slice());
     let places = places_of(alloc, machine.net(), machine.standings())?;
     assert_eq!(rt; places.as_slice(), due.places.as_slice());
+    assert_chronicle(rt, &machine.into_chronicle(), due);
     Ok(())
+}
+
+/// Compares what a machine left behind.
+fn assert_chronicle<R: Abort, K: Kinds>(rt: &R, chronicle: &Chronicle<K>, due: EndOfRun) {
+    assert_eq!(rt; chronicle.net().processes(), 2);
+    assert_eq!(rt; chronicle.end(), Some(due.end));
+    assert_eq!(rt; chronicle.history().len(), 7);
+    assert_eq!(rt; chronicle.history().first().copied(), Some(PUT_1));
+    assert_eq!(rt; chronicle.standings(), due.standings.as_slice());
 }
 
 #[test]

@@ -1,4 +1,4 @@
--- The report of the run, as its text.
+-- The text of the run's history.
 use Rattle.std.proofs.Common.{string_bytes, sym}
 use Rattle.kpn_execute.proofs.Telling.{run_told}
 use Rattle.kpn_execute.proofs.execute.told_of.Goals as goal
@@ -7,9 +7,8 @@ pub returns : goal.returns
 returns g c =
     let kinds = g.B.Kinds.Kinds.family in
     let machine = c.args.machine.now in
-    let report = rw (c.net-net.ensures, c.history.ensures) at (c.in_ok-report.ensures.detail kinds machine.state) in
-    run_told kinds g.B.Kinds.Kinds.admits machine c.in-Some.end c.in_ok-places.places.items c.in_ok-report.report.detail c.args.channel c.status_of.result (string_bytes c.in_ok-text.text) c.in-Some.ensures.faithful c.in-Some.ensures.room (sym c.in-Some.ensures.end)
+    let text = rw (c.net-net.ensures, c.history.ensures, c.as_slice.ensures.value) at (c.in_ok-text.ensures kinds machine.state) in
+    run_told kinds g.B.Kinds.Kinds.admits machine c.in-Some.end c.in_ok-places.places.items c.args.channel c.status_of.result (string_bytes c.in_ok-text.text) c.in-Some.ensures.faithful (c.least_room_of.ensures.each_run _ _ _ c.in-Some.ensures.faithful.run) (sym c.in-Some.ensures.end)
     (rw (c.net-net.ensures, c.standings.ensures) at c.in_ok-places.ensures)
-    c.determinacy_of.ensures.one_digest report
+    c.determinacy_of.ensures.one_digest text
     c.status_of.ensures
-    (rw (c.net-net.ensures, c.in_ok-report.ensures.end) at c.in_ok-text.ensures)

@@ -5,14 +5,14 @@ use Rattle.kpn_laws.proofs.Views.{growths_push_did, growths_push_grew}
 use Rattle.kpn_report.proofs.Tallies.{keeps_grew, counts_did, counts_grew}
 use Rattle.kpn_report.proofs.tally.note.Goals as goal
 
-pub returns-in_ok-note_deed-in-Did-clause-steps : goal.returns-in_ok-note_deed-in-Did-clause-steps
-returns-in_ok-note_deed-in-Did-clause-steps c = λ net E k. rw (c.in-Did.is, c.count_deed.ensures) (counts_did net E _ k _ _)
+pub returns-in-Did-clause-steps : goal.returns-in-Did-clause-steps
+returns-in-Did-clause-steps c = λ net E k. rw (c.in-Did.is, c.count_deed.ensures) (counts_did net E _ k _ _)
 
-pub returns-in_ok-note_deed-in-Did-clause-accounts : goal.returns-in_ok-note_deed-in-Did-clause-accounts
-returns-in_ok-note_deed-in-Did-clause-accounts c = λ net E k. rw c.in-Did.is (c.in_ok-note_deed-in-Did.ensures net E k)
+pub returns-in-Did-clause-accounts : goal.returns-in-Did-clause-accounts
+returns-in-Did-clause-accounts c = λ net E k. rw c.in-Did.is (c.note_deed.ensures net E k)
 
-pub returns-in_ok-note_deed-in-Did-clause-growths : goal.returns-in_ok-note_deed-in-Did-clause-growths
-returns-in_ok-note_deed-in-Did-clause-growths c = λ E e. rw (c.in-Did.is, growths_push_did E c.in-Did.process c.in-Did.deed) e
+pub returns-in-Did-clause-growths : goal.returns-in-Did-clause-growths
+returns-in-Did-clause-growths c = λ E e. rw (c.in-Did.is, growths_push_did E c.in-Did.process c.in-Did.deed) e
 
 pub returns-in_ok-push-in-Grew-clause-steps : goal.returns-in_ok-push-in-Grew-clause-steps
 returns-in_ok-push-in-Grew-clause-steps c = λ net E k. rw c.in-Grew.is (counts_grew net E _ k _ _)

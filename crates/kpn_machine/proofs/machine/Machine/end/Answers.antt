@@ -1,4 +1,4 @@
--- What a machine keeps says all this; and its history is a run, which takes the least room.
+-- What a machine keeps says all this.
 use Rattle.kpn_machine.proofs.Sound.{sound_faithful}
 use Rattle.kpn_machine.proofs.machine.Machine.end.Goals as goal
 
@@ -6,6 +6,3 @@ pub returns-clause-faithful : goal.returns-clause-faithful
 returns-clause-faithful g c =
     let kinds = g.B.Kinds.Kinds in
     rw (← c.self.view_is) (sound_faithful kinds.family kinds.admits kinds.signature_of _ _ _ c.processes.ensures.valid (c.valid_runs.ensures.within kinds.signature_of kinds.family) c.sorted_runs.ensures c.self.invariant.0)
-
-pub returns-clause-room : goal.returns-clause-room
-returns-clause-room g c = rw (← c.self.view_is) (c.least_room_of.ensures.each_run _ _ _ c.self.invariant.0.run)

@@ -1,9 +1,11 @@
 -- A machine that was just opened keeps what it is to keep.
-use Rattle.std.proofs.Common.{◌≡◌, length, map, ap, ◌∙◌, arith}
+use Rattle.std.proofs.Common.{◌≡◌, length, map, ap, ◌∙◌, arith, rules}
 use Rattle.std.proofs.lemmas.List.{length-map}
 use Rattle.kpn_net.specs.declared.parts.Process.{Process}
+use Rattle.kpn_net.specs.Machine.{start}
 use Rattle.kpn_machine.specs.Opening.{cards_of}
 use Rattle.kpn_machine.proofs.Opened.{sound_opened}
+use Rattle.kpn_machine.proofs.Fresh.{opened_fresh}
 use Rattle.kpn_machine.proofs.machine.Machine.open.Goals as goal
 
 pub invariant_of-result : goal.invariant_of-result
@@ -17,3 +19,6 @@ invariant_of-result g c =
           (length-map c.seat_all.new.slots.items _ ∙ c.seat_all.ensures.slots ∙ c.in-Ok.ensures.slots)),
       record { emptied = c.seat_all.ensures.emptied; enough = omega (arith, c.seat_all.ensures.room, c.args.bodies.ok.0, c.args.bodies.ok.1) },
     )
+
+pub returns-clause-fresh : goal.returns-clause-fresh
+returns-clause-fresh g c = opened_fresh _ c.args.net (start g.B.Kinds.Kinds.family c.args.net) (length c.args.net.processes) (search rules)

@@ -1,0 +1,81 @@
+//! What a machine leaves behind.
+ghost use Rattle.std.specs.Prelude.{◌≡◌};
+ghost use Rattle.kpn_machine.specs.Scheduler.{scheduler, IsFaithful};
+
+use kpn_net::{End, Entry, Kinds, Net};
+use kpn_state::{Roster, Standing, Store};
+use std::marker::Model;
+
+/// A machine without its bodies: its network, its history, where it left the processes, and how the
+/// run ended, where it did. Its type names no body, so it outlives the bodies and can be named where
+/// they can't.
+///
+/// It is made by `Machine::into_chronicle` alone. Contracts see what they see of the machine.
+#[derive(Drop)]
+pub struct Chronicle<K: Kinds> {
+    net: Net<K>,
+    store: Store,
+    places: Roster,
+    end: Option<End>,
+    commits: u64,
+}
+
+impl<K: Kinds> Model for Chronicle<K> {
+    ghost use Rattle.kpn_machine.specs.Scheduler.{Scheduler, scheduler, IsFaithful};
+
+    ghost Value = { Scheduler };
+
+    ghost view = { λ m. scheduler m.net m.store.state m.store.history m.places m.end m.commits };
+
+    ghost invariant = { λ m. IsFaithful K.family K.admits (scheduler m.net m.store.state m.store.history m.places m.end m.commits) };
+}
+
+impl<K: Kinds> Chronicle<K> {
+    pub(crate) fn new(
+        net: Net<K>,
+        store: Store,
+        places: Roster,
+        ended: Option<End>,
+        commits: u64,
+    ) -> Self
+        requires faithful { IsFaithful K.family K.admits (scheduler net store.state store.history places ended commits) }
+        ensures { result ≡ scheduler net store.state store.history places ended commits }
+    {
+        Chronicle {
+            net,
+            store,
+            places,
+            end: ended,
+            commits,
+        }
+    }
+
+    /// The network.
+    pub fn net(&self) -> &Net<K>
+        ensures { result.now ≡ self.now.network }
+    {
+        &self.net
+    }
+
+    /// The entries.
+    pub fn history(&self) -> &[Entry]
+        ensures { result.now ≡ self.now.history }
+    {
+        self.store.history()
+    }
+
+    /// Where each process stands, in order.
+    pub fn standings(&self) -> &[Standing]
+        ensures { result.now ≡ self.now.places }
+    {
+        self.places.as_slice()
+    }
+
+    /// How the run ended, where it did.
+    pub fn end(&self) -> Option<End>
+        ensures end { result ≡ self.now.end }
+        ensures faithful { IsFaithful K.family K.admits self.now }
+    {
+        self.end
+    }
+}

@@ -1,0 +1,139 @@
+//! A monitor that was closed.
+ghost use Rattle.std.specs.Prelude.{◌≡◌, ◌≢◌, length};
+ghost use mathlib.Core.List.{IsPrefix};
+ghost use Rattle.kpn_watch.specs.declared.progress.Phase.TheVariants.{Running};
+ghost use Rattle.kpn_watch.specs.Phases.{phase_of};
+ghost use Rattle.kpn_watch.specs.Shown.{shows};
+ghost use Rattle.kpn_monitor.specs.Kept.{IsShown};
+ghost use Rattle.kpn_machine.specs.Scheduler.{IsFaithful};
+
+use crate::monitor::Monitor;
+use crate::naming::EntryLedger;
+use crate::seat::Seat;
+use kpn_body::Body;
+use kpn_machine::Chronicle;
+use kpn_net::{End, Entry, Kinds, Net};
+use kpn_watch::{Board, CountingPublisher, Progress, Watcher};
+use std::marker::{Model, PhantomData};
+use std::sync::ledger::Ledger;
+
+/// Why a monitor was not closed.
+#[derive(Clone, Copy, Debug, PartialEq, Eq)]
+pub enum CloseFault {
+    /// What the seats hold does not add up to the books.
+    SeatsMissing = 1,
+}
+
+/// What `close` refuses, handed back as it was.
+#[derive(Drop)]
+pub struct Unclosed<B: Body, E: EntryLedger, O: Ledger> {
+    pub monitor: Monitor<B, E, O>,
+    pub seats: Vec<Seat<E, O>>,
+    pub fault: CloseFault,
+}
+
+/// A monitor that was closed: what its machine left behind, and the receipts, which are what the
+/// seats' shares of entries add up to. There are as many receipts as entries.
+///
+/// It is made by `Monitor::close` alone.
+#[derive(Drop)]
+pub struct Closed<K: Kinds, E: EntryLedger> {
+    chronicle: Chronicle<K>,
+    receipts: u64,
+    board: Board,
+    publisher: CountingPublisher,
+    of: PhantomData<E>,
+}
+
+impl<K: Kinds, E: EntryLedger> Model for Closed<K, E> {
+    ghost use Rattle.std.specs.Prelude.{◌≡◌};
+    ghost use Rattle.kpn_monitor.specs.Names.{Account};
+    ghost use Rattle.kpn_monitor.specs.Kept.{IsAccount, IsShown};
+
+    ghost Value = { Account };
+
+    ghost view = { λ c. record { machine = c.chronicle; receipts = c.receipts } };
+
+    ghost invariant = { λ c. IsAccount K.family K.admits E.net (record { machine = c.chronicle; receipts = c.receipts }) × IsShown E.board c.chronicle c.publisher × (c.board ≡ E.board) };
+}
+
+impl<K: Kinds, E: EntryLedger> Closed<K, E> {
+    pub(crate) fn new(
+        chronicle: Chronicle<K>,
+        receipts: u64,
+        board: Board,
+        publisher: CountingPublisher,
+    ) -> Self
+        requires network { chronicle.network ≡ E.net }
+        requires faithful { IsFaithful K.family K.admits chronicle }
+        requires shown { IsShown E.board chronicle publisher }
+        requires board { board ≡ E.board }
+        requires receipts { length chronicle.history ≡ receipts }
+        ensures { result ≡ record { machine = chronicle; receipts = receipts } }
+    {
+        Closed {
+            chronicle,
+            receipts,
+            board,
+            publisher,
+            of: PhantomData,
+        }
+    }
+
+    /// The network that the monitor's type names.
+    pub fn net(&self) -> &Net<K>
+        ensures { result.now ≡ self.now.machine.network }
+    {
+        self.chronicle.net()
+    }
+
+    /// The entries, in order.
+    pub fn history(&self) -> &[Entry]
+        ensures { result.now ≡ self.now.machine.history }
+    {
+        self.chronicle.history()
+    }
+
+    /// What the seats' shares of entries add up to.
+    pub fn receipts(&self) -> u64
+        ensures receipts { result ≡ self.now.receipts }
+        ensures entries { result ≡ length self.now.machine.history }
+    {
+        self.receipts
+    }
+
+    /// How the run ended, where it did.
+    pub fn end(&self) -> Option<End>
+        ensures end { result ≡ self.now.machine.end }
+        ensures faithful { IsFaithful K.family K.admits self.now.machine }
+    {
+        self.chronicle.end()
+    }
+
+    /// Ends a watcher, and tells how long the whole history is and how it ended. The history goes on from
+    /// what the watcher had seen, and is that where it had seen an end. Takes no memory, and waits for
+    /// nobody.
+    pub fn settle(&mut self, watcher: Watcher) -> Progress
+        requires { watcher.board ≡ E.board }
+        ensures goes_on { IsPrefix watcher.entries self.old.machine.history }
+        ensures ended { watcher.phase ≢ Running → (self.old.machine.history ≡ watcher.entries) × (phase_of self.old.machine.end ≡ watcher.phase) }
+        ensures shown { result ≡ shows self.old.machine.history (phase_of self.old.machine.end) }
+        ensures same { self.new ≡ self.old }
+    {
+        self.publisher.settle(&self.board, watcher)
+    }
+
+    /// What the machine left behind: network, history, standings and end.
+    pub fn into_chronicle(self) -> Chronicle<K>
+        ensures { result ≡ self.machine }
+    {
+        let Closed {
+            chronicle,
+            receipts: _,
+            board: _,
+            publisher: _,
+            of: _,
+        } = self;
+        chronicle
+    }
+}

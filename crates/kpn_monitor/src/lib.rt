@@ -1,0 +1,20 @@
+//! A Parks machine that threads share: under one lock, with a ledger of the entries that each worker
+//! brought about, and with a board that watchers read without the lock.
+//!
+//! A worker has a `Seat`. It takes a task from the `Monitor`, calls it outside the lock, and commits the
+//! answer. After the work `Monitor::close` compares the seats with the books, and gives the history.
+#![tactic(auto)]
+
+mod closed;
+mod guarded;
+mod monitor;
+mod naming;
+mod opening;
+mod seat;
+
+pub use closed::{CloseFault, Closed, Unclosed};
+pub use guarded::Taken;
+pub use monitor::Monitor;
+pub use naming::EntryLedger;
+pub use opening::Opening;
+pub use seat::Seat;

@@ -1,0 +1,22 @@
+//! What the types of a monitor name.
+use std::marker::Brand;
+use std::sync::ledger::Ledger;
+
+/// The ledger of a monitor's entries, which also names the monitor's network and its board. A function
+/// that is generic over it is called with `std::marker::Brand`, and that call picks the names.
+pub trait EntryLedger: Ledger {
+    ghost use Rattle.atomic_table.specs.Seated.{TableId};
+    ghost use Rattle.kpn_net.specs.Network.{Network};
+
+    ghost net: { Network };
+
+    ghost board: { TableId };
+}
+
+impl EntryLedger for Brand {
+    ghost use Rattle.std.specs.Prelude.{[]};
+
+    ghost net = { record { processes = []; channels = []; budget = 0; step = 0; ceiling = 0 } };
+
+    ghost board = { record { words = 0; slots = 0; views_name = 0; atom = 0; block = 0; offset = 0; slot_names = [] } };
+}

@@ -1,0 +1,103 @@
+//! A machine that is to be shared.
+ghost use Rattle.std.specs.Prelude.{◌≡◌, [], MatchResult};
+ghost use Rattle.kpn_watch.specs.declared.progress.Phase.TheVariants.{Running};
+ghost use Rattle.kpn_machine.specs.Scheduler.{IsFresh};
+
+use kpn_body::Body;
+use kpn_machine::Machine;
+use kpn_watch::{Board, Publisher};
+use std::alloc::Global;
+use std::marker::Model;
+use std::sync::ledger::Blank;
+
+/// A fresh machine, with a board and two ledgers that no type names yet. Contracts see the machine, the
+/// board, and the name and parts of each ledger.
+#[derive(Drop)]
+pub struct Opening<B: Body> {
+    machine: Machine<B>,
+    board: Board,
+    publisher: Publisher,
+    entries: Blank,
+    overs: Blank,
+}
+
+impl<B: Body> Model for Opening<B> {
+    ghost use Rattle.std.specs.Prelude.{◌≡◌, []};
+    ghost use Rattle.kpn_watch.specs.declared.progress.Phase.TheVariants.{Running};
+    ghost use Rattle.kpn_machine.specs.Scheduler.{IsFresh};
+    ghost use Rattle.kpn_monitor.specs.Names.{Unopened};
+
+    ghost Value = { Unopened };
+
+    ghost view = { λ o. record { machine = o.machine; board = o.board; entries = record { name = o.entries.name; parts = o.entries.parts }; overs = record { name = o.overs.name; parts = o.overs.parts } } };
+
+    ghost invariant = { λ o. IsFresh o.machine × (o.publisher ≡ record { board = o.board; entries = []; phase = Running; watchers = 0 }) × (o.entries.parts ≡ 65536) × (o.overs.parts ≡ 65536) };
+}
+
+impl<B: Body> Opening<B> {
+    /// The machine with a new board and with ledgers of 65,536 parts. The error is want of memory, with
+    /// the machine as it was.
+    pub fn new(alloc: Global, machine: Machine<B>) -> Result<Opening<B>, Machine<B>>
+        requires { IsFresh machine }
+        ensures { MatchResult result (λ o. (o.machine ≡ machine) × (o.entries.parts ≡ 65536) × (o.overs.parts ≡ 65536)) (λ m. m ≡ machine) }
+    {
+        let Ok((board, publisher)) = Board::new(alloc) else {
+            return Err(machine);
+        };
+        Ok(Opening {
+            machine,
+            board,
+            publisher,
+            entries: Blank::new(65536),
+            overs: Blank::new(65536),
+        })
+    }
+
+    /// The machine alone, as it was handed in.
+    pub fn into_machine(self) -> Machine<B>
+        ensures machine { result ≡ self.machine }
+        ensures fresh { IsFresh result }
+    {
+        let Opening {
+            machine,
+            board: _,
+            publisher: _,
+            entries: _,
+            overs: _,
+        } = self;
+        machine
+    }
+
+    pub(crate) fn into_parts(self) -> Parts<B>
+        ensures machine { (result.machine ≡ self.machine) × IsFresh result.machine }
+        ensures board { result.board ≡ self.board }
+        ensures publisher { result.publisher ≡ record { board = self.board; entries = []; phase = Running; watchers = 0 } }
+        ensures entries { (result.entries.name ≡ self.entries.name) × (result.entries.parts ≡ self.entries.parts) × (result.entries.parts ≡ 65536) }
+        ensures overs { (result.overs.name ≡ self.overs.name) × (result.overs.parts ≡ self.overs.parts) × (result.overs.parts ≡ 65536) }
+    {
+        let Opening {
+            machine,
+            board,
+            publisher,
+            entries,
+            overs,
+        } = self;
+        Parts {
+            machine,
+            board,
+            publisher,
+            entries,
+            overs,
+        }
+    }
+}
+
+/// What an opening is made of.
+#[derive(Drop)]
+pub(crate) struct Parts<B: Body> {
+    pub(crate) machine: Machine<B>,
+    pub(crate) board: Board,
+    pub(crate) publisher: Publisher,
+    pub(crate) entries: Blank,
+    pub(crate) overs: Blank,
+}

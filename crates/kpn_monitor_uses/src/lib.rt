@@ -1,0 +1,31 @@
+//! A caller of `kpn_monitor` that has two openings, which must-fail edits confuse: a monitor can be
+//! opened only under the names of its own opening, so no seat of another monitor has its seats' type.
+#![tactic(auto)]
+
+ghost use Rattle.std.specs.Prelude.{◌≡◌};
+
+use kpn_body::Body;
+use kpn_monitor::{EntryLedger, Monitor, Opening, Seat};
+use std::sync::ledger::Ledger;
+
+/// A monitor and a seat of it.
+#[derive(Drop)]
+pub struct Opened<B: Body, E: EntryLedger, O: Ledger> {
+    pub monitor: Monitor<B, E, O>,
+    pub seat: Seat<E, O>,
+}
+
+/// Opens the first of two openings. The types name the network, the board and the ledgers of that one.
+pub fn open_first<B: Body, E: EntryLedger, O: Ledger>(
+    first: Opening<B>,
+    _second: Opening<B>,
+) -> Opened<B, E, O>
+    requires network { first.machine.network ≡ E.net }
+    requires board { first.board ≡ E.board }
+    requires entries { (first.entries.name ≡ E.name) × (first.entries.parts ≡ E.parts) }
+    requires overs { (first.overs.name ≡ O.name) × (first.overs.parts ≡ O.parts) }
+    ensures { result.seat.parts ≡ 65536 }
+{
+    let (monitor, seat) = Monitor::open(first);
+    Opened { monitor, seat }
+}

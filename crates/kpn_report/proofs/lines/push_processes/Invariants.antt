@@ -1,0 +1,6 @@
+use Rattle.std.proofs.Common.{◌≡◌, ◌++◌, string_bytes}
+use Rattle.kpn_report.specs.Text.{lines_upto, process_line}
+use Rattle.kpn_report.proofs.lines.push_processes.Given as goal
+
+abbrev pub invariant-loop-p : goal.invariant-loop-p
+invariant-loop-p g l = string_bytes l.out ≡ string_bytes l.initial.out ++ lines_upto (process_line l.net l.places l.steps) l.p

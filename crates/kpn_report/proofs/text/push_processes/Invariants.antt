@@ -1,7 +1,0 @@
-use Rattle.std.proofs.Common.{◌≡◌, ◌++◌, string_bytes}
-use Rattle.kpn_report.specs.Text.{lines_upto, process_line}
-use Rattle.kpn_report.specs.Digested.{digest_of}
-use Rattle.kpn_report.proofs.text.push_processes.Given as goal
-
-abbrev pub invariant-loop-p : goal.invariant-loop-p
-invariant-loop-p g l = string_bytes l.out ≡ string_bytes l.initial.out ++ lines_upto (process_line l.net (digest_of l.detail)) l.p

@@ -1,0 +1,146 @@
+//! The lines of a report.
+ghost use Rattle.std.specs.Prelude.{◌≡◌, ◌++◌, ◌<◌, OnOk, IfOk, length, string_bytes};
+ghost use Rattle.std.specs.List.{flat_map};
+ghost use Rattle.kpn_report.specs.Text.{channel_name, process_line, channel_line, growth_line, token_part, lines_upto, end_text, end_line, stream_line};
+
+use kpn_net::{End, Kinds, Net, Place, Token};
+use std::alloc::{AllocError, Global};
+use std::fmt::Write;
+
+fn channel_name<K: Kinds>(net: &Net<K>, c: usize) -> &str
+    ensures { result.now ≡ channel_name net.now c }
+{
+    if c < net.channels() {
+        net.channel_name(c)
+    } else {
+        ""
+    }
+}
+
+fn push_process<K: Kinds>(
+    out: &mut String,
+    net: &Net<K>,
+    places: &[Place],
+    steps: &[u64],
+    p: usize,
+) -> Result<(), AllocError>
+    requires { p < length net.now.processes }
+    ensures { OnOk result (string_bytes out.new ≡ string_bytes out.old ++ process_line net.now places.now steps.now p) }
+{
+    let name = net.process_name(p);
+    let steps = steps.get(p).copied().unwrap_or(0);
+    match places.get(p).copied().unwrap_or(Place::Stopped) {
+        Place::Stopped => write!(out, "process {name} stopped steps {steps}\n"),
+        Place::Reads(c) => {
+            let channel = channel_name(net, c);
+            write!(out, "process {name} reads {channel} steps {steps}\n")
+        }
+        Place::Writes(c) => {
+            let channel = channel_name(net, c);
+            write!(out, "process {name} writes {channel} steps {steps}\n")
+        }
+    }
+}
+
+/// Where each process stands, and how many deeds it did.
+pub(crate) fn push_processes<K: Kinds>(
+    out: &mut String,
+    net: &Net<K>,
+    places: &[Place],
+    steps: &[u64],
+) -> Result<(), AllocError>
+    ensures { OnOk result (string_bytes out.new ≡ string_bytes out.old ++ lines_upto (process_line net.now places.now steps.now) (length net.now.processes)) }
+{
+    for p in 0..net.processes() {
+        push_process(out, net, places, steps, p)?;
+    }
+    Ok(())
+}
+
+/// How many tokens were put on a channel and are left, and its capacity.
+pub(crate) fn push_channel<K: Kinds>(
+    out: &mut String,
+    net: &Net<K>,
+    put: usize,
+    left: usize,
+    capacity: usize,
+    c: usize,
+) -> Result<(), AllocError>
+    ensures { OnOk result (string_bytes out.new ≡ string_bytes out.old ++ channel_line net.now put left capacity c) }
+{
+    let name = channel_name(net, c);
+    write!(
+        out,
+        "channel {name} put {put} left {left} capacity {capacity}\n"
+    )
+}
+
+/// Each growth, in order.
+pub(crate) fn push_growths<K: Kinds>(
+    out: &mut String,
+    net: &Net<K>,
+    growths: &[(usize, usize)],
+) -> Result<(), AllocError>
+    ensures { OnOk result (string_bytes out.new ≡ string_bytes out.old ++ flat_map (growth_line net.now) growths.now) }
+{
+    for growth in growths {
+        let name = channel_name(net, growth.0);
+        let to = growth.1;
+        write!(out, "grew {name} {to}\n")?;
+    }
+    Ok(())
+}
+
+fn push_token(out: &mut String, token: Token) -> Result<(), AllocError>
+    ensures { OnOk result (string_bytes out.new ≡ string_bytes out.old ++ token_part token) }
+{
+    match token {
+        Token::Word(word) => write!(out, " {word}"),
+        Token::Flag(flag) => write!(out, " {flag}"),
+    }
+}
+
+fn push_tokens(out: &mut String, tokens: &[Token]) -> Result<(), AllocError>
+    ensures { OnOk result (string_bytes out.new ≡ string_bytes out.old ++ flat_map token_part tokens.now) }
+{
+    for token in tokens {
+        push_token(out, *token)?;
+    }
+    Ok(())
+}
+
+/// The tokens that went through a channel.
+pub(crate) fn push_stream<K: Kinds>(
+    out: &mut String,
+    net: &Net<K>,
+    tokens: &[Token],
+    c: usize,
+) -> Result<(), AllocError>
+    ensures { OnOk result (string_bytes out.new ≡ string_bytes out.old ++ stream_line net.now tokens.now c) }
+{
+    let name = channel_name(net, c);
+    write!(out, "stream {name}")?;
+    push_tokens(out, tokens)?;
+    out.push_str("\n")
+}
+
+/// The word for why a run ended.
+fn end_text(end: End) -> &'static str
+    ensures { result.now ≡ end_text end }
+{
+    match end {
+        End::Terminated => "terminated",
+        End::Deadlock => "deadlock",
+        End::Ceiling => "ceiling",
+        End::Budget => "budget",
+        End::Memory => "memory",
+    }
+}
+
+/// The first line.
+pub(crate) fn end_line(alloc: Global, end: End) -> Result<String, AllocError>
+    ensures { IfOk result (λ line. string_bytes line ≡ end_line end) }
+{
+    let word = end_text(end);
+    format!(in alloc; "end {word}\n")
+}

@@ -1,0 +1,143 @@
+//! The text of a report, from a history.
+ghost use Rattle.std.specs.Prelude.{◌≡◌, ◌++◌, ◌<◌, ◌+◌, ◌^◌, [], ℕ, true, OnOk, IfOk, length, slice_index_or, string_bytes};
+ghost use Rattle.kpn_net.specs.Network.{Family};
+ghost use Rattle.kpn_net.specs.Machine.{State, wants};
+ghost use Rattle.kpn_net.specs.History.{stream, each_process, each_channel, place_of, digest};
+ghost use Rattle.kpn_net.specs.declared.history.End.TheVariants.{Terminated};
+ghost use Rattle.kpn_report.specs.Tally.{account_at};
+ghost use Rattle.kpn_report.specs.Counted.{counted_line, counted_text, shown_of};
+ghost use Rattle.kpn_report.specs.Text.{lines_upto, digest_text, text};
+ghost use Rattle.kpn_report.specs.Digested.{has_detail};
+
+use crate::account::Account;
+use crate::detail::has_detail;
+use crate::lines::{end_line, push_channel, push_growths, push_processes, push_stream};
+use crate::streams::{Stream, stream_of};
+use crate::tally::{Tally, tally_of};
+use kpn_net::{End, Entry, Kinds, Listed, Net, Place};
+use std::alloc::{AllocError, Global};
+use std::fmt::Write;
+
+/// The line of a channel, from what was counted of it.
+fn push_counted<K: Kinds>(
+    out: &mut String,
+    net: &Net<K>,
+    accounts: &[Account],
+    c: usize,
+) -> Result<(), AllocError>
+    requires channel { c < length net.now.channels }
+    requires all { length accounts.now ≡ length net.now.channels }
+    requires few { (account_at accounts.now c).put < 2 ^ 63 }
+    ensures { OnOk result (string_bytes out.new ≡ string_bytes out.old ++ counted_line net.now accounts.now c) }
+{
+    let account = accounts[c];
+    let left = (net.tokens(c).len() + account.put).saturating_sub(account.taken);
+    push_channel(out, net, account.put, left, account.capacity, c)
+}
+
+/// The lines of the channels, from what was counted of them.
+fn push_channels<K: Kinds>(
+    out: &mut String,
+    net: &Net<K>,
+    accounts: &[Account],
+) -> Result<(), AllocError>
+    requires few { (c : ℕ) → (account_at accounts.now c).put < 2 ^ 63 }
+    requires all { length accounts.now ≡ length net.now.channels }
+    ensures { OnOk result (string_bytes out.new ≡ string_bytes out.old ++ lines_upto (counted_line net.now accounts.now) (length net.now.channels)) }
+{
+    for c in 0..net.channels() {
+        push_counted(out, net, accounts, c)?;
+    }
+    Ok(())
+}
+
+/// The stream of a channel that is to be shown; no tokens where there is no such channel.
+fn shown_stream<K: Kinds>(
+    alloc: Global,
+    net: &Net<K>,
+    history: &[Entry],
+    c: usize,
+) -> Result<Stream, AllocError>
+    ensures { IfOk result (λ v. v ≡ slice_index_or (each_channel net.now (λ b. stream net.now history.now b)) c []) }
+{
+    if c < net.channels() {
+        stream_of(alloc, net, history, c)
+    } else {
+        Ok(Listed::new(Vec::new(alloc)))
+    }
+}
+
+/// The line of the channel that is to be shown, if any is.
+fn push_shown<K: Kinds>(
+    alloc: Global,
+    out: &mut String,
+    net: &Net<K>,
+    history: &[Entry],
+    show: Option<usize>,
+) -> Result<(), AllocError>
+    ensures { OnOk result (string_bytes out.new ≡ string_bytes out.old ++ shown_of net.now history.now show) }
+{
+    if let Some(c) = show {
+        let stream = shown_stream(alloc, net, history, c)?;
+        push_stream(out, net, stream.as_slice(), c)?;
+    }
+    Ok(())
+}
+
+/// The lines of what was counted of a history of so many entries.
+fn push_tally<K: Kinds>(
+    out: &mut String,
+    net: &Net<K>,
+    places: &[Place],
+    tally: &Tally,
+    entries: usize,
+) -> Result<(), AllocError>
+    requires few { (c : ℕ) → (account_at tally.now.accounts.items c).put < 2 ^ 63 }
+    requires all { length tally.now.accounts.items ≡ length net.now.channels }
+    ensures { OnOk result (string_bytes out.new ≡ string_bytes out.old ++ counted_text net.now places.now tally.now.steps.items tally.now.accounts.items tally.now.growths.items entries) }
+{
+    push_processes(out, net, places, tally.steps.as_slice())?;
+    push_channels(out, net, tally.accounts.as_slice())?;
+    push_growths(out, net, tally.growths.as_slice())?;
+    write!(out, "entries {entries}\n")
+}
+
+/// The lines of a history after the first.
+fn push_history<K: Kinds>(
+    alloc: Global,
+    out: &mut String,
+    net: &Net<K>,
+    history: &[Entry],
+    places: &[Place],
+    show: Option<usize>,
+) -> Result<(), AllocError>
+    ensures { OnOk result ((kinds : Family) (M : State) → places.now ≡ each_process net.now (λ p. place_of net.now p (wants kinds net.now M p)) → string_bytes out.new ≡ string_bytes out.old ++ digest_text net.now (digest kinds net.now Terminated history.now M) show) }
+{
+    let entries = history.len();
+    let tally = tally_of(alloc, net, history)?;
+    push_tally(out, net, places, &tally, entries)?;
+    push_shown(alloc, out, net, history, show)?;
+    Ok(())
+}
+
+/// The text of the report of a history that ended so, of which it is known where it left each process
+/// if it has a detail: what `report_text` gives of the report of that history.
+///
+/// The history is counted in one pass, and no stream is kept but that of the channel that is to be
+/// shown, which takes one pass more. The error is want of memory.
+pub fn text_of<K: Kinds>(
+    alloc: Global,
+    net: &Net<K>,
+    history: &[Entry],
+    places: &[Place],
+    end: End,
+    show: Option<usize>,
+) -> Result<String, AllocError>
+    ensures { IfOk result (λ t. (kinds : Family) (M : State) → (has_detail end ≡ true → places.now ≡ each_process net.now (λ p. place_of net.now p (wants kinds net.now M p))) → string_bytes t ≡ text kinds net.now end history.now M show) }
+{
+    let mut out = end_line(alloc, end)?;
+    if has_detail(end) {
+        push_history(alloc, &mut out, net, history, places, show)?;
+    }
+    Ok(out)
+}

@@ -1,0 +1,24 @@
+-- What the end of a run says.
+use Rattle.std.proofs.Common.{ℕ, ◌≡◌, List, length, refl, subst}
+use Rattle.std.specs.Prelude.{Option, Some}
+use Rattle.kpn_net.specs.declared.token.Token.{Token}
+use Rattle.kpn_net.specs.declared.kinds.Card.{Card}
+use Rattle.kpn_net.specs.declared.history.End.{End}
+use Rattle.kpn_net.specs.declared.history.Entry.{Entry}
+use Rattle.kpn_net.specs.Network.{Family, Network}
+use Rattle.kpn_net.specs.Machine.{State}
+use Rattle.kpn_net.specs.Moments.{IsBound}
+use Rattle.kpn_machine.specs.Scheduler.{IsFaithful, EndHolds}
+use Rattle.kpn_run.specs.Runs.{FinishedRun, IsFinish}
+
+bound_of : (kinds : Family) (net : Network) (E : List Entry) (M : State) (o : Option End) (e : End) → o ≡ Some e → EndHolds kinds net E M o → IsBound kinds net E M e
+bound_of kinds net E M o e is h = subst (EndHolds kinds net E M) is h
+
+pub finish_of : (kinds : Family) (admits : Card → List ℕ → Option Token → Type 0) (f : FinishedRun) → IsFaithful kinds admits f.machine → f.machine.end ≡ Some f.cause → length f.machine.history ≡ f.receipts → IsFinish kinds f.machine.network f
+finish_of kinds admits f faithful is receipts =
+    record {
+      network = refl;
+      run = faithful.run;
+      bound = bound_of kinds f.machine.network f.machine.history f.machine.state f.machine.end f.cause is faithful.bound;
+      receipts = receipts;
+    }

@@ -1,0 +1,97 @@
+-- The report of a run, and the other runs that it tells of.
+use Rattle.std.proofs.Common.{◌≡◌, ◌≢◌, ◌++◌, ◌∷◌, [], ◌<◌, ◌+◌, get_or, ℕ, true, List, Option, Some, length, take, refl, sym, ap, ◌∙◌, append_assoc}
+use Rattle.std.proofs.Math.Path.{fun_ext}
+use Rattle.std.proofs.lemmas.List.{take_more}
+use Rattle.kpn_net.specs.declared.token.Token.{Token}
+use Rattle.kpn_net.specs.declared.kinds.Card.{Card}
+use Rattle.kpn_net.specs.declared.history.Entry.{Entry}
+use Rattle.kpn_net.specs.declared.history.End.{End}
+use Rattle.kpn_net.specs.declared.history.End.TheVariants.{Terminated, Deadlock, Ceiling, Budget, Memory}
+use Rattle.kpn_net.specs.declared.history.Place.{Place}
+use Rattle.kpn_net.specs.Network.{Family, Network, channel_of, resized}
+use Rattle.kpn_net.specs.Machine.{State, IsOver, wants}
+use Rattle.kpn_net.specs.History.{Digest, each_process, each_channel, place_of, deeds, stream, put_on}
+use Rattle.kpn_net.specs.Determinacy.{IsFinal, IsNatural, OneDigest, OneOutcome}
+use Rattle.kpn_net.specs.Moments.{IsBound}
+use Rattle.kpn_laws.proofs.Views.{put_on-append}
+use Rattle.kpn_state.specs.Standings.{place, parked_answer}
+use Rattle.kpn_state.proofs.Placed.{idle_at}
+use Rattle.kpn_machine.specs.Scheduler.{Scheduler, IsFaithful}
+use Rattle.kpn_report.specs.declared.detail.Detail.{Detail}
+use Rattle.kpn_report.specs.Digested.{IsReport, has_detail}
+use Rattle.kpn_run.specs.Runs.{FinishedRun, IsFinish}
+use Rattle.kpn_run.specs.Reports.{IsEveryRuns, IsOutcome}
+
+not_budget : (cause : End) → has_detail cause ≡ true → cause ≢ Budget
+not_budget Terminated has e = cc
+not_budget Deadlock has e = cc
+not_budget Ceiling has e = cc
+not_budget Budget has e = cc
+not_budget Memory has e = cc
+
+-- where a run came to its own end, what the parked processes answered is what all want
+pub at_rest :
+    (kinds : Family) (admits : Card → List ℕ → Option Token → Type 0) (s : Scheduler) (cause : End) → IsFaithful kinds admits s → s.end ≡ Some cause → has_detail cause ≡ true
+    → each_process s.network (λ p. place_of s.network p (parked_answer (place s.places p))) ≡ each_process s.network (λ p. place_of s.network p (wants kinds s.network s.state p))
+at_rest kinds admits s cause faithful ended has =
+    let same : (λ (p : ℕ). place_of s.network p (parked_answer (place s.places p))) ≡ (λ (p : ℕ). place_of s.network p (wants kinds s.network s.state p)) = fun_ext (λ p. ap (place_of s.network p) (sym (faithful.wanted p (idle_at s.places p (faithful.none_busy cause ended (not_budget cause has)))))) in
+    ap (each_process s.network) same
+
+-- the report of a run, of which it is known where it left each process
+pub own_report :
+    (kinds : Family) (admits : Card → List ℕ → Option Token → Type 0) (s : Scheduler) (cause : End) (places : List Place) (detail : Option Detail) → IsFaithful kinds admits s → s.end ≡ Some cause
+    → places ≡ each_process s.network (λ p. place_of s.network p (parked_answer (place s.places p)))
+    → ((has_detail cause ≡ true → places ≡ each_process s.network (λ p. place_of s.network p (wants kinds s.network s.state p))) → IsReport kinds s.network cause s.history s.state detail)
+    → IsReport kinds s.network cause s.history s.state detail
+own_report kinds admits s cause places detail faithful ended are report = report (λ has. are ∙ at_rest kinds admits s cause faithful ended has)
+
+module _ (kinds : Family) (net : Network) (E : List Entry) (M : State) (cause : End) (detail : Option Detail) (report : IsReport kinds net cause E M detail) (final : has_detail cause ≡ true → IsFinal kinds net E M cause) where
+  pub every_runs : OneDigest kinds → IsEveryRuns kinds net cause detail
+  every_runs one has F N b over = let (d, is, same) = report.some has in (d, is, same ∙ one net E F M N cause b (final has) over)
+
+  natural : (a : End) → IsNatural a → has_detail a ≡ true
+  natural Terminated n = refl
+  natural Deadlock n = refl
+  natural Ceiling n = refl
+  natural Budget n = absurd n
+  natural Memory n = absurd n
+
+  pub outcome : OneOutcome kinds → IsOutcome kinds net cause E detail
+  outcome one own sizes F N b over too =
+      let (d, is, same) = report.some (natural cause own) in
+      let both = one net sizes E F M N cause b (final (natural cause own)) own over too in
+      let other = resized net sizes in
+      let places : (λ (p : ℕ). place_of net p (wants kinds net M p)) ≡ (λ (p : ℕ). place_of other p (wants kinds other N p)) = fun_ext both.places in
+      let steps : (λ (p : ℕ). length (deeds E p)) ≡ (λ (p : ℕ). length (deeds F p)) = fun_ext (λ p. ap length (both.deeds p)) in
+      let streams : (λ (c : ℕ). stream net E c) ≡ (λ (c : ℕ). stream other F c) = fun_ext both.streams in (
+        d,
+        is,
+        record {
+          deeds_same = both.deeds;
+          places = ap (λ (x : Digest). x.places) same ∙ ap (each_process net) places;
+          steps = ap (λ (x : Digest). x.steps) same ∙ ap (each_process net) steps;
+          streams = ap (λ (x : Digest). x.streams) same ∙ ap (each_channel net) streams;
+        },
+      )
+
+-- a run that came to its own end is over
+over_of : (kinds : Family) (net : Network) (cause : End) (E : List Entry) (M : State) → has_detail cause ≡ true → IsBound kinds net E M cause → IsOver kinds net M cause
+over_of kinds net Terminated E M has bound = bound
+over_of kinds net Deadlock E M has bound = bound
+over_of kinds net Ceiling E M has bound = bound
+over_of kinds net Budget E M has bound = cc
+over_of kinds net Memory E M has bound = cc
+
+pub final_of : (kinds : Family) (net : Network) (f : FinishedRun) → IsFinish kinds net f → has_detail f.cause ≡ true → IsFinal kinds net f.machine.history f.machine.state f.cause
+final_of kinds net f finish has = record { run = finish.run; over = over_of kinds net f.cause f.machine.history f.machine.state has finish.bound }
+
+-- one entry more
+pub stream_more : (net : Network) (E : List Entry) (e : Entry) (c : ℕ) → stream net (E ++ e ∷ []) c ≡ stream net E c ++ put_on (e ∷ []) c
+stream_more net E e c = ap (λ ts. (channel_of net c).tokens ++ ts) (put_on-append E (e ∷ []) c) ∙ sym (append_assoc (channel_of net c).tokens (put_on E c) (put_on (e ∷ []) c))
+
+-- the next entry of a history
+pub stream_next :
+    (net : Network) (history : List Entry) (i : ℕ) (d : Entry) (c : ℕ) (old new : List Token) → i < length history → old ≡ stream net (take i history) c
+    → new ≡ old ++ put_on (get_or history i d ∷ []) c → new ≡ stream net (take (i + 1) history) c
+stream_next net history i d c old new within was is =
+    is ∙ ap (λ ts. ts ++ put_on (get_or history i d ∷ []) c) was ∙ sym (stream_more net (take i history) (get_or history i d) c) ∙ ap (λ E. stream net E c) (sym (take_more history i d within))

@@ -1,0 +1,28 @@
+-- Each front of the history is a run of a valid network.
+use Rattle.std.proofs.Common.{sym, subst}
+use Rattle.kpn_net.specs.Network.{Network}
+use Rattle.kpn_net.specs.Machine.{start}
+use Rattle.kpn_net.specs.Determinacy.{IsRun}
+use Rattle.kpn_net.specs.Valid.{IsValid}
+use Rattle.kpn_run.proofs.executor.told_by_laws.Goals as goal
+
+pub returns-clause-within : goal.returns-clause-within
+returns-clause-within g c = λ E F is.
+    let kinds = g.K.Kinds.family in
+    let machine = c.args.finish.now.machine in
+    let net = machine.network in
+    let run = subst (λ l. IsRun kinds net l machine.state) (sym is) c.end.ensures.finish.run in
+    let front = c.determinacy_of.ensures.fronts net (start kinds net) machine.state E F run in
+    let valid = subst (λ (n : Network). IsValid g.K.Kinds.signature_of n) c.net.ensures c.processes.ensures.valid in
+    (front.0, front.1, c.valid_runs.ensures.within g.K.Kinds.signature_of kinds net valid E front.0 front.1)
+
+pub returns-clause-budget : goal.returns-clause-budget
+returns-clause-budget g c = λ F N b over short.
+    let f = c.end.ensures.finish in
+    let machine = c.args.finish.now.machine in
+    c.determinacy_of.ensures.budget machine.network machine.history F machine.state N c.args.finish.now.cause b f.run f.bound over short
+
+pub returns-clause-in_line : goal.returns-clause-in_line
+returns-clause-in_line g c = λ sizes F N run.
+    let machine = c.args.finish.now.machine in
+    c.determinacy_of.ensures.all_in_line machine.network sizes machine.history F machine.state N c.end.ensures.finish.run run

@@ -1,0 +1,29 @@
+-- What a report tells of other runs.
+use Rattle.std.specs.Prelude.{◌≡◌, ℕ, true, List, length, Option, Some}
+use Rattle.kpn_net.specs.declared.history.End.{End}
+use Rattle.kpn_net.specs.declared.history.Entry.{Entry}
+use Rattle.kpn_net.specs.Network.{Family, Network, resized}
+use Rattle.kpn_net.specs.Machine.{State, wants}
+use Rattle.kpn_net.specs.History.{deeds, stream, place_of, each_process, each_channel, digest}
+use Rattle.kpn_net.specs.Determinacy.{IsFinal, IsNatural}
+use Rattle.kpn_report.specs.declared.detail.Detail.{Detail}
+use Rattle.kpn_report.specs.Digested.{digest_with, has_detail}
+
+-- the end and the detail are those of every run of the network that is over
+abbrev pub IsEveryRuns : Family → Network → End → Option Detail → Type 0
+IsEveryRuns kinds net cause detail = has_detail cause ≡ true → (F : List Entry) (N : State) (b : End) → IsFinal kinds net F N b → (d : Detail) × (detail ≡ Some d) × (digest_with cause d ≡ digest kinds net b F N)
+
+-- the history has the deeds of the run F of another network to N, and the detail its places, steps and
+-- streams
+pub record HasOutcome (kinds : Family) (net other : Network) (history F : List Entry) (N : State) (d : Detail) : Type 0 where
+  pub deeds_same : (p : ℕ) → deeds history p ≡ deeds F p
+  pub places : d.places ≡ each_process net (λ p. place_of other p (wants kinds other N p))
+  pub steps : d.steps ≡ each_process net (λ p. length (deeds F p))
+  pub streams : d.streams ≡ each_channel net (λ c. stream other F c)
+
+-- where the run terminated or ended in a deadlock, so it is for every run that does so, from any
+-- starting capacities
+abbrev pub IsOutcome : Family → Network → End → List Entry → Option Detail → Type 0
+IsOutcome kinds net cause history detail =
+    IsNatural cause → (sizes : ℕ → ℕ) (F : List Entry) (N : State) (b : End) → IsFinal kinds (resized net sizes) F N b → IsNatural b
+    → (d : Detail) × (detail ≡ Some d) × HasOutcome kinds net (resized net sizes) history F N d

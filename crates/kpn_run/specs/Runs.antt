@@ -1,0 +1,47 @@
+-- What a run hands out, and what its workers hand back.
+use Rattle.std.specs.Prelude.{◌≡◌, ◌≢◌, ◌<◌, ℕ, Bool, false, length, List, ◌++◌}
+use Rattle.kpn_net.specs.declared.history.End.{End}
+use Rattle.kpn_net.specs.declared.history.End.TheVariants.{Budget}
+use Rattle.kpn_net.specs.declared.history.Entry.{Entry}
+use Rattle.kpn_net.specs.Network.{Family, Network, resized}
+use Rattle.kpn_net.specs.Machine.{State}
+use Rattle.kpn_net.specs.Determinacy.{IsRun, IsFinal, AreAllInLine}
+use Rattle.kpn_net.specs.Moments.{IsBound, IsWithin}
+use Rattle.kpn_machine.specs.Scheduler.{Scheduler}
+use Rattle.kpn_monitor.specs.Names.{Shares}
+
+-- what contracts see of a run that is over: the machine that was closed, the receipts, and the end
+pub record FinishedRun : Type 0 where
+  pub machine : Scheduler
+  pub receipts : ℕ
+  pub cause : End
+
+-- the history is a run of this network from its start, so each entry is a transition of the sequential
+-- machine; the end that stands is bound; and there are as many entries as receipts
+pub record IsFinish (kinds : Family) (net : Network) (f : FinishedRun) : Type 0 where
+  pub network : f.machine.network ≡ net
+  pub run : IsRun kinds net f.machine.history f.machine.state
+  pub bound : IsBound kinds net f.machine.history f.machine.state f.cause
+  pub receipts : length f.machine.history ≡ f.receipts
+
+-- after each front of the history no channel holds more tokens than its capacity
+abbrev pub StaysWithin : Family → Network → List Entry → Type 0
+StaysWithin kinds net history = (E F : List Entry) → E ++ F ≡ history → (M : State) × IsRun kinds net E M × IsWithin M
+
+-- where some run that is over has fewer entries than the budget, the end is not the budget's
+abbrev pub SparesBudget : Family → Network → End → Type 0
+SparesBudget kinds net cause = (F : List Entry) (N : State) (b : End) → IsFinal kinds net F N b → length F < net.budget → cause ≢ Budget
+
+-- this history and any run of the network, from any starting capacities, have deeds and streams of
+-- which one begins with the other
+abbrev pub IsInLine : Family → Network → List Entry → Type 0
+IsInLine kinds net history = (sizes : ℕ → ℕ) (F : List Entry) (N : State) → IsRun kinds (resized net sizes) F N → AreAllInLine net (resized net sizes) history F
+
+-- what contracts see of a worker's slot: its seat, and whether an answer of the worker was refused
+pub record AtSlot : Type 0 where
+  pub seat : Shares
+  pub lost : Bool
+
+-- a worker of which no answer was refused has met an end
+abbrev pub HasMet : AtSlot → Type 0
+HasMet b = b.lost ≡ false → b.seat.overs ≡ 1

@@ -1,0 +1,229 @@
+//! The run of a network by many workers.
+ghost use Rattle.std.specs.Prelude.{◌≡◌, ◌≢◌, ◌<◌, ◌≤◌, ◌⊎◌, ℕ, [], map, vec_capacity, Err, IfOk, OnOk};
+ghost use Rattle.kpn_net.specs.Network.{Network as NetV};
+ghost use Rattle.kpn_machine.specs.declared.opening.OpenFault.{OpenFault as OpenFaultV};
+ghost use Rattle.kpn_machine.specs.Opening.{cards_of, IsRefused};
+ghost use Rattle.kpn_machine.specs.Scheduler.{IsFresh};
+ghost use Rattle.kpn_run.specs.Runs.{IsFinish, IsInLine, SparesBudget, StaysWithin};
+ghost use Rattle.kpn_body.specs.Input.{Input};
+
+use crate::finish::Finish;
+use crate::slot::{WorkerSlot, leave_all, seat_all, work_all};
+use crate::worker::Gate;
+use kpn_body::{Answered, Body, Finished};
+use kpn_laws::{determinacy_of, valid_runs};
+use kpn_machine::{Machine, OpenFault, OpenRefused};
+use kpn_monitor::{EntryLedger, Monitor, Opening, Seat};
+use kpn_net::{Kinds, Net};
+use std::alloc::Global;
+use std::marker::Brand;
+use std::sync::Wait;
+use std::sync::ledger::Ledger;
+use std::thread::Threads;
+
+/// Why there was no run.
+#[derive(Drop)]
+pub enum RunFault<B: Body> {
+    /// The workers are not 1 to 16. Nothing has run, and all comes back as it was.
+    Workers {
+        net: Net<B::Kinds>,
+        bodies: Vec<B>,
+    },
+    /// The bodies are not one for each process, with its card. Nothing has run, and all comes back as it
+    /// was.
+    Open {
+        net: Net<B::Kinds>,
+        bodies: Vec<B>,
+        fault: OpenFault,
+    },
+    /// Memory was refused, though the bodies fit. Nothing has run, and the bodies come back in order.
+    Memory {
+        net: Net<B::Kinds>,
+        bodies: Vec<B>,
+    },
+    /// The machine refused a worker's answer. That this never comes is not proved: no contract of the
+    /// monitor can name what lies under the lock.
+    Lost {
+        answered: Answered<B::Kinds>,
+        body: B,
+    },
+}
+
+/// Runs a network from its start to an end, by 1 to 16 workers and with a body for each process in order.
+///
+/// The history is a run of the sequential machine, with as many entries as the workers have receipts;
+/// after each prefix of it no channel holds more tokens than its capacity. It does not end by Budget
+/// where some run that is over has fewer entries than the budget. Of the deeds of a process, or the
+/// stream of a channel, in this history and in any run from any starting capacities, one is a prefix of
+/// the other.
+///
+/// The calling thread is one worker, and each other has a thread of its own; where a thread can't be
+/// started, that worker runs in the calling thread. It returns when all have met the end.
+pub fn run<B: Body, R: Wait + Threads + Sync, G: Gate>(
+    rt: &R,
+    alloc: Global,
+    net: Net<B::Kinds>,
+    bodies: Vec<B>,
+    workers: usize,
+    gate: &G,
+) -> Result<Finish<B::Kinds>, RunFault<B>>
+    ensures finish { IfOk result (IsFinish B.Kinds.family net) }
+    ensures within { IfOk result (λ f. StaysWithin B.Kinds.family net f.machine.history) }
+    ensures budget { IfOk result (λ f. SparesBudget B.Kinds.family net f.cause) }
+    ensures in_line { IfOk result (λ f. IsInLine B.Kinds.family net f.machine.history) }
+    ensures cards { OnOk result (map B.card bodies.items ≡ cards_of net.processes) }
+    ensures workers { (n : NetV) (bs : _) → result ≡ Err (RunFault.Workers n bs) → (n ≡ net) × (bs ≡ bodies) × ((workers ≡ 0) ⊎ (16 < workers)) }
+    ensures many { (workers ≡ 0) ⊎ (16 < workers) → result ≡ Err (RunFault.Workers net bodies) }
+    ensures open { (n : NetV) (bs : _) (fault : OpenFaultV) → result ≡ Err (RunFault.Open n bs fault) → (n ≡ net) × (bs.items ≡ bodies.items) × (fault ≢ OpenFault.Memory) × IsRefused net.processes (map B.card bodies.items) fault }
+    ensures lost { (a : Input) (b : _) → result ≡ Err (RunFault.Lost a b) → (map B.card bodies.items ≡ cards_of net.processes) × (B.card b ≡ a.card) }
+    ensures memory { (n : NetV) (bs : _) → result ≡ Err (RunFault.Memory n bs) → (n ≡ net) × (map B.card bs.items ≡ map B.card bodies.items) × (map B.card bodies.items ≡ cards_of net.processes) }
+{
+    if workers == 0 || workers > 16 {
+        return Err(RunFault::Workers { net, bodies });
+    }
+    let machine = match Machine::open(alloc, net, bodies) {
+        Ok(machine) => machine,
+        Err(OpenRefused { net, bodies, fault }) => {
+            return Err(match fault {
+                OpenFault::Memory => RunFault::Memory { net, bodies },
+                OpenFault::Bodies | OpenFault::Card => RunFault::Open { net, bodies, fault },
+            });
+        }
+    };
+    match run_machine(rt, alloc, machine, workers, gate) {
+        Ok(finish) => Ok(finish),
+        Err(fault) => Err(fault),
+    }
+}
+
+/// The same, of a machine that is open.
+fn run_machine<B: Body, R: Wait + Threads + Sync, G: Gate>(
+    rt: &R,
+    alloc: Global,
+    machine: Machine<B>,
+    workers: usize,
+    gate: &G,
+) -> Result<Finish<B::Kinds>, RunFault<B>>
+    requires fresh { IsFresh machine }
+    requires workers { (0 < workers) × (workers ≤ 16) }
+    ensures finish { IfOk result (IsFinish B.Kinds.family machine.network) }
+    ensures within { IfOk result (λ f. StaysWithin B.Kinds.family machine.network f.machine.history) }
+    ensures budget { IfOk result (λ f. SparesBudget B.Kinds.family machine.network f.cause) }
+    ensures in_line { IfOk result (λ f. IsInLine B.Kinds.family machine.network f.machine.history) }
+    ensures workers { (n : NetV) (bs : _) → result ≢ Err (RunFault.Workers n bs) }
+    ensures open { (n : NetV) (bs : _) (fault : OpenFaultV) → result ≢ Err (RunFault.Open n bs fault) }
+    ensures lost { (a : Input) (b : _) → result ≡ Err (RunFault.Lost a b) → B.card b ≡ a.card }
+    ensures memory { (n : NetV) (bs : _) → result ≡ Err (RunFault.Memory n bs) → (n ≡ machine.network) × (map B.card bs.items ≡ cards_of machine.network.processes) }
+{
+    match Opening::new(alloc, machine) {
+        Ok(opening) => match run_named::<B, Brand, Brand, R, G>(rt, alloc, opening, workers, gate) {
+            Ok(finish) => {
+                told_by_laws(&finish);
+                Ok(finish)
+            }
+            Err(fault) => Err(fault),
+        },
+        Err(machine) => Err(put_back(machine)),
+    }
+}
+
+/// What the laws say of a run that is over.
+fn told_by_laws<K: Kinds>(finish: &Finish<K>)
+    ensures within { StaysWithin K.family finish.now.machine.network finish.now.machine.history }
+    ensures budget { SparesBudget K.family finish.now.machine.network finish.now.cause }
+    ensures in_line { IsInLine K.family finish.now.machine.network finish.now.machine.history }
+{
+    determinacy_of::<K>();
+    valid_runs();
+    finish.net().processes();
+    finish.end();
+}
+
+/// Want of memory before anything has run.
+fn put_back<B: Body>(machine: Machine<B>) -> RunFault<B>
+    requires { IsFresh machine }
+    ensures { (n : NetV) × ((bs : _) × (result ≡ RunFault.Memory n bs) × (n ≡ machine.network) × (map B.card bs.items ≡ cards_of machine.network.processes)) }
+{
+    let (net, bodies) = machine.into_parts();
+    RunFault::Memory { net, bodies }
+}
+
+/// The same, for ledgers that are named.
+fn run_named<
+    B: Body,
+    E: EntryLedger + Send + Sync,
+    O: Ledger + Send + Sync,
+    R: Wait + Threads + Sync,
+    G: Gate,
+>(
+    rt: &R,
+    alloc: Global,
+    opening: Opening<B>,
+    workers: usize,
+    gate: &G,
+) -> Result<Finish<B::Kinds>, RunFault<B>>
+    requires workers { (0 < workers) × (workers ≤ 16) }
+    requires network { opening.machine.network ≡ E.net }
+    requires board { opening.board ≡ E.board }
+    requires entries { (opening.entries.name ≡ E.name) × (opening.entries.parts ≡ E.parts) }
+    requires overs { (opening.overs.name ≡ O.name) × (opening.overs.parts ≡ O.parts) }
+    ensures finish { IfOk result (IsFinish B.Kinds.family E.net) }
+    ensures workers { (n : NetV) (bs : _) → result ≢ Err (RunFault.Workers n bs) }
+    ensures open { (n : NetV) (bs : _) (fault : OpenFaultV) → result ≢ Err (RunFault.Open n bs fault) }
+    ensures lost { (a : Input) (b : _) → result ≡ Err (RunFault.Lost a b) → B.card b ≡ a.card }
+    ensures memory { (n : NetV) (bs : _) → result ≡ Err (RunFault.Memory n bs) → (n ≡ opening.machine.network) × (map B.card bs.items ≡ cards_of opening.machine.network.processes) }
+{
+    let Ok(slots) = Vec::with_capacity(alloc, workers) else {
+        return Err(put_back(opening.into_machine()));
+    };
+    let Ok(seats) = Vec::with_capacity(alloc, workers) else {
+        return Err(put_back(opening.into_machine()));
+    };
+    let (monitor, seat) = Monitor::<B, E, O>::open(opening);
+    match run_seated(rt, gate, monitor, seat, workers, slots, seats) {
+        Ok(finish) => Ok(finish),
+        Err(finished) => {
+            let (answered, body) = finished.into_parts();
+            Err(RunFault::Lost { answered, body })
+        }
+    }
+}
+
+/// Seats the workers, joins them and closes.
+fn run_seated<
+    B: Body,
+    E: EntryLedger + Send + Sync,
+    O: Ledger + Send + Sync,
+    R: Wait + Threads + Sync,
+    G: Gate,
+>(
+    rt: &R,
+    gate: &G,
+    monitor: Monitor<B, E, O>,
+    seat: Seat<E, O>,
+    workers: usize,
+    mut slots: Vec<WorkerSlot<B, E, O>>,
+    mut seats: Vec<Seat<E, O>>,
+) -> Result<Finish<B::Kinds>, Finished<B>>
+    requires workers { (0 < workers) × (workers ≤ 16) }
+    requires all { seat.parts ≡ 65536 }
+    requires slots { (slots.items ≡ []) × (workers ≤ vec_capacity slots) }
+    requires seats { (seats.items ≡ []) × (workers ≤ vec_capacity seats) }
+    ensures { IfOk result (IsFinish B.Kinds.family E.net) }
+{
+    seat_all(seat, workers, &mut slots);
+    work_all(rt, &monitor, gate, &mut slots);
+    if let Some(finished) = leave_all(slots, &mut seats) {
+        return Err(finished);
+    }
+    match monitor.close(seats) {
+        Ok(closed) => match Finish::of(closed) {
+            Some(finish) => {
+                finish.end();
+                Ok(finish)
+            }
+            None => unreachable!(),
+        },
+        Err(_) => unreachable!(),
+    }
+}

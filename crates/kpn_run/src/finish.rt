@@ -1,0 +1,89 @@
+//! A run that is over.
+ghost use Rattle.std.specs.Prelude.{◌≡◌, Some, IsNone, length, MatchOption};
+ghost use Rattle.kpn_machine.specs.Scheduler.{IsFaithful};
+ghost use Rattle.kpn_run.specs.Runs.{IsFinish};
+
+use kpn_machine::{Chronicle, Standing};
+use kpn_monitor::{Closed, EntryLedger};
+use kpn_net::{End, Entry, Kinds, Net};
+use std::marker::Model;
+
+/// A run that is over: what its machine left behind, its end, and as many receipts as entries.
+///
+/// It is made of a `Closed` that has an end, and of nothing else; so its machine was fresh when the
+/// monitor was opened, and each entry was appended by a commit under the lock.
+#[derive(Drop)]
+pub struct Finish<K: Kinds> {
+    chronicle: Chronicle<K>,
+    receipts: u64,
+    end: End,
+}
+
+impl<K: Kinds> Model for Finish<K> {
+    ghost use Rattle.std.specs.Prelude.{◌≡◌, Some, length};
+    ghost use Rattle.kpn_run.specs.Runs.{FinishedRun, IsFinish};
+
+    ghost Value = { FinishedRun };
+
+    ghost view = { λ f. record { machine = f.chronicle; receipts = f.receipts; cause = f.end } };
+
+    ghost invariant = { λ f. (f.chronicle.end ≡ Some f.end) × (length f.chronicle.history ≡ f.receipts) };
+}
+
+impl<K: Kinds> Finish<K> {
+    /// `None` where no end stands.
+    pub(crate) fn of<E: EntryLedger>(closed: Closed<K, E>) -> Option<Finish<K>>
+        ensures { MatchOption result (IsNone closed.machine.end) (λ f. (f.machine ≡ closed.machine) × (f.receipts ≡ closed.receipts) × (closed.machine.end ≡ Some f.cause)) }
+    {
+        let end = closed.end()?;
+        let receipts = closed.receipts();
+        let chronicle = closed.into_chronicle();
+        Some(Finish {
+            chronicle,
+            receipts,
+            end,
+        })
+    }
+
+    /// The network.
+    pub fn net(&self) -> &Net<K>
+        ensures { result.now ≡ self.now.machine.network }
+    {
+        self.chronicle.net()
+    }
+
+    /// The entries, in order.
+    pub fn history(&self) -> &[Entry]
+        ensures { result.now ≡ self.now.machine.history }
+    {
+        self.chronicle.history()
+    }
+
+    /// Where each process stands, in order.
+    pub fn standings(&self) -> &[Standing]
+        ensures { result.now ≡ self.now.machine.places }
+    {
+        self.chronicle.standings()
+    }
+
+    /// What the shares of the workers' seats add up to: as many as there are entries.
+    pub fn receipts(&self) -> u64
+        ensures receipts { result ≡ self.now.receipts }
+        ensures entries { result ≡ length self.now.machine.history }
+    {
+        self.receipts
+    }
+
+    /// How the run ended. The history is a run from the start of the network, and the end is bound:
+    /// Terminated, Deadlock and Ceiling by the state that is reached, Budget by the number of entries,
+    /// Memory by a growth that was due.
+    pub fn end(&self) -> End
+        ensures end { result ≡ self.now.cause }
+        ensures stands { self.now.machine.end ≡ Some self.now.cause }
+        ensures faithful { IsFaithful K.family K.admits self.now.machine }
+        ensures finish { IsFinish K.family self.now.machine.network self.now }
+    {
+        self.chronicle.end();
+        self.end
+    }
+}

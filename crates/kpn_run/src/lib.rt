@@ -1,0 +1,16 @@
+//! Workers over a monitor, and the run of a network by 1 to 16 of them.
+//!
+//! Whatever the number of workers and whatever they do when, the history of a `Finish` is a run of the
+//! sequential machine from the start of the network (Kahn 1974, Parks 1995).
+#![tactic(auto)]
+
+mod executor;
+mod finish;
+mod reporting;
+mod slot;
+mod worker;
+
+pub use executor::{RunFault, run};
+pub use finish::Finish;
+pub use reporting::{report, stream_of};
+pub use worker::{Gate, Open, Worked, work};

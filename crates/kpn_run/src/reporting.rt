@@ -1,0 +1,74 @@
+//! The report of a run that is over, and the stream of a channel.
+ghost use Rattle.std.specs.Prelude.{◌≡◌, ◌<◌, ◌∷◌, ◌++◌, [], length, IfOk, MatchOption, OnOk};
+ghost use Rattle.kpn_net.specs.History.{put_on, stream};
+ghost use Rattle.kpn_report.specs.Digested.{IsReport};
+ghost use Rattle.kpn_run.specs.Reports.{IsEveryRuns, IsOutcome};
+
+use crate::finish::Finish;
+use kpn_laws::determinacy_of;
+use kpn_machine::places_of;
+use kpn_net::{Deed, Entry, Kinds, Net, Token};
+use kpn_report::{Report, report_of};
+use std::alloc::{AllocError, Global};
+
+/// The report of a run: why it ended, and its detail where it came to its own end, which is exactly
+/// where it ended by Terminated, Deadlock or Ceiling. The error is want of memory.
+///
+/// The detail is that of every run of the network that is over, whatever the schedule and the number
+/// of workers (`every`). Where the run terminated or ended in a deadlock, every run that does so too,
+/// from any starting capacities, has the same deeds, streams and places (`any_capacities`; Kahn 1974,
+/// Parks 1995).
+pub fn report<K: Kinds>(alloc: Global, finish: &Finish<K>) -> Result<Report, AllocError>
+    ensures end { IfOk result (λ r. r.end ≡ finish.now.cause) }
+    ensures own { IfOk result (λ r. IsReport K.family finish.now.machine.network finish.now.cause finish.now.machine.history finish.now.machine.state r.detail) }
+    ensures every { IfOk result (λ r. IsEveryRuns K.family finish.now.machine.network finish.now.cause r.detail) }
+    ensures any_capacities { IfOk result (λ r. IsOutcome K.family finish.now.machine.network finish.now.cause finish.now.machine.history r.detail) }
+{
+    determinacy_of::<K>();
+    let end = finish.end();
+    let net = finish.net();
+    let places = places_of(alloc, net, finish.standings())?;
+    let report = report_of(alloc, net, finish.history(), places, end)?;
+    Ok(report)
+}
+
+/// The token that an entry puts on this channel.
+fn token_put(entry: Entry, channel: usize) -> Option<Token>
+    ensures { MatchOption result (put_on (entry ∷ []) channel ≡ []) (λ t. put_on (entry ∷ []) channel ≡ t ∷ []) }
+{
+    match entry {
+        Entry::Did {
+            process: _,
+            deed: Deed::Put { channel: on, token },
+        } if on == channel => Some(token),
+        _ => None,
+    }
+}
+
+/// Appends what an entry puts on this channel.
+fn push_put(tokens: &mut Vec<Token>, entry: Entry, channel: usize) -> Result<(), AllocError>
+    ensures { OnOk result (tokens.new.items ≡ tokens.old.items ++ put_on (entry ∷ []) channel) }
+{
+    if let Some(token) = token_put(entry, channel) {
+        tokens.push(token)?;
+    }
+    Ok(())
+}
+
+/// What went through a channel: its start tokens, and those that the entries put on it, in order. The
+/// error is want of memory.
+pub fn stream_of<K: Kinds>(
+    alloc: Global,
+    net: &Net<K>,
+    history: &[Entry],
+    channel: usize,
+) -> Result<Vec<Token>, AllocError>
+    requires { channel < length net.now.channels }
+    ensures { IfOk result (λ v. v.items ≡ stream net.now history.now channel) }
+{
+    let mut tokens = Vec::from_slice(alloc, net.tokens(channel))?;
+    for entry in history {
+        push_put(&mut tokens, *entry, channel)?;
+    }
+    Ok(tokens)
+}

@@ -1,0 +1,4 @@
+pub mod Phases
+pub mod Shown
+pub mod Rule
+pub mod Boards

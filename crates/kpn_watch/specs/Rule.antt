@@ -1,0 +1,47 @@
+-- The rule between the word and what the seats have seen, and what each step tells.
+use Rattle.std.specs.Prelude.{◌≡◌, ◌≢◌, ℕ, ◌^◌, ◌<◌, [], ◌∷◌, length}
+use mathlib.Core.Option.{some}
+use mathlib.Core.List.{IsPrefix}
+use lib.ListN.{get_elem?}
+use Rattle.atomic_table.specs.Table.{State, Me, Step}
+use Rattle.kpn_watch.specs.declared.progress.Phase.TheVariants.{Running}
+use Rattle.kpn_watch.specs.declared.rule.Seen.{Seen}
+use Rattle.kpn_watch.specs.declared.rule.View.{View}
+use Rattle.kpn_watch.specs.Shown.{word_of}
+
+abbrev pub nothing : Seen
+nothing = record { entries = []; phase = Running }
+
+abbrev pub view_of : Seen → View
+view_of seen = record { seen = seen; note = nothing }
+
+abbrev pub noted : View → Seen → View
+noted v note = record { seen = v.seen; note = note }
+
+-- the one goes on from the other, and where the other had ended, it is the other
+pub record GoesOn (old new : Seen) : Type 0 where
+  pub front : IsPrefix old.entries new.entries
+  pub ended : old.phase ≢ Running → new ≡ old
+
+-- the first seat's view shows what is published, the word tells it, and it goes on from what any seat has seen or was handed
+pub record IsKept (s : State (Unit {0}) View) : Type 0 where
+  pub published : Seen
+  pub first : (v : View) × (get_elem? s.views 0 ≡ some v) × (v.seen ≡ published)
+  pub word : s.words ≡ word_of published.entries published.phase ∷ []
+  pub short : length published.entries < 2 ^ 22
+  pub seen : (by : ℕ) (v : View) → get_elem? s.views by ≡ some v → GoesOn v.seen published × GoesOn v.note published
+
+abbrev pub It : Type 0
+It = Me (Unit {0}) View
+
+-- the word tells what is seen now, which goes on from what was seen
+abbrev pub Looks : Step (Unit {0}) → It → ℕ → It → Type 0
+Looks s me found now = (found ≡ word_of now.0.seen.entries now.0.seen.phase) × (length now.0.seen.entries < 2 ^ 22) × GoesOn me.0.seen now.0.seen × (now.0.note ≡ me.0.note) × (now.1 ≡ me.1)
+
+-- what the seat has seen is now this
+abbrev pub Publishes : Seen → Step (Unit {0}) → It → ℕ → It → Type 0
+Publishes news s me stored now = now ≡ (record { seen = news; note = me.0.note }, me.1)
+
+-- what was seen goes on from the note, and the note is taken off
+abbrev pub Compares : Step (Unit {0}) → It → ℕ → It → Type 0
+Compares s me found now = (now ≡ (view_of me.0.seen, me.1)) × GoesOn me.0.note me.0.seen

@@ -1,0 +1,173 @@
+//! The published word, the right to publish, and the watchers.
+ghost use Rattle.std.specs.Prelude.{◌≡◌, ◌≢◌, ◌+◌, ◌^◌, ◌<◌, ◌↔◌, [], length, IfOk, OnErr, IsErr};
+ghost use mathlib.Core.List.{IsPrefix};
+ghost use Rattle.kpn_net.specs.History.{growths as growths_of};
+ghost use Rattle.kpn_watch.specs.Shown.{shows};
+
+use crate::progress::{Phase, Progress};
+use crate::rule::{Compare, Look, News, Note, Publish, View, WordRule};
+use atomic_table::{Seat, Table};
+use kpn_net::Entry;
+use std::alloc::{AllocError, Global};
+use std::marker::{Brand, Model};
+
+/// As many watchers as a board gives.
+const MOST_WATCHERS: u32 = 64;
+
+/// The published word, which tells how far a history has come. Contracts see which board it is.
+#[derive(Drop)]
+pub struct Board {
+    table: Table<(), View, (), WordRule, Global>,
+}
+
+impl Model for Board {
+    ghost use Rattle.std.specs.Prelude.{◌≡◌};
+    ghost use Rattle.atomic_table.specs.Seated.{TableId, table_id_coded};
+
+    ghost Value = { TableId };
+
+    ghost coded = { table_id_coded };
+
+    ghost view = { λ b. b.table.shared.table_id };
+
+    ghost invariant = { λ b. b.table.shared.table_id.words ≡ 1 };
+}
+
+/// The right to publish on a board, of which there is one. Contracts see its board, the history and
+/// the phase that it published last, and how many watchers were made.
+#[derive(Drop)]
+pub struct Publisher {
+    seat: Seat<(), View>,
+    watchers: u32,
+}
+
+impl Model for Publisher {
+    ghost use Rattle.std.specs.Prelude.{◌≡◌, ◌≤◌, []};
+    ghost use Rattle.kpn_watch.specs.Boards.{Published};
+    ghost use Rattle.kpn_watch.specs.Rule.{nothing};
+
+    ghost Value = { Published };
+
+    ghost view = { λ p. record { board = p.seat.table_id; entries = p.seat.me.0.seen.entries; phase = p.seat.me.0.seen.phase; watchers = p.watchers } };
+
+    ghost invariant = { λ p. (p.seat.id ≡ 0) × (p.seat.me.0.note ≡ nothing) × (p.seat.me.1 ≡ []) × (p.watchers ≤ 64) };
+}
+
+/// A reader of a board. Contracts see its board, and the history and the phase that it has seen.
+#[derive(Drop)]
+pub struct Watcher {
+    seat: Seat<(), View>,
+}
+
+impl Model for Watcher {
+    ghost use Rattle.std.specs.Prelude.{◌≡◌, []};
+    ghost use Rattle.kpn_watch.specs.Boards.{Watched};
+    ghost use Rattle.kpn_watch.specs.Rule.{nothing};
+
+    ghost Value = { Watched };
+
+    ghost view = { λ w. record { board = w.seat.table_id; entries = w.seat.me.0.seen.entries; phase = w.seat.me.0.seen.phase } };
+
+    ghost invariant = { λ w. (w.seat.me.0.note ≡ nothing) × (w.seat.me.1 ≡ []) };
+}
+
+/// Why there is no watcher.
+#[derive(Clone, Copy, PartialEq, Eq, Debug)]
+pub enum WatchFault {
+    /// 64 watchers were made. One that has ended counts too.
+    Full = 1,
+}
+
+impl Board {
+    /// A board of the empty history that goes on, and its publisher. The error is want of memory.
+    pub fn new(alloc: Global) -> Result<(Board, Publisher), AllocError>
+        ensures { IfOk result (λ r. r.1 ≡ record { board = r.0; entries = []; phase = Phase.Running; watchers = 0 }) }
+    {
+        let (table, seat) = Table::of_words(alloc, &[0], &())?;
+        Ok((Board { table }, Publisher { seat, watchers: 0 }))
+    }
+
+    /// Shows a history, its number of growths and its phase, by one store. The history goes on from
+    /// the published one, and is the published one, with its phase, where that had ended.
+    pub fn publish(&self, publisher: &mut Publisher, history: &[Entry], growths: u32, phase: Phase)
+        requires board { publisher.old.board ≡ self.now }
+        requires goes_on { IsPrefix publisher.old.entries history.now }
+        requires short { length history.now < 2 ^ 22 }
+        requires counted { growths ≡ length (growths_of history.now) }
+        requires ended { publisher.old.phase ≢ Phase.Running → (history.now ≡ publisher.old.entries) × (phase ≡ publisher.old.phase) }
+        ensures { publisher.new ≡ record publisher.old { entries = history.now; phase = phase } }
+    {
+        self.publish_as::<Brand>(publisher, history, growths, phase);
+    }
+
+    // A step's `Play` sees no argument, so what is to be published comes to it by the type N.
+    fn publish_as<N: News>(
+        &self,
+        publisher: &mut Publisher,
+        history: &[Entry],
+        growths: u32,
+        phase: Phase,
+    )
+        requires board { publisher.old.board ≡ self.now }
+        requires goes_on { IsPrefix publisher.old.entries history.now }
+        requires short { length history.now < 2 ^ 22 }
+        requires counted { growths ≡ length (growths_of history.now) }
+        requires ended { publisher.old.phase ≢ Phase.Running → (history.now ≡ publisher.old.entries) × (phase ≡ publisher.old.phase) }
+        requires news { N.news ≡ record { entries = history.now; phase = phase } }
+        ensures { publisher.new ≡ record publisher.old { entries = history.now; phase = phase } }
+    {
+        let progress = Progress {
+            entries: history.len() as u32,
+            growths,
+            phase,
+        };
+        self.table
+            .shared
+            .store::<Publish<N>>(&mut publisher.seat, 0, progress.to_word());
+    }
+
+    /// A watcher that has seen what is published. The error is exactly that 64 were made.
+    pub fn split(&self, publisher: &mut Publisher) -> Result<Watcher, WatchFault>
+        requires { publisher.old.board ≡ self.now }
+        ensures seen { IfOk result (λ w. w ≡ record { board = publisher.old.board; entries = publisher.old.entries; phase = publisher.old.phase }) }
+        ensures made { IfOk result (λ _. publisher.new ≡ record publisher.old { watchers = publisher.old.watchers + 1 }) }
+        ensures full { IsErr result ↔ (publisher.old.watchers ≡ 64) }
+        ensures kept { OnErr result (publisher.new ≡ publisher.old) }
+    {
+        if publisher.watchers == MOST_WATCHERS {
+            return Err(WatchFault::Full);
+        }
+        publisher.watchers += 1;
+        let seat = self.table.shared.split_seat::<Note>(&mut publisher.seat);
+        Ok(Watcher { seat })
+    }
+
+    /// Sees what is published, by one load: a history that goes on from the one seen before, and the
+    /// same where that had ended. It takes no lock and no memory, and waits for nobody.
+    pub fn look(&self, watcher: &mut Watcher) -> Progress
+        requires { watcher.old.board ≡ self.now }
+        ensures board { watcher.new.board ≡ watcher.old.board }
+        ensures goes_on { IsPrefix watcher.old.entries watcher.new.entries }
+        ensures ended { watcher.old.phase ≢ Phase.Running → watcher.new ≡ watcher.old }
+        ensures shown { result ≡ shows watcher.new.entries watcher.new.phase }
+    {
+        let word = self.table.shared.load::<Look>(&mut watcher.seat, 0);
+        Progress::of_word(word)
+    }
+
+    /// Ends a watcher. What is published goes on from what it had seen, and is that where it had seen
+    /// an end.
+    pub fn join(&self, watcher: Watcher, publisher: &mut Publisher)
+        requires watcher { watcher.board ≡ self.now }
+        requires publisher { publisher.old.board ≡ self.now }
+        ensures goes_on { IsPrefix watcher.entries publisher.old.entries }
+        ensures ended { watcher.phase ≢ Phase.Running → (publisher.old.entries ≡ watcher.entries) × (publisher.old.phase ≡ watcher.phase) }
+        ensures kept { publisher.new ≡ publisher.old }
+    {
+        let Watcher { seat } = watcher;
+        self.table
+            .shared
+            .join_seat::<Note>(&mut publisher.seat, seat);
+        self.table.shared.load::<Compare>(&mut publisher.seat, 0);
+    }
+}

@@ -1,0 +1,102 @@
+//! A publisher that counts.
+ghost use Rattle.std.specs.Prelude.{◌≡◌, ◌≢◌, ◌+◌, ◌^◌, ◌<◌, ◌↔◌, [], length, count_by, IfOk, IsErr, OnErr};
+ghost use mathlib.Core.List.{IsPrefix};
+ghost use Rattle.kpn_watch.specs.Phases.{phase_of};
+ghost use Rattle.kpn_watch.specs.Shown.{shows, is_growth};
+
+use crate::board::{Board, Publisher, WatchFault, Watcher};
+use crate::progress::{Phase, Progress};
+use kpn_net::{End, Entry};
+use std::marker::Model;
+
+/// A publisher that keeps how many entries and growths it published, so that a history that goes on is
+/// published by counting its new entries alone. Contracts see what they see of the publisher.
+#[derive(Drop)]
+pub struct CountingPublisher {
+    publisher: Publisher,
+    entries: usize,
+    growths: u32,
+    phase: Phase,
+}
+
+impl Model for CountingPublisher {
+    ghost use Rattle.std.specs.Prelude.{◌≡◌, ◌^◌, ◌<◌, length};
+    ghost use Rattle.kpn_net.specs.History.{growths as growths_of};
+    ghost use Rattle.kpn_watch.specs.Boards.{Published};
+
+    ghost Value = { Published };
+
+    ghost view = { λ p. p.publisher };
+
+    ghost invariant = { λ p. (p.entries ≡ length p.publisher.entries) × (p.growths ≡ length (growths_of p.publisher.entries)) × (p.phase ≡ p.publisher.phase) × (length p.publisher.entries < 2 ^ 22) };
+}
+
+/// How many growths there are among the entries.
+fn growths_in(entries: &[Entry]) -> usize
+    ensures { result ≡ count_by is_growth entries.now }
+{
+    entries
+        .iter()
+        .filter(|entry| matches!(entry, Entry::Grew { .. }))
+        .count()
+}
+
+impl CountingPublisher {
+    /// The publisher of an empty history that goes on.
+    pub fn new(publisher: Publisher) -> CountingPublisher
+        requires { (publisher.entries ≡ []) × (publisher.phase ≡ Phase.Running) }
+        ensures { result ≡ publisher }
+    {
+        CountingPublisher {
+            publisher,
+            entries: 0,
+            growths: 0,
+            phase: Phase::Running,
+        }
+    }
+
+    /// Shows a history with its end. It goes on from the published one, and is the published one, with
+    /// its phase, where that had ended.
+    pub fn publish(&mut self, board: &Board, history: &[Entry], ended: Option<End>)
+        requires board { self.old.board ≡ board.now }
+        requires goes_on { IsPrefix self.old.entries history.now }
+        requires short { length history.now < 2 ^ 22 }
+        requires ended { self.old.phase ≢ Phase.Running → (history.now ≡ self.old.entries) × (phase_of ended ≡ self.old.phase) }
+        ensures { self.new ≡ record self.old { entries = history.now; phase = phase_of ended } }
+    {
+        let more = growths_in(&history[self.entries..]);
+        self.growths += more as u32;
+        self.entries = history.len();
+        self.phase = Phase::of_end(ended);
+        board.publish(&mut self.publisher, history, self.growths, self.phase);
+    }
+
+    /// A watcher that has seen what is published. The error is exactly that 64 were made.
+    pub fn watch(&mut self, board: &Board) -> Result<Watcher, WatchFault>
+        requires { self.old.board ≡ board.now }
+        ensures seen { IfOk result (λ w. w ≡ record { board = self.old.board; entries = self.old.entries; phase = self.old.phase }) }
+        ensures made { IfOk result (λ _. self.new ≡ record self.old { watchers = self.old.watchers + 1 }) }
+        ensures full { IsErr result ↔ (self.old.watchers ≡ 64) }
+        ensures kept { OnErr result (self.new ≡ self.old) }
+    {
+        board.split(&mut self.publisher)
+    }
+
+    /// Ends a watcher, and tells what is published: it goes on from what the watcher had seen, and is
+    /// that where the watcher had seen an end.
+    pub fn settle(&mut self, board: &Board, watcher: Watcher) -> Progress
+        requires board { self.old.board ≡ board.now }
+        requires watcher { watcher.board ≡ board.now }
+        ensures goes_on { IsPrefix watcher.entries self.old.entries }
+        ensures ended { watcher.phase ≢ Phase.Running → (self.old.entries ≡ watcher.entries) × (self.old.phase ≡ watcher.phase) }
+        ensures shown { result ≡ shows self.old.entries self.old.phase }
+        ensures kept { self.new ≡ self.old }
+    {
+        board.join(watcher, &mut self.publisher);
+        Progress {
+            entries: self.entries as u32,
+            growths: self.growths,
+            phase: self.phase,
+        }
+    }
+}

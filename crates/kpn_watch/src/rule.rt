@@ -1,0 +1,91 @@
+//! What the seats at a board have seen, the rule that ties it to the word, and their steps.
+//!
+//! The publisher has the first seat, and each watcher has one. The rule: the word tells what the first
+//! seat has seen, and that goes on from what each other has seen.
+use crate::progress::Phase;
+use atomic_table::{Join, Play, Split, TableRule};
+use kpn_net::Entry;
+use std::collections::LinkedList;
+use std::marker::{Brand, PhantomData};
+
+/// A history and its phase, as they were seen. No value of it is made.
+pub struct Seen {
+    pub entries: LinkedList<Entry>,
+    pub phase: Phase,
+}
+
+/// What a seat has seen, and what another has seen that is to be compared with it. No value of it is made.
+pub struct View {
+    pub seen: Seen,
+    pub note: Seen,
+}
+
+/// The word tells what the first seat has seen, and the others have seen a beginning of that.
+pub struct WordRule;
+
+impl TableRule<(), View, ()> for WordRule {
+    ghost use Rattle.kpn_watch.specs.Rule.{IsKept, view_of, nothing};
+
+    ghost holds = { λ _. IsKept };
+
+    ghost first = { λ _. view_of nothing };
+}
+
+/// A load by which a seat sees what is published.
+pub struct Look;
+
+impl Play<(), View> for Look {
+    ghost use Rattle.kpn_watch.specs.Rule.{Looks};
+
+    ghost then = { Looks };
+}
+
+/// What is to be published. Each call picks it.
+pub trait News {
+    ghost use Rattle.kpn_watch.specs.declared.rule.Seen.{Seen};
+
+    ghost news: { Seen };
+}
+
+impl News for Brand {
+    ghost use Rattle.kpn_watch.specs.Rule.{nothing};
+
+    ghost news = { nothing };
+}
+
+/// The store by which the first seat publishes.
+pub struct Publish<N: News>(PhantomData<N>);
+
+impl<N: News> Play<(), View> for Publish<N> {
+    ghost use Rattle.kpn_watch.specs.Rule.{Publishes};
+
+    ghost then = { Publishes N.news };
+}
+
+/// A load by which the first seat compares what it was handed.
+pub struct Compare;
+
+impl Play<(), View> for Compare {
+    ghost use Rattle.kpn_watch.specs.Rule.{Compares};
+
+    ghost then = { Compares };
+}
+
+/// What the first seat has seen goes to a new seat, and comes back as a note.
+pub struct Note;
+
+impl Split<View> for Note {
+    ghost use Rattle.kpn_watch.specs.Rule.{view_of};
+
+    ghost left = { λ v. v };
+
+    ghost right = { λ v. view_of v.seen };
+}
+
+impl Join<View> for Note {
+    ghost use Rattle.kpn_watch.specs.Rule.{noted, view_of, nothing};
+
+    ghost both = { λ v w. noted v w.seen };
+
+    ghost spent = { view_of nothing };
+}

@@ -1,0 +1,210 @@
+//! Looks at histories whose words were worked out by hand.
+ghost use Rattle.std.specs.Prelude.{◌≡◌, ◌+◌, ◌^◌, ◌<◌, ◌%◌, ◌++◌, [], length, IfOk, OnOk};
+ghost use Rattle.kpn_watch.specs.Phases.{phase_of};
+
+use super::*;
+use kpn_net::{Deed, End, Entry, Token};
+use std::alloc::{AllocError, Global};
+use std::process::Abort;
+use std::test::Fail;
+
+fn progress(entries: u32, growths: u32, phase: Phase) -> Progress {
+    Progress {
+        entries,
+        growths,
+        phase,
+    }
+}
+
+// Publishes one entry, then three with an end, and looks after each.
+fn looks_between(
+    board: &Board,
+    publisher: &mut Publisher,
+    watcher: &mut Watcher,
+) -> (Progress, Progress)
+    requires publisher { (publisher.old.board ≡ board.now) × (publisher.old.entries ≡ []) × (publisher.old.phase ≡ Phase.Running) }
+    requires watcher { watcher.old.board ≡ board.now }
+    ensures publisher { publisher.new.board ≡ board.now }
+    ensures watcher { watcher.new.board ≡ board.now }
+{
+    let put = Entry::Did {
+        process: 0,
+        deed: Deed::Put {
+            channel: 0,
+            token: Token::Word(1),
+        },
+    };
+    let grew = Entry::Grew { channel: 0, to: 2 };
+    let stopped = Entry::Did {
+        process: 1,
+        deed: Deed::Stopped,
+    };
+    board.publish(publisher, &[put], 0, Phase::Running);
+    let early = board.look(watcher);
+    board.publish(publisher, &[put, grew, stopped], 1, Phase::Terminated);
+    (early, board.look(watcher))
+}
+
+#[test]
+fn a_watcher_sees_what_is_published(rt: HostRuntime) -> Result<(), Fail> {
+    let (board, mut publisher) = Board::new(rt.alloc())?;
+    let mut watcher = board.split(&mut publisher)?;
+    let (early, late) = looks_between(&board, &mut publisher, &mut watcher);
+    assert!(rt; early == progress(1, 0, Phase::Running));
+    assert!(rt; late == progress(3, 1, Phase::Terminated));
+    board.join(watcher, &mut publisher);
+    let mut watcher = board.split(&mut publisher)?;
+    assert!(rt; board.look(&mut watcher) == late);
+    Ok(())
+}
+
+// How many watchers a board gives.
+fn watchers(board: &Board, publisher: &mut Publisher) -> usize
+    requires { publisher.old.board ≡ board.now }
+{
+    let mut made = 0;
+    for tried in 0..100usize {
+        if let Ok(watcher) = board.split(publisher) {
+            board.join(watcher, publisher);
+            made += 1;
+        }
+    }
+    made
+}
+
+#[test]
+fn there_are_64_watchers(rt: HostRuntime) -> Result<(), Fail> {
+    let (board, mut publisher) = Board::new(rt.alloc())?;
+    let made = watchers(&board, &mut publisher);
+    assert!(rt; made == 64);
+    Ok(())
+}
+
+/// A board with a watcher, and the history that is shown on it.
+#[derive(Drop)]
+struct Display {
+    board: Board,
+    publisher: CountingPublisher,
+    watcher: Watcher,
+    history: Vec<Entry>,
+    ghost published: { publisher.board ≡ board },
+    ghost watched: { watcher.board ≡ board },
+}
+
+/// What a look is to tell, and the word that it is to be read from.
+#[derive(Clone, Copy)]
+struct Due {
+    progress: Progress,
+    word: u64,
+    ghost size: { word < 2 ^ 47 },
+    ghost phase: { word % 8 < 6 },
+}
+
+fn shown(entries: u32, growths: u32, phase: Phase, word: u64) -> Due
+    requires size { word < 2 ^ 47 }
+    requires phase { word % 8 < 6 }
+{
+    Due {
+        progress: progress(entries, growths, phase),
+        word,
+    }
+}
+
+impl Display {
+    fn new(alloc: Global) -> Result<Display, Fail>
+        ensures { IfOk result (λ d. (d.publisher.entries ≡ d.history.items) × (d.publisher.phase ≡ Phase.Running) × (d.history.items ≡ [])) }
+    {
+        let (board, publisher) = Board::new(alloc)?;
+        let mut publisher = CountingPublisher::new(publisher);
+        let watcher = publisher.watch(&board)?;
+        Ok(Display {
+            board,
+            publisher,
+            watcher,
+            history: Vec::new(alloc),
+        })
+    }
+
+    fn look(&mut self) -> Progress
+        ensures publisher { self.new.publisher ≡ self.old.publisher }
+        ensures history { self.new.history ≡ self.old.history }
+    {
+        self.board.look(&mut self.watcher)
+    }
+
+    /// Publishes the history with these entries more, and looks.
+    fn append<R: Abort>(
+        &mut self,
+        rt: &R,
+        more: &[Entry],
+        ended: Option<End>,
+        due: Due,
+    ) -> Result<(), AllocError>
+        requires shown { (self.old.publisher.entries ≡ self.old.history.items) × (self.old.publisher.phase ≡ Phase.Running) }
+        requires short { length self.old.history.items + length more.now < 100 }
+        ensures shown { OnOk result ((self.new.publisher.entries ≡ self.new.history.items) × (self.new.publisher.phase ≡ phase_of ended)) }
+        ensures history { OnOk result (self.new.history.items ≡ self.old.history.items ++ more.now) }
+    {
+        self.history.extend_from_slice(more)?;
+        self.publisher
+            .publish(&self.board, self.history.as_slice(), ended);
+        assert!(rt; self.board.look(&mut self.watcher) == due.progress);
+        assert!(rt; Progress::of_word(due.word) == due.progress);
+        Ok(())
+    }
+}
+
+fn put(number: u64) -> Entry {
+    Entry::Did {
+        process: 0,
+        deed: Deed::Put {
+            channel: 0,
+            token: Token::Word(number),
+        },
+    }
+}
+
+fn stopped(process: usize) -> Entry {
+    Entry::Did {
+        process,
+        deed: Deed::Stopped,
+    }
+}
+
+/// A counter of three into a sink of one: the channel of one place grows to two.
+#[test]
+fn each_commit_has_its_word(rt: HostRuntime) -> Result<(), Fail> {
+    let mut display = Display::new(rt.alloc())?;
+    let nothing = progress(0, 0, Phase::Running);
+    assert!(rt; display.look() == nothing);
+    assert!(rt; Progress::of_word(0) == nothing);
+    let running = Phase::Running;
+    let took = Entry::Did {
+        process: 1,
+        deed: Deed::Took {
+            channel: 0,
+            token: Token::Word(1),
+        },
+    };
+    display.append(&rt, &[put(1)], None, shown(1, 0, running, 33_554_432))?;
+    display.append(&rt, &[took], None, shown(2, 0, running, 67_108_864))?;
+    display.append(&rt, &[put(2)], None, shown(3, 0, running, 100_663_296))?;
+    display.append(&rt, &[stopped(1)], None, shown(4, 0, running, 134_217_728))?;
+    let grew = Entry::Grew { channel: 0, to: 2 };
+    display.append(
+        &rt,
+        &[grew, put(3)],
+        None,
+        shown(6, 1, running, 201_326_600),
+    )?;
+    let last = shown(7, 1, Phase::Terminated, 234_881_033);
+    display.append(&rt, &[stopped(0)], Some(End::Terminated), last)?;
+    let Display {
+        board,
+        mut publisher,
+        watcher,
+        history: _,
+    } = display;
+    assert!(rt; publisher.settle(&board, watcher) == last.progress);
+    Ok(())
+}

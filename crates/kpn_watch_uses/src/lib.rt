@@ -1,0 +1,65 @@
+//! Callers of `kpn_watch`: what two looks tell, and calls at one of two boards, which must-fail edits
+//! turn to the other.
+#![tactic(auto)]
+
+ghost use Rattle.std.specs.Prelude.{◌≡◌, ◌≢◌, ◌<◌, ◌≤◌, ◌^◌, length, Some};
+ghost use mathlib.Core.List.{IsPrefix};
+ghost use Rattle.kpn_watch.specs.Phases.{phase_of};
+ghost use Rattle.kpn_watch.specs.declared.progress.Phase.TheVariants.{Running};
+
+use kpn_net::{End, Entry};
+use kpn_watch::{Board, CountingPublisher, Progress, Publisher, WatchFault, Watcher};
+
+/// What two looks of one watcher told.
+pub struct TwoLooks {
+    pub first: Progress,
+    pub second: Progress,
+}
+
+/// Looks twice. Neither number falls, and what has ended stays.
+pub fn look_twice(board: &Board, watcher: &mut Watcher) -> TwoLooks
+    requires { watcher.old.board ≡ board.now }
+    ensures entries { result.first.entries ≤ result.second.entries }
+    ensures growths { result.first.growths ≤ result.second.growths }
+    ensures ended { result.first.phase ≢ Running → result.second ≡ result.first }
+{
+    let first = board.look(watcher);
+    let second = board.look(watcher);
+    TwoLooks { first, second }
+}
+
+/// Looks at the first of two boards, with a watcher of it.
+pub fn look_at_first(first: &Board, _second: &Board, watcher: &mut Watcher) -> Progress
+    requires { watcher.old.board ≡ first.now }
+{
+    first.look(watcher)
+}
+
+/// Makes a watcher of the first of two boards, with its publisher.
+pub fn watch_first(
+    first: &Board,
+    _second: &Board,
+    publisher: &mut Publisher,
+) -> Result<Watcher, WatchFault>
+    requires { publisher.old.board ≡ first.now }
+{
+    first.split(publisher)
+}
+
+/// Publishes a history that goes on, and then a longer one with its end.
+pub fn publish_in_two(
+    board: &Board,
+    publisher: &mut CountingPublisher,
+    before: &[Entry],
+    all: &[Entry],
+    end: End,
+)
+    requires board { publisher.old.board ≡ board.now }
+    requires running { publisher.old.phase ≡ Running }
+    requires goes_on { IsPrefix publisher.old.entries before.now × IsPrefix before.now all.now }
+    requires short { (length before.now < 2 ^ 22) × (length all.now < 2 ^ 22) }
+    ensures { publisher.new ≡ record publisher.old { entries = all.now; phase = phase_of (Some end) } }
+{
+    publisher.publish(board, before, None);
+    publisher.publish(board, all, Some(end));
+}
