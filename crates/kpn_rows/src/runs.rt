@@ -200,7 +200,7 @@ type Row = (
     &'static str,
 );
 
-static EDITS: [Row; 8] = [
+static EDITS: [Row; 9] = [
     (
         COUNTER,
         &[("args = [3]", "args = [4]")],
@@ -233,6 +233,22 @@ process snk stopped steps 2
 channel c0 put 3 left 2 capacity 2
 grew c0 2
 entries 7
+",
+    ),
+    (
+        COUNTER,
+        &[("args = [1, 3]", "args = [1, 6]"), ("args = [3]", "args = [0]")],
+        0,
+        "end terminated
+process src stopped steps 7
+process snk stopped steps 1
+channel c0 put 6 left 6 capacity 6
+grew c0 2
+grew c0 3
+grew c0 4
+grew c0 5
+grew c0 6
+entries 13
 ",
     ),
     (
