@@ -17,7 +17,7 @@ ghost use Rattle.kpn_machine.specs.Commits.{Commits, Appends, number};
 use crate::naming::EntryLedger;
 use crate::seat::Seat;
 use kpn_body::{Body, Finished, Task};
-use kpn_machine::{Chronicle, Machine, Outcome, Standing, Stranger};
+use kpn_machine::{Chronicle, Machine, Outcome, Stranger};
 use kpn_net::End;
 use kpn_watch::{Board, CountingPublisher, Publisher, WatchFault, Watcher};
 use std::marker::Model;
@@ -163,12 +163,7 @@ impl<B: Body, E: EntryLedger, O: Ledger> Guarded<B, E, O> {
         if self.machine.end().is_some() {
             return Wakes::All;
         }
-        let ready = self
-            .machine
-            .standings()
-            .iter()
-            .filter(|standing| matches!(standing, Standing::Ready));
-        Wakes::AtMost(ready.count().min(self.waiting))
+        Wakes::AtMost(self.machine.ready().min(self.waiting))
     }
 
     /// How many entries the history has, and how often an end was met.
