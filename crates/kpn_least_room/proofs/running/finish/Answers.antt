@@ -10,26 +10,26 @@ returns-clause-growths g c = c.count_growths.ensures ∙ counted c.history.resul
 pub returns-clause-few_growths : goal.returns-clause-few_growths
 returns-clause-few_growths g c =
     let e = c.finish_alone.ensures in
-    let few = few_growths _ c.finish_alone.new.self c.requires.standard (e.goes.network ∙ c.requires.network) c.worked_room.ensures.parks_case e.faithful e.room in
+    let few = few_growths _ _ c.finish_alone.new.self c.requires.standard (e.goes.network ∙ c.requires.network) c.worked_room.ensures.parks_case e.faithful e.room in
     let is = c.count_growths.ensures ∙ counted c.history.result.now ∙ ap (λ E. length (growths E)) c.history.ensures in
     omega arith
 
 pub returns-clause-never_three : goal.returns-clause-never_three
 returns-clause-never_three g c =
     let e = c.finish_alone.ensures in
-    never_three _ c.finish_alone.new.self c.requires.standard (e.goes.network ∙ c.requires.network) c.worked_room.ensures.parks_case e.faithful e.room
+    never_three _ _ c.finish_alone.new.self c.requires.standard (e.goes.network ∙ c.requires.network) c.worked_room.ensures.parks_case e.faithful e.room
 
 pub returns-clause-few_entries : goal.returns-clause-few_entries
 returns-clause-few_entries g c =
     let e = c.finish_alone.ensures in
-    few_entries _ c.finish_alone.new.self c.requires.standard (e.goes.network ∙ c.requires.network) c.worked_room.ensures.parks_case e.faithful e.room
+    few_entries _ _ c.finish_alone.new.self c.requires.standard (e.goes.network ∙ c.requires.network) c.worked_room.ensures.parks_case e.faithful e.room
 
 pub returns-clause-no_ceiling : goal.returns-clause-no_ceiling
 returns-clause-no_ceiling g c =
     let e = c.finish_alone.ensures in
-    no_ceiling _ c.finish_alone.new.self c.requires.standard (e.goes.network ∙ c.requires.network) c.worked_room.ensures.parks_case e.faithful e.room
+    no_ceiling _ _ c.finish_alone.new.self c.requires.standard (e.goes.network ∙ c.requires.network) c.worked_room.ensures.parks_case e.faithful e.room
 
 pub returns-clause-no_budget : goal.returns-clause-no_budget
 returns-clause-no_budget g c =
     let e = c.finish_alone.ensures in
-    no_budget _ c.finish_alone.new.self c.requires.standard (e.goes.network ∙ c.requires.network) c.worked_room.ensures.parks_case e.faithful e.room
+    no_budget _ _ c.finish_alone.new.self c.requires.standard (e.goes.network ∙ c.requires.network) c.worked_room.ensures.parks_case e.faithful e.room
