@@ -237,7 +237,10 @@ entries 7
     ),
     (
         COUNTER,
-        &[("args = [1, 3]", "args = [1, 6]"), ("args = [3]", "args = [0]")],
+        &[
+            ("args = [1, 3]", "args = [1, 6]"),
+            ("args = [3]", "args = [0]"),
+        ],
         0,
         "end terminated
 process src stopped steps 7
