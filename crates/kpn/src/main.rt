@@ -7,6 +7,8 @@ use kpn_front::streams::Fallible;
 use kpn_front::words::WordsFault;
 use std::process::ExitCode;
 use std::rt::Env;
+use std::sync::Wait;
+use std::thread::Threads;
 use std::{env, io};
 
 /// The exit status where the words are refused.
@@ -17,7 +19,7 @@ fn main(rt: HostRuntime) -> ExitCode {
 }
 
 /// Reads the words, does what they ask for, and answers the exit status.
-fn status_of<R: Env + Input + Print + Eprint + AllocGlobal>(rt: &R) -> u8 {
+fn status_of<R: Env + Input + Print + Eprint + AllocGlobal + Wait + Threads + Sync>(rt: &R) -> u8 {
     let Ok(words) = words_of(rt) else {
         return say_no_memory(rt);
     };
@@ -26,7 +28,7 @@ fn status_of<R: Env + Input + Print + Eprint + AllocGlobal>(rt: &R) -> u8 {
     };
     let mut source = Fallible::new(rt.reader());
     let mut sink = Fallible::new(io::writer(rt));
-    match serve(rt.alloc(), texts.as_slice(), &mut source, &mut sink) {
+    match serve(rt, rt.alloc(), texts.as_slice(), &mut source, &mut sink) {
         Ok(served) => {
             if let Some(fault) = served.fault {
                 let _ = eprintln!(rt; "kpn: {fault}");

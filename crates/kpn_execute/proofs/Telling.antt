@@ -1,6 +1,6 @@
 -- What is told of a run.
-use Rattle.std.proofs.Common.{◌≡◌, ◌≢◌, ◌++◌, ℕ, zero, suc, true, List, Option, Some, replicate, refl, sym, ap, ◌∙◌, subst}
-use Rattle.std.proofs.Math.Path.{fun_ext}
+use Rattle.std.proofs.Common.{◌≡◌, ◌≢◌, ◌++◌, ℕ, zero, suc, true, List, length, Option, Some, replicate, refl, sym, ap, ◌∙◌, subst}
+use Rattle.std.proofs.lemmas.List.{length-map}
 use Rattle.std.specs.List.{count_by}
 use Rattle.kpn_net.specs.declared.token.Token.{Token}
 use Rattle.kpn_net.specs.declared.kinds.Card.{Card}
@@ -15,8 +15,12 @@ use Rattle.kpn_net.specs.Determinacy.{IsFinal, OneDigest}
 use Rattle.kpn_net.specs.Moments.{IsBound}
 use Rattle.kpn_state.specs.declared.standing.Standing.TheVariants.{Ready}
 use Rattle.kpn_state.specs.Standings.{place, is_out, parked_answer}
+use Rattle.kpn_net.specs.declared.parts.Process.{Process}
 use Rattle.kpn_machine.specs.Scheduler.{Scheduler, EndHolds, IsFaithful}
-use Rattle.kpn_state.proofs.Placed.{idle_at}
+use Rattle.kpn_machine.specs.declared.opening.OpenFault.{OpenFault}
+use Rattle.kpn_machine.specs.declared.opening.OpenFault.TheVariants.{Bodies, Card as WrongCard, Memory as OutOfMemory}
+use Rattle.kpn_machine.specs.Opening.{cards_of, IsRefused}
+use Rattle.kpn_run.proofs.Told.{at_rest, over_of}
 use Rattle.kpn_laws.specs.RoomOfRun.{TakesLeastRoom}
 use Rattle.kpn_report.specs.Text.{end_line, digest_text, text}
 use Rattle.kpn_report.specs.Digested.{has_detail}
@@ -34,33 +38,10 @@ module _ (kinds : Family) (net : Network) where
   over_text Budget E M channel over = elim over [ ]
   over_text Memory E M channel over = elim over [ ]
 
-  -- a run that has a detail is over
-  over_of : (cause : End) (E : List Entry) (M : State) → has_detail cause ≡ true → IsBound kinds net E M cause → IsOver kinds net M cause
-  over_of Terminated E M has bound = bound
-  over_of Deadlock E M has bound = bound
-  over_of Ceiling E M has bound = bound
-  over_of Budget E M has bound = cc
-  over_of Memory E M has bound = cc
-
   -- two runs that are over have one text
   one_text : OneDigest kinds → (E F : List Entry) (M N : State) (a b : End) (channel : Option ℕ) → IsFinal kinds net E M a → IsFinal kinds net F N b → text kinds net a E M channel ≡ text kinds net b F N channel
   one_text one E F M N a b channel e f =
       over_text a E M channel e.over ∙ ap (text_of channel) (one net E F M N a b e f) ∙ sym (over_text b F N channel f.over)
-
-  not_budget : (cause : End) → has_detail cause ≡ true → cause ≢ Budget
-  not_budget Terminated has e = cc
-  not_budget Deadlock has e = cc
-  not_budget Ceiling has e = cc
-  not_budget Budget has e = cc
-  not_budget Memory has e = cc
-
--- where a run came to its own end, what the parked processes answered is what all want
-at_rest :
-    (kinds : Family) (admits : Card → List ℕ → Option Token → Type 0) (s : Scheduler) (cause : End) → IsFaithful kinds admits s → s.end ≡ Some cause → has_detail cause ≡ true
-    → each_process s.network (λ p. place_of s.network p (parked_answer (place s.places p))) ≡ each_process s.network (λ p. place_of s.network p (wants kinds s.network s.state p))
-at_rest kinds admits s cause faithful ended has =
-    let same : (λ (p : ℕ). place_of s.network p (parked_answer (place s.places p))) ≡ (λ (p : ℕ). place_of s.network p (wants kinds s.network s.state p)) = fun_ext (λ p. ap (place_of s.network p) (sym (faithful.wanted p (idle_at s.places p (faithful.none_busy cause ended (not_budget kinds s.network cause has)))))) in
-    ap (each_process s.network) same
 
 -- an end that stands is bound
 bound_by : (kinds : Family) (admits : Card → List ℕ → Option Token → Type 0) (s : Scheduler) (cause : End) → IsFaithful kinds admits s → s.end ≡ Some cause → IsBound kinds s.network s.history s.state cause
@@ -100,3 +81,9 @@ status_not_failed Budget e = cc
 status_not_failed Memory e = cc
 status_not_failed Deadlock e = cc
 status_not_failed Ceiling e = cc
+
+-- bodies that fit are refused for want of memory alone
+pub not_refused : (ps : List Process) (cards : List Card) (fault : OpenFault) → cards ≡ cards_of ps → fault ≢ OutOfMemory → IsRefused ps cards fault → ⊥
+not_refused ps cards Bodies fits other refused = refused (ap length fits ∙ length-map ps _)
+not_refused ps cards WrongCard fits other refused = refused.1 fits
+not_refused ps cards OutOfMemory fits other refused = other refl

@@ -1,5 +1,5 @@
 -- What the program writes of a network, and its exit status.
-use Rattle.std.specs.Prelude.{◌≡◌, ◌≢◌, ◌⊎◌, ℕ, Bool, true, List, length, Option, Some, None, position}
+use Rattle.std.specs.Prelude.{◌≡◌, ◌≢◌, ◌<◌, ◌⊎◌, ℕ, Bool, true, List, length, Option, Some, None, position}
 use Rattle.std.specs.Str.{bytes_eq}
 use Rattle.std.specs.Io.KnownBytes.{Appends}
 use Rattle.kpn_net.specs.declared.history.Entry.{Entry}
@@ -13,7 +13,7 @@ use Rattle.kpn_net.specs.Moments.{IsBound}
 use Rattle.kpn_laws.specs.RoomOfRun.{TakesLeastRoom}
 use Rattle.kpn_report.specs.Text.{text as report_text}
 use Rattle.kpn_report.specs.Digested.{has_detail}
-use Rattle.kpn_front.specs.Lines.{refused_line, no_channel_line}
+use Rattle.kpn_front.specs.Lines.{lost_line, refused_line, no_channel_line}
 
 -- the exit status of a run that ended for this cause
 abbrev pub status_of : End → ℕ
@@ -45,6 +45,12 @@ pub record TellsRefused (status : ℕ) (text : List ℕ) : Type 0 where
   pub status_is : status ≡ 4
   pub text_is : text ≡ refused_line OutOfMemory
 
+-- an answer of one of several workers was refused
+pub record TellsLost (workers : ℕ) (status : ℕ) (text : List ℕ) : Type 0 where
+  pub several : 1 < workers
+  pub status_is : status ≡ 8
+  pub text_is : text ≡ lost_line
+
 -- whatever the schedule, each run that is over tells the same
 abbrev pub IsSettled : Family → Network → Option ℕ → List ℕ → Type 0
 IsSettled kinds net channel text = (F : List Entry) (N : State) (b : End) → IsFinal kinds net F N b → text ≡ report_text kinds net b F N channel
@@ -61,17 +67,22 @@ pub record TellsRun (kinds : Family) (net : Network) (channel : Option ℕ) (sta
   pub text_is : text ≡ report_text kinds net cause history state channel
   pub settled : has_detail cause ≡ true → IsSettled kinds net channel text
 
--- what is told of a network where the name that is to be shown is that of a channel
-abbrev pub TellsKnown : Family → Network → Option ℕ → ℕ → List ℕ → Type 0
-TellsKnown kinds net channel status text = TellsRefused status text ⊎ TellsRun kinds net channel status text
+-- what is told of a run that ended
+abbrev pub TellsEnded : Family → Network → Option ℕ → ℕ → List ℕ → Type 0
+TellsEnded kinds net channel status text = TellsRefused status text ⊎ TellsRun kinds net channel status text
 
--- what is told of a network, and the status
-abbrev pub Tells : Family → Network → Option (List ℕ) → ℕ → List ℕ → Type 0
-Tells kinds net show status text = TellsNoChannel net show status text ⊎ ((channel : Option ℕ) × IsShown net show channel × TellsKnown kinds net channel status text)
+-- what is told of a network that is run by so many workers, where the name that is to be shown is that of
+-- a channel
+abbrev pub TellsKnown : Family → Network → ℕ → Option ℕ → ℕ → List ℕ → Type 0
+TellsKnown kinds net workers channel status text = TellsLost workers status text ⊎ TellsEnded kinds net channel status text
+
+-- what is told of a network that is run by so many workers, and the status
+abbrev pub Tells : Family → Network → ℕ → Option (List ℕ) → ℕ → List ℕ → Type 0
+Tells kinds net workers show status text = TellsNoChannel net show status text ⊎ ((channel : Option ℕ) × IsShown net show channel × TellsKnown kinds net workers channel status text)
 
 -- the same, or that memory for the bodies was refused
-abbrev pub TellsOfBodies : Family → Network → Option (List ℕ) → ℕ → List ℕ → Type 0
-TellsOfBodies kinds net show status text = TellsRefused status text ⊎ Tells kinds net show status text
+abbrev pub TellsOfBodies : Family → Network → ℕ → Option (List ℕ) → ℕ → List ℕ → Type 0
+TellsOfBodies kinds net workers show status text = TellsRefused status text ⊎ Tells kinds net workers show status text
 
 -- what is told is written, and the status is its own; it is 7 where the write fails, as it does not
 -- where the sink takes so many bytes
@@ -83,9 +94,9 @@ pub record Writes (tells : ℕ → List ℕ → Type 0) (takes : ℕ → Bool) (
   pub room : takes (length text) ≡ true → result ≢ 7
 
 -- what the program writes of a network
-abbrev pub Executes : Family → Network → Option (List ℕ) → (ℕ → Bool) → Option (List ℕ) → Option (List ℕ) → ℕ → Type 0
-Executes kinds net show takes before after result = Writes (Tells kinds net show) takes before after result
+abbrev pub Executes : Family → Network → ℕ → Option (List ℕ) → (ℕ → Bool) → Option (List ℕ) → Option (List ℕ) → ℕ → Type 0
+Executes kinds net workers show takes before after result = Writes (Tells kinds net workers show) takes before after result
 
 -- the same of a program that makes the bodies of the network
-abbrev pub MakesAndExecutes : Family → Network → Option (List ℕ) → (ℕ → Bool) → Option (List ℕ) → Option (List ℕ) → ℕ → Type 0
-MakesAndExecutes kinds net show takes before after result = Writes (TellsOfBodies kinds net show) takes before after result
+abbrev pub MakesAndExecutes : Family → Network → ℕ → Option (List ℕ) → (ℕ → Bool) → Option (List ℕ) → Option (List ℕ) → ℕ → Type 0
+MakesAndExecutes kinds net workers show takes before after result = Writes (TellsOfBodies kinds net workers show) takes before after result

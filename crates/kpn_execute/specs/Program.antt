@@ -20,7 +20,7 @@ fault_of (Err fault) = Some fault
 -- what is told of a network: that it is one, or how it ran
 abbrev pub TellsOf : Choice → Network → ℕ → List ℕ → Type 0
 TellsOf Check net status text = (status ≡ 0) × (text ≡ checked_line net)
-TellsOf (Run workers show) net status text = TellsOfBodies standard net (option_map (λ s. s.now) show) status text
+TellsOf (Run workers show) net status text = TellsOfBodies standard net workers (option_map (λ s. s.now) show) status text
 
 -- what is told of a description that was loaded, or refused
 abbrev pub TellsLoaded : Choice → Result Network NetFault → ℕ → List ℕ → Type 0

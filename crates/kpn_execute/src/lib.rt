@@ -1,10 +1,10 @@
-//! The program from its words and its input to what it writes, and the run of a network in one thread.
+//! The program from its words and its input to what it writes, and the run of a network by its workers.
 #![tactic(auto)]
 
-mod execute;
 mod program;
+mod running;
 mod standard;
 
-pub use execute::execute_alone;
 pub use program::{Served, serve};
+pub use running::execute;
 pub use standard::execute_standard;

@@ -1,6 +1,6 @@
 //! The program, from its words and its input to what it writes.
 ghost use Rattle.std.specs.Prelude.{◌≡◌, ◌+◌, IfOk, IfErr, OnErr, map};
-ghost use Rattle.kpn_front.specs.Choices.{IsChoice, IsWordsFault};
+ghost use Rattle.kpn_front.specs.Choices.{HasFewWorkers, IsChoice, IsWordsFault};
 ghost use Rattle.kpn_front.specs.Loading.{TakesAtMost, longest};
 ghost use Rattle.kpn_front.specs.declared.words.Choice.{Choice as ChoiceV};
 ghost use Rattle.kpn_execute.specs.Program.{Serves};
@@ -13,6 +13,8 @@ use kpn_front::streams::{Sink, Source};
 use kpn_front::words::{Choice, WordsFault, read_words};
 use kpn_net::{Net, NetFault};
 use std::alloc::Global;
+use std::sync::Wait;
+use std::thread::Threads;
 
 /// What came of a choice: the exit status, and the fault of the description where it was refused.
 #[derive(Drop)]
@@ -30,7 +32,8 @@ pub struct Served {
 ///
 /// The error is the fault of words that ask for neither, as `read_words` finds it: nothing was then
 /// read or written.
-pub fn serve<'a, I: Source, O: Sink>(
+pub fn serve<'a, I: Source, O: Sink, R: Wait + Threads + Sync>(
+    rt: &R,
     alloc: Global,
     words: &'a [&'a str],
     source: &mut I,
@@ -42,16 +45,18 @@ pub fn serve<'a, I: Source, O: Sink>(
     ensures taken { TakesAtMost (longest + 1) (I.remaining source.old) (I.remaining source.new) }
 {
     let choice = read_words(alloc, words)?;
-    Ok(serve_choice(alloc, choice, source, sink))
+    Ok(serve_choice(rt, alloc, choice, source, sink))
 }
 
 /// Does what is chosen.
-fn serve_choice<I: Source, O: Sink>(
+fn serve_choice<I: Source, O: Sink, R: Wait + Threads + Sync>(
+    rt: &R,
     alloc: Global,
     choice: Choice<'_>,
     source: &mut I,
     sink: &mut O,
 ) -> Served
+    requires workers { HasFewWorkers choice }
     ensures served { Serves choice.entry (I.remaining source.old) (I.has_failed source.old) (I.has_failed source.new) (O.takes sink.old) (O.contents sink.old) (O.contents sink.new) result.status result.fault }
     ensures taken { TakesAtMost (longest + 1) (I.remaining source.old) (I.remaining source.new) }
 {
@@ -66,7 +71,7 @@ fn serve_choice<I: Source, O: Sink>(
     };
     let status = match choice {
         Choice::Check => say_checked(&net, sink),
-        Choice::Run { show, .. } => execute_standard(alloc, net, show, sink),
+        Choice::Run { workers, show } => execute_standard(rt, alloc, net, workers, show, sink),
     };
     Served {
         status,

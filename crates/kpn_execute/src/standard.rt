@@ -1,34 +1,39 @@
 //! Networks of standard kinds, with bodies that are made here.
-ghost use Rattle.std.specs.Prelude.{◌≡◌, ◌<◌, All, IsSome, IfOk, IfSome, OnErr, Some, length, option_map, slice_get};
+ghost use Rattle.std.specs.Prelude.{◌≡◌, ◌<◌, ◌≤◌, All, IsSome, IfOk, IfSome, OnErr, Some, length, option_map, slice_get};
 ghost use Rattle.kpn_net.specs.Standard.{standard};
 ghost use Rattle.kpn_body.specs.Standard.{signature, Admitted};
 ghost use Rattle.kpn_machine.specs.Opening.{cards_of};
 ghost use Rattle.kpn_execute.specs.Execution.{Executes, MakesAndExecutes};
 
-use crate::execute::execute_alone;
+use crate::running::execute;
 use kpn_body::{Call, Standard, StandardBody, answer};
 use kpn_front::say::say_refused;
 use kpn_front::streams::Sink;
 use kpn_machine::cards_of;
 use kpn_net::{Answer, Card, Local, Net, NetFault, Token};
 use std::alloc::{AllocError, Global};
+use std::sync::Wait;
+use std::thread::Threads;
 
-/// Runs a network of standard kinds in the calling thread, and writes what came of it, as
-/// `execute_alone` does. A body is made for each process, with a closure of its own.
+/// Runs a network of standard kinds by 1 to 16 workers, and writes what came of it, as `execute`
+/// does. A body is made for each process, with a closure of its own.
 ///
 /// Where memory for a body is refused, `refused 14` is written, and the answer is 4.
-pub fn execute_standard<S: Sink>(
+pub fn execute_standard<S: Sink, R: Wait + Threads + Sync>(
+    rt: &R,
     alloc: Global,
     net: Net<Standard>,
+    workers: usize,
     show: Option<&str>,
     sink: &mut S,
 ) -> u8
-    ensures { MakesAndExecutes standard net (option_map (λ s. s.now) show.entry) (S.takes sink.old) (S.contents sink.old) (S.contents sink.new) result }
+    requires workers { (1 ≤ workers) × (workers ≤ 16) }
+    ensures { MakesAndExecutes standard net workers (option_map (λ s. s.now) show.entry) (S.takes sink.old) (S.contents sink.old) (S.contents sink.new) result }
 {
     let Ok(cards) = cards_of(alloc, &net) else {
         return say_refused(&NetFault::Memory, sink);
     };
-    match make_and_execute(alloc, cards.as_slice(), Some(net), show, sink) {
+    match make_and_execute(rt, alloc, cards.as_slice(), Some(net), workers, show, sink) {
         Ok(status) => status,
         Err(_) => say_refused(&NetFault::Memory, sink),
     }
@@ -37,17 +42,20 @@ pub fn execute_standard<S: Sink>(
 /// The same, of a network with these cards. The error is want of memory for a body; nothing was then
 /// written. The network comes in an `Option`, since beside a `Net` that is held by value the check
 /// finds no proof of a loop that makes closures.
-fn make_and_execute<S: Sink>(
+fn make_and_execute<S: Sink, R: Wait + Threads + Sync>(
+    rt: &R,
     alloc: Global,
     cards: &[Card],
     net: Option<Net<Standard>>,
+    workers: usize,
     show: Option<&str>,
     sink: &mut S,
 ) -> Result<u8, AllocError>
     requires signed { All (λ card. IsSome (signature card)) cards.now }
     requires cards { IfSome net (λ n. cards.now ≡ cards_of n.processes) }
     requires some { IsSome net }
-    ensures ok { IfOk result (λ status. IfSome net (λ n. Executes standard n (option_map (λ s. s.now) show.entry) (S.takes sink.old) (S.contents sink.old) (S.contents sink.new) status)) }
+    requires workers { (1 ≤ workers) × (workers ≤ 16) }
+    ensures ok { IfOk result (λ status. IfSome net (λ n. Executes standard n workers (option_map (λ s. s.now) show.entry) (S.takes sink.old) (S.contents sink.old) (S.contents sink.new) status)) }
     ensures err { OnErr result (sink.new ≡ sink.old) }
 {
     let mut bodies = Vec::new(alloc);
@@ -64,7 +72,7 @@ fn make_and_execute<S: Sink>(
         bodies.push(StandardBody::new(card, call))?;
     }
     let Some(net) = net else { unreachable!() };
-    Ok(execute_alone(alloc, net, bodies, show, sink))
+    Ok(execute(rt, alloc, net, bodies, workers, show, sink))
 }
 
 /// A card of a list of cards that have signatures.

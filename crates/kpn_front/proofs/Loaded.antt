@@ -2,7 +2,7 @@
 use Rattle.std.proofs.Common.{◌≡◌, ◌≢◌, ℕ, Bool, true, false, cond, List, [], ◌∷◌, Option, Some, None, Result, Ok, Err, IfOk, IfErr, IfSome, refl}
 use Rattle.std.specs.List.{find}
 use Rattle.kpn_net.specs.declared.fault.NetFault.{NetFault}
-use Rattle.kpn_net.specs.declared.fault.NetFault.TheVariants.{NotToml, Keys, Version, Counts, Name, Kind, Args, NoEnd, Twice, Unused, Sorts, Capacity, Budget, Memory, Input}
+use Rattle.kpn_net.specs.declared.fault.NetFault.TheVariants.{NotToml, Keys, Version, Counts, Name, Kind, Args, NoEnd, Twice, Unused, Sorts, Capacity, Budget, Memory, Input, Tokens, Step}
 use Rattle.kpn_net.specs.declared.kinds.Card.{Card}
 use Rattle.kpn_net.specs.declared.kinds.Signature.{Signature}
 use Rattle.kpn_net.specs.declared.sketch.Sketch.{Sketch}
@@ -25,7 +25,7 @@ found_passes p (y ∷ ys) x h = found_at p y x (find p ys) (p y) refl (found_pas
 module _ (named : List ℕ → Option (ℕ × ℕ)) (signature : Card → Option Signature) where
   -- the first fault is one whose condition holds
   no_other : (sketch : Sketch) (e : NetFault) → first_fault named signature sketch ≡ Some e → has_fault named signature sketch e ≡ true
-  no_other sketch e h = found_passes (has_fault named signature sketch) (Version ∷ Counts ∷ Name ∷ Kind ∷ Args ∷ NoEnd ∷ Twice ∷ Unused ∷ Sorts ∷ Capacity ∷ Budget ∷ []) e h
+  no_other sketch e h = found_passes (has_fault named signature sketch) (Version ∷ Counts ∷ Name ∷ Kind ∷ Args ∷ NoEnd ∷ Twice ∷ Unused ∷ Sorts ∷ Capacity ∷ Budget ∷ Tokens ∷ Step ∷ []) e h
 
   -- the fault of `check` is a fault of loading
   fault_from : (failed : Bool) (text : List ℕ) (sketch : Sketch) (e : NetFault) → IsWhole named signature failed text → Describes text sketch → (e ≢ Memory → first_fault named signature sketch ≡ Some e) → IsLoadFault named signature failed text e
@@ -44,6 +44,8 @@ module _ (named : List ℕ → Option (ℕ × ℕ)) (signature : Card → Option
   fault_from failed text sketch Sorts short d h = (short, (sketch, d, h (λ x. cc)))
   fault_from failed text sketch Capacity short d h = (short, (sketch, d, h (λ x. cc)))
   fault_from failed text sketch Budget short d h = (short, (sketch, d, h (λ x. cc)))
+  fault_from failed text sketch Tokens short d h = (short, (sketch, d, h (λ x. cc)))
+  fault_from failed text sketch Step short d h = (short, (sketch, d, h (λ x. cc)))
 
   -- the answer of `check`, where this is the whole text
   loads_from : (failed : Bool) (text : List ℕ) (sketch : Sketch) (r : Result Network NetFault) → IsWhole named signature failed text → Describes text sketch

@@ -36,6 +36,11 @@ IsChoiceOf (Some p) Check = p.0 ≡ codes "check"
 IsChoiceOf (Some p) (Run workers show) =
     (p.0 ≡ codes "run") × WorkersFrom (first_of (codes "workers") p.1) workers × (option_map (λ s. s.now) show ≡ first_of (codes "show") p.1)
 
+-- the workers of a run are not too many
+abbrev pub HasFewWorkers : Choice → Type 0
+HasFewWorkers Check = Unit {0}
+HasFewWorkers (Run workers show) = (1 ≤ workers) × (workers ≤ MAX_WORKERS)
+
 abbrev pub HasRefusedWorkers : Option (Text × List Row) → Type 0
 HasRefusedWorkers None = ⊥
 HasRefusedWorkers (Some p) = IsRefusedWorkers (first_of (codes "workers") p.1)

@@ -17,6 +17,10 @@ abbrev pub status_of : NetFault → ℕ
 status_of Memory = 4
 status_of _ = 2
 
+-- what is written where a worker's answer was refused
+abbrev pub lost_line : List ℕ
+lost_line = codes "lost\n"
+
 -- what is written where no channel has the name that is to be shown
 abbrev pub no_channel_line : List ℕ → List ℕ
 no_channel_line name = codes "no channel " ++ name ++ codes "\n"

@@ -2,7 +2,7 @@
 ghost use Rattle.std.specs.Prelude.{◌≡◌, ◌≢◌, ◌≤◌, ◌+◌, ◌++◌, true, OnOk, IsOk, decimal, length};
 ghost use Rattle.arrayvec.specs.ArrayString.{array_string_len};
 ghost use Rattle.std.specs.Io.KnownBytes.{Appends};
-ghost use Rattle.kpn_front.specs.Lines.{checked_line, refused_line, no_channel_line, status_of};
+ghost use Rattle.kpn_front.specs.Lines.{checked_line, lost_line, refused_line, no_channel_line, status_of};
 
 use crate::streams::Sink;
 use arrayvec::ArrayString;
@@ -12,6 +12,9 @@ use std::io;
 
 /// The exit status where a write fails.
 pub const WRITE_FAILED: u8 = 7;
+
+/// The exit status where a worker's answer was refused.
+pub const LOST: u8 = 8;
 
 /// The exit status where no channel has the name that is to be shown.
 pub const NO_CHANNEL: u8 = 1;
@@ -53,6 +56,16 @@ pub fn say_refused<S: Sink>(fault: &NetFault, sink: &mut S) -> u8
     ensures room { S.takes sink.old (length (refused_line fault.now)) ≡ true → result ≢ 7 }
 {
     say(sink, refused_text(fault).as_str(), status_of(fault))
+}
+
+/// Writes that a run was given up, since the machine refused a worker's answer, as the line `lost`.
+///
+/// The answer is the exit status: 8, or 7 where the write fails. No memory is taken.
+pub fn say_lost<S: Sink>(sink: &mut S) -> u8
+    ensures said { result ≢ 7 → (result ≡ 8) × Appends (S.contents sink.old) (S.contents sink.new) lost_line }
+    ensures room { S.takes sink.old (length lost_line) ≡ true → result ≢ 7 }
+{
+    say(sink, "lost\n", LOST)
 }
 
 /// Writes that no channel has a name, as the line `no channel c9`.

@@ -3,7 +3,7 @@ ghost use Rattle.std.specs.Prelude.{◌≡◌, ◌<◌, ◌+◌, ◌^◌, ◌==�
 ghost use Rattle.std.specs.Str.{bytes_eq};
 
 use crate::load::load;
-use crate::say::{say_checked, say_refused};
+use crate::say::{say_checked, say_lost, say_refused};
 use crate::streams::Fallible;
 use crate::words::{Choice, WordsFault, read_words};
 use clap::error::ErrorKind;
@@ -96,7 +96,7 @@ fn number_of(alloc: Global, text: &[u8]) -> u8 {
 }
 
 /// Edits of the counter's text: a part, what takes its place, and the number of the fault.
-static EDITS: [(&str, &str, u8); 36] = [
+static EDITS: [(&str, &str, u8); 41] = [
     ("", "", 0),
     ("\ncapacity = 1\n", "", 0),
     ("\"src\"", "\"s\"", 0),
@@ -112,7 +112,12 @@ static EDITS: [(&str, &str, u8); 36] = [
     ("name = \"src\"", "name = 7", 2),
     ("kind = \"sink\"", "", 2),
     ("capacity = 1", "sort = \"reals\"", 2),
-    ("version = 1", "version = 2", 3),
+    ("version = 1", "version = 2", 0),
+    ("version = 1", "version = 3", 3),
+    ("version = 1", "version = 1\nstep = 1", 2),
+    ("version = 1", "version = 3\nstep = 1", 2),
+    ("capacity = 1", "tokens = []", 2),
+    ("version = 1", "version = 0", 3),
     ("\"src\"", "\"Src\"", 5),
     ("\"src\"", "\"\"", 5),
     ("\"src\"", "\"abcdefghij_012345\"", 5),
@@ -158,7 +163,7 @@ fn refuses_edits_by_number(rt: HostRuntime) -> Result<(), Fail> {
 }
 
 /// Pairs of such edits, with the number of the fault of the one, of the other and of both.
-static PAIRS: [(&str, &str, &str, &str, [u8; 3]); 8] = [
+static PAIRS: [(&str, &str, &str, &str, [u8; 3]); 11] = [
     (
         "capacity = 1",
         "capacity = 0",
@@ -170,7 +175,7 @@ static PAIRS: [(&str, &str, &str, &str, [u8; 3]); 8] = [
         "capacity = 1",
         "capacity = 0",
         "version = 1",
-        "version = 2",
+        "version = 3",
         [12, 3, 3],
     ),
     ("\"count\"", "\"filter\"", "\"c0\"", "\"0c\"", [6, 5, 5]),
@@ -195,6 +200,27 @@ static PAIRS: [(&str, &str, &str, &str, [u8; 3]); 8] = [
         "version = 1\nbudget = 0",
         "capacity = 1",
         "capacity = 0",
+        [13, 12, 12],
+    ),
+    (
+        "version = 1",
+        "version = 2\nbudget = 0",
+        "capacity = 1",
+        "tokens = [1, 2]",
+        [13, 2, 13],
+    ),
+    (
+        "version = 1",
+        "version = 2\nstep = 0",
+        "capacity = 1",
+        "tokens = [1, 2]",
+        [17, 2, 16],
+    ),
+    (
+        "version = 1",
+        "version = 2\nbudget = 2000001\nstep = 0",
+        "capacity = 1",
+        "capacity = 1000001",
         [13, 12, 12],
     ),
 ];
@@ -389,7 +415,10 @@ fn writes_lines(rt: HostRuntime) -> Result<(), Fail> {
     assert_eq!(rt; say_checked(&net, &mut out), 0);
     assert_eq!(rt; say_refused(&NetFault::Memory, &mut out), 4);
     assert_eq!(rt; say_refused(&NetFault::Twice, &mut out), 2);
-    assert!(rt; out.as_slice() == b"ok 2 processes 1 channels\nrefused 14\nrefused 9\n".as_slice());
+    assert_eq!(rt; say_lost(&mut out), 8);
+    assert!(rt;
+        out.as_slice() == b"ok 2 processes 1 channels\nrefused 14\nrefused 9\nlost\n".as_slice()
+    );
     Ok(())
 }
 
@@ -408,7 +437,7 @@ fn asked_for(alloc: Global, words: &[&str]) -> Result<String, AllocError> {
 
 /// Lines of words, and what they ask for: a check, a run by so many workers that shows a channel, or
 /// nothing, with the exit status and whether it is for the number of workers.
-static WORDS: [(&str, &str); 22] = [
+static WORDS: [(&str, &str); 23] = [
     ("kpn check", "check"),
     ("kpn run", "1 -"),
     ("kpn run --workers 1", "1 -"),
@@ -416,7 +445,8 @@ static WORDS: [(&str, &str); 22] = [
     ("kpn run --workers 1 --show c3", "1 c3"),
     ("kpn run --show=c3 --workers=1", "1 c3"),
     ("kpn run --workers 17", "1 true"),
-    ("kpn run --workers 2", "1 true"),
+    ("kpn run --workers 2", "2 -"),
+    ("kpn run --workers 16 --show c3", "16 c3"),
     ("kpn run --workers 0", "1 true"),
     ("kpn run --workers ", "1 true"),
     ("kpn run --workers one", "1 true"),
@@ -449,7 +479,7 @@ fn says_how_many_workers(rt: HostRuntime) -> Result<(), Fail> {
     let text = WordsFault::Workers.to_string(rt.alloc())?;
     assert!(rt;
         text.as_str()
-            .starts_with("error: --workers takes a number from 1 to 1\n")
+            .starts_with("error: --workers takes a number from 1 to 16\n")
     );
     Ok(())
 }

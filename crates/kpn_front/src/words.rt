@@ -1,9 +1,9 @@
 //! The words of the command line.
-ghost use Rattle.std.specs.Prelude.{◌≡◌, IfOk, IfErr, Some, false, map, option_map, codes, if◌then◌else◌};
+ghost use Rattle.std.specs.Prelude.{◌≡◌, ◌≤◌, IfOk, IfErr, Some, false, map, option_map, codes, if◌then◌else◌};
 ghost use Rattle.clap.specs.Words.{FailsBy, app_of, fault_of, first_of, found_of, rows_of, rule_of, subcommand_of, subcommand_rows_of};
 ghost use Rattle.clap.specs.declared.builder.command.Command.TheViews.{out-Command as fields_of};
 ghost use Rattle.kpn_front.specs.Command.{kpn, check_command, run_command, workers_rule, show_rule};
-ghost use Rattle.kpn_front.specs.Choices.{IsWorkers, WorkersFrom, IsRefusedWorkers, IsChoice, IsChoiceOf, AreTaken, IsWordsFault, asks_for_help};
+ghost use Rattle.kpn_front.specs.Choices.{IsWorkers, WorkersFrom, IsRefusedWorkers, HasFewWorkers, IsChoice, IsChoiceOf, AreTaken, IsWordsFault, asks_for_help};
 
 use clap::error::ErrorKind;
 use clap::{Arg, ArgMatches, Command};
@@ -11,7 +11,7 @@ use std::alloc::{AllocError, Global};
 use std::{error, fmt};
 
 /// How many workers a run may have at most.
-pub const MAX_WORKERS: usize = 1;
+pub const MAX_WORKERS: usize = 16;
 
 /// The statuses that the program exits with, as its help tells them.
 const STATUSES: &str = "\
@@ -24,6 +24,7 @@ Exit status:
   5  the run ended in a deadlock
   6  a channel would have grown past its ceiling
   7  writing failed
+  8  a worker's answer was refused, and the run was given up
 ";
 
 /// Where the subcommands find the description.
@@ -34,7 +35,8 @@ const INPUT: &str = "The description is TOML, read from standard input.";
 pub enum Choice<'a> {
     /// `kpn check`: whether the description is a network.
     Check,
-    /// `kpn run`: the network run by so many workers, and the channel whose tokens are to be shown.
+    /// `kpn run`: the network run by so many workers, 1 to `MAX_WORKERS`, and the channel whose tokens
+    /// are to be shown.
     Run {
         workers: usize,
         show: Option<&'a str>,
@@ -102,6 +104,7 @@ impl error::Error for WordsFault {}
 /// a number from 1 to `MAX_WORKERS`. The words stay as they were.
 pub fn read_words<'a>(alloc: Global, words: &'a [&'a str]) -> Result<Choice<'a>, WordsFault>
     ensures ok { IfOk result (IsChoice (map (λ w. w.now) words.entry.now)) }
+    ensures workers { IfOk result HasFewWorkers }
     ensures fault { IfErr result (IsWordsFault (map (λ w. w.now) words.entry.now)) }
 {
     let matches = matches_of(alloc, words)?;
@@ -115,6 +118,7 @@ pub fn read_words<'a>(alloc: Global, words: &'a [&'a str]) -> Result<Choice<'a>,
 /// The choice that the entries of `run` ask for.
 fn run_choice<'a>(entries: &ArgMatches<'a>) -> Result<Choice<'a>, WordsFault>
     ensures ok { IfOk result (IsChoiceOf (Some (codes "run", rows_of (found_of entries.now)))) }
+    ensures few { IfOk result HasFewWorkers }
     ensures workers { IfErr result (λ e. (e ≡ WordsFault.Workers) × IsRefusedWorkers (first_of (codes "workers") (rows_of (found_of entries.now)))) }
 {
     let workers = workers_in(text_in(entries, "workers"))?;
@@ -125,6 +129,7 @@ fn run_choice<'a>(entries: &ArgMatches<'a>) -> Result<Choice<'a>, WordsFault>
 /// The number of workers that a text asks for, or 1.
 fn workers_in(text: Option<&str>) -> Result<usize, WordsFault>
     ensures ok { IfOk result (WorkersFrom (option_map (λ s. s.now) text.entry)) }
+    ensures few { IfOk result (λ n. (1 ≤ n) × (n ≤ MAX_WORKERS)) }
     ensures workers { IfErr result (λ e. (e ≡ WordsFault.Workers) × IsRefusedWorkers (option_map (λ s. s.now) text.entry)) }
 {
     match text {

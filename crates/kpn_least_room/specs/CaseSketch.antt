@@ -11,7 +11,7 @@ process_sketch name kind args = record { name = name; kind = kind; args = args }
 
 -- a channel of words with one place, from an output of a process to an input of another
 abbrev pub channel_sketch : List ℕ → List ℕ → ℤ → List ℕ → ℤ → ChannelSketch
-channel_sketch name from out to input = record { name = name; from = from; to = to; out = out; input = input; sort = Words; capacity = pos 1 }
+channel_sketch name from out to input = record { name = name; from = from; to = to; out = out; input = input; sort = Words; capacity = pos 1; tokens = [] }
 
 abbrev pub case_processes : List ProcessSketch
 case_processes =
@@ -24,4 +24,4 @@ case_channels =
     ∷ channel_sketch (codes "c2") (codes "cp") (pos 1) (codes "wv") (pos 1) ∷ channel_sketch (codes "c3") (codes "wv") (pos 0) (codes "snk") (pos 0) ∷ []
 
 abbrev pub case_sketch : Sketch
-case_sketch = record { version = pos 1; budget = pos 10000; processes = case_processes; channels = case_channels }
+case_sketch = record { version = pos 1; budget = pos 10000; step = pos 1; processes = case_processes; channels = case_channels }

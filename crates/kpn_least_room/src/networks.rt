@@ -30,6 +30,7 @@ fn sketch(alloc: Global) -> Result<Sketch, AllocError>
     Ok(Sketch {
         version: 1,
         budget: 10000,
+        step: 1,
         processes: processes(alloc)?,
         channels: channels(alloc)?,
     })
@@ -92,6 +93,7 @@ fn channel(
         input,
         sort: Sort::Words,
         capacity: 1,
+        tokens: Listed::new(Vec::new(alloc)),
     })
 }
 

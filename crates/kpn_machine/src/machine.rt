@@ -174,6 +174,7 @@ impl<B: Body> Machine<B> {
 
 impl<B: Body> Machine<B> {
     /// A ready process goes out, unless the run ended or none is ready. Which one is not fixed.
+    #[inline(always)]
     pub fn take(&mut self) -> Option<Task<B>>
         ensures some { IfSome result (λ task. (self.old.end ≡ None) × TakesOut self.old task self.new) }
         ensures none { IfNone result (self.old.end ≡ None → (p : ℕ) → place self.old.places p ≢ ReadyV) }
@@ -251,6 +252,7 @@ impl<B: Body> Machine<B> {
     /// is then ready or out, the run ends, or the chosen channel grows and its writer's put is done.
     /// Takes no memory but that of a growth. The error is an answer of a process that is not out, or
     /// not with this card, local state and last token: nothing changed, and it is handed back.
+    #[inline(always)]
     pub fn commit(&mut self, finished: Finished<B>) -> Result<Outcome, Stranger<B>>
         ensures stranger { IfErr result (λ stranger. (stranger.finished ≡ finished) × (self.new ≡ self.old)) }
         ensures deserved { IfErr result (λ _. IsOut self.old finished → ⊥) }

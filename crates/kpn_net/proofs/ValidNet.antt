@@ -5,11 +5,11 @@ use Rattle.std.proofs.lemmas.Bool.Decides.{nat_tests}
 use Rattle.std.proofs.lemmas.List.{length-map}
 use Rattle.std.proofs.lemmas.Slice.Eq.{bytes_eq-Decides}
 use Rattle.std.specs.List.{find, list_any, All, AllPairs, AllByRecursion}
-use Rattle.std.specs.Prelude.{unsigned_abs, int_lt}
+use Rattle.std.specs.Prelude.{unsigned_abs, int_lt, if◌then◌else◌}
 use Rattle.std.specs.Ordering.{int_eq}
 use Rattle.std.specs.Str.{bytes_eq}
 use Rattle.kpn_net.specs.declared.fault.NetFault.{NetFault}
-use Rattle.kpn_net.specs.declared.fault.NetFault.TheVariants.{Version, Counts, Name, Kind, Args, NoEnd, Twice, Unused, Sorts, Capacity, Budget}
+use Rattle.kpn_net.specs.declared.fault.NetFault.TheVariants.{Version, Counts, Name, Kind, Args, NoEnd, Twice, Unused, Sorts, Capacity, Budget, Tokens, Step}
 use Rattle.kpn_net.specs.declared.token.Sort.{Sort}
 use Rattle.kpn_net.specs.declared.token.Sort.TheVariants.{Words, Flags}
 use Rattle.kpn_net.specs.declared.sketch.ProcessSketch.{ProcessSketch}
@@ -20,13 +20,15 @@ use Rattle.kpn_net.specs.declared.parts.Channel.{Channel}
 use Rattle.kpn_net.specs.declared.kinds.Card.{Card}
 use Rattle.kpn_net.specs.declared.kinds.Signature.{Signature}
 use Rattle.kpn_net.specs.Name.{is_name}
-use Rattle.kpn_net.specs.Lawful.{CardFits, port_at, in_sort, out_sort}
-use Rattle.kpn_net.specs.Faults.{any_pair, is_outside, is_sort, same_process, same_channel, port_sort, card_with, signature_of, has_wrong_args, takes_other_count, out_sort as sketch_out, in_sort as sketch_in, is_unused, is_unused_out, is_unused_in, has_unused_port, has_unknown_kind, same_out, same_in, has_fault, first_fault}
+use Rattle.kpn_net.specs.Lawful.{CardFits, Fits, port_at, in_sort, out_sort}
+use Rattle.kpn_net.specs.Faults.{any_pair, is_outside, is_sort, same_process, same_channel, port_sort, card_with, signature_of, has_wrong_args, takes_other_count, out_sort as sketch_out, in_sort as sketch_in, is_unused, is_unused_out, is_unused_in, has_unused_port, has_unknown_kind, same_out, same_in, is_token, has_wrong_tokens, has_fault, first_fault}
+use Rattle.kpn_net.specs.Version.{is_two, greatest_budget_in}
 use Rattle.kpn_net.specs.Network.{Network, no_process, card_of}
-use Rattle.kpn_net.specs.Sketched.{net_of, process_in, channel_in, index_of}
+use Rattle.kpn_net.specs.Sketched.{net_of, process_in, token_in, channel_in, index_of}
 use Rattle.kpn_net.specs.Valid.{HasEnds, JustOne, IsValid, IsOfSort}
-use Rattle.kpn_net.proofs.Lists.{none_passes, no_pair_passes, none_found, All-map, AllPairs-map, slice_get-map, found_index, none_passes_get, JustOne-map}
+use Rattle.kpn_net.proofs.Lists.{none_passes, no_pair_passes, none_found, All-map, All-unmap, AllPairs-map, slice_get-map, found_index, none_passes_get, JustOne-map}
 use Rattle.kpn_net.proofs.ValidEnds.{just_one}
+use Rattle.kpn_net.proofs.ValidTokens.{tokens_of_sort, no_more_than}
 
 true_from_not : (b : Bool) → not b ≡ false → b ≡ true
 true_from_not true h = refl
@@ -38,6 +40,15 @@ differ a b h e = let same : bytes_eq a b ≡ true = (bytes_eq-Decides a b).1 e i
 inside : (low high : ℕ) (z : ℤ) → is_outside (pos low) (pos high) z ≡ false → (low ≤ unsigned_abs z) × (unsigned_abs z ≤ high)
 inside low high (pos n) h = let parts = or_parts (nat_lt n low) (nat_lt high n) h in (grind (arith, nat_tests), grind (arith, nat_tests))
 inside low high (negsuc n) h = cc
+
+-- the greatest budget is that of the version's ceiling
+budget_by_ceiling : (two : Bool) (n : ℕ) → n ≤ (if two then 2000000 else 1000000) → (n ≤ 2000000) × ((if two then 1000000 else 65535) ≤ 65535 → n ≤ 1000000)
+budget_by_ceiling true n h = (h, λ low. omega (arith, low))
+budget_by_ceiling false n h = (omega (arith, h), λ low. h)
+
+ceiling_small : (two : Bool) → (if two then 1000000 else 65535) ≤ 1000000
+ceiling_small true = lit≤ tt
+ceiling_small false = lit≤ tt
 
 some_from : {A : Type 0} (o : Option A) → is_none o ≡ false → IsSome o
 some_from None h = cc
@@ -115,7 +126,7 @@ module _ (named : List ℕ → Option (ℕ × ℕ)) (signature : Card → Option
     tests = has_fault named signature s
 
     abbrev faults : List NetFault
-    faults = Version ∷ Counts ∷ Name ∷ Kind ∷ Args ∷ NoEnd ∷ Twice ∷ Unused ∷ Sorts ∷ Capacity ∷ Budget ∷ []
+    faults = Version ∷ Counts ∷ Name ∷ Kind ∷ Args ∷ NoEnd ∷ Twice ∷ Unused ∷ Sorts ∷ Capacity ∷ Budget ∷ Tokens ∷ Step ∷ []
 
     no_fault : list_any tests faults ≡ false
     no_fault = none_found tests faults fine
@@ -137,6 +148,12 @@ module _ (named : List ℕ → Option (ℕ × ℕ)) (signature : Card → Option
 
     budget_fine : tests Budget ≡ false
     budget_fine = none_passes tests faults no_fault 10 Version (lit< tt)
+
+    tokens_fine : tests Tokens ≡ false
+    tokens_fine = none_passes tests faults no_fault 11 Version (lit< tt)
+
+    step_fine : tests Step ≡ false
+    step_fine = none_passes tests faults no_fault 12 Version (lit< tt)
 
     abbrev net : Network
     net = net_of named s
@@ -204,12 +221,18 @@ module _ (named : List ℕ → Option (ℕ × ℕ)) (signature : Card → Option
     ends = All-map (channel_in s.processes) (HasEnds signature net) s.channels
         (λ k d l. ends_at (get_or s.channels k d) (none_passes (λ c. not (is_sort c.sort (sketch_out named signature s c)) || not (is_sort c.sort (sketch_in named signature s c))) s.channels sorts_fine k d l))
 
-    pub capacities : All (λ c. (1 ≤ c.capacity) × (c.capacity ≤ 65535)) net.channels
-    capacities = All-map (channel_in s.processes) (λ c. (1 ≤ c.capacity) × (c.capacity ≤ 65535)) s.channels
-        (λ k d l. inside 1 65535 (get_or s.channels k d).capacity (none_passes (λ c. is_outside (pos 1) (pos 65535) c.capacity) s.channels capacities_fine k d l))
+    pub capacities : All (λ c. (1 ≤ c.capacity) × (c.capacity ≤ net.ceiling)) net.channels
+    capacities = All-map (channel_in s.processes) (λ c. (1 ≤ c.capacity) × (c.capacity ≤ net.ceiling)) s.channels
+        (λ k d l. inside 1 net.ceiling (get_or s.channels k d).capacity (none_passes (λ c. is_outside (pos 1) (pos net.ceiling) c.capacity) s.channels capacities_fine k d l))
 
-    pub budget : (1 ≤ net.budget) × (net.budget ≤ 1000000)
-    budget = inside 1 1000000 s.budget budget_fine
+    pub budget : (1 ≤ net.budget) × (net.budget ≤ greatest_budget_in s.version)
+    budget = inside 1 (greatest_budget_in s.version) s.budget budget_fine
+
+    pub small_budget : (net.budget ≤ 2000000) × (net.ceiling ≤ 65535 → net.budget ≤ 1000000)
+    small_budget = budget_by_ceiling (is_two s.version) net.budget budget.1
+
+    pub step : (1 ≤ net.step) × (net.step ≤ 1024)
+    step = inside 1 1024 s.step step_fine
 
     kinds_fine : tests Kind ≡ false
     kinds_fine = none_passes tests faults no_fault 3 Version (lit< tt)
@@ -270,15 +293,24 @@ module _ (named : List ℕ → Option (ℕ × ℕ)) (signature : Card → Option
         (just_one named signature (λ g. g.ins) s.processes (or_parts (any_pair same_process s.processes) (any_pair same_channel s.channels) doubles).0 (λ c. c.to) (λ c. c.input) (λ c. c.sort) s.channels p k x
         (λ i d m. (sorts_known i d m).1) (or_parts (any_pair same_out s.channels) (any_pair same_in s.channels) shared_fine).1 at leads)
 
-    -- a described channel begins empty
-    pub start_tokens : All (λ c. AllByRecursion (IsOfSort c.sort) c.tokens) net.channels
-    start_tokens = All-map (channel_in s.processes) (λ c. AllByRecursion (IsOfSort c.sort) c.tokens) s.channels (λ k d l. tt)
+    -- the tokens of a channel: all of its sort, and no more than its capacity
+    tokens_at : (c : ChannelSketch) → has_wrong_tokens c ≡ false → (list_any (λ t. not (is_token c.sort t)) c.tokens ≡ false) × (int_lt c.capacity (pos (length c.tokens)) ≡ false)
+    tokens_at c h = or_parts (list_any (λ t. not (is_token c.sort t)) c.tokens) (int_lt c.capacity (pos (length c.tokens))) h
+
+    pub start_tokens : All (λ c. All Fits c.tokens) net.channels → All (λ c. AllByRecursion (IsOfSort c.sort) c.tokens) net.channels
+    start_tokens fit =
+        let fits = All-unmap (channel_in s.processes) (λ c. All Fits c.tokens) s.channels fit in
+        All-map (channel_in s.processes) (λ c. AllByRecursion (IsOfSort c.sort) c.tokens) s.channels (λ k d l.
+        let c = get_or s.channels k d in
+        tokens_of_sort c.sort c.tokens (tokens_at c (none_passes has_wrong_tokens s.channels tokens_fine k d l)).0 (fits k d l))
 
     pub start_fits : All (λ c. length c.tokens ≤ c.capacity) net.channels
-    start_fits = All-map (channel_in s.processes) (λ c. length c.tokens ≤ c.capacity) s.channels (λ k d l. omega arith)
+    start_fits = All-map (channel_in s.processes) (λ c. length c.tokens ≤ c.capacity) s.channels (λ k d l.
+        let c = get_or s.channels k d in
+        rw (length-map c.tokens token_in) (no_more_than c.capacity (length c.tokens) (tokens_at c (none_passes has_wrong_tokens s.channels tokens_fine k d l)).1))
 
-    pub valid : All (λ p. CardFits p.card) net.processes → IsValid signature net
-    valid cards = record {
+    pub valid : All (λ p. CardFits p.card) net.processes → All (λ c. All Fits c.tokens) net.channels → IsValid signature net
+    valid cards tokens = record {
       some_process = some_process;
       few_processes = few_processes;
       few_channels = few_channels;
@@ -292,11 +324,12 @@ module _ (named : List ℕ → Option (ℕ × ℕ)) (signature : Card → Option
       writers = writers;
       readers = readers;
       capacities = capacities;
-      start_tokens = start_tokens;
+      start_tokens = start_tokens tokens;
       start_fits = start_fits;
-      some_step = lit≤ tt;
-      small_step = lit≤ tt;
-      small_ceiling = lit≤ tt;
+      some_step = step.0;
+      small_step = step.1;
+      small_ceiling = ceiling_small (is_two s.version);
       some_budget = budget.0;
-      small_budget = budget.1;
+      small_budget = small_budget.0;
+      smaller_budget = small_budget.1;
     }

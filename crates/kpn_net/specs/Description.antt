@@ -1,9 +1,11 @@
 -- The sketch that a TOML document describes.
-use Rattle.std.specs.Prelude.{◌≡◌, ℕ, pos, IsUtf8, IsSome, codes, List, [], ◌∷◌, Option, Some, None, option_and_then, if◌then◌else◌}
-use Rattle.toml.specs.Data.{Data, Members, as_str, as_integer, as_table}
+use Rattle.std.specs.Prelude.{◌≡◌, ℕ, ℤ, pos, IsUtf8, IsSome, codes, List, [], ◌∷◌, Option, Some, None, option_and_then, if◌then◌else◌}
+use Rattle.toml.specs.Data.{Data, integer, boolean, Members, as_str, as_integer, as_table}
 use Rattle.std.specs.Str.{bytes_eq}
 use Rattle.kpn_net.specs.declared.token.Sort.{Sort}
 use Rattle.kpn_net.specs.declared.token.Sort.TheVariants.{Words, Flags}
+use Rattle.kpn_net.specs.declared.sketch.TokenSketch.{TokenSketch}
+use Rattle.kpn_net.specs.declared.sketch.TokenSketch.TheVariants.{Integer, Boolean}
 use Rattle.kpn_net.specs.declared.sketch.ProcessSketch.{ProcessSketch}
 use Rattle.kpn_net.specs.declared.sketch.ChannelSketch.{ChannelSketch}
 use Rattle.kpn_net.specs.declared.sketch.Sketch.{Sketch}
@@ -11,6 +13,7 @@ use Rattle.toml.specs.Parse.{parse_document}
 use Rattle.kpn_net.specs.declared.fault.NetFault.{NetFault}
 use Rattle.kpn_net.specs.declared.fault.NetFault.TheVariants.{NotToml, Keys, Memory}
 use Rattle.kpn_net.specs.Form.{required, optional, array_of, has_only}
+use Rattle.kpn_net.specs.Version.{is_two}
 
 infixl 10 ◌>>=◌
 abbrev ◌>>=◌ : {A B : Type 0} → Option A → (A → Option B) → Option B
@@ -37,12 +40,19 @@ process_of d =
     optional (array_of as_integer) [] (codes "args") table >>= (λ args.
     Some (record { name = name; kind = kind; args = args })))))
 
-abbrev pub channel_keys : List (List ℕ)
-channel_keys = codes "name" ∷ codes "from" ∷ codes "to" ∷ codes "out" ∷ codes "in" ∷ codes "sort" ∷ codes "capacity" ∷ []
+-- a token that a channel holds at first
+abbrev pub token_of : Data → Option TokenSketch
+token_of (integer z) = Some (Integer z)
+token_of (boolean b) = Some (Boolean b)
+token_of _ = None
 
-abbrev pub channel_of : Data → Option ChannelSketch
-channel_of d =
-    known_table channel_keys d >>= (λ table.
+-- channels have start tokens from version 2 on
+abbrev pub channel_keys : ℤ → List (List ℕ)
+channel_keys version =
+    codes "name" ∷ codes "from" ∷ codes "to" ∷ codes "out" ∷ codes "in" ∷ codes "sort" ∷ codes "capacity" ∷ (if is_two version then codes "tokens" ∷ [] else [])
+
+abbrev pub channel_from : Members → Option ChannelSketch
+channel_from table =
     required as_str (codes "name") table >>= (λ name.
     required as_str (codes "from") table >>= (λ from.
     required as_str (codes "to") table >>= (λ to.
@@ -50,20 +60,26 @@ channel_of d =
     optional as_integer (pos 0) (codes "in") table >>= (λ input.
     optional sort_of Words (codes "sort") table >>= (λ sort.
     optional as_integer (pos 1) (codes "capacity") table >>= (λ capacity.
-    Some (record { name = name; from = from; to = to; out = out; input = input; sort = sort; capacity = capacity })))))))))
+    optional (array_of token_of) [] (codes "tokens") table >>= (λ tokens.
+    Some (record { name = name; from = from; to = to; out = out; input = input; sort = sort; capacity = capacity; tokens = tokens })))))))))
 
-abbrev pub top_keys : List (List ℕ)
-top_keys = codes "version" ∷ codes "budget" ∷ codes "process" ∷ codes "channel" ∷ []
+abbrev pub channel_of : ℤ → Data → Option ChannelSketch
+channel_of version d = known_table (channel_keys version) d >>= channel_from
+
+-- growths have a step from version 2 on
+abbrev pub top_keys : ℤ → List (List ℕ)
+top_keys version = codes "version" ∷ codes "budget" ∷ codes "process" ∷ codes "channel" ∷ (if is_two version then codes "step" ∷ [] else [])
 
 abbrev pub sketch_of : Members → Option Sketch
 sketch_of table =
-    if has_only top_keys table then
     required as_integer (codes "version") table >>= (λ version.
+    if has_only (top_keys version) table then
     optional as_integer (pos 10000) (codes "budget") table >>= (λ budget.
+    optional as_integer (pos 1) (codes "step") table >>= (λ step.
     required (array_of process_of) (codes "process") table >>= (λ processes.
-    optional (array_of channel_of) [] (codes "channel") table >>= (λ channels.
-    Some (record { version = version; budget = budget; processes = processes; channels = channels })))))
-    else None
+    optional (array_of (channel_of version)) [] (codes "channel") table >>= (λ channels.
+    Some (record { version = version; budget = budget; step = step; processes = processes; channels = channels })))))
+    else None)
 
 -- the text is TOML, and this sketch is what it describes
 abbrev pub Describes : List ℕ → Sketch → Type 0

@@ -5,9 +5,11 @@ use Rattle.std.specs.List.{find, list_any}
 use Rattle.std.specs.Ordering.{int_eq}
 use Rattle.std.specs.Str.{bytes_eq}
 use Rattle.kpn_net.specs.declared.fault.NetFault.{NetFault}
-use Rattle.kpn_net.specs.declared.fault.NetFault.TheVariants.{Version, Counts, Name, Kind, Args, NoEnd, Twice, Unused, Sorts, Capacity, Budget}
+use Rattle.kpn_net.specs.declared.fault.NetFault.TheVariants.{Version, Counts, Name, Kind, Args, NoEnd, Twice, Unused, Sorts, Capacity, Budget, Tokens, Step}
 use Rattle.kpn_net.specs.declared.token.Sort.{Sort}
 use Rattle.kpn_net.specs.declared.token.Sort.TheVariants.{Words, Flags}
+use Rattle.kpn_net.specs.declared.sketch.TokenSketch.{TokenSketch}
+use Rattle.kpn_net.specs.declared.sketch.TokenSketch.TheVariants.{Integer, Boolean}
 use Rattle.kpn_net.specs.declared.sketch.ProcessSketch.{ProcessSketch}
 use Rattle.kpn_net.specs.declared.sketch.ChannelSketch.{ChannelSketch}
 use Rattle.kpn_net.specs.declared.sketch.Sketch.{Sketch}
@@ -15,6 +17,7 @@ use Rattle.kpn_net.specs.declared.kinds.Card.{Card}
 use Rattle.kpn_net.specs.declared.kinds.Signature.{Signature}
 use Rattle.kpn_net.specs.Lawful.{port_at}
 use Rattle.kpn_net.specs.Name.{is_name}
+use Rattle.kpn_net.specs.Version.{is_two, ceiling_in, greatest_budget_in}
 
 -- the test holds of an item and a later one
 abbrev pub any_pair : {A : Type 0} → (A → A → Bool) → List A → Bool
@@ -47,6 +50,17 @@ is_sort sort None = false
 is_sort Words (Some Words) = true
 is_sort Flags (Some Flags) = true
 is_sort _ (Some _) = false
+
+-- an integer is a word, and a boolean a flag
+abbrev pub is_token : Sort → TokenSketch → Bool
+is_token Words (Integer z) = not (int_lt z (pos 0))
+is_token Flags (Boolean b) = true
+is_token Words (Boolean b) = false
+is_token Flags (Integer z) = false
+
+-- some start token is no token of the channel's sort, or there are more than the channel may hold
+abbrev pub has_wrong_tokens : ChannelSketch → Bool
+has_wrong_tokens c = list_any (λ t. not (is_token c.sort t)) c.tokens || int_lt c.capacity (pos (length c.tokens))
 
 -- the card of a kind with these arguments, of which the missing are 0
 abbrev pub card_with : ℕ → List ℤ → Card
@@ -95,7 +109,7 @@ module _ (named : List ℕ → Option (ℕ × ℕ)) (signature : Card → Option
 
     -- the conditions of the faults
     abbrev pub has_fault : NetFault → Bool
-    has_fault Version = not (int_eq sketch.version (pos 1))
+    has_fault Version = not (int_eq sketch.version (pos 1) || is_two sketch.version)
     has_fault Counts = length sketch.processes == 0 || (nat_lt 64 (length sketch.processes) || nat_lt 256 (length sketch.channels))
     has_fault Name =
         (list_any (λ p. not (is_name p.name)) sketch.processes || list_any (λ c. not (is_name c.name)) sketch.channels)
@@ -106,10 +120,12 @@ module _ (named : List ℕ → Option (ℕ × ℕ)) (signature : Card → Option
     has_fault Twice = any_pair same_out sketch.channels || any_pair same_in sketch.channels
     has_fault Unused = list_any has_unused_port sketch.processes
     has_fault Sorts = list_any (λ c. not (is_sort c.sort (out_sort c)) || not (is_sort c.sort (in_sort c))) sketch.channels
-    has_fault Capacity = list_any (λ c. is_outside (pos 1) (pos 65535) c.capacity) sketch.channels
-    has_fault Budget = is_outside (pos 1) (pos 1000000) sketch.budget
+    has_fault Capacity = list_any (λ c. is_outside (pos 1) (pos (ceiling_in sketch.version)) c.capacity) sketch.channels
+    has_fault Budget = is_outside (pos 1) (pos (greatest_budget_in sketch.version)) sketch.budget
+    has_fault Tokens = list_any has_wrong_tokens sketch.channels
+    has_fault Step = is_outside (pos 1) (pos 1024) sketch.step
     has_fault _ = false
 
     -- the fault of least number whose condition holds
     abbrev pub first_fault : Option NetFault
-    first_fault = find has_fault (Version ∷ Counts ∷ Name ∷ Kind ∷ Args ∷ NoEnd ∷ Twice ∷ Unused ∷ Sorts ∷ Capacity ∷ Budget ∷ [])
+    first_fault = find has_fault (Version ∷ Counts ∷ Name ∷ Kind ∷ Args ∷ NoEnd ∷ Twice ∷ Unused ∷ Sorts ∷ Capacity ∷ Budget ∷ Tokens ∷ Step ∷ [])

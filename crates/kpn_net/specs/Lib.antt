@@ -9,6 +9,7 @@ pub mod Valid
 pub mod Standard
 pub mod Fault
 pub mod Form
+pub mod Version
 pub mod Description
 pub mod Faults
 pub mod Sketched

@@ -1,6 +1,10 @@
 -- The network of a sketch.
-use Rattle.std.specs.Prelude.{ℕ, List, [], map, Option, unsigned_abs, unwrap_or, position}
+use Rattle.std.specs.Prelude.{ℕ, List, map, Option, unsigned_abs, unwrap_or, position}
 use Rattle.std.specs.Str.{bytes_eq}
+use Rattle.kpn_net.specs.declared.token.Token.{Token}
+use Rattle.kpn_net.specs.declared.token.Token.TheVariants.{Word, Flag}
+use Rattle.kpn_net.specs.declared.sketch.TokenSketch.{TokenSketch}
+use Rattle.kpn_net.specs.declared.sketch.TokenSketch.TheVariants.{Integer, Boolean}
 use Rattle.kpn_net.specs.declared.sketch.ProcessSketch.{ProcessSketch}
 use Rattle.kpn_net.specs.declared.sketch.ChannelSketch.{ChannelSketch}
 use Rattle.kpn_net.specs.declared.sketch.Sketch.{Sketch}
@@ -8,6 +12,7 @@ use Rattle.kpn_net.specs.declared.parts.Process.{Process}
 use Rattle.kpn_net.specs.declared.parts.Channel.{Channel}
 use Rattle.kpn_net.specs.Network.{Network}
 use Rattle.kpn_net.specs.Faults.{card_with}
+use Rattle.kpn_net.specs.Version.{ceiling_in}
 
 -- the number of the process of a name
 abbrev pub index_of : List ProcessSketch → List ℕ → ℕ
@@ -15,6 +20,10 @@ index_of processes name = unwrap_or (position (λ p. bytes_eq p.name name) proce
 
 abbrev pub process_in : (List ℕ → Option (ℕ × ℕ)) → ProcessSketch → Process
 process_in named p = record { name = p.name; card = card_with (unwrap_or (named p.kind) (0, 0)).0 p.args }
+
+abbrev pub token_in : TokenSketch → Token
+token_in (Integer z) = Word (unsigned_abs z)
+token_in (Boolean b) = Flag b
 
 abbrev pub channel_in : List ProcessSketch → ChannelSketch → Channel
 channel_in processes c = record {
@@ -25,15 +34,15 @@ channel_in processes c = record {
   input = unsigned_abs c.input;
   sort = c.sort;
   capacity = unsigned_abs c.capacity;
-  tokens = [];
+  tokens = map token_in c.tokens;
 }
 
--- the network that a sketch without a fault describes; its channels begin empty and grow by one, up to 65,535
+-- the network that a sketch without a fault describes; the version says how far its channels grow
 abbrev pub net_of : (List ℕ → Option (ℕ × ℕ)) → Sketch → Network
 net_of named s = record {
   processes = map (process_in named) s.processes;
   channels = map (channel_in s.processes) s.channels;
   budget = unsigned_abs s.budget;
-  step = 1;
-  ceiling = 65535;
+  step = unsigned_abs s.step;
+  ceiling = ceiling_in s.version;
 }

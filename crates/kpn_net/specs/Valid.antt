@@ -30,7 +30,8 @@ module _ (signature : Card → Option Signature) (net : Network) where
     pub reader : c.reader < length net.processes
     pub input : in_sort signature (card_of net c.reader) c.input ≡ Some c.sort
 
-  -- each port of each process is the end of just one channel, of its sort
+  -- each port of each process is the end of just one channel, of its sort; the ceiling and the greatest
+  -- budget go together by the version of the description
   pub record IsValid : Type 0 where
     pub some_process : 1 ≤ length net.processes
     pub few_processes : length net.processes ≤ 64
@@ -51,7 +52,8 @@ module _ (signature : Card → Option Signature) (net : Network) where
     pub small_step : net.step ≤ 1024
     pub small_ceiling : net.ceiling ≤ 1000000
     pub some_budget : 1 ≤ net.budget
-    pub small_budget : net.budget ≤ 1000000
+    pub small_budget : net.budget ≤ 2000000
+    pub smaller_budget : net.ceiling ≤ 65535 → net.budget ≤ 1000000
 
 -- each token has its channel's sort, and each live process's state is admitted
 pub record IsSorted (admits : Card → List ℕ → Option Token → Type 0) (net : Network) (M : State) : Type 0 where

@@ -1,16 +1,17 @@
 //! The faults of a sketch, one function for each condition.
-ghost use Rattle.std.specs.Prelude.{◌≡◌, ◌&&◌, ◌||◌, not, Bool, option_copied, pos, unsigned_abs, slice_index, slice_index_or};
+ghost use Rattle.std.specs.Prelude.{◌≡◌, ◌&&◌, ◌||◌, not, int_lt, Bool, option_copied, pos, unsigned_abs, slice_index, slice_index_or};
 ghost use Rattle.std.specs.List.{find, list_any, list_all};
 ghost use Rattle.std.specs.Ordering.{int_eq};
 ghost use Rattle.std.specs.Str.{bytes_eq};
 ghost use Rattle.kpn_net.specs.Lawful.{CardFits};
 ghost use Rattle.kpn_net.specs.Name.{is_letter, is_name_byte, is_name};
-ghost use Rattle.kpn_net.specs.Faults.{any_pair, is_outside, same_process, same_channel, same_out, same_in, port_sort, is_sort, card_with, signature_of, has_unknown_kind, takes_other_count, has_wrong_args, signature_named, out_sort, in_sort, is_unused_out, is_unused_in, is_unused, has_unused_port, has_fault, first_fault};
+ghost use Rattle.kpn_net.specs.Faults.{any_pair, is_outside, same_process, same_channel, same_out, same_in, port_sort, is_sort, is_token, has_wrong_tokens, card_with, signature_of, has_unknown_kind, takes_other_count, has_wrong_args, signature_named, out_sort, in_sort, is_unused_out, is_unused_in, is_unused, has_unused_port, has_fault, first_fault};
 
 use crate::fault::NetFault;
 use crate::kinds::{Card, Kinds, Signature};
-use crate::sketch::{ChannelSketch, ProcessSketch, Sketch};
+use crate::sketch::{ChannelSketch, ProcessSketch, Sketch, TokenSketch};
 use crate::token::Sort;
+use crate::version::{ceiling_in, greatest_budget_in, is_two};
 
 fn is_outside(low: i64, high: i64, x: i64) -> bool
     ensures { result ≡ is_outside low high x }
@@ -265,10 +266,10 @@ fn has_unused_port<K: Kinds>(sketch: &Sketch, process: &ProcessSketch) -> bool
     }
 }
 
-fn has_wrong_version(sketch: &Sketch) -> bool
-    ensures { result ≡ not (int_eq sketch.now.version (pos 1)) }
+fn has_wrong_version<K: Kinds>(sketch: &Sketch) -> bool
+    ensures { result ≡ has_fault K.named K.signature_of sketch.now NetFault.Version }
 {
-    sketch.version != 1
+    sketch.version != 1 && !is_two(sketch.version)
 }
 
 fn has_wrong_counts<K: Kinds>(sketch: &Sketch) -> bool
@@ -364,21 +365,71 @@ fn has_wrong_sorts<K: Kinds>(sketch: &Sketch) -> bool
 fn has_wrong_capacity<K: Kinds>(sketch: &Sketch) -> bool
     ensures { result ≡ has_fault K.named K.signature_of sketch.now NetFault.Capacity }
 {
+    let ceiling = i64::from(ceiling_in(sketch.version));
     let channels = sketch.channels.as_slice();
-    channels.iter().any(|c| is_outside(1, 65535, c.capacity))
+    channels.iter().any(|c| is_outside(1, ceiling, c.capacity))
 }
 
 fn has_wrong_budget<K: Kinds>(sketch: &Sketch) -> bool
     ensures { result ≡ has_fault K.named K.signature_of sketch.now NetFault.Budget }
 {
-    is_outside(1, 1000000, sketch.budget)
+    let greatest = i64::from(greatest_budget_in(sketch.version));
+    is_outside(1, greatest, sketch.budget)
+}
+
+fn is_token(sort: Sort, token: TokenSketch) -> bool
+    ensures { result ≡ is_token sort token }
+{
+    match (sort, token) {
+        (Sort::Words, TokenSketch::Integer(integer)) => integer >= 0,
+        (Sort::Flags, TokenSketch::Boolean(_)) => true,
+        _ => false,
+    }
+}
+
+fn has_other_token(sort: Sort, tokens: &[TokenSketch]) -> bool
+    ensures { result ≡ list_any (λ t. not (is_token sort t)) tokens.now }
+{
+    tokens.iter().any(|t| !is_token(sort, *t))
+}
+
+fn is_below(capacity: i64, count: usize) -> bool
+    ensures { result ≡ int_lt capacity (pos count) }
+{
+    match usize::try_from(capacity) {
+        Ok(capacity) => capacity < count,
+        Err(_) => true,
+    }
+}
+
+fn has_wrong_tokens(channel: &ChannelSketch) -> bool
+    ensures { result ≡ has_wrong_tokens channel.now }
+{
+    let tokens = channel.tokens.as_slice();
+    has_other_token(channel.sort, tokens) || is_below(channel.capacity, tokens.len())
+}
+
+fn has_channel_with_wrong_tokens<K: Kinds>(sketch: &Sketch) -> bool
+    ensures { result ≡ has_fault K.named K.signature_of sketch.now NetFault.Tokens }
+{
+    sketch
+        .channels
+        .as_slice()
+        .iter()
+        .any(|c| has_wrong_tokens(c))
+}
+
+fn has_wrong_step<K: Kinds>(sketch: &Sketch) -> bool
+    ensures { result ≡ has_fault K.named K.signature_of sketch.now NetFault.Step }
+{
+    is_outside(1, 1024, sketch.step)
 }
 
 /// The fault of least number whose condition holds.
 pub(crate) fn first_fault<K: Kinds>(sketch: &Sketch) -> Option<NetFault>
     ensures { result ≡ first_fault K.named K.signature_of sketch.now }
 {
-    if has_wrong_version(sketch) {
+    if has_wrong_version::<K>(sketch) {
         Some(NetFault::Version)
     } else if has_wrong_counts::<K>(sketch) {
         Some(NetFault::Counts)
@@ -400,6 +451,10 @@ pub(crate) fn first_fault<K: Kinds>(sketch: &Sketch) -> Option<NetFault>
         Some(NetFault::Capacity)
     } else if has_wrong_budget::<K>(sketch) {
         Some(NetFault::Budget)
+    } else if has_channel_with_wrong_tokens::<K>(sketch) {
+        Some(NetFault::Tokens)
+    } else if has_wrong_step::<K>(sketch) {
+        Some(NetFault::Step)
     } else {
         None
     }

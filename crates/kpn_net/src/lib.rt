@@ -15,6 +15,7 @@ pub mod read;
 pub mod sketch;
 pub mod small;
 pub mod token;
+mod version;
 
 pub use fault::NetFault;
 pub use history::{Deed, End, Entry, Place, Status};
@@ -22,6 +23,6 @@ pub use kinds::{Act, Answer, Card, Kinds, Local, Signature};
 pub use net::Net;
 pub use parts::{Channel, Ends, Process};
 pub use read::read_sketch;
-pub use sketch::{ChannelSketch, ProcessSketch, Sketch};
+pub use sketch::{ChannelSketch, ProcessSketch, Sketch, TokenSketch};
 pub use small::{Listed, Text};
 pub use token::{Sort, Token};

@@ -2,9 +2,9 @@
 ghost use Rattle.std.specs.Prelude.{All, ◌≡◌, ◌≢◌, ◌<◌, ◌≤◌, ℕ, List, Some, None, IsSome, IfOk, IfErr, IfSome, map, length, slice_get, option_map, position};
 ghost use Rattle.std.specs.Str.{bytes_eq};
 ghost use Rattle.kpn_net.specs.Faults.{first_fault};
-ghost use Rattle.kpn_net.specs.Lawful.{CardFits};
+ghost use Rattle.kpn_net.specs.Lawful.{CardFits, Fits};
 ghost use Rattle.kpn_net.specs.Network.{card_of, channel_of, in_of, out_of};
-ghost use Rattle.kpn_net.specs.Sketched.{net_of, process_in, channel_in, index_of};
+ghost use Rattle.kpn_net.specs.Sketched.{net_of, process_in, token_in, channel_in, index_of};
 ghost use Rattle.kpn_net.specs.Valid.{IsValid};
 
 use crate::check::{card_with, first_fault};
@@ -12,17 +12,12 @@ use crate::fault::NetFault;
 use crate::kinds::{Card, Kinds};
 use crate::parts::{Channel, Ends, Process};
 use crate::ports::{Ports, find_in, find_out, table_of};
-use crate::sketch::{ChannelSketch, ProcessSketch, Sketch};
+use crate::sketch::{ChannelSketch, ProcessSketch, Sketch, TokenSketch};
 use crate::small::{Listed, Text};
 use crate::token::{Sort, Token};
+use crate::version::ceiling_in;
 use std::alloc::Global;
 use std::marker::{Model, PhantomData};
-
-/// A growth adds this many places.
-const STEP: usize = 1;
-
-/// The greatest capacity of a channel.
-const CEILING: usize = 65535;
 
 /// A valid network of processes of one family of kinds: each port of each process is the end of just
 /// one channel, of its sort (Kahn 1974: one writer and one reader a channel). Processes and channels
@@ -56,11 +51,12 @@ impl<K: Kinds> Model for Net<K> {
 }
 
 impl<K: Kinds> Net<K> {
-    /// The valid network that a sketch describes. Its channels are empty at first, and grow by one
-    /// place at a time, up to 65,535. The sketch stays as it is.
+    /// The valid network that a sketch describes. Its channels grow up to 65,535 places where the
+    /// version is 1, and up to 1,000,000 where it is 2. The sketch stays as it is.
     ///
     /// The error is the first of `Version`, `Counts`, `Name`, `Kind`, `Args`, `NoEnd`, `Twice`,
-    /// `Unused`, `Sorts`, `Capacity` and `Budget` whose condition holds of the sketch, or `Memory`
+    /// `Unused`, `Sorts`, `Capacity`, `Budget`, `Tokens` and `Step` whose condition holds of the
+    /// sketch, or `Memory`
     /// where memory was refused; nothing was then made. A sketch without such a fault is refused for
     /// memory alone.
     pub fn check(alloc: Global, sketch: &Sketch) -> Result<Net<K>, NetFault>
@@ -80,8 +76,8 @@ impl<K: Kinds> Net<K> {
             channels,
             ports,
             budget: sketch.budget.unsigned_abs(),
-            step: STEP,
-            ceiling: CEILING,
+            step: sketch.step.unsigned_abs() as usize,
+            ceiling: ceiling_in(sketch.version) as usize,
             kinds: PhantomData,
         })
     }
@@ -177,7 +173,8 @@ impl<K: Kinds> Net<K> {
         self.channels[c].tokens.as_slice()
     }
 
-    /// How many entries the history of a run may have, and up to two more: 1 to 1,000,000.
+    /// How many entries the history of a run may have, and up to two more: 1 to 1,000,000 where the
+    /// ceiling is at most 65,535, and 1 to 2,000,000 where it is above.
     pub fn budget(&self) -> u64
         ensures { result ≡ self.now.budget }
     {
@@ -192,7 +189,8 @@ impl<K: Kinds> Net<K> {
         self.step
     }
 
-    /// The capacity beyond which no channel grows, in tokens: at most 1,000,000.
+    /// The capacity beyond which no channel grows, in tokens: 65,535 in version 1 of the description
+    /// and 1,000,000 in version 2.
     pub fn ceiling(&self) -> usize
         ensures { result ≡ self.now.ceiling }
     {
@@ -256,12 +254,37 @@ fn index_of(processes: &[ProcessSketch], name: &str) -> usize
     }
 }
 
+fn token_in(sketch: TokenSketch) -> Token
+    ensures is { result ≡ token_in sketch }
+    ensures fits { Fits result }
+{
+    match sketch {
+        TokenSketch::Integer(integer) => Token::Word(integer.unsigned_abs()),
+        TokenSketch::Boolean(boolean) => Token::Flag(boolean),
+    }
+}
+
+fn tokens_in(alloc: Global, sketches: &[TokenSketch]) -> Result<Vec<Token>, NetFault>
+    ensures ok { IfOk result (λ v. v.items ≡ map token_in sketches.now) }
+    ensures fit { IfOk result (λ v. All Fits v.items) }
+    ensures memory { IfErr result (λ e. e ≡ NetFault.Memory) }
+{
+    let mut tokens = Vec::new(alloc);
+    for sketch in sketches {
+        if tokens.push(token_in(*sketch)).is_err() {
+            return Err(NetFault::Memory);
+        }
+    }
+    Ok(tokens)
+}
+
 fn channel_in(
     alloc: Global,
     processes: &[ProcessSketch],
     sketch: &ChannelSketch,
 ) -> Result<Channel, NetFault>
     ensures ok { IfOk result (λ c. c ≡ channel_in processes.now sketch.now) }
+    ensures fits { IfOk result (λ c. All Fits c.tokens) }
     ensures memory { IfErr result (λ e. e ≡ NetFault.Memory) }
 {
     Ok(Channel {
@@ -272,7 +295,7 @@ fn channel_in(
         input: sketch.input.unsigned_abs() as usize,
         sort: sketch.sort,
         capacity: sketch.capacity.unsigned_abs() as usize,
-        tokens: Listed::new(Vec::new(alloc)),
+        tokens: Listed::new(tokens_in(alloc, sketch.tokens.as_slice())?),
     })
 }
 
@@ -300,6 +323,7 @@ fn channels_of(
     sketches: &[ChannelSketch],
 ) -> Result<Vec<Channel>, NetFault>
     ensures ok { IfOk result (λ v. v.items ≡ map (channel_in processes.now) sketches.now) }
+    ensures fit { IfOk result (λ v. All (λ c. All Fits c.tokens) v.items) }
     ensures memory { IfErr result (λ e. e ≡ NetFault.Memory) }
 {
     let mut channels = Vec::new(alloc);

@@ -1,26 +1,29 @@
 //! Reading a description.
-ghost use Rattle.std.specs.Prelude.{IfOk, IfErr};
+ghost use Rattle.std.specs.Prelude.{◌≡◌, codes, IfOk, IfErr};
+ghost use Rattle.toml.specs.Data.{as_integer};
 ghost use Rattle.toml.specs.View.{table_view};
-ghost use Rattle.kpn_net.specs.Form.{Reads};
-ghost use Rattle.kpn_net.specs.Description.{Describes, IsReadFault, sketch_of};
+ghost use Rattle.kpn_net.specs.Form.{Reads, required, has_only};
+ghost use Rattle.kpn_net.specs.Description.{Describes, IsReadFault, sketch_of, top_keys, channel_keys, channel_from};
 
 use crate::fault::NetFault;
-use crate::form::{Form, has_only, optional, required};
-use crate::sketch::{ChannelSketch, ProcessSketch, Sketch};
+use crate::form::{Form, find, has_only, optional, required};
+use crate::sketch::{ChannelSketch, ProcessSketch, Sketch, TokenSketch};
 use crate::small::Listed;
 use crate::token::Sort;
+use crate::version::is_two;
 use std::alloc::Global;
 use toml::{Table, Value};
 
 /// Reads a description, a TOML document in UTF-8, and fills in its defaults. Ranges and names are not
 /// checked: `Net::check` does that.
 ///
-/// At the top stand `version` and `budget` (integers; the budget is 10000 where it is absent),
-/// `process` (an array of tables) and `channel` (an array of tables, empty where it is absent). A
-/// process has `name` and `kind` (texts) and `args` (an array of integers, empty where it is absent).
-/// A channel has `name`, `from` and `to` (texts), `out` and `in` (integers, 0 where they are absent),
-/// `sort` (`words` or `flags`, and `words` where it is absent) and `capacity` (an integer, 1 where it
-/// is absent). There are no other keys.
+/// At the top stand `version`, `budget` and `step` (integers; the budget is 10000 and the step 1 where
+/// they are absent), `process` (an array of tables) and `channel` (an array of tables, empty where it
+/// is absent). A process has `name` and `kind` (texts) and `args` (an array of integers, empty where
+/// it is absent). A channel has `name`, `from` and `to` (texts), `out` and `in` (integers, 0 where
+/// they are absent), `sort` (`words` or `flags`, and `words` where it is absent), `capacity` (an
+/// integer, 1 where it is absent) and `tokens` (an array of integers and booleans, empty where it is
+/// absent). `step` and `tokens` are keys in version 2 alone. There are no other keys.
 ///
 /// The error is `NotToml` where the bytes are not UTF-8 or no TOML, `Keys` where a key is missing or
 /// unknown or its value is of another form, or `Memory` where memory was refused; nothing was then
@@ -36,36 +39,96 @@ pub fn read_sketch(alloc: Global, text: &[u8]) -> Result<Sketch, NetFault>
     }
 }
 
+fn version_of(table: &Table) -> Result<i64, NetFault>
+    ensures { Reads result (required as_integer (codes "version") (table_view table.now)) }
+{
+    match find(table, "version") {
+        Some(value) => value.as_integer().ok_or(NetFault::Keys),
+        None => Err(NetFault::Keys),
+    }
+}
+
+/// Whether there are no keys at the top but those of this version.
+fn has_only_top_keys(version: i64, table: &Table) -> bool
+    ensures { result ≡ has_only (top_keys version) (table_view table.now) }
+{
+    if is_two(version) {
+        has_only(table, &["version", "budget", "process", "channel", "step"])
+    } else {
+        has_only(table, &["version", "budget", "process", "channel"])
+    }
+}
+
 fn sketch_of(alloc: Global, table: &Table) -> Result<Sketch, NetFault>
     ensures { Reads result (sketch_of (table_view table.now)) }
 {
-    if !has_only(table, &["version", "budget", "process", "channel"]) {
+    let version = version_of(table)?;
+    if !has_only_top_keys(version, table) {
         return Err(NetFault::Keys);
     }
+    let none = Listed::new(Vec::new(alloc));
     Ok(Sketch {
-        version: required(alloc, table, "version")?,
-        budget: optional(alloc, table, "budget", 10000)?,
-        processes: required(alloc, table, "process")?,
-        channels: optional(alloc, table, "channel", Listed::new(Vec::new(alloc)))?,
+        version,
+        budget: optional(alloc, version, table, "budget", 10000)?,
+        step: optional(alloc, version, table, "step", 1)?,
+        processes: required(alloc, version, table, "process")?,
+        channels: optional(alloc, version, table, "channel", none)?,
     })
 }
 
 impl Form for ProcessSketch {
     ghost use Rattle.kpn_net.specs.Description.{process_of};
 
-    ghost form = { process_of };
+    ghost form = { λ version. process_of };
 
-    fn read(alloc: Global, value: &Value) -> Result<ProcessSketch, NetFault> {
+    fn read(alloc: Global, version: i64, value: &Value) -> Result<ProcessSketch, NetFault> {
         let table = match value.as_table() {
             Some(table) if has_only(table, &["name", "kind", "args"]) => table,
             _ => return Err(NetFault::Keys),
         };
+        let none = Listed::new(Vec::new(alloc));
         Ok(ProcessSketch {
-            name: required(alloc, table, "name")?,
-            kind: required(alloc, table, "kind")?,
-            args: optional(alloc, table, "args", Listed::new(Vec::new(alloc)))?,
+            name: required(alloc, version, table, "name")?,
+            kind: required(alloc, version, table, "kind")?,
+            args: optional(alloc, version, table, "args", none)?,
         })
     }
+}
+
+/// Whether a channel has no keys but those of this version.
+fn has_only_channel_keys(version: i64, table: &Table) -> bool
+    ensures { result ≡ has_only (channel_keys version) (table_view table.now) }
+{
+    if is_two(version) {
+        has_only(
+            table,
+            &[
+                "name", "from", "to", "out", "in", "sort", "capacity", "tokens",
+            ],
+        )
+    } else {
+        has_only(
+            table,
+            &["name", "from", "to", "out", "in", "sort", "capacity"],
+        )
+    }
+}
+
+/// The channel of a table, whatever other keys it has.
+fn channel_from(alloc: Global, version: i64, table: &Table) -> Result<ChannelSketch, NetFault>
+    ensures { Reads result (channel_from (table_view table.now)) }
+{
+    let none = Listed::new(Vec::new(alloc));
+    Ok(ChannelSketch {
+        name: required(alloc, version, table, "name")?,
+        from: required(alloc, version, table, "from")?,
+        to: required(alloc, version, table, "to")?,
+        out: optional(alloc, version, table, "out", 0)?,
+        input: optional(alloc, version, table, "in", 0)?,
+        sort: optional(alloc, version, table, "sort", Sort::Words)?,
+        capacity: optional(alloc, version, table, "capacity", 1)?,
+        tokens: optional(alloc, version, table, "tokens", none)?,
+    })
 }
 
 impl Form for ChannelSketch {
@@ -73,33 +136,36 @@ impl Form for ChannelSketch {
 
     ghost form = { channel_of };
 
-    fn read(alloc: Global, value: &Value) -> Result<ChannelSketch, NetFault> {
-        let table = match value.as_table() {
-            Some(table)
-                if has_only(
-                    table,
-                    &["name", "from", "to", "out", "in", "sort", "capacity"],
-                ) => table,
-            _ => return Err(NetFault::Keys),
-        };
-        Ok(ChannelSketch {
-            name: required(alloc, table, "name")?,
-            from: required(alloc, table, "from")?,
-            to: required(alloc, table, "to")?,
-            out: optional(alloc, table, "out", 0)?,
-            input: optional(alloc, table, "in", 0)?,
-            sort: optional(alloc, table, "sort", Sort::Words)?,
-            capacity: optional(alloc, table, "capacity", 1)?,
-        })
+    fn read(alloc: Global, version: i64, value: &Value) -> Result<ChannelSketch, NetFault> {
+        match value.as_table() {
+            Some(table) if has_only_channel_keys(version, table) => {
+                channel_from(alloc, version, table)
+            }
+            _ => Err(NetFault::Keys),
+        }
+    }
+}
+
+impl Form for TokenSketch {
+    ghost use Rattle.kpn_net.specs.Description.{token_of};
+
+    ghost form = { λ version. token_of };
+
+    fn read(_alloc: Global, _version: i64, value: &Value) -> Result<TokenSketch, NetFault> {
+        match value {
+            Value::Integer(integer) => Ok(TokenSketch::Integer(*integer)),
+            Value::Boolean(boolean) => Ok(TokenSketch::Boolean(*boolean)),
+            _ => Err(NetFault::Keys),
+        }
     }
 }
 
 impl Form for Sort {
     ghost use Rattle.kpn_net.specs.Description.{sort_of};
 
-    ghost form = { sort_of };
+    ghost form = { λ version. sort_of };
 
-    fn read(_alloc: Global, value: &Value) -> Result<Sort, NetFault> {
+    fn read(_alloc: Global, _version: i64, value: &Value) -> Result<Sort, NetFault> {
         let Some(text) = value.as_str() else {
             return Err(NetFault::Keys);
         };

@@ -3,12 +3,14 @@
 use crate::small::{Listed, Text};
 use crate::token::Sort;
 
-/// A description with its defaults filled in: its version, its budget in entries of a history, and
-/// its processes and channels in the order of the text.
+/// A description with its defaults filled in: its version, its budget in entries of a history, how
+/// many places a growth adds (1 in version 1, which says nothing of it), and its processes and
+/// channels in the order of the text.
 #[derive(Drop)]
 pub struct Sketch {
     pub version: i64,
     pub budget: i64,
+    pub step: i64,
     pub processes: Listed<ProcessSketch>,
     pub channels: Listed<ChannelSketch>,
 }
@@ -23,7 +25,8 @@ pub struct ProcessSketch {
 }
 
 /// A channel of a description: its name, the names of the processes that it leads from and to, the
-/// output `out` of the one and the input `input` of the other, its sort, and its capacity in tokens.
+/// output `out` of the one and the input `input` of the other, its sort, its capacity in tokens, and
+/// what it holds at first, the token that is read first in front (nothing in version 1).
 #[derive(Drop)]
 pub struct ChannelSketch {
     pub name: Text,
@@ -33,4 +36,13 @@ pub struct ChannelSketch {
     pub input: i64,
     pub sort: Sort,
     pub capacity: i64,
+    pub tokens: Listed<TokenSketch>,
+}
+
+/// A token that a channel of a description holds at first: an integer, which is a word where it is
+/// not negative, or a boolean, which is a flag.
+#[derive(Clone, Copy, Debug, PartialEq, Eq)]
+pub enum TokenSketch {
+    Integer(i64),
+    Boolean(bool),
 }

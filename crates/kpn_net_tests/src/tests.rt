@@ -4,7 +4,8 @@ ghost use Rattle.std.specs.Prelude.{◌≡◌, ◌<◌, ◌+◌, ◌^◌, ◌==�
 ghost use Rattle.std.specs.Str.{bytes_eq};
 
 use kpn_net::{
-    Card, Ends, Kinds, Listed, Local, Net, NetFault, Signature, Sort, Text, Token, read_sketch,
+    Card, Ends, Kinds, Listed, Local, Net, NetFault, Signature, Sort, Text, Token, TokenSketch,
+    read_sketch,
 };
 use std::test::Fail;
 
@@ -124,7 +125,49 @@ fn describes_a_counter_into_a_sink(rt: HostRuntime) -> Result<(), Fail> {
     Ok(())
 }
 
-static NUMBERS: [(NetFault, u8); 15] = [
+/// The same of version 2, with start tokens, a step, and the greatest budget.
+const COUNTER_AND_TOKENS: &[u8] = b"version = 2
+budget = 2000000
+step = 1024
+
+[[process]]
+name = \"src\"
+kind = \"count\"
+args = [1, 3]
+
+[[process]]
+name = \"snk\"
+kind = \"sink\"
+args = [3]
+
+[[channel]]
+name = \"c0\"
+from = \"src\"
+to = \"snk\"
+capacity = 1000000
+tokens = [7, 9223372036854775807]
+";
+
+#[test]
+fn describes_start_tokens_and_a_step(rt: HostRuntime) -> Result<(), Fail> {
+    let alloc = rt.alloc();
+    let sketch = read_sketch(alloc, COUNTER_AND_TOKENS).map_err(|_| "not read")?;
+    let net: Net<CountAndSink> = Net::check(alloc, &sketch).map_err(|_| "refused")?;
+    let tokens = [Token::Word(7), Token::Word(9223372036854775807)];
+    assert!(rt; net.tokens(0) == tokens.as_slice());
+    assert!(rt; [net.capacity(0), net.step(), net.ceiling()] == [1000000, 1024, 1000000]);
+    assert!(rt; net.budget() == 2000000 && sketch.step == 1024);
+    for channel in sketch.channels.as_slice() {
+        let read = [
+            TokenSketch::Integer(7),
+            TokenSketch::Integer(9223372036854775807),
+        ];
+        assert!(rt; channel.tokens.as_slice() == read.as_slice());
+    }
+    Ok(())
+}
+
+static NUMBERS: [(NetFault, u8); 17] = [
     (NetFault::NotToml, 1),
     (NetFault::Keys, 2),
     (NetFault::Version, 3),
@@ -140,6 +183,8 @@ static NUMBERS: [(NetFault, u8); 15] = [
     (NetFault::Budget, 13),
     (NetFault::Memory, 14),
     (NetFault::Input, 15),
+    (NetFault::Tokens, 16),
+    (NetFault::Step, 17),
 ];
 
 #[test]

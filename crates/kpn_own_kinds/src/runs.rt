@@ -1,48 +1,56 @@
 //! Runs of networks of flips.
-ghost use Rattle.std.specs.Prelude.{◌≡◌, ◌<◌, All, IsSome, IfOk, IfSome, OnErr, Some, length, option_map, slice_get};
+ghost use Rattle.std.specs.Prelude.{◌≡◌, ◌<◌, ◌≤◌, All, IsSome, IfOk, IfSome, OnErr, Some, length, option_map, slice_get};
 ghost use Rattle.kpn_machine.specs.Opening.{cards_of};
 ghost use Rattle.kpn_execute.specs.Execution.{Executes};
 ghost use Rattle.kpn_own_kinds.specs.Flip.{ports, HasLine, flip, flips};
 
 use crate::flip::{FlipBody, Flips, line_of};
 use kpn_body::Call;
-use kpn_execute::execute_alone;
+use kpn_execute::execute;
 use kpn_front::streams::Sink;
 use kpn_machine::cards_of;
 use kpn_net::{Answer, Card, Local, Net, Token};
 use std::alloc::{AllocError, Global};
+use std::sync::Wait;
+use std::thread::Threads;
 
-/// Runs a network of flips in the calling thread, and writes the report of the run, with the stream
+/// Runs a network of flips by 1 to 16 workers, and writes the report of the run, with the stream
 /// of a channel where `show` names one.
 ///
-/// The answer is the exit status, as `execute_alone` gives it. The error is want of memory for the
+/// The answer is the exit status, as `execute` gives it. The error is want of memory for the
 /// bodies; nothing was then written.
-pub(crate) fn run_flips<S: Sink>(
+pub(crate) fn run_flips<S: Sink, R: Wait + Threads + Sync>(
+    rt: &R,
     alloc: Global,
     net: Net<Flips>,
+    workers: usize,
     show: Option<&str>,
     sink: &mut S,
 ) -> Result<u8, AllocError>
-    ensures ok { IfOk result (Executes flips net (option_map (λ s. s.now) show.entry) (S.takes sink.old) (S.contents sink.old) (S.contents sink.new)) }
+    requires workers { (1 ≤ workers) × (workers ≤ 16) }
+    ensures ok { IfOk result (Executes flips net workers (option_map (λ s. s.now) show.entry) (S.takes sink.old) (S.contents sink.old) (S.contents sink.new)) }
     ensures err { OnErr result (sink.new ≡ sink.old) }
 {
     let cards = cards_of(alloc, &net)?;
-    run_with_cards(alloc, cards.as_slice(), Some(net), show, sink)
+    run_with_cards(rt, alloc, cards.as_slice(), Some(net), workers, show, sink)
 }
 
 /// The same, of a network with these cards. It comes in an `Option`, since beside a `Net` that is
 /// held by value the check finds no proof of a loop that makes closures.
-fn run_with_cards<S: Sink>(
+fn run_with_cards<S: Sink, R: Wait + Threads + Sync>(
+    rt: &R,
     alloc: Global,
     cards: &[Card],
     net: Option<Net<Flips>>,
+    workers: usize,
     show: Option<&str>,
     sink: &mut S,
 ) -> Result<u8, AllocError>
     requires signed { All (λ card. IsSome (ports card)) cards.now }
     requires cards { IfSome net (λ n. cards.now ≡ cards_of n.processes) }
     requires some { IsSome net }
-    ensures ok { IfOk result (λ status. IfSome net (λ n. Executes flips n (option_map (λ s. s.now) show.entry) (S.takes sink.old) (S.contents sink.old) (S.contents sink.new) status)) }
+    requires workers { (1 ≤ workers) × (workers ≤ 16) }
+    ensures ok { IfOk result (λ status. IfSome net (λ n. Executes flips n workers (option_map (λ s. s.now) show.entry) (S.takes sink.old) (S.contents sink.old) (S.contents sink.new) status)) }
     ensures err { OnErr result (sink.new ≡ sink.old) }
 {
     let mut bodies = Vec::new(alloc);
@@ -58,7 +66,7 @@ fn run_with_cards<S: Sink>(
         bodies.push(FlipBody::new(card, call))?;
     }
     let Some(net) = net else { unreachable!() };
-    Ok(execute_alone(alloc, net, bodies, show, sink))
+    Ok(execute(rt, alloc, net, bodies, workers, show, sink))
 }
 
 /// A card of a list of cards that have signatures.

@@ -86,7 +86,7 @@ fn a_network_of_flips_runs(rt: HostRuntime) -> Result<(), Fail> {
     let sketch = read_sketch(alloc, FLIP_LOOP.as_bytes())?;
     let net: Net<Flips> = Net::check(alloc, &sketch)?;
     let mut out = Vec::new(alloc);
-    let status = run_flips(alloc, net, Some("c0"), &mut out)?;
+    let status = run_flips(&rt, alloc, net, 2, Some("c0"), &mut out)?;
     let lines = "end deadlock
 process k reads c0 steps 0
 channel c0 put 0 left 0 capacity 1

@@ -6,10 +6,10 @@ ghost use Rattle.kpn_standard.specs.Signatures.{signature};
 
 use crate::texts::{COUNTER, HAMMING};
 use kpn_body::{Body, Task, answer};
-use kpn_execute::execute_alone;
+use kpn_execute::execute;
 use kpn_front::load::load;
-use kpn_machine::Machine;
 use kpn_net::{Act, Answer, Card, Deed, End, Entry, Local, Net, NetFault, Token};
+use kpn_run::{Open, run};
 use kpn_standard::Standard;
 use std::alloc::{AllocError, Global};
 use std::sync::Arc;
@@ -102,16 +102,23 @@ stream c0 1 2 3
 fn nothing_is_run_for_an_unknown_channel(rt: HostRuntime) -> Result<(), Fail> {
     let alloc = rt.alloc();
     for (name, status, lines, calls) in SHOWN {
-        let net = network_of(alloc, COUNTER)?;
-        let count = Arc::new(alloc, AtomicU64::new(0))?;
-        let bodies = bodies_of(alloc, &net, &count)?;
-        let mut out = Vec::with_capacity(alloc, 1024)?;
-        assert_eq!(rt;
-            execute_alone(alloc, net, bodies, Some(name), &mut out),
-            status
-        );
-        assert!(rt; out.as_slice() == lines.as_bytes());
-        assert_eq!(rt; count.load(Ordering::SeqCst), calls, "at {name}");
+        for workers in [1, 2, 16] {
+            let net = network_of(alloc, COUNTER)?;
+            let count = Arc::new(alloc, AtomicU64::new(0))?;
+            let bodies = bodies_of(alloc, &net, &count)?;
+            let mut out = Vec::with_capacity(alloc, 1024)?;
+            let answer = execute(&rt, alloc, net, bodies, workers, Some(name), &mut out);
+            assert_eq!(rt; answer, status, "at {name} with {workers}");
+            assert!(rt;
+                out.as_slice() == lines.as_bytes(),
+                "at {name} with {workers}"
+            );
+            assert_eq!(rt;
+                count.load(Ordering::SeqCst),
+                calls,
+                "at {name} with {workers}"
+            );
+        }
     }
     Ok(())
 }
@@ -132,22 +139,28 @@ fn a_task_calls_its_body_once(rt: HostRuntime) -> Result<(), Fail> {
     Ok(())
 }
 
+/// The first ten of Hamming's numbers.
+static HAMMING_FIRST: [u64; 10] = [1, 2, 3, 4, 5, 6, 8, 9, 10, 12];
+
 /// Hamming's numbers: the products of twos, threes and fives, in order. The budget is spent, and the
 /// sink has been given these ten first, whatever the schedule.
 #[test]
 fn hamming_numbers_come_in_order(rt: HostRuntime) -> Result<(), Fail> {
     let alloc = rt.alloc();
-    let net = network_of(alloc, HAMMING)?;
-    let count = Arc::new(alloc, AtomicU64::new(0))?;
-    let bodies = bodies_of(alloc, &net, &count)?;
-    let Ok(mut machine) = Machine::open(alloc, net, bodies) else {
-        return Err("refused".into());
-    };
-    assert_eq!(rt; machine.out(), 0);
-    machine.finish_alone();
-    assert_eq!(rt; machine.end(), Some(End::Budget));
-    let taken = taken_from(alloc, machine.history(), 1)?;
-    assert!(rt; taken.as_slice() == [1, 2, 3, 4, 5, 6, 8, 9, 10, 12].as_slice());
+    for workers in [1, 4, 16] {
+        let net = network_of(alloc, HAMMING)?;
+        let count = Arc::new(alloc, AtomicU64::new(0))?;
+        let bodies = bodies_of(alloc, &net, &count)?;
+        let Ok(finish) = run(&rt, alloc, net, bodies, workers, &Open) else {
+            return Err("refused".into());
+        };
+        assert_eq!(rt; finish.end(), End::Budget, "with {workers}");
+        let taken = taken_from(alloc, finish.history(), 1)?;
+        assert!(rt;
+            taken.as_slice() == HAMMING_FIRST.as_slice(),
+            "with {workers}"
+        );
+    }
     Ok(())
 }
 

@@ -1,6 +1,6 @@
 //! Long growths and the largest networks, with what is written of them worked out by hand.
 use crate::describing::{Description, Port};
-use crate::runs::outcome_of;
+use crate::runs::{WORKERS, outcome_of};
 use std::alloc::{AllocError, Global};
 use std::fmt::Write as _;
 use std::test::Fail;
@@ -43,10 +43,15 @@ fn grown_lines(alloc: Global, tokens: usize, capacity: usize) -> Result<String, 
 fn channels_grow_far(rt: HostRuntime) -> Result<(), Fail> {
     for (tokens, capacity) in [(100, 1), (65_534, 65_000)] {
         let description = counter_into_nothing(rt.alloc(), tokens, capacity)?;
-        let told = outcome_of(rt.alloc(), description.as_str(), None)?;
         let lines = grown_lines(rt.alloc(), tokens, capacity)?;
-        assert_eq!(rt; told.status, 0, "to {tokens}");
-        assert!(rt; told.text.as_slice() == lines.as_bytes(), "to {tokens}");
+        for workers in WORKERS {
+            let told = outcome_of(&rt, rt.alloc(), description.as_str(), workers, None)?;
+            assert_eq!(rt; told.status, 0, "to {tokens} with {workers}");
+            assert!(rt;
+                told.text.as_slice() == lines.as_bytes(),
+                "to {tokens} with {workers}"
+            );
+        }
     }
     Ok(())
 }
@@ -109,10 +114,12 @@ fn ring_lines(alloc: Global) -> Result<String, Fail> {
 #[test]
 fn the_largest_network_runs(rt: HostRuntime) -> Result<(), Fail> {
     let description = ring_of_copies(rt.alloc())?;
-    let told = outcome_of(rt.alloc(), description.as_str(), None)?;
     let lines = ring_lines(rt.alloc())?;
-    assert_eq!(rt; told.status, 5);
-    assert!(rt; told.text.as_slice() == lines.as_bytes());
+    for workers in WORKERS {
+        let told = outcome_of(&rt, rt.alloc(), description.as_str(), workers, None)?;
+        assert_eq!(rt; told.status, 5, "with {workers}");
+        assert!(rt; told.text.as_slice() == lines.as_bytes(), "with {workers}");
+    }
     Ok(())
 }
 
@@ -156,9 +163,11 @@ fn pair_lines(alloc: Global) -> Result<String, Fail> {
 #[test]
 fn sixty_four_processes_run(rt: HostRuntime) -> Result<(), Fail> {
     let description = pairs(rt.alloc())?;
-    let told = outcome_of(rt.alloc(), description.as_str(), None)?;
     let lines = pair_lines(rt.alloc())?;
-    assert_eq!(rt; told.status, 0);
-    assert!(rt; told.text.as_slice() == lines.as_bytes());
+    for workers in WORKERS {
+        let told = outcome_of(&rt, rt.alloc(), description.as_str(), workers, None)?;
+        assert_eq!(rt; told.status, 0, "with {workers}");
+        assert!(rt; told.text.as_slice() == lines.as_bytes(), "with {workers}");
+    }
     Ok(())
 }

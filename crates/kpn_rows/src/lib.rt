@@ -8,6 +8,8 @@ mod counting;
 #[cfg(test)]
 mod describing;
 #[cfg(test)]
+mod hostile_texts;
+#[cfg(test)]
 mod large;
 #[cfg(test)]
 mod reports;
@@ -15,3 +17,5 @@ mod reports;
 mod runs;
 #[cfg(test)]
 mod texts;
+#[cfg(test)]
+mod version_two;

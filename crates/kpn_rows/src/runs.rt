@@ -2,7 +2,9 @@
 use crate::texts::{CEILING, COUNTER, DEAD, ENDLESS, FLAGS, NOTHING, PARKS, TWO_FULL, WRAPS};
 use kpn_execute::serve;
 use std::alloc::{AllocError, Global};
+use std::sync::Wait;
 use std::test::Fail;
+use std::thread::Threads;
 
 /// The exit status, the number of the description's fault or 0, and what is written.
 #[derive(Drop)]
@@ -15,23 +17,37 @@ pub(crate) struct Told {
 /// Room for every text here, taken before the run.
 const ROOM: usize = 16384;
 
-/// The outcome of `kpn run` on a description, with the stream of a channel where one is named.
-pub(crate) fn outcome_of(
+/// How many workers run each description: what is written is the same.
+pub(crate) const WORKERS: [&str; 3] = ["1", "2", "16"];
+
+/// The outcome of `kpn run` on a description by so many workers, with the stream of a channel where one
+/// is named.
+pub(crate) fn outcome_of<R: Threads + Wait + Sync>(
+    rt: &R,
     alloc: Global,
     text: &str,
+    workers: &str,
     show: Option<&str>,
 ) -> Result<Told, AllocError> {
     match show {
-        None => outcome_of_words(alloc, &["kpn", "run"], text),
-        Some(name) => outcome_of_words(alloc, &["kpn", "run", "--show", name], text),
+        None => outcome_of_words(rt, alloc, &["kpn", "run", "--workers", workers], text),
+        Some(name) => {
+            let words = ["kpn", "run", "--workers", workers, "--show", name];
+            outcome_of_words(rt, alloc, &words, text)
+        }
     }
 }
 
 /// The outcome of the program on these words and this input.
-fn outcome_of_words(alloc: Global, words: &[&str], text: &str) -> Result<Told, AllocError> {
+fn outcome_of_words<R: Threads + Wait + Sync>(
+    rt: &R,
+    alloc: Global,
+    words: &[&str],
+    text: &str,
+) -> Result<Told, AllocError> {
     let mut out = Vec::with_capacity(alloc, ROOM)?;
     let mut source = text.as_bytes();
-    let (status, fault) = match serve(alloc, words, &mut source, &mut out) {
+    let (status, fault) = match serve(rt, alloc, words, &mut source, &mut out) {
         Ok(served) => (
             served.status,
             served.fault.map_or(0, |fault| fault.number()),
@@ -45,13 +61,17 @@ fn outcome_of_words(alloc: Global, words: &[&str], text: &str) -> Result<Told, A
     })
 }
 
-/// The same of a description in which parts are replaced.
-fn outcome_of_edits(alloc: Global, text: &str, edits: &[(&str, &str)]) -> Result<Told, AllocError> {
+/// A description in which parts are replaced.
+pub(crate) fn edited(
+    alloc: Global,
+    text: &str,
+    edits: &[(&str, &str)],
+) -> Result<String, AllocError> {
     let mut edited = format!(in alloc; "{text}")?;
     for (old, new) in edits {
         edited = edited.replace(alloc, old, new)?;
     }
-    outcome_of(alloc, edited.as_str(), None)
+    Ok(edited)
 }
 
 /// A description, the channel to show, the exit status, and what is written.
@@ -185,9 +205,11 @@ entries 65536
 #[test]
 fn runs_tell_their_outcome(rt: HostRuntime) -> Result<(), Fail> {
     for (text, show, status, lines) in RUNS {
-        let told = outcome_of(rt.alloc(), text, show)?;
-        assert_eq!(rt; told.status, status);
-        assert!(rt; told.text.as_slice() == lines.as_bytes());
+        for workers in WORKERS {
+            let told = outcome_of(&rt, rt.alloc(), text, workers, show)?;
+            assert_eq!(rt; told.status, status, "with {workers}");
+            assert!(rt; told.text.as_slice() == lines.as_bytes(), "with {workers}");
+        }
     }
     Ok(())
 }
@@ -319,9 +341,12 @@ entries 9
 #[test]
 fn edits_tell_their_outcome(rt: HostRuntime) -> Result<(), Fail> {
     for (text, edits, status, lines) in &EDITS {
-        let told = outcome_of_edits(rt.alloc(), text, edits)?;
-        assert_eq!(rt; told.status, *status);
-        assert!(rt; told.text.as_slice() == lines.as_bytes());
+        let text = edited(rt.alloc(), text, edits)?;
+        for workers in WORKERS {
+            let told = outcome_of(&rt, rt.alloc(), text.as_str(), workers, None)?;
+            assert_eq!(rt; told.status, *status, "with {workers}");
+            assert!(rt; told.text.as_slice() == lines.as_bytes(), "with {workers}");
+        }
     }
     Ok(())
 }
@@ -335,15 +360,20 @@ static SHOWN: [(&str, &str); 2] = [
 #[test]
 fn shows_the_named_stream(rt: HostRuntime) -> Result<(), Fail> {
     for (name, end) in SHOWN {
-        let told = outcome_of(rt.alloc(), FLAGS, Some(name))?;
-        assert_eq!(rt; told.status, 5);
-        assert!(rt; told.text.as_slice().ends_with(end.as_bytes()));
+        for workers in WORKERS {
+            let told = outcome_of(&rt, rt.alloc(), FLAGS, workers, Some(name))?;
+            assert_eq!(rt; told.status, 5, "with {workers}");
+            assert!(rt;
+                told.text.as_slice().ends_with(end.as_bytes()),
+                "with {workers}"
+            );
+        }
     }
     Ok(())
 }
 
 /// Words, a description, the exit status, the number of the fault or 0, and what is written.
-static CHECKS: [(&[&str], &str, u8, u8, &str); 5] = [
+static CHECKS: [(&[&str], &str, u8, u8, &str); 6] = [
     (
         &["kpn", "check"],
         COUNTER,
@@ -354,13 +384,14 @@ static CHECKS: [(&[&str], &str, u8, u8, &str); 5] = [
     (&["kpn", "check"], "", 2, 2, "refused 2\n"),
     (&["kpn", "run"], "version = ", 2, 1, "refused 1\n"),
     (&["kpn", "walk"], COUNTER, 1, 0, ""),
+    (&["kpn", "run", "--workers", "17"], COUNTER, 1, 0, ""),
     (&["kpn", "--help"], COUNTER, 0, 0, ""),
 ];
 
 #[test]
 fn words_choose_what_is_done(rt: HostRuntime) -> Result<(), Fail> {
     for (words, text, status, fault, lines) in CHECKS {
-        let told = outcome_of_words(rt.alloc(), words, text)?;
+        let told = outcome_of_words(&rt, rt.alloc(), words, text)?;
         assert_eq!(rt; told.status, status);
         assert_eq!(rt; told.fault, fault);
         assert!(rt; told.text.as_slice() == lines.as_bytes());
@@ -369,11 +400,11 @@ fn words_choose_what_is_done(rt: HostRuntime) -> Result<(), Fail> {
 }
 
 /// Where a request for memory is refused, that is all that is told, and the status is 4. With ample
-/// memory the run is told; `bench/refuse_each_allocation` refuses each request in turn.
+/// memory the run is told; `tests/refuse_each_allocation` refuses each request in turn.
 #[test]
 fn tells_a_refusal_or_the_run(rt: HostRuntime) -> Result<(), Fail> {
     let (text, show, status, lines) = RUNS[0];
-    let Ok(told) = outcome_of(rt.alloc(), text, show) else {
+    let Ok(told) = outcome_of(&rt, rt.alloc(), text, "1", show) else {
         return Ok(());
     };
     let is_run = told.status == status && told.text.as_slice() == lines.as_bytes();

@@ -75,7 +75,7 @@ module _ (kinds : Family) (net : Network) (E : List Entry) (M : State) (cause : 
       )
 
 -- a run that came to its own end is over
-over_of : (kinds : Family) (net : Network) (cause : End) (E : List Entry) (M : State) → has_detail cause ≡ true → IsBound kinds net E M cause → IsOver kinds net M cause
+pub over_of : (kinds : Family) (net : Network) (cause : End) (E : List Entry) (M : State) → has_detail cause ≡ true → IsBound kinds net E M cause → IsOver kinds net M cause
 over_of kinds net Terminated E M has bound = bound
 over_of kinds net Deadlock E M has bound = bound
 over_of kinds net Ceiling E M has bound = bound

@@ -4,6 +4,7 @@ ghost use Rattle.kpn_net.specs.Network.{Network as NetV};
 ghost use Rattle.kpn_machine.specs.declared.opening.OpenFault.{OpenFault as OpenFaultV};
 ghost use Rattle.kpn_machine.specs.Opening.{cards_of, IsRefused};
 ghost use Rattle.kpn_machine.specs.Scheduler.{IsFresh};
+ghost use Rattle.kpn_laws.specs.RoomOfRun.{TakesLeastRoom};
 ghost use Rattle.kpn_run.specs.Runs.{IsFinish, IsInLine, SparesBudget, StaysWithin};
 ghost use Rattle.kpn_body.specs.Input.{Input};
 
@@ -11,7 +12,7 @@ use crate::finish::Finish;
 use crate::slot::{WorkerSlot, leave_all, seat_all, work_all};
 use crate::worker::Gate;
 use kpn_body::{Answered, Body, Finished};
-use kpn_laws::{determinacy_of, valid_runs};
+use kpn_laws::{determinacy_of, least_room_of, valid_runs};
 use kpn_machine::{Machine, OpenFault, OpenRefused};
 use kpn_monitor::{EntryLedger, Monitor, Opening, Seat};
 use kpn_net::{Kinds, Net};
@@ -55,7 +56,7 @@ pub enum RunFault<B: Body> {
 /// after each prefix of it no channel holds more tokens than its capacity. It does not end by Budget
 /// where some run that is over has fewer entries than the budget. Of the deeds of a process, or the
 /// stream of a channel, in this history and in any run from any starting capacities, one is a prefix of
-/// the other.
+/// the other. Whatever number of places a channel suffices for the network, the run takes no more.
 ///
 /// The calling thread is one worker, and each other has a thread of its own; where a thread can't be
 /// started, that worker runs in the calling thread. It returns when all have met the end.
@@ -71,6 +72,7 @@ pub fn run<B: Body, R: Wait + Threads + Sync, G: Gate>(
     ensures within { IfOk result (λ f. StaysWithin B.Kinds.family net f.machine.history) }
     ensures budget { IfOk result (λ f. SparesBudget B.Kinds.family net f.cause) }
     ensures in_line { IfOk result (λ f. IsInLine B.Kinds.family net f.machine.history) }
+    ensures room { IfOk result (λ f. TakesLeastRoom B.Kinds.family net f.machine.history f.machine.state) }
     ensures cards { OnOk result (map B.card bodies.items ≡ cards_of net.processes) }
     ensures workers { (n : NetV) (bs : _) → result ≡ Err (RunFault.Workers n bs) → (n ≡ net) × (bs ≡ bodies) × ((workers ≡ 0) ⊎ (16 < workers)) }
     ensures many { (workers ≡ 0) ⊎ (16 < workers) → result ≡ Err (RunFault.Workers net bodies) }
@@ -110,6 +112,7 @@ fn run_machine<B: Body, R: Wait + Threads + Sync, G: Gate>(
     ensures within { IfOk result (λ f. StaysWithin B.Kinds.family machine.network f.machine.history) }
     ensures budget { IfOk result (λ f. SparesBudget B.Kinds.family machine.network f.cause) }
     ensures in_line { IfOk result (λ f. IsInLine B.Kinds.family machine.network f.machine.history) }
+    ensures room { IfOk result (λ f. TakesLeastRoom B.Kinds.family machine.network f.machine.history f.machine.state) }
     ensures workers { (n : NetV) (bs : _) → result ≢ Err (RunFault.Workers n bs) }
     ensures open { (n : NetV) (bs : _) (fault : OpenFaultV) → result ≢ Err (RunFault.Open n bs fault) }
     ensures lost { (a : Input) (b : _) → result ≡ Err (RunFault.Lost a b) → B.card b ≡ a.card }
@@ -132,8 +135,10 @@ fn told_by_laws<K: Kinds>(finish: &Finish<K>)
     ensures within { StaysWithin K.family finish.now.machine.network finish.now.machine.history }
     ensures budget { SparesBudget K.family finish.now.machine.network finish.now.cause }
     ensures in_line { IsInLine K.family finish.now.machine.network finish.now.machine.history }
+    ensures room { TakesLeastRoom K.family finish.now.machine.network finish.now.machine.history finish.now.machine.state }
 {
     determinacy_of::<K>();
+    least_room_of::<K>();
     valid_runs();
     finish.net().processes();
     finish.end();

@@ -52,6 +52,13 @@ impl<K: Kinds> Finish<K> {
         self.chronicle.net()
     }
 
+    /// What the machine left behind: network, history, standings and end.
+    pub fn chronicle(&self) -> &Chronicle<K>
+        ensures { result.now ≡ self.now.machine }
+    {
+        &self.chronicle
+    }
+
     /// The entries, in order.
     pub fn history(&self) -> &[Entry]
         ensures { result.now ≡ self.now.machine.history }

@@ -8,6 +8,8 @@ mod runs;
 #[cfg(test)]
 mod scenes;
 #[cfg(test)]
+mod start_tokens;
+#[cfg(test)]
 mod strangers;
 #[cfg(test)]
 mod texts;

@@ -10,6 +10,7 @@ use kpn_net::{Answer, Card, Local, Net, Token, read_sketch};
 use std::sync::Arc;
 use std::sync::atomic::{AtomicU64, Ordering};
 use std::test::Fail;
+use std::thread;
 
 /// Two flags, and how many have seen the other's.
 #[derive(Drop)]
@@ -19,7 +20,8 @@ struct Flags {
     seen: AtomicU64,
 }
 
-/// Sets a flag when it is first called, and waits for the other.
+/// Sets a flag when it is first called, and waits for the other. Between two looks other threads may go
+/// on, so that a busy machine doesn't end the wait too soon.
 fn meet(mine: &AtomicU64, other: &AtomicU64, seen: &AtomicU64) {
     if mine.swap(1, Ordering::SeqCst) == 1 {
         return;
@@ -29,6 +31,7 @@ fn meet(mine: &AtomicU64, other: &AtomicU64, seen: &AtomicU64) {
             seen.fetch_add(1, Ordering::SeqCst);
             return;
         }
+        thread::yield_now();
     }
 }
 

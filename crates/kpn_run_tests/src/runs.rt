@@ -5,6 +5,7 @@ ghost use Rattle.kpn_body.specs.Standard.{signature, Admitted};
 ghost use Rattle.kpn_machine.specs.Opening.{cards_of};
 
 use crate::scenes::{Scene, play_scene};
+use crate::start_tokens::{RUNNING_SUMS, RUNNING_SUMS_END};
 use crate::strangers::two_monitors;
 use crate::texts::{
     COPIED_AND_WOVEN, COUNTER_INTO_SINK, COUNTER_INTO_SMALL_SINK, TWO_FULL_CHANNELS,
@@ -284,6 +285,7 @@ fn any_number_of_workers(rt: HostRuntime) -> Result<(), Fail> {
         (COPIED_AND_WOVEN, WOVEN_ENDS),
         (COUNTER_INTO_SMALL_SINK, SMALL_SINK_ENDS),
         (TWO_FULL_CHANNELS, TWO_FULL_END),
+        (RUNNING_SUMS, RUNNING_SUMS_END),
     ];
     for (text, due) in due {
         for workers in [1, 2, 16] {

@@ -97,6 +97,7 @@ impl Store {
     }
 
     /// A process reads the first token of a channel.
+    #[inline(always)]
     pub fn take(&mut self, process: usize, channel: usize, next: Local) -> Token
         requires process { process < length self.old.state.processes }
         requires channel { channel < length self.old.state.channels }
@@ -119,6 +120,7 @@ impl Store {
     }
 
     /// A process writes a token to a channel.
+    #[inline(always)]
     pub fn put(&mut self, process: usize, channel: usize, next: Local, token: Token)
         requires process { process < length self.old.state.processes }
         requires channel { channel < length self.old.state.channels }

@@ -1,9 +1,10 @@
 -- What meets the premises of the laws.
 use Rattle.std.proofs.Common.{ℕ, ◌<◌, ◌^◌, List, [], ◌∷◌, ◌++◌, map, None, refl, arith, lit<}
-use Rattle.std.proofs.lemmas.List.Elements.{All-nil, All-cons}
+use Rattle.std.proofs.lemmas.List.Elements.{All-nil, All-cons, All-from_recursion}
 use Rattle.std.specs.List.{All}
 use Rattle.kpn_net.specs.declared.parts.Process.{Process}
-use Rattle.kpn_net.specs.Lawful.{CardFits}
+use Rattle.kpn_net.specs.declared.parts.Channel.{Channel}
+use Rattle.kpn_net.specs.Lawful.{CardFits, Fits as TokenFits}
 use Rattle.kpn_net.specs.Standard.{standard}
 use Rattle.kpn_net.specs.Valid.{IsValid}
 use Rattle.kpn_net.proofs.ValidNet.{valid}
@@ -38,6 +39,10 @@ fits : (kind a b c : ℕ) → kind < 2 ^ 16 → IsArgument a → IsArgument b �
 fits kind a b c k x y z =
     record { kind = k; three = refl; args = All-cons IsArgument a (b ∷ c ∷ []) x (All-cons IsArgument b (c ∷ []) y (All-cons IsArgument c [] z (All-nil IsArgument))) }
 
+-- a channel whose start tokens fit
+abbrev HasFitting : Channel → Type 0
+HasFitting l = All TokenFits l.tokens
+
 -- the cards of Parks's case
 cards_fit : All Fits parks.processes
 cards_fit =
@@ -46,9 +51,16 @@ cards_fit =
     (All-cons Fits (process_in named weaver) (map (process_in named) (sink ∷ [])) (fits 7 3 3 0 (lit< tt) (lit< tt) (lit< tt) (lit< tt))
     (All-cons Fits (process_in named sink) [] (fits 1 6 0 0 (lit< tt) (lit< tt) (lit< tt) (lit< tt)) (All-nil Fits))))
 
+empty_fits : All TokenFits []
+empty_fits = All-nil TokenFits
+
+-- no channel of Parks's case has a start token
+tokens_fit : All HasFitting parks.channels
+tokens_fit = All-from_recursion HasFitting parks.channels (empty_fits, (empty_fits, (empty_fits, (empty_fits, tt))))
+
 -- the description of Parks's case has no fault
 pub parks_valid : IsValid signature parks
-parks_valid = valid named signature sketch refl cards_fit
+parks_valid = valid named signature sketch refl cards_fit tokens_fit
 
 -- until the right branch has to grow
 abbrev before : List Turn

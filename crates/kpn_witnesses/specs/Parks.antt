@@ -17,7 +17,7 @@ process name kind args = record { name = name; kind = kind; args = args }
 
 -- a channel of words with one place
 abbrev pub channel : List ℕ → List ℕ → ℤ → List ℕ → ℤ → ChannelSketch
-channel name from out to input = record { name = name; from = from; to = to; out = out; input = input; sort = Words; capacity = pos 1 }
+channel name from out to input = record { name = name; from = from; to = to; out = out; input = input; sort = Words; capacity = pos 1; tokens = [] }
 
 abbrev pub source : ProcessSketch
 source = process (codes "src") (codes "count") (pos 1 ∷ pos 3 ∷ [])
@@ -36,6 +36,7 @@ sketch =
     record {
       version = pos 1;
       budget = pos 10000;
+      step = pos 1;
       processes = source ∷ copier ∷ weaver ∷ sink ∷ [];
       channels =
           channel (codes "c0") (codes "src") (pos 0) (codes "cp") (pos 0)

@@ -17,8 +17,8 @@ unreachable-requires g c =
     let some = rw none at c.requires.some in
     cc
 
-pub execute_alone-requires-after_bounds : goal.execute_alone-requires-after_bounds
-execute_alone-requires-after_bounds g c κs within =
+pub execute-requires-clause-cards : goal.execute-requires-clause-cards
+execute-requires-clause-cards g c κs within =
     let some = sym c.loop-process.invariant.same ∙ c.in-Some.is in
     let cards = rw some at c.requires.cards in
     of_all (λ b. b.card) _ _ _ c.loop-process.invariant.front c.loop-process-test.false ∙ cards
@@ -26,4 +26,4 @@ execute_alone-requires-after_bounds g c κs within =
 pub returns-clause-ok : goal.returns-clause-ok
 returns-clause-ok g c =
     let some = sym c.loop-process.invariant.same ∙ c.in-Some.is in
-    rw some c.execute_alone.ensures
+    rw some c.execute.ensures

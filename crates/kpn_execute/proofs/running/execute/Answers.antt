@@ -1,7 +1,7 @@
 -- The channel that is to be shown is known, or it is told that it isn't.
 use Rattle.std.proofs.Common.{Some, None, inl, inr, refl, sym}
 use Rattle.kpn_front.specs.Lines.{no_channel_line}
-use Rattle.kpn_execute.proofs.execute.execute_alone.Goals as goal
+use Rattle.kpn_execute.proofs.running.execute.Goals as goal
 
 pub returns-in-None : goal.returns-in-None
 returns-in-None g c =

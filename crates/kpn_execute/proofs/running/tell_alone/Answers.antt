@@ -1,8 +1,8 @@
--- A refusal is told as one.
+-- Want of memory before the run is told as such.
 use Rattle.std.proofs.Common.{inl, refl}
 use Rattle.kpn_net.specs.declared.fault.NetFault.TheVariants.{Memory}
 use Rattle.kpn_front.specs.Lines.{refused_line}
-use Rattle.kpn_execute.proofs.execute.tell.Goals as goal
+use Rattle.kpn_execute.proofs.running.tell_alone.Goals as goal
 
 pub returns-in_default : goal.returns-in_default
 returns-in_default g c =
@@ -12,14 +12,4 @@ returns-in_default g c =
       told = inl (record { status_is = refl; text_is = refl });
       written = c.say_refused.ensures.said;
       room = c.say_refused.ensures.room;
-    }
-
-pub returns : goal.returns
-returns g c =
-    record {
-      status = 4;
-      text = refused_line Memory;
-      told = inl (record { status_is = refl; text_is = refl });
-      written = c.say_refused-in-Err.ensures.said;
-      room = c.say_refused-in-Err.ensures.room;
     }

@@ -1,0 +1,179 @@
+//! Running a network and telling of it.
+ghost use Rattle.std.specs.Prelude.{◌≡◌, ◌≢◌, ◌<◌, ◌≤◌, Some, None, IfOk, IsSome, map, option_map, string_bytes};
+ghost use Rattle.kpn_machine.specs.Opening.{cards_of};
+ghost use Rattle.kpn_execute.specs.Execution.{status_of, Executes, TellsEnded, TellsKnown, TellsRun, Writes};
+
+use kpn_body::Body;
+use kpn_front::say::{say, say_lost, say_no_channel, say_refused};
+use kpn_front::streams::Sink;
+use kpn_laws::{determinacy_of, least_room_of};
+use kpn_machine::{Chronicle, Machine, places_of};
+use kpn_net::{End, Kinds, Net, NetFault};
+use kpn_report::text_of;
+use kpn_run::{Open, RunFault, run};
+use std::alloc::{AllocError, Global};
+use std::sync::Wait;
+use std::thread::Threads;
+
+/// What is told of a run.
+#[derive(Drop)]
+struct Told {
+    status: u8,
+    text: String,
+}
+
+/// Runs a network by 1 to 16 workers, with a body for each process, and writes what came of it: the
+/// report of the run, with the stream of a channel where `show` names one. One worker is the calling
+/// thread, which then takes no lock.
+///
+/// Where the run came to its own end, each run of the network that is over tells the same, whatever
+/// the schedule. Whatever number of places a channel suffices for the network, the run takes no more.
+///
+/// The answer is the exit status: 0, 5 or 6 where the run terminated, ended in a deadlock or at the
+/// ceiling, 3 where its budget was spent, 1 where `show` is the name of no channel (nothing is then
+/// run, and `no channel NAME` is written), 4 where memory was refused, before the run or for the
+/// report (`refused 14`) or for a growth (`end memory`), 7 where the write fails, and 8 where the
+/// machine refused an answer of one of several workers (`lost`).
+pub fn execute<B: Body, S: Sink, R: Wait + Threads + Sync>(
+    rt: &R,
+    alloc: Global,
+    net: Net<B::Kinds>,
+    bodies: Vec<B>,
+    workers: usize,
+    show: Option<&str>,
+    sink: &mut S,
+) -> u8
+    requires cards { map B.card bodies.items ≡ cards_of net.processes }
+    requires workers { (1 ≤ workers) × (workers ≤ 16) }
+    ensures { Executes B.Kinds.family net workers (option_map (λ s. s.now) show.entry) (S.takes sink.old) (S.contents sink.old) (S.contents sink.new) result }
+{
+    match show {
+        None => tell(rt, alloc, net, bodies, workers, None, sink),
+        Some(name) => match net.find_channel(name) {
+            Some(channel) => tell(rt, alloc, net, bodies, workers, Some(channel), sink),
+            None => say_no_channel(name, sink),
+        },
+    }
+}
+
+/// Runs a network and writes what came of it, with the stream of a channel where one is to be shown.
+fn tell<B: Body, S: Sink, R: Wait + Threads + Sync>(
+    rt: &R,
+    alloc: Global,
+    net: Net<B::Kinds>,
+    bodies: Vec<B>,
+    workers: usize,
+    channel: Option<usize>,
+    sink: &mut S,
+) -> u8
+    requires cards { map B.card bodies.items ≡ cards_of net.processes }
+    requires workers { (1 ≤ workers) × (workers ≤ 16) }
+    ensures { Writes (TellsKnown B.Kinds.family net workers channel) (S.takes sink.old) (S.contents sink.old) (S.contents sink.new) result }
+{
+    if workers == 1 {
+        tell_alone(alloc, net, bodies, channel, sink)
+    } else {
+        tell_by_workers(rt, alloc, net, bodies, workers, channel, sink)
+    }
+}
+
+/// The same, in the calling thread.
+#[inline(never)]
+fn tell_alone<B: Body, S: Sink>(
+    alloc: Global,
+    net: Net<B::Kinds>,
+    bodies: Vec<B>,
+    channel: Option<usize>,
+    sink: &mut S,
+) -> u8
+    ensures { Writes (TellsEnded B.Kinds.family net channel) (S.takes sink.old) (S.contents sink.old) (S.contents sink.new) result }
+{
+    let Ok(mut machine) = Machine::open(alloc, net, bodies) else {
+        return say_refused(&NetFault::Memory, sink);
+    };
+    machine.finish_alone();
+    say_told(alloc, &machine.into_chronicle(), channel, sink)
+}
+
+/// The same, by several workers.
+#[inline(never)]
+fn tell_by_workers<B: Body, S: Sink, R: Wait + Threads + Sync>(
+    rt: &R,
+    alloc: Global,
+    net: Net<B::Kinds>,
+    bodies: Vec<B>,
+    workers: usize,
+    channel: Option<usize>,
+    sink: &mut S,
+) -> u8
+    requires cards { map B.card bodies.items ≡ cards_of net.processes }
+    requires workers { (1 < workers) × (workers ≤ 16) }
+    ensures { Writes (TellsKnown B.Kinds.family net workers channel) (S.takes sink.old) (S.contents sink.old) (S.contents sink.new) result }
+{
+    match run(rt, alloc, net, bodies, workers, &Open) {
+        Ok(finish) => say_told(alloc, finish.chronicle(), channel, sink),
+        Err(RunFault::Memory { .. }) => say_refused(&NetFault::Memory, sink),
+        Err(RunFault::Lost { .. }) => say_lost(sink),
+        Err(RunFault::Workers { .. }) => unreachable!(),
+        Err(RunFault::Open { .. }) => unreachable!(),
+    }
+}
+
+/// Writes what is told of a run that ended.
+fn say_told<K: Kinds, S: Sink>(
+    alloc: Global,
+    chronicle: &Chronicle<K>,
+    channel: Option<usize>,
+    sink: &mut S,
+) -> u8
+    requires { IsSome chronicle.now.end }
+    ensures { Writes (TellsEnded K.family chronicle.now.network channel) (S.takes sink.old) (S.contents sink.old) (S.contents sink.new) result }
+{
+    match told_of(alloc, chronicle, channel) {
+        Ok(told) => say(sink, told.text.as_str(), told.status),
+        Err(_) => say_refused(&NetFault::Memory, sink),
+    }
+}
+
+/// The whole of what is told of a run that ended.
+fn told_of<K: Kinds>(
+    alloc: Global,
+    chronicle: &Chronicle<K>,
+    channel: Option<usize>,
+) -> Result<Told, AllocError>
+    requires { IsSome chronicle.now.end }
+    ensures { IfOk result (λ told. TellsRun K.family chronicle.now.network channel told.status (string_bytes told.text)) }
+{
+    let Some(end) = chronicle.end() else {
+        unreachable!()
+    };
+    determinacy_of::<K>();
+    least_room_of::<K>();
+    let net = chronicle.net();
+    let places = places_of(alloc, net, chronicle.standings())?;
+    let text = text_of(
+        alloc,
+        net,
+        chronicle.history(),
+        places.as_slice(),
+        end,
+        channel,
+    )?;
+    Ok(Told {
+        status: status_of(end),
+        text,
+    })
+}
+
+/// The exit status of a run that ended so.
+fn status_of(end: End) -> u8
+    ensures { result ≡ status_of end }
+{
+    match end {
+        End::Terminated => 0,
+        End::Budget => 3,
+        End::Memory => 4,
+        End::Deadlock => 5,
+        End::Ceiling => 6,
+    }
+}

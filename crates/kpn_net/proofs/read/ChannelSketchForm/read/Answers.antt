@@ -1,0 +1,13 @@
+-- What is read of a table with the keys of its version is the channel of that table.
+use Rattle.std.proofs.Common.{rules, ◌≡◌, true, Some}
+use Rattle.toml.specs.Data.{as_table}
+use Rattle.toml.specs.View.{view, table_view}
+use Rattle.kpn_net.specs.Form.{has_only}
+use Rattle.kpn_net.specs.Description.{channel_keys}
+use Rattle.kpn_net.proofs.read.ChannelSketchForm.read.Goals as goal
+
+pub returns-in-Some : goal.returns-in-Some
+returns-in-Some c =
+    let found : as_table (view c.args.value.now) ≡ Some (table_view c.in-Some.table.now) = search rules in
+    let known : has_only (channel_keys c.args.version) (table_view c.in-Some.table.now) ≡ true = search rules in
+    rw (found, known) c.channel_from.ensures

@@ -1,0 +1,201 @@
+//! Texts that were not written to be run: the longest, the largest, and what is no description.
+use crate::describing::{Description, Port};
+use crate::runs::WORKERS;
+use crate::texts::COUNTER;
+use kpn_execute::serve;
+use std::alloc::{AllocError, Global};
+use std::fmt::Write as _;
+use std::sync::Wait;
+use std::test::Fail;
+use std::thread::Threads;
+
+/// How many bytes a description may have.
+const LONGEST: usize = 1_048_576;
+
+/// Room for every text here, taken before the run.
+const ROOM: usize = 16384;
+
+/// The exit status of `kpn run` on these bytes by so many workers, and what is written.
+fn told<R: Threads + Wait + Sync>(
+    rt: &R,
+    alloc: Global,
+    workers: &str,
+    text: &[u8],
+) -> Result<(u8, Vec<u8>), AllocError> {
+    let mut out = Vec::with_capacity(alloc, ROOM)?;
+    let mut source = text;
+    let words = ["kpn", "run", "--workers", workers];
+    let status = match serve(rt, alloc, &words, &mut source, &mut out) {
+        Ok(served) => served.status,
+        Err(fault) => fault.status(),
+    };
+    Ok((status, out))
+}
+
+/// The counter's text with so many bytes, of which those at the end are line feeds.
+fn filled(alloc: Global, length: usize) -> Result<String, AllocError> {
+    let filling = "\n".repeat(alloc, length.saturating_sub(COUNTER.len()))?;
+    format!(in alloc; "{COUNTER}{filling}")
+}
+
+const COUNTED: &str = "end terminated
+process src stopped steps 4
+process snk stopped steps 4
+channel c0 put 3 left 0 capacity 1
+entries 8
+";
+
+#[test]
+fn the_longest_text_runs(rt: HostRuntime) -> Result<(), Fail> {
+    for (length, status, lines) in [(LONGEST, 0u8, COUNTED), (LONGEST + 1, 2, "refused 15\n")] {
+        let text = filled(rt.alloc(), length)?;
+        let (ended, written) = told(&rt, rt.alloc(), "1", text.as_bytes())?;
+        assert_eq!(rt; text.len(), length);
+        assert_eq!(rt; ended, status);
+        assert!(rt; written.as_slice() == lines.as_bytes());
+    }
+    Ok(())
+}
+
+/// Edits of the counter's text, and what is written.
+static EDITS: [(&str, &str, &str); 2] = [
+    ("version = 1", "colour = 1\nversion = 1", "refused 2\n"),
+    ("name = \"src\"", "name = 7", "refused 2\n"),
+];
+
+#[test]
+fn hostile_edits_are_refused(rt: HostRuntime) -> Result<(), Fail> {
+    for (old, new, line) in EDITS {
+        let text = COUNTER.replace(rt.alloc(), old, new)?;
+        let (status, written) = told(&rt, rt.alloc(), "1", text.as_bytes())?;
+        assert_eq!(rt; status, 2, "{new}");
+        assert!(rt; written.as_slice() == line.as_bytes(), "{new}");
+    }
+    Ok(())
+}
+
+/// A key whose value is arrays in one another, so many deep; they are closed, or the text ends.
+fn nested(alloc: Global, deep: usize, closed: bool) -> Result<String, AllocError> {
+    let open = "[".repeat(alloc, deep)?;
+    let close = "]".repeat(alloc, if closed { deep } else { 0 })?;
+    format!(in alloc; "version = {open}{close}\n")
+}
+
+/// How deep arrays lie in one another, whether they are closed, and what is written: beyond 80 it is
+/// no TOML to the reader.
+static NESTED: [(usize, bool, &str); 4] = [
+    (1000, false, "refused 1\n"),
+    (100_000, true, "refused 1\n"),
+    (81, true, "refused 1\n"),
+    (80, true, "refused 2\n"),
+];
+
+#[test]
+fn nested_arrays_are_refused(rt: HostRuntime) -> Result<(), Fail> {
+    for (deep, closed, line) in NESTED {
+        let text = nested(rt.alloc(), deep, closed)?;
+        let (status, written) = told(&rt, rt.alloc(), "1", text.as_bytes())?;
+        assert_eq!(rt; status, 2, "{deep}");
+        assert!(rt; written.as_slice() == line.as_bytes(), "{deep}");
+    }
+    Ok(())
+}
+
+#[test]
+fn bytes_that_are_no_text_are_refused(rt: HostRuntime) -> Result<(), Fail> {
+    let (status, written) = told(&rt, rt.alloc(), "1", b"\xff")?;
+    assert_eq!(rt; status, 2);
+    assert!(rt; written.as_slice() == "refused 1\n".as_bytes());
+    Ok(())
+}
+
+/// A description with so many counters of nothing and so many channels from the first to itself.
+fn crowd(alloc: Global, processes: usize, channels: usize) -> Result<Description, AllocError> {
+    let mut description = Description::new(alloc, 10_000)?;
+    for i in 0..processes {
+        let name = format!(in alloc; "p{i}")?;
+        description.process(name.as_str(), "count", "0, 0")?;
+    }
+    for i in 0..channels {
+        let name = format!(in alloc; "c{i}")?;
+        description.channel(name.as_str(), Port("p0", 0), Port("p0", 0), 1)?;
+    }
+    Ok(description)
+}
+
+#[test]
+fn one_too_many_is_refused(rt: HostRuntime) -> Result<(), Fail> {
+    for (processes, channels, line) in [
+        (65usize, 0usize, "refused 4\n"),
+        (1, 257, "refused 4\n"),
+        (64, 0, "refused 10\n"),
+        (1, 256, "refused 8\n"),
+    ] {
+        let description = crowd(rt.alloc(), processes, channels)?;
+        let (status, written) = told(&rt, rt.alloc(), "1", description.as_str().as_bytes())?;
+        assert_eq!(rt; status, 2, "{processes} and {channels}");
+        assert!(rt;
+            written.as_slice() == line.as_bytes(),
+            "{processes} and {channels}"
+        );
+    }
+    Ok(())
+}
+
+/// How many processes of a chain hand tokens on.
+const LINKS: usize = 62;
+
+/// A counter of a hundred, so many scales by one, and a sink of a hundred, in one chain.
+fn chain(alloc: Global) -> Result<Description, AllocError> {
+    let mut description = Description::new(alloc, 20_000)?;
+    description.process("src", "count", "1, 100")?;
+    let mut before = format!(in alloc; "src")?;
+    for i in 0..LINKS {
+        let name = format!(in alloc; "s{i}")?;
+        description.process(name.as_str(), "scale", "1")?;
+        link(alloc, &mut description, i, before.as_str(), name.as_str())?;
+        before = name;
+    }
+    description.process("snk", "sink", "100")?;
+    link(alloc, &mut description, LINKS, before.as_str(), "snk")?;
+    Ok(description)
+}
+
+/// The channel of this number between two processes of a chain.
+fn link(
+    alloc: Global,
+    description: &mut Description,
+    number: usize,
+    from: &str,
+    to: &str,
+) -> Result<(), AllocError> {
+    let name = format!(in alloc; "c{number}")?;
+    description.channel(name.as_str(), Port(from, 0), Port(to, 0), 1)
+}
+
+/// What is written of it: a hundred tokens go through each channel, and each scale waits for more.
+fn chain_lines(alloc: Global) -> Result<String, Fail> {
+    let mut lines = String::from_str(alloc, "end deadlock\nprocess src stopped steps 101\n")?;
+    for i in 0..LINKS {
+        writeln!(lines, "process s{i} reads c{i} steps 200")?;
+    }
+    writeln!(lines, "process snk stopped steps 101")?;
+    for i in 0..=LINKS {
+        writeln!(lines, "channel c{i} put 100 left 0 capacity 1")?;
+    }
+    writeln!(lines, "entries 12602")?;
+    Ok(lines)
+}
+
+#[test]
+fn a_chain_of_sixty_four_processes_runs(rt: HostRuntime) -> Result<(), Fail> {
+    let description = chain(rt.alloc())?;
+    let text = description.as_str().as_bytes();
+    let lines = chain_lines(rt.alloc())?;
+    for workers in WORKERS {
+        let (status, written) = told(&rt, rt.alloc(), workers, text)?;
+        assert_eq!(rt; status, 5, "{workers} workers");
+        assert!(rt; written.as_slice() == lines.as_bytes(), "{workers} workers");
+    }
+    Ok(())
+}

@@ -1,0 +1,538 @@
+#!/usr/bin/env python3
+"""An independent, slow interpreter of the rules: from the words of the command and the text of a
+description to what is written on standard output and the exit status. It is written from README.md
+and docs/model.md and shares nothing with the engine: TOML is read by Python's tomllib, a process is
+a Python generator, and any process that can go on is the next, as a seed decides.
+
+    tests/interpreter.py [--seed N] [--versions 1] run --show NAME < FILE
+"""
+import math
+import random
+import re
+import sys
+import tomllib
+from collections import deque
+
+LIMIT = 1048576  # bytes of a description
+DEPTH = 80  # how deep arrays may lie in one another
+WORD = 2 ** 64
+BYTE_ORDER_MARK = b"\xef\xbb\xbf"  # TOML 1.1 passes over one at the front
+
+CEILING = {1: 65535, 2: 1000000}
+GREATEST_BUDGET = {1: 1000000, 2: 2000000}
+GREATEST_STEP = 1024
+
+STATUS = {"terminated": 0, "budget": 3, "deadlock": 5, "ceiling": 6}
+
+
+# Kinds. A process of Kahn's: it reads a port, writes to a port, or stops.
+
+def count(first, n):
+    for i in range(n):
+        yield "writes", 0, first + i
+
+
+def sink(n):
+    for _ in range(n):
+        yield "reads", 0
+
+
+def take(n):
+    for _ in range(n):
+        token = yield "reads", 0
+        yield "writes", 0, token
+
+
+def copy():
+    while True:
+        token = yield "reads", 0
+        yield "writes", 0, token
+        yield "writes", 1, token
+
+
+def prefix(value):
+    yield "writes", 0, value
+    while True:
+        token = yield "reads", 0
+        yield "writes", 0, token
+
+
+def add():
+    while True:
+        left = yield "reads", 0
+        right = yield "reads", 1
+        yield "writes", 0, (left + right) % WORD
+
+
+def scale(factor):
+    while True:
+        token = yield "reads", 0
+        yield "writes", 0, token * factor % WORD
+
+
+def weave(a, b):
+    while True:
+        for port, n in ((0, a), (1, b)):
+            for _ in range(n):
+                token = yield "reads", port
+                yield "writes", 0, token
+
+
+def merge():
+    left = yield "reads", 0
+    right = yield "reads", 1
+    while True:
+        yield "writes", 0, min(left, right)
+        refill_left, refill_right = left <= right, right <= left
+        if refill_left:
+            left = yield "reads", 0
+        if refill_right:
+            right = yield "reads", 1
+
+
+def divides(m):
+    while True:
+        token = yield "reads", 0
+        yield "writes", 0, token % m == 0
+
+
+def switch():
+    while True:
+        flag = yield "reads", 1
+        token = yield "reads", 0
+        yield "writes", int(flag), token
+
+
+def select():
+    while True:
+        flag = yield "reads", 2
+        token = yield "reads", int(flag)
+        yield "writes", 0, token
+
+
+# The function, how many arguments it takes, and the sorts of its inputs and outputs.
+KINDS = {
+    "count": (count, 2, "", "w"),
+    "sink": (sink, 1, "w", ""),
+    "take": (take, 1, "w", "w"),
+    "copy": (copy, 0, "w", "ww"),
+    "prefix": (prefix, 1, "w", "w"),
+    "add": (add, 0, "ww", "w"),
+    "scale": (scale, 1, "w", "w"),
+    "weave": (weave, 2, "ww", "w"),
+    "merge": (merge, 0, "ww", "w"),
+    "divides": (divides, 1, "w", "f"),
+    "switch": (switch, 0, "wf", "ww"),
+    "select": (select, 0, "wwf", "w"),
+}
+SORTS = {"w": "words", "f": "flags"}
+
+
+def args_fit(kind, args):
+    """Whether a kind takes these arguments, of which there are as many as it wants."""
+    if kind == "count":
+        return sum(args) < WORD
+    if kind in ("weave", "divides"):
+        return 0 not in args
+    return True
+
+
+# The description.
+
+class Refused(Exception):
+    """A description that is refused, with the number of its fault."""
+
+    def __init__(self, number):
+        super().__init__(number)
+        self.number = number
+
+
+def depth(value):
+    """How many arrays lie in one another. As a loop, for they may be many."""
+    deepest, rest = 0, [(value, 0)]
+    while rest:
+        value, level = rest.pop()
+        if isinstance(value, dict):
+            rest += [(it, 0) for it in value.values()]
+        elif isinstance(value, list):
+            rest += [(it, level + 1) for it in value]
+            deepest = max(deepest, level + 1)
+    return deepest
+
+
+def integers(value):
+    rest = [value]
+    while rest:
+        value = rest.pop()
+        if isinstance(value, dict):
+            rest += value.values()
+        elif isinstance(value, list):
+            rest += value
+        elif type(value) is int:
+            yield value
+
+
+def finite(text):
+    """The number of a float; one too great for 64 bits is no TOML."""
+    value = float(text)
+    if math.isinf(value) and "inf" not in text:
+        raise Refused(1)
+    return value
+
+
+def document(text):
+    """The TOML document of the bytes; numbers have 64 bits, and arrays lie at most 80 deep."""
+    if len(text) > LIMIT:
+        raise Refused(15)
+    try:
+        table = tomllib.loads(text.removeprefix(BYTE_ORDER_MARK).decode("utf-8"), parse_float=finite)
+    except (UnicodeDecodeError, tomllib.TOMLDecodeError, RecursionError):
+        raise Refused(1) from None
+    except ValueError:  # Python's own limit on the digits of an integer
+        raise Refused(1) from None
+    if any(not -2 ** 63 <= it < 2 ** 63 for it in integers(table)) or depth(table) > DEPTH:
+        raise Refused(1)
+    return table
+
+
+def is_integer(value):
+    return type(value) is int
+
+
+def is_text(value):
+    return type(value) is str
+
+
+def is_list_of(test):
+    return lambda value: type(value) is list and all(map(test, value))
+
+
+def is_table(value):
+    return type(value) is dict
+
+
+def is_sort(value):
+    return type(value) is str and value in ("words", "flags")
+
+
+def is_token(value):
+    return type(value) in (int, bool)
+
+
+NEEDED = object()
+
+
+def read_keys(table, keys):
+    """The values at the keys, each with its form and its default; no other key may stand there."""
+    if any(key not in keys for key in table):
+        raise Refused(2)
+    values = {}
+    for key, (form, default) in keys.items():
+        if key not in table:
+            if default is NEEDED:
+                raise Refused(2)
+            values[key] = default
+        elif not form(table[key]):
+            raise Refused(2)
+        else:
+            values[key] = table[key]
+    return values
+
+
+PROCESS_KEYS = {"name": (is_text, NEEDED), "kind": (is_text, NEEDED), "args": (is_list_of(is_integer), [])}
+CHANNEL_KEYS = {
+    "name": (is_text, NEEDED), "from": (is_text, NEEDED), "to": (is_text, NEEDED),
+    "out": (is_integer, 0), "in": (is_integer, 0), "sort": (is_sort, "words"), "capacity": (is_integer, 1),
+}
+TOP_KEYS = {
+    "version": (is_integer, NEEDED), "budget": (is_integer, 10000),
+    "process": (is_list_of(is_table), NEEDED), "channel": (is_list_of(is_table), []),
+}
+
+
+def read_sketch(table, versions):
+    """The description of a document, with its defaults. Version 2 knows two keys more."""
+    top, channel = dict(TOP_KEYS), dict(CHANNEL_KEYS)
+    version = table.get("version")
+    if 2 in versions and is_integer(version) and version == 2:
+        top["step"] = (is_integer, 1)
+        channel["tokens"] = (is_list_of(is_token), [])
+    sketch = read_keys(table, top)
+    sketch["process"] = [read_keys(it, PROCESS_KEYS) for it in sketch["process"]]
+    sketch["channel"] = [{"tokens": [], **read_keys(it, channel)} for it in sketch["channel"]]
+    return {"step": 1, **sketch}
+
+
+def named_twice(things):
+    names = [it["name"] for it in things]
+    return len(set(names)) < len(names)
+
+
+def ports(sketch, direction):
+    """The sort of each port, by the process's name and the port's number."""
+    return {
+        (it["name"], k): SORTS[sort]
+        for it in sketch["process"]
+        for k, sort in enumerate(KINDS[it["kind"]][2 if direction == "in" else 3])
+    }
+
+
+def first_fault(sketch, versions):
+    """The least number of 3 to 17 whose condition holds of a description, or none."""
+    version, processes, channels = sketch["version"], sketch["process"], sketch["channel"]
+    if version not in versions:
+        return 3
+    if not 1 <= len(processes) <= 64 or len(channels) > 256:
+        return 4
+    if any(not re.fullmatch("[a-z][a-z0-9_]{0,15}", it["name"]) for it in processes + channels):
+        return 5
+    if named_twice(processes) or named_twice(channels):
+        return 5
+    if any(it["kind"] not in KINDS for it in processes):
+        return 6
+    for it in processes:
+        args = it["args"]
+        if len(args) != KINDS[it["kind"]][1] or any(arg < 0 for arg in args) or not args_fit(it["kind"], args):
+            return 7
+    outs, ins = ports(sketch, "out"), ports(sketch, "in")
+    begins = [(it["from"], it["out"]) for it in channels]
+    ends = [(it["to"], it["in"]) for it in channels]
+    if any(it not in outs for it in begins) or any(it not in ins for it in ends):
+        return 8
+    if len(set(begins)) < len(begins) or len(set(ends)) < len(ends):
+        return 9
+    if set(outs) - set(begins) or set(ins) - set(ends):
+        return 10
+    if any(not it["sort"] == outs[a] == ins[b] for it, a, b in zip(channels, begins, ends)):
+        return 11
+    if any(not 1 <= it["capacity"] <= CEILING[version] for it in channels):
+        return 12
+    if not 1 <= sketch["budget"] <= GREATEST_BUDGET[version]:
+        return 13
+    for it in channels:
+        wanted = int if it["sort"] == "words" else bool
+        tokens = it["tokens"]
+        if len(tokens) > it["capacity"] or any(type(t) is not wanted or t < 0 for t in tokens):
+            return 16
+    if not 1 <= sketch["step"] <= GREATEST_STEP:
+        return 17
+    return None
+
+
+def load(text, versions):
+    sketch = read_sketch(document(text), versions)
+    number = first_fault(sketch, versions)
+    if number:
+        raise Refused(number)
+    return sketch
+
+
+# The run.
+
+class Process:
+    """A process: what it wants next (an act, or none where it wants to stop), and what it has done."""
+
+    def __init__(self, sketch, number):
+        self.name, self.number = sketch["name"], number
+        self.acts = KINDS[sketch["kind"]][0](*sketch["args"])
+        self.inputs, self.outputs = {}, {}
+        self.steps, self.done = 0, False
+        self.wants = next(self.acts, None)
+
+    def go_on(self, token):
+        try:
+            self.wants = self.acts.send(token)
+        except StopIteration:
+            self.wants = None
+
+    def channel(self):
+        """The channel that it wants to read or write."""
+        return (self.inputs if self.wants[0] == "reads" else self.outputs)[self.wants[1]]
+
+
+class Channel:
+    def __init__(self, sketch, number):
+        self.name, self.number = sketch["name"], number
+        self.capacity = sketch["capacity"]
+        self.begins_with = sketch["tokens"]
+        self.holds = deque(sketch["tokens"])
+        self.put = []
+        self.writer = self.reader = None
+
+
+class Network:
+    """The sequential machine: a state and what was done. Any process that can go on may be the next."""
+
+    def __init__(self, sketch, seed):
+        self.choices = random.Random(seed)
+        self.processes = [Process(it, p) for p, it in enumerate(sketch["process"])]
+        self.channels = [Channel(it, c) for c, it in enumerate(sketch["channel"])]
+        self.step, self.ceiling = sketch["step"], CEILING[sketch["version"]]
+        self.entries, self.growths = 0, []
+        by_name = {it.name: it for it in self.processes}
+        for channel, it in zip(self.channels, sketch["channel"]):
+            channel.writer, channel.reader = by_name[it["from"]], by_name[it["to"]]
+            channel.writer.outputs[it["out"]] = channel
+            channel.reader.inputs[it["in"]] = channel
+
+    def is_enabled(self, process):
+        if process.done:
+            return False
+        if process.wants is None:
+            return True
+        channel = process.channel()
+        return bool(channel.holds) if process.wants[0] == "reads" else len(channel.holds) < channel.capacity
+
+    def is_blocked_writing(self, process):
+        return not process.done and process.wants is not None and process.wants[0] == "writes" and not self.is_enabled(process)
+
+    def do(self, process):
+        """The deed that an enabled process wants. The answer is the channel that it changed."""
+        self.entries += 1
+        process.steps += 1
+        if process.wants is None:
+            process.done = True
+            return None
+        channel = process.channel()
+        if process.wants[0] == "reads":
+            process.go_on(channel.holds.popleft())
+        else:
+            token = process.wants[2]
+            channel.holds.append(token)
+            channel.put.append(token)
+            process.go_on(None)
+        return channel
+
+    def go_until_quiet(self, budget):
+        """Deeds in any order, until no process can go on or the entries are more than the budget."""
+        awake = list(self.processes)
+        while awake and self.entries <= budget:
+            k = int(self.choices.random() * len(awake))
+            process = awake[k]
+            if not self.is_enabled(process):
+                awake[k] = awake[-1]
+                awake.pop()
+                continue
+            channel = self.do(process)
+            if channel is not None:
+                other = channel.reader if channel.writer is process else channel.writer
+                if other is not process and other not in awake:
+                    awake.append(other)
+
+    def run(self, budget):
+        """The cause of the end; of a run with more entries than the budget it is the budget."""
+        while True:
+            self.go_until_quiet(budget)
+            if self.entries > budget:
+                return "budget"
+            assert not any(self.is_enabled(it) for it in self.processes)
+            if all(it.done for it in self.processes):
+                return "terminated"
+            full = [it.channel() for it in self.processes if self.is_blocked_writing(it)]
+            if not full:
+                return "deadlock"
+            chosen = min(full, key=lambda it: (it.capacity, it.number))
+            if chosen.capacity == self.ceiling:
+                return "ceiling"
+            chosen.capacity = min(chosen.capacity + self.step, self.ceiling)
+            self.growths.append((chosen.name, chosen.capacity))
+            self.entries += 1
+
+    def place(self, process):
+        return "stopped" if process.done else f"{process.wants[0]} {process.channel().name}"
+
+    def report(self, cause, show):
+        lines = [f"end {cause}"]
+        lines += [f"process {it.name} {self.place(it)} steps {it.steps}" for it in self.processes]
+        lines += [f"channel {it.name} put {len(it.put)} left {len(it.holds)} capacity {it.capacity}" for it in self.channels]
+        lines += [f"grew {name} {to}" for name, to in self.growths]
+        lines.append(f"entries {self.entries}")
+        for it in self.channels:
+            if it.name == show:
+                lines.append(" ".join([f"stream {it.name}", *map(token_text, it.begins_with + it.put)]))
+        return text_of(lines)
+
+
+def token_text(token):
+    return str(token).lower() if type(token) is bool else str(token)
+
+
+def text_of(lines):
+    return "".join(f"{line}\n" for line in lines).encode()
+
+
+OVER_BUDGET = (b"end budget\n", STATUS["budget"])
+
+
+def outcomes(sketch, show, seed):
+    """What may be written of a run, with the status. It is one thing, but for a run that ends by a
+    deadlock or at the ceiling with just as many entries as the budget: whether the machine sees its
+    end first or the budget's depends on the order of the work."""
+    net = Network(sketch, seed)
+    cause = net.run(sketch["budget"])
+    if cause == "budget":
+        return [OVER_BUDGET]
+    found = [(net.report(cause, show), STATUS[cause])]
+    if net.entries == sketch["budget"] and cause != "terminated":
+        found.append(OVER_BUDGET)
+    return found
+
+
+# The command.
+
+def read_words(words):
+    """The command and the name to show, or none where the words are refused."""
+    if words == ["check"]:
+        return "check", None
+    if words[:1] != ["run"]:
+        return None
+    given, rest = {}, words[1:]
+    while rest:
+        option, *rest = rest
+        match = re.fullmatch("(--workers|--show)(=(.*))?", option, re.DOTALL)
+        if not match or match[1] in given:
+            return None
+        if match[2] is not None:
+            given[match[1]] = match[3]
+        elif rest and not rest[0].startswith("-"):
+            given[match[1]], *rest = rest
+        else:
+            return None
+    workers = given.get("--workers", "1")
+    if not re.fullmatch(r"\+?[0-9]+", workers) or not 1 <= int(workers) <= 16:
+        return None
+    return "run", given.get("--show")
+
+
+def serve(words, text, seed=0, versions=(1, 2)):
+    """All that may be written on standard output, each with its exit status. Help is not told here."""
+    choice = read_words(words)
+    if choice is None:
+        return [(b"", 1)]
+    command, show = choice
+    try:
+        sketch = load(text, versions)
+    except Refused as refused:
+        return [(b"refused %d\n" % refused.number, 2)]
+    if command == "check":
+        return [(b"ok %d processes %d channels\n" % (len(sketch["process"]), len(sketch["channel"])), 0)]
+    if show is not None and all(it["name"] != show for it in sketch["channel"]):
+        return [(b"no channel %s\n" % show.encode(), 1)]
+    return outcomes(sketch, show, seed)
+
+
+def main(words):
+    seed, versions = 0, (1, 2)
+    while words[:1] and words[0] in ("--seed", "--versions"):
+        if words[0] == "--seed":
+            seed = int(words[1])
+        else:
+            versions = tuple(map(int, words[1].split(",")))
+        words = words[2:]
+    written, status = serve(words, sys.stdin.buffer.read(LIMIT + 1), seed, versions)[0]
+    sys.stdout.buffer.write(written)
+    return status
+
+
+if __name__ == "__main__":
+    sys.exit(main(sys.argv[1:]))
