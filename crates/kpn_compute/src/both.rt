@@ -1,0 +1,109 @@
+//! Two families as one.
+ghost use Rattle.std.specs.Prelude.{◌≡◌, ◌<◌, ◌^◌, true, false, None, IsSome, IfSome};
+ghost use Rattle.kpn_compute.specs.Both.{is_first, own_card, both_named, both_ports, both_family, BothAdmit, MeansKind, numbered};
+
+use crate::computes::Computes;
+use kpn_net::{Answer, Card, Kinds, Local, Signature, Token};
+use std::marker::PhantomData;
+
+/// The family of all kinds of two families. `Both` may itself be one of the two.
+///
+/// Kind k of the first is kind 2k here, and kind k of the second is 2k + 1, so only kinds of numbers
+/// below 2^15 have a place.
+pub struct Both<A: Kinds, B: Kinds> {
+    first: PhantomData<A>,
+    second: PhantomData<B>,
+}
+
+/// Whether a card is one of the first family.
+fn is_first(card: Card) -> bool
+    ensures { result ≡ is_first card }
+{
+    card.kind % 2 == 0
+}
+
+/// The card as its own family has it.
+fn own_card(card: Card) -> Card
+    ensures { result ≡ own_card card }
+{
+    let Card { kind, args } = card;
+    Card {
+        kind: kind / 2,
+        args,
+    }
+}
+
+/// What a name means in both that means this in one of them: `place` is 0 for the first, 1 for the
+/// second.
+fn numbered(own: (u16, usize), place: u16) -> Option<(u16, usize)>
+    requires { place < 2 }
+    ensures { result ≡ numbered place own }
+{
+    let (kind, args) = own;
+    if kind < 32768 {
+        Some((2 * kind + place, args))
+    } else {
+        None
+    }
+}
+
+impl<A: Kinds, B: Kinds> Kinds for Both<A, B> {
+    ghost named = { both_named A.named B.named };
+
+    ghost signature_of = { both_ports A.signature_of B.signature_of };
+
+    ghost family = { both_family A.family B.family };
+
+    ghost admits = { BothAdmit A.admits B.admits };
+
+    /// A name that both families have means nothing, so a description that uses it is refused: its
+    /// kind is unknown. A name that one of them alone has means the kind that it means there, if
+    /// the kind's number there is below 2^15, and else nothing.
+    fn named(name: &str) -> Option<(u16, usize)>
+        ensures is { result ≡ both_named A.named B.named name.now }
+        ensures shared { IsSome (A.named name.now) → IsSome (B.named name.now) → result ≡ None }
+        ensures first { IfSome (A.named name.now) (λ own. B.named name.now ≡ None → own.0 < 2 ^ 15 → MeansKind true own result) }
+        ensures second { IfSome (B.named name.now) (λ own. A.named name.now ≡ None → own.0 < 2 ^ 15 → MeansKind false own result) }
+    {
+        match (A::named(name), B::named(name)) {
+            (Some(own), None) => numbered(own, 0),
+            (None, Some(own)) => numbered(own, 1),
+            _ => None,
+        }
+    }
+
+    fn signature(card: &Card) -> Option<Signature> {
+        let own = own_card(*card);
+        if is_first(*card) {
+            A::signature(&own)
+        } else {
+            B::signature(&own)
+        }
+    }
+
+    fn start(card: &Card) -> Local {
+        let own = own_card(*card);
+        if is_first(*card) {
+            A::start(&own)
+        } else {
+            B::start(&own)
+        }
+    }
+
+    #[tactic(auto, using(crate::proofs::BothLawful::both_lawful))]
+    fn lawful() {
+        A::lawful();
+        B::lawful();
+    }
+}
+
+impl<A: Computes, B: Computes> Computes for Both<A, B> {
+    fn answer(card: Card, local: Local, last: Option<Token>) -> Answer {
+        let own = own_card(card);
+        if is_first(card) {
+            A::answer(own, local, last)
+        } else {
+            B::answer(own, local, last)
+        }
+    }
+}
