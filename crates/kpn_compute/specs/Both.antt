@@ -1,9 +1,11 @@
--- Two families as one: kind 2k is the first's kind k, and kind 2k + 1 the second's.
-use Rattle.std.specs.Prelude.{◌≡◌, ℕ, ◌+◌, ◌*◌, ◌/◌, ◌%◌, ◌^◌, ◌==◌, nat_lt, if◌then◌else◌, Bool, true, false, List, Option, Some, None}
+-- Two families as one: kind 2k is the first's kind k, and kind 2k + 1 the second's; the greatest number is
+-- no kind's.
+use Rattle.std.specs.Prelude.{◌≡◌, ◌≢◌, ℕ, ◌+◌, ◌-◌, ◌*◌, ◌/◌, ◌%◌, ◌^◌, ◌==◌, nat_lt, if◌then◌else◌, Bool, true, false, List, Option, Some, None, IfSome}
 use Rattle.kpn_net.specs.declared.token.Token.{Token}
 use Rattle.kpn_net.specs.declared.kinds.Card.{Card}
 use Rattle.kpn_net.specs.declared.kinds.Signature.{Signature}
 use Rattle.kpn_net.specs.Network.{Family}
+use Rattle.kpn_compute.specs.declared.both.TheConstants.{NO_KIND}
 
 -- the card is one of the first family
 abbrev pub is_first : Card → Bool
@@ -13,28 +15,33 @@ is_first card = card.kind % 2 == 0
 abbrev pub own_card : Card → Card
 own_card card = record { kind = card.kind / 2; args = card.args }
 
--- what a name means that has this kind, and so many arguments, in the family of this place
-abbrev pub numbered : ℕ → ℕ × ℕ → Option (ℕ × ℕ)
-numbered place own = if nat_lt own.0 (2 ^ 15) then Some (2 * own.0 + place, own.1) else None
+-- the number in both of a kind of the family of this place, by its number there
+abbrev pub number_in_both : ℕ → ℕ → ℕ
+number_in_both place kind = if nat_lt kind (2 ^ 15 - 1) then 2 * kind + place else NO_KIND
 
 -- what a name means, by what it means in each
-abbrev pub only_one : Option (ℕ × ℕ) → Option (ℕ × ℕ) → Option (ℕ × ℕ)
-only_one (Some own) None = numbered 0 own
-only_one None (Some own) = numbered 1 own
-only_one _ _ = None
+abbrev pub meant_by : Option (ℕ × ℕ) → Option (ℕ × ℕ) → Option (ℕ × ℕ)
+meant_by None None = None
+meant_by (Some own) None = Some (number_in_both 0 own.0, own.1)
+meant_by None (Some own) = Some (number_in_both 1 own.0, own.1)
+meant_by (Some _) (Some _) = Some (NO_KIND, 0)
 
 abbrev pub both_named : (List ℕ → Option (ℕ × ℕ)) → (List ℕ → Option (ℕ × ℕ)) → List ℕ → Option (ℕ × ℕ)
-both_named first second name = only_one (first name) (second name)
-
--- a name means this kind of the first family, or of the second: the cards of the number that it has
--- are that family's cards of that kind
-abbrev pub MeansKind : Bool → ℕ × ℕ → Option (ℕ × ℕ) → Type 0
-MeansKind first own None = ⊥
-MeansKind first own (Some meant) =
-    (meant.1 ≡ own.1) × ((args : List ℕ) → let card : Card = record { kind = meant.0; args = args } in (is_first card ≡ first) × (own_card card ≡ record { kind = own.0; args = args }))
+both_named first second name = meant_by (first name) (second name)
 
 abbrev pub both_ports : (Card → Option Signature) → (Card → Option Signature) → Card → Option Signature
-both_ports first second card = (if is_first card then first else second) (own_card card)
+both_ports first second card = if card.kind == NO_KIND then None else (if is_first card then first else second) (own_card card)
+
+-- a name is refused whatever its arguments: no card of its kind has ports
+abbrev pub IsRefused : (Card → Option Signature) → Option (ℕ × ℕ) → Type 0
+IsRefused ports meant = IfSome meant (λ kind. (args : List ℕ) → ports (record { kind = kind.0; args = args }) ≡ None)
+
+-- a name means this kind of one of the families: a card of its kind has the ports that the card of the
+-- own kind has there, and is that card there
+abbrev pub MeansOwn : Bool → ℕ × ℕ → Option (ℕ × ℕ) → Type 0
+MeansOwn first own None = ⊥
+MeansOwn first own (Some meant) =
+    (meant.1 ≡ own.1) × (meant.0 ≢ NO_KIND) × ((args : List ℕ) → let card : Card = record { kind = meant.0; args = args } in (is_first card ≡ first) × (own_card card ≡ record { kind = own.0; args = args }))
 
 abbrev pub both_family : Family → Family → Family
 both_family first second =

@@ -1,15 +1,18 @@
 //! Two families as one.
-ghost use Rattle.std.specs.Prelude.{◌≡◌, ◌<◌, ◌^◌, true, false, None, IsSome, IfSome};
-ghost use Rattle.kpn_compute.specs.Both.{is_first, own_card, both_named, both_ports, both_family, BothAdmit, MeansKind, numbered};
+ghost use Rattle.std.specs.Prelude.{◌≡◌, ◌⊎◌, ◌↔◌, ◌<◌, ◌-◌, ◌^◌, true, false, None, IsSome, IfSome};
+ghost use Rattle.kpn_compute.specs.Both.{is_first, own_card, both_named, both_ports, both_family, BothAdmit, IsRefused, MeansOwn, number_in_both};
 
 use crate::computes::Computes;
 use kpn_net::{Answer, Card, Kinds, Local, Signature, Token};
 use std::marker::PhantomData;
 
+/// The number that no kind has in two families together: what a name means that is refused.
+pub const NO_KIND: u16 = 65535;
+
 /// The family of all kinds of two families. `Both` may itself be one of the two.
 ///
 /// Kind k of the first is kind 2k here, and kind k of the second is 2k + 1, so only kinds of numbers
-/// below 2^15 have a place.
+/// below 2^15 - 1 have a place.
 pub struct Both<A: Kinds, B: Kinds> {
     first: PhantomData<A>,
     second: PhantomData<B>,
@@ -33,17 +36,16 @@ fn own_card(card: Card) -> Card
     }
 }
 
-/// What a name means in both that means this in one of them: `place` is 0 for the first, 1 for the
-/// second.
-fn numbered(own: (u16, usize), place: u16) -> Option<(u16, usize)>
+/// The number in both of a kind, by its number in its own family: `place` is 0 for the first, and 1
+/// for the second.
+fn number_in_both(place: u16, kind: u16) -> u16
     requires { place < 2 }
-    ensures { result ≡ numbered place own }
+    ensures { result ≡ number_in_both place kind }
 {
-    let (kind, args) = own;
-    if kind < 32768 {
-        Some((2 * kind + place, args))
+    if kind < 32767 {
+        2 * kind + place
     } else {
-        None
+        NO_KIND
     }
 }
 
@@ -56,23 +58,29 @@ impl<A: Kinds, B: Kinds> Kinds for Both<A, B> {
 
     ghost admits = { BothAdmit A.admits B.admits };
 
-    /// A name that both families have means nothing, so a description that uses it is refused: its
-    /// kind is unknown. A name that one of them alone has means the kind that it means there, if
-    /// the kind's number there is below 2^15, and else nothing.
+    /// A name that both families have is refused, so a description that uses it is no network: its
+    /// kind takes no arguments, not even none. That holds of `Both` in `Both` too, however many of
+    /// the families have the name. A name that one family alone has means the kind that it means
+    /// there, if the kind's number there is below 2^15 - 1, and else it is refused as well.
     fn named(name: &str) -> Option<(u16, usize)>
         ensures is { result ≡ both_named A.named B.named name.now }
-        ensures shared { IsSome (A.named name.now) → IsSome (B.named name.now) → result ≡ None }
-        ensures first { IfSome (A.named name.now) (λ own. B.named name.now ≡ None → own.0 < 2 ^ 15 → MeansKind true own result) }
-        ensures second { IfSome (B.named name.now) (λ own. A.named name.now ≡ None → own.0 < 2 ^ 15 → MeansKind false own result) }
+        ensures known { IsSome result ↔ (IsSome (A.named name.now) ⊎ IsSome (B.named name.now)) }
+        ensures shared { IsSome (A.named name.now) → IsSome (B.named name.now) → IsRefused (both_ports A.signature_of B.signature_of) result }
+        ensures first { IfSome (A.named name.now) (λ own. B.named name.now ≡ None → own.0 < 2 ^ 15 - 1 → MeansOwn true own result) }
+        ensures second { IfSome (B.named name.now) (λ own. A.named name.now ≡ None → own.0 < 2 ^ 15 - 1 → MeansOwn false own result) }
     {
         match (A::named(name), B::named(name)) {
-            (Some(own), None) => numbered(own, 0),
-            (None, Some(own)) => numbered(own, 1),
-            _ => None,
+            (None, None) => None,
+            (Some((kind, args)), None) => Some((number_in_both(0, kind), args)),
+            (None, Some((kind, args))) => Some((number_in_both(1, kind), args)),
+            (Some(_), Some(_)) => Some((NO_KIND, 0)),
         }
     }
 
     fn signature(card: &Card) -> Option<Signature> {
+        if card.kind == NO_KIND {
+            return None;
+        }
         let own = own_card(*card);
         if is_first(*card) {
             A::signature(&own)

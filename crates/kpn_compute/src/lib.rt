@@ -10,6 +10,6 @@ pub mod filters;
 mod tests;
 
 pub use bodies::{CardBody, bodies_of};
-pub use both::Both;
+pub use both::{Both, NO_KIND};
 pub use computes::Computes;
 pub use filters::{Filtered, Filters};

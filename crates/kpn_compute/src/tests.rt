@@ -53,9 +53,14 @@ fn each_process_has_its_body(rt: HostRuntime) -> Result<(), Fail> {
 }
 
 #[test]
-fn a_name_of_both_families_is_unknown(rt: HostRuntime) -> Result<(), Fail> {
+fn a_name_of_both_families_is_refused(rt: HostRuntime) -> Result<(), Fail> {
     let sketch = read_sketch(rt.alloc(), COUNTER_INTO_SINK.as_bytes())?;
-    let checked: Result<Net<Both<Standard, Standard>>, _> = Net::check(rt.alloc(), &sketch);
-    assert!(rt; matches!(checked, Err(NetFault::Kind)));
+    let of_two: Result<Net<Both<Standard, Standard>>, _> = Net::check(rt.alloc(), &sketch);
+    assert!(rt; matches!(of_two, Err(NetFault::Args)));
+    let of_three: Result<Net<Both<Standard, Both<Standard, Standard>>>, _> = Net::check(
+        rt.alloc(),
+        &sketch,
+    );
+    assert!(rt; matches!(of_three, Err(NetFault::Args)));
     Ok(())
 }
