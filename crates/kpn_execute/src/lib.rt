@@ -1,10 +1,12 @@
 //! The program from its words and its input to what it writes, and the run of a network by its workers.
 #![tactic(auto)]
 
+mod computed;
 mod program;
 mod running;
 mod standard;
 
+pub use computed::execute_net;
 pub use program::{Served, serve};
 pub use running::execute;
 pub use standard::execute_standard;

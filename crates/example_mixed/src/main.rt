@@ -1,0 +1,40 @@
+//! Checks and runs networks of the standard kinds, `gain` and `moving_sum`, by the words of `kpn`.
+#![tactic(auto)]
+
+use example_signals::{Gains, MovingSums};
+use kpn_compute::{Both, Filtered};
+use kpn_execute::execute_net;
+use kpn_front::load::load;
+use kpn_front::say::{say_checked, say_refused};
+use kpn_front::streams::Fallible;
+use kpn_front::words::{Choice, read_words};
+use kpn_net::Net;
+use kpn_standard::Standard;
+use std::process::ExitCode;
+use std::{env, io};
+
+type Mixed = Both<Standard, Both<Gains, Filtered<MovingSums>>>;
+
+fn main(rt: HostRuntime) -> io::Result<ExitCode> {
+    let alloc = rt.alloc();
+    let words: Vec<String> = env::args(&rt)?.collect(alloc)?;
+    let texts: Vec<&str> = words.iter().map(String::as_str).collect(alloc)?;
+    let choice = match read_words(alloc, texts.as_slice()) {
+        Ok(choice) => choice,
+        Err(fault) => {
+            eprint!(rt; "{fault}")?;
+            return Ok(ExitCode::from(fault.status()));
+        }
+    };
+    let mut source = Fallible::new(rt.reader());
+    let mut sink = Fallible::new(io::writer(&rt));
+    let loaded: Result<Net<Mixed>, _> = load(alloc, &mut source);
+    let status = match (loaded, choice) {
+        (Err(fault), _) => say_refused(&fault, &mut sink),
+        (Ok(net), Choice::Check) => say_checked(&net, &mut sink),
+        (Ok(net), Choice::Run { workers, show }) => {
+            execute_net(&rt, alloc, net, workers, show, &mut sink)
+        }
+    };
+    Ok(ExitCode::from(status))
+}

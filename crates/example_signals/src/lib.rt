@@ -1,0 +1,11 @@
+//! Kinds for chains of signals, as a user of the engine brings them: `gain`, from the table of its
+//! lines, and `moving_sum`, a filter. docs/own-kinds.md leads through them.
+#![tactic(auto)]
+
+pub mod gain;
+pub mod moving_sum;
+#[cfg(test)]
+mod tests;
+
+pub use gain::Gains;
+pub use moving_sum::MovingSums;

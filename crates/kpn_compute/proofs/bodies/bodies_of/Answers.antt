@@ -1,0 +1,15 @@
+-- One body more, with the next card.
+use Rattle.std.proofs.Common.{◌≤◌, ◌∙◌, ap, sym, Some, length, map, arith}
+use Rattle.std.proofs.lemmas.List.{length-map}
+use Rattle.kpn_net.specs.declared.parts.Process.{Process}
+use Rattle.kpn_compute.proofs.Cards.{one_more, of_all}
+use Rattle.kpn_compute.proofs.bodies.bodies_of.Goals as goal
+
+pub loop-process-preserved : goal.loop-process-preserved
+loop-process-preserved g c = one_more (λ b. b) _ _ _ _ c.new.result c.loop-process.invariant c.in_ok-push.ensures.items (c.signed_card.ensures.is ∙ ap (λ x. Some x) (sym c.new.ensures))
+
+pub returns : goal.returns
+returns g c =
+    let all = length-map c.args.net.now.processes (λ (p : Process). p.card) in
+    let long : length (map (λ (p : Process). p.card) c.args.net.now.processes) ≤ c.loop-process.process = omega (arith, c.processes-process-end.ensures.count) in
+    of_all (λ b. b) _ _ _ c.loop-process.invariant long

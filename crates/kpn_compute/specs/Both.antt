@@ -1,0 +1,59 @@
+-- Two families as one: kind 2k is the first's kind k, and kind 2k + 1 the second's; the greatest number is
+-- no kind's.
+use Rattle.std.specs.Prelude.{◌≡◌, ◌≢◌, ℕ, ◌+◌, ◌-◌, ◌*◌, ◌/◌, ◌%◌, ◌^◌, ◌==◌, nat_lt, if◌then◌else◌, Bool, true, false, List, Option, Some, None, IfSome}
+use Rattle.kpn_net.specs.declared.token.Token.{Token}
+use Rattle.kpn_net.specs.declared.kinds.Card.{Card}
+use Rattle.kpn_net.specs.declared.kinds.Signature.{Signature}
+use Rattle.kpn_net.specs.Network.{Family}
+use Rattle.kpn_compute.specs.declared.both.TheConstants.{NO_KIND}
+
+-- the card is one of the first family
+abbrev pub is_first : Card → Bool
+is_first card = card.kind % 2 == 0
+
+-- the card as its own family has it
+abbrev pub own_card : Card → Card
+own_card card = record { kind = card.kind / 2; args = card.args }
+
+-- the number in both of a kind of the family of this place, by its number there
+abbrev pub number_in_both : ℕ → ℕ → ℕ
+number_in_both place kind = if nat_lt kind (2 ^ 15 - 1) then 2 * kind + place else NO_KIND
+
+-- what a name means, by what it means in each
+abbrev pub meant_by : Option (ℕ × ℕ) → Option (ℕ × ℕ) → Option (ℕ × ℕ)
+meant_by None None = None
+meant_by (Some own) None = Some (number_in_both 0 own.0, own.1)
+meant_by None (Some own) = Some (number_in_both 1 own.0, own.1)
+meant_by (Some _) (Some _) = Some (NO_KIND, 0)
+
+abbrev pub both_named : (List ℕ → Option (ℕ × ℕ)) → (List ℕ → Option (ℕ × ℕ)) → List ℕ → Option (ℕ × ℕ)
+both_named first second name = meant_by (first name) (second name)
+
+abbrev pub both_ports : (Card → Option Signature) → (Card → Option Signature) → Card → Option Signature
+both_ports first second card = if card.kind == NO_KIND then None else (if is_first card then first else second) (own_card card)
+
+-- a name is refused whatever its arguments: no card of its kind has ports
+abbrev pub IsRefused : (Card → Option Signature) → Option (ℕ × ℕ) → Type 0
+IsRefused ports meant = IfSome meant (λ kind. (args : List ℕ) → ports (record { kind = kind.0; args = args }) ≡ None)
+
+-- a name means this kind of one of the families: a card of its kind has the ports that the card of the
+-- own kind has there, and is that card there
+abbrev pub MeansOwn : Bool → ℕ × ℕ → Option (ℕ × ℕ) → Type 0
+MeansOwn first own None = ⊥
+MeansOwn first own (Some meant) =
+    (meant.1 ≡ own.1) × (meant.0 ≢ NO_KIND) × ((args : List ℕ) → let card : Card = record { kind = meant.0; args = args } in (is_first card ≡ first) × (own_card card ≡ record { kind = own.0; args = args }))
+
+abbrev pub both_family : Family → Family → Family
+both_family first second =
+    record {
+      start = λ card. (if is_first card then first else second).start (own_card card);
+      answer = λ card local last. (if is_first card then first else second).answer (own_card card) local last;
+    }
+
+-- the fact that the test picks
+abbrev pub picked : Bool → Type 0 → Type 0 → Type 0
+picked true p q = p
+picked false p q = q
+
+abbrev pub BothAdmit : (Card → List ℕ → Option Token → Type 0) → (Card → List ℕ → Option Token → Type 0) → Card → List ℕ → Option Token → Type 0
+BothAdmit first second card local last = picked (is_first card) (first (own_card card) local last) (second (own_card card) local last)

@@ -1,0 +1,57 @@
+-- Kinds that read a word and write a word, for ever: what they keep is their local state.
+use Rattle.std.specs.Prelude.{◌≡◌, ℕ, ◌<◌, ◌^◌, if◌then◌else◌, Bool, true, List, [], ◌∷◌, Option, Some, None}
+use Rattle.kpn_net.specs.declared.token.Token.{Token}
+use Rattle.kpn_net.specs.declared.token.Token.TheVariants.{Word, Flag}
+use Rattle.kpn_net.specs.declared.token.Sort.{Sort}
+use Rattle.kpn_net.specs.declared.token.Sort.TheVariants.{Words}
+use Rattle.kpn_net.specs.declared.kinds.Card.{Card}
+use Rattle.kpn_net.specs.declared.kinds.Signature.{Signature}
+use Rattle.kpn_net.specs.declared.kinds.Act.TheVariants.{Read, Write}
+use Rattle.kpn_net.specs.declared.kinds.Answer.{Answer}
+use Rattle.kpn_net.specs.Network.{Family}
+
+-- an input and an output of words
+abbrev pub one_word : List (Option Sort)
+one_word = Some Words ∷ None ∷ None ∷ []
+
+-- the ports of a card, if it is accepted
+abbrev pub ports_if : Bool → Option Signature
+ports_if accepted = if accepted then Some (record { ins = one_word; outs = one_word }) else None
+
+abbrev pub filter_ports : (Card → Bool) → Card → Option Signature
+filter_ports accepts card = ports_if (accepts card)
+
+-- with no word it reads one; with one it steps and writes
+abbrev pub filter_answer : (List ℕ → ℕ → List ℕ × ℕ) → List ℕ → Option Token → Answer
+filter_answer step kept (Some (Word w)) = record { next = (step kept w).0; act = Write 0 (Word (step kept w).1) }
+filter_answer step kept _ = record { next = kept; act = Read 0 }
+
+abbrev pub filter_family : (Card → List ℕ) → (Card → List ℕ → ℕ → List ℕ × ℕ) → Family
+filter_family start step = record { start = start; answer = λ card local last. filter_answer (step card) local last }
+
+-- a word has 64 bits
+abbrev pub IsWord : ℕ → Type 0
+IsWord n = n < 2 ^ 64
+
+-- what is kept is four words
+abbrev pub AreKept : List ℕ → Type 0
+AreKept (a ∷ b ∷ c ∷ d ∷ []) = IsWord a × IsWord b × IsWord c × IsWord d
+AreKept kept = ⊥
+
+abbrev pub FilterAdmits : List ℕ → Option Token → Type 0
+FilterAdmits kept None = AreKept kept
+FilterAdmits kept (Some (Word w)) = AreKept kept × IsWord w
+FilterAdmits kept (Some (Flag f)) = ⊥
+
+-- it holds of each card: a number of 16 bits and three words
+abbrev pub OfEachCard : (Card → Type 0) → Type 0
+OfEachCard P = (kind x y z : ℕ) → kind < 2 ^ 16 → IsWord x → IsWord y → IsWord z → P (record { kind = kind; args = x ∷ y ∷ z ∷ [] })
+
+-- it holds of all that may be kept
+abbrev pub OfAllKept : (List ℕ → Type 0) → Type 0
+OfAllKept P = (a b c d : ℕ) → IsWord a → IsWord b → IsWord c → IsWord d → P (a ∷ b ∷ c ∷ d ∷ [])
+
+-- words stay words: four are kept at the start and after each word read, and one is written
+pub record KeepWords (accepts : Card → Bool) (start : Card → List ℕ) (step : Card → List ℕ → ℕ → List ℕ × ℕ) : Type 0 where
+  pub at_start : OfEachCard (λ card. accepts card ≡ true → AreKept (start card))
+  pub after_word : OfEachCard (λ card. accepts card ≡ true → OfAllKept (λ kept. (w : ℕ) → IsWord w → AreKept (step card kept w).0 × IsWord (step card kept w).1))

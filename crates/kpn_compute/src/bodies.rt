@@ -1,0 +1,77 @@
+//! Bodies that are a card alone.
+ghost use Rattle.std.specs.Prelude.{◌≡◌, ◌<◌, IsSome, IfOk, Some, length, map, slice_get};
+ghost use Rattle.kpn_net.specs.Valid.{IsValid};
+
+use crate::computes::Computes;
+use kpn_body::Body;
+use kpn_net::{Answer, Card, Local, Net, Token};
+use std::alloc::{AllocError, Global};
+use std::marker::{Model, PhantomData};
+
+/// A card that has a signature, for which its family's function answers. Contracts see the card.
+#[derive(Drop)]
+pub struct CardBody<K: Computes> {
+    card: Card,
+    kinds: PhantomData<K>,
+}
+
+impl<K: Computes> Model for CardBody<K> {
+    ghost use Rattle.std.specs.Prelude.{IsSome};
+    ghost use Rattle.kpn_net.specs.declared.kinds.Card.{Card};
+
+    ghost Value = { Card };
+
+    ghost view = { λ b. b.card };
+
+    ghost invariant = { λ b. IsSome (K.signature_of b.card) };
+}
+
+impl<K: Computes> CardBody<K> {
+    /// The body of a card that has a signature.
+    pub fn new(card: Card) -> Self
+        requires { IsSome (K.signature_of card) }
+        ensures { result ≡ card }
+    {
+        CardBody {
+            card,
+            kinds: PhantomData,
+        }
+    }
+}
+
+impl<K: Computes> Body for CardBody<K> {
+    type Kinds = K;
+
+    ghost card = { λ body. body };
+
+    fn card(&self) -> Card {
+        self.card
+    }
+
+    fn answer(&self, local: Local, last: Option<Token>) -> Answer {
+        K::answer(self.card, local, last)
+    }
+}
+
+/// A body for each process of a network, in order, as an engine wants them.
+///
+/// The error is want of memory.
+pub fn bodies_of<K: Computes>(alloc: Global, net: &Net<K>) -> Result<Vec<CardBody<K>>, AllocError>
+    ensures { IfOk result (λ bodies. map ⟦<CardBody<K> as Body>⟧.card bodies.items ≡ map (λ p. p.card) net.now.processes) }
+{
+    let mut bodies = Vec::with_capacity(alloc, net.processes())?;
+    for process in 0..net.processes() {
+        bodies.push(CardBody::new(signed_card(net, process)))?;
+    }
+    Ok(bodies)
+}
+
+/// The card of a process, which has a signature.
+fn signed_card<K: Computes>(net: &Net<K>, process: usize) -> Card
+    requires valid { IsValid K.signature_of net.now }
+    requires within { process < length net.now.processes }
+    ensures signed { IsSome (K.signature_of result) }
+    ensures is { slice_get (map (λ p. p.card) net.now.processes) process ≡ Some result }
+{
+    net.card(process)
+}

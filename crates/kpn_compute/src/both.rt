@@ -1,0 +1,117 @@
+//! Two families as one.
+ghost use Rattle.std.specs.Prelude.{◌≡◌, ◌⊎◌, ◌↔◌, ◌<◌, ◌-◌, ◌^◌, true, false, None, IsSome, IfSome};
+ghost use Rattle.kpn_compute.specs.Both.{is_first, own_card, both_named, both_ports, both_family, BothAdmit, IsRefused, MeansOwn, number_in_both};
+
+use crate::computes::Computes;
+use kpn_net::{Answer, Card, Kinds, Local, Signature, Token};
+use std::marker::PhantomData;
+
+/// The number that no kind has in two families together: what a name means that is refused.
+pub const NO_KIND: u16 = 65535;
+
+/// The family of all kinds of two families. `Both` may itself be one of the two.
+///
+/// Kind k of the first is kind 2k here, and kind k of the second is 2k + 1, so only kinds of numbers
+/// below 2^15 - 1 have a place.
+pub struct Both<A: Kinds, B: Kinds> {
+    first: PhantomData<A>,
+    second: PhantomData<B>,
+}
+
+/// Whether a card is one of the first family.
+fn is_first(card: Card) -> bool
+    ensures { result ≡ is_first card }
+{
+    card.kind % 2 == 0
+}
+
+/// The card as its own family has it.
+fn own_card(card: Card) -> Card
+    ensures { result ≡ own_card card }
+{
+    let Card { kind, args } = card;
+    Card {
+        kind: kind / 2,
+        args,
+    }
+}
+
+/// The number in both of a kind, by its number in its own family: `place` is 0 for the first, and 1
+/// for the second.
+fn number_in_both(place: u16, kind: u16) -> u16
+    requires { place < 2 }
+    ensures { result ≡ number_in_both place kind }
+{
+    if kind < 32767 {
+        2 * kind + place
+    } else {
+        NO_KIND
+    }
+}
+
+impl<A: Kinds, B: Kinds> Kinds for Both<A, B> {
+    ghost named = { both_named A.named B.named };
+
+    ghost signature_of = { both_ports A.signature_of B.signature_of };
+
+    ghost family = { both_family A.family B.family };
+
+    ghost admits = { BothAdmit A.admits B.admits };
+
+    /// A name that both families have is refused, so a description that uses it is no network: its
+    /// kind takes no arguments, not even none. That holds of `Both` in `Both` too, however many of
+    /// the families have the name. A name that one family alone has means the kind that it means
+    /// there, if the kind's number there is below 2^15 - 1, and else it is refused as well.
+    fn named(name: &str) -> Option<(u16, usize)>
+        ensures is { result ≡ both_named A.named B.named name.now }
+        ensures known { IsSome result ↔ (IsSome (A.named name.now) ⊎ IsSome (B.named name.now)) }
+        ensures shared { IsSome (A.named name.now) → IsSome (B.named name.now) → IsRefused (both_ports A.signature_of B.signature_of) result }
+        ensures first { IfSome (A.named name.now) (λ own. B.named name.now ≡ None → own.0 < 2 ^ 15 - 1 → MeansOwn true own result) }
+        ensures second { IfSome (B.named name.now) (λ own. A.named name.now ≡ None → own.0 < 2 ^ 15 - 1 → MeansOwn false own result) }
+    {
+        match (A::named(name), B::named(name)) {
+            (None, None) => None,
+            (Some((kind, args)), None) => Some((number_in_both(0, kind), args)),
+            (None, Some((kind, args))) => Some((number_in_both(1, kind), args)),
+            (Some(_), Some(_)) => Some((NO_KIND, 0)),
+        }
+    }
+
+    fn signature(card: &Card) -> Option<Signature> {
+        if card.kind == NO_KIND {
+            return None;
+        }
+        let own = own_card(*card);
+        if is_first(*card) {
+            A::signature(&own)
+        } else {
+            B::signature(&own)
+        }
+    }
+
+    fn start(card: &Card) -> Local {
+        let own = own_card(*card);
+        if is_first(*card) {
+            A::start(&own)
+        } else {
+            B::start(&own)
+        }
+    }
+
+    #[tactic(auto, using(crate::proofs::BothLawful::both_lawful))]
+    fn lawful() {
+        A::lawful();
+        B::lawful();
+    }
+}
+
+impl<A: Computes, B: Computes> Computes for Both<A, B> {
+    fn answer(card: Card, local: Local, last: Option<Token>) -> Answer {
+        let own = own_card(card);
+        if is_first(card) {
+            A::answer(own, local, last)
+        } else {
+            B::answer(own, local, last)
+        }
+    }
+}

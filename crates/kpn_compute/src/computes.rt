@@ -1,0 +1,21 @@
+//! Families that a plain function answers for.
+ghost use Rattle.std.specs.Prelude.{◌≡◌, IsSome};
+
+use kpn_net::{Answer, Card, Kinds, Local, Token};
+use kpn_standard::{Standard, answer};
+
+/// A family with a function that answers for all its cards. Its bodies are then cards alone
+/// (`CardBody`), and `bodies_of` makes those of a network.
+pub trait Computes: Kinds {
+    /// What a process of a card answers, in a local state, where it has just read `last`.
+    fn answer(card: Card, local: Local, last: Option<Token>) -> Answer
+        requires signed { IsSome (Self.signature_of card) }
+        requires admitted { Self.admits card local last }
+        ensures { result ≡ Self.family.answer card local last };
+}
+
+impl Computes for Standard {
+    fn answer(card: Card, local: Local, last: Option<Token>) -> Answer {
+        answer(card, local, last)
+    }
+}

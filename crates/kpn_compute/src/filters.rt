@@ -1,0 +1,108 @@
+//! Kinds that read a word and write a word, for ever.
+ghost use Rattle.std.specs.Prelude.{◌≡◌, true, IsSome};
+ghost use Rattle.kpn_compute.specs.Filters.{filter_ports, filter_family, FilterAdmits};
+
+use crate::computes::Computes;
+use kpn_net::{Act, Answer, Card, Kinds, Local, Signature, Sort, Token};
+use std::marker::PhantomData;
+
+/// Kinds that read a word and write a word, for ever, and keep four words between. A type that
+/// implements this trait makes the family `Filtered` of itself, with its table and its laws.
+///
+/// `named` says which kind a name means and how many arguments it takes, `accepts` which cards there
+/// are, `start` what a process keeps at first, and `step` what it keeps and writes after a word.
+pub trait Filters: Send + Sync {
+    ghost use Rattle.std.specs.Prelude.{ℕ, Bool, List, Option};
+    ghost use Rattle.kpn_net.specs.declared.kinds.Card.{Card};
+    ghost use Rattle.kpn_compute.specs.Filters.{KeepWords};
+
+    ghost named: { List ℕ → Option (ℕ × ℕ) };
+
+    ghost accepts: { Card → Bool };
+
+    ghost start: { Card → List ℕ };
+
+    ghost step: { Card → List ℕ → ℕ → List ℕ × ℕ };
+
+    /// The number of the kind of a name, and how many arguments it takes; `None` where no kind has
+    /// this name.
+    fn named(name: &str) -> Option<(u16, usize)>
+        ensures { result ≡ named name.now };
+
+    /// Whether the family has this kind with these arguments.
+    fn accepts(card: &Card) -> bool
+        ensures { result ≡ accepts card.now };
+
+    /// What a process of a card keeps at first.
+    fn start(card: &Card) -> Local
+        requires { accepts card.now ≡ true }
+        ensures { result ≡ start card.now };
+
+    /// What a process of a card that kept `kept` and read `word` keeps then, and what it writes.
+    fn step(card: Card, kept: Local, word: u64) -> (Local, u64)
+        requires { accepts card ≡ true }
+        ensures { result ≡ step card kept word };
+
+    /// The law of filters: of each card that is accepted, the start keeps four words, and a step
+    /// that begins with words keeps four and writes one. Each implementation proves it here.
+    fn lawful()
+        ensures { KeepWords accepts start step };
+}
+
+/// The family of such kinds: a process reads input 0, steps, and writes to output 0. What it keeps
+/// is its local state.
+pub struct Filtered<F: Filters> {
+    filters: PhantomData<F>,
+}
+
+impl<F: Filters> Kinds for Filtered<F> {
+    ghost named = { F.named };
+
+    ghost signature_of = { filter_ports F.accepts };
+
+    ghost family = { filter_family F.start F.step };
+
+    ghost admits = { λ card. FilterAdmits };
+
+    fn named(name: &str) -> Option<(u16, usize)> {
+        F::named(name)
+    }
+
+    fn signature(card: &Card) -> Option<Signature> {
+        if !F::accepts(card) {
+            return None;
+        }
+        let ports = [Some(Sort::Words), None, None];
+        Some(Signature {
+            ins: ports,
+            outs: ports,
+        })
+    }
+
+    fn start(card: &Card) -> Local {
+        F::start(card)
+    }
+
+    #[tactic(auto, using(crate::proofs::FilteredLawful::filtered_lawful))]
+    fn lawful() {
+        F::lawful();
+    }
+}
+
+impl<F: Filters> Computes for Filtered<F> {
+    fn answer(card: Card, local: Local, last: Option<Token>) -> Answer {
+        match last {
+            Some(Token::Word(word)) => {
+                let (next, written) = F::step(card, local, word);
+                Answer {
+                    next,
+                    act: Act::Write(0, Token::Word(written)),
+                }
+            }
+            _ => Answer {
+                next: local,
+                act: Act::Read(0),
+            },
+        }
+    }
+}

@@ -1,0 +1,33 @@
+//! Networks of families that a plain function answers for, with bodies that are made here.
+ghost use Rattle.std.specs.Prelude.{◌≤◌, option_map};
+ghost use Rattle.kpn_execute.specs.Execution.{MakesAndExecutes};
+
+use crate::running::execute;
+use kpn_compute::{Computes, bodies_of};
+use kpn_front::say::say_refused;
+use kpn_front::streams::Sink;
+use kpn_net::{Net, NetFault};
+use std::alloc::Global;
+use std::sync::Wait;
+use std::thread::Threads;
+
+/// Runs a network of a family that a plain function answers for by 1 to 16 workers, and writes what
+/// came of it, as `execute` does. A body is made for each process.
+///
+/// Where memory for the bodies is refused, `refused 14` is written, and the answer is 4.
+pub fn execute_net<K: Computes, S: Sink, R: Wait + Threads + Sync>(
+    rt: &R,
+    alloc: Global,
+    net: Net<K>,
+    workers: usize,
+    show: Option<&str>,
+    sink: &mut S,
+) -> u8
+    requires workers { (1 ≤ workers) × (workers ≤ 16) }
+    ensures { MakesAndExecutes K.family net workers (option_map (λ s. s.now) show.entry) (S.takes sink.old) (S.contents sink.old) (S.contents sink.new) result }
+{
+    match bodies_of(alloc, &net) {
+        Ok(bodies) => execute(rt, alloc, net, bodies, workers, show, sink),
+        Err(_) => say_refused(&NetFault::Memory, sink),
+    }
+}
