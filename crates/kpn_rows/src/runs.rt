@@ -400,7 +400,7 @@ fn words_choose_what_is_done(rt: HostRuntime) -> Result<(), Fail> {
 }
 
 /// Where a request for memory is refused, that is all that is told, and the status is 4. With ample
-/// memory the run is told; `tests/refuse_each_allocation` refuses each request in turn.
+/// memory the run is told; `bench/refuse_each_allocation` refuses each request in turn.
 #[test]
 fn tells_a_refusal_or_the_run(rt: HostRuntime) -> Result<(), Fail> {
     let (text, show, status, lines) = RUNS[0];

@@ -4,12 +4,15 @@ ghost use Rattle.kpn_net.specs.Standard.{standard};
 ghost use Rattle.kpn_body.specs.Standard.{signature, Admitted};
 ghost use Rattle.kpn_machine.specs.Opening.{cards_of};
 
+use crate::refusals::{Refused, open_refused, run_refused};
 use crate::scenes::{Scene, play_scene};
+use crate::schedules::{run_held, run_opened};
 use crate::start_tokens::{RUNNING_SUMS, RUNNING_SUMS_END};
-use crate::strangers::two_monitors;
+use crate::strangers::{one_monitor, two_monitors};
 use crate::texts::{
     COPIED_AND_WOVEN, COUNTER_INTO_SINK, COUNTER_INTO_SMALL_SINK, TWO_FULL_CHANNELS,
 };
+use crate::whole::{Whole, run_endless, run_whole};
 use kpn_body::{Call, Standard, StandardBody, answer};
 use kpn_machine::{OpenFault, Standing, cards_of};
 use kpn_net::Token::Word;
@@ -55,7 +58,7 @@ stream c0 1 2 3
 };
 
 /// Parks's case.
-const WOVEN_ENDS: Due = Due {
+pub(crate) const WOVEN_ENDS: Due = Due {
     end: End::Deadlock,
     entries: 33,
     processes: 4,
@@ -132,7 +135,7 @@ impl Gate for Counts {
 }
 
 /// Compares a run with what is due, its report to the byte.
-fn compare<R: Abort>(
+pub(crate) fn compare<R: Abort>(
     rt: &R,
     alloc: Global,
     finish: &Finish<Standard>,
@@ -160,45 +163,86 @@ fn compare<R: Abort>(
 
 /// What is done with a network and its bodies.
 #[derive(Clone, Copy)]
-enum Piece {
+pub(crate) enum Piece<'a> {
     /// A run by so many workers.
-    Run { workers: usize, due: Due },
+    Run {
+        workers: usize,
+        due: Due,
+    },
+    /// A run by so many workers, of which none is held up.
+    Opened {
+        workers: usize,
+        due: Due,
+    },
+    /// A run by two workers, of which the answers of `process` are held up until `other` has passed.
+    Held {
+        process: usize,
+        other: usize,
+        due: Due,
+    },
+    /// A run of which the whole report and these streams are due.
+    Whole(Whole<'a>),
+    /// A run by so many workers that goes on until its budget is spent.
+    Endless {
+        workers: usize,
+    },
+    /// A run by so many workers, of which one request for memory may be refused.
+    Refused {
+        workers: usize,
+    },
+    /// A machine, of which one request for memory may be refused, is put under a lock.
+    RefusedOpening,
+    /// An answer comes to a monitor a second time, made again by the last body.
+    SecondAnswer,
     /// A scene on a monitor.
     Monitored(Scene),
 }
 
 /// One network, or two of which the second half of the bodies are.
 #[derive(Drop)]
-enum Nets {
+pub(crate) enum Nets {
     One(Net<Standard>),
     Two(Net<Standard>, Net<Standard>),
 }
 
-/// Plays on networks and their bodies.
+/// Plays on networks and their bodies, and tells which request for memory was refused. The error is
+/// that another one was.
 fn play<R: Threads + Wait + Abort + Sync>(
     rt: &R,
     alloc: Global,
     nets: Nets,
     bodies: Vec<StandardBody>,
-    what: &Piece,
-) -> Result<(), AllocError> {
+    what: &Piece<'_>,
+) -> Result<Refused, AllocError> {
     match nets {
-        Nets::Two(first, second) => two_monitors(rt, alloc, first, second, bodies),
+        Nets::Two(first, second) => two_monitors(rt, alloc, first, second, bodies)?,
         Nets::One(net) => match *what {
-            Piece::Run { workers, due } => run_bodies(rt, alloc, net, bodies, workers, due),
-            Piece::Monitored(scene) => play_scene(rt, alloc, net, bodies, scene),
+            Piece::Run { workers, due } => run_bodies(rt, alloc, net, bodies, workers, due)?,
+            Piece::Opened { workers, due } => run_opened(rt, alloc, net, bodies, workers, due)?,
+            Piece::Held {
+                process,
+                other,
+                due,
+            } => run_held(rt, alloc, net, bodies, (process, other), due)?,
+            Piece::Whole(whole) => run_whole(rt, alloc, net, bodies, whole)?,
+            Piece::Endless { workers } => run_endless(rt, alloc, net, bodies, workers)?,
+            Piece::Refused { workers } => return run_refused(rt, alloc, net, bodies, workers),
+            Piece::RefusedOpening => return open_refused(rt, alloc, net, bodies),
+            Piece::SecondAnswer => one_monitor(rt, alloc, net, bodies)?,
+            Piece::Monitored(scene) => play_scene(rt, alloc, net, bodies, scene)?,
         },
     }
+    Ok(Refused::Nothing)
 }
 
 /// Plays on networks with these cards.
-fn make_and_play<R: Threads + Wait + Abort + Sync>(
+pub(crate) fn make_and_play<R: Threads + Wait + Abort + Sync>(
     rt: &R,
     alloc: Global,
     cards: &[Card],
     nets: Option<Nets>,
-    what: &Piece,
-) -> Result<(), AllocError>
+    what: &Piece<'_>,
+) -> Result<Refused, AllocError>
     requires signed { All (λ card. IsSome (signature card)) cards.now }
 {
     let mut bodies = Vec::new(alloc);
@@ -216,8 +260,22 @@ fn make_and_play<R: Threads + Wait + Abort + Sync>(
     }
     match nets {
         Some(nets) => play(rt, alloc, nets, bodies, what),
-        None => Ok(()),
+        None => Ok(Refused::Nothing),
     }
+}
+
+/// Plays on the network of a text.
+pub(crate) fn play_text<R: Threads + Wait + Abort + Sync>(
+    rt: &R,
+    alloc: Global,
+    text: &str,
+    what: &Piece<'_>,
+) -> Result<Refused, Fail> {
+    let sketch = read_sketch(alloc, text.as_bytes())?;
+    let net = Net::check(alloc, &sketch)?;
+    let cards = cards_of(alloc, &net)?;
+    let refused = make_and_play(rt, alloc, cards.as_slice(), Some(Nets::One(net)), what)?;
+    Ok(refused)
 }
 
 /// Runs a network first by no worker and by 17, then without one of its bodies, which is refused each
@@ -254,14 +312,25 @@ pub(crate) fn run_bodies<R: Threads + Wait + Abort + Sync>(
     let counts = Counts {
         asked: AtomicU64::new(0),
     };
-    match run(rt, alloc, net, bodies, workers, &counts) {
-        Ok(finish) => {
-            let asked = counts.asked.load(Ordering::SeqCst);
-            let processes = due.processes as u64;
-            let most = due.entries.saturating_add(processes);
-            assert!(rt; processes <= asked && asked <= most);
-            compare(rt, alloc, &finish, due)
-        }
+    let finish = finish_of(rt, alloc, net, bodies, workers, &counts)?;
+    let asked = counts.asked.load(Ordering::SeqCst);
+    let processes = due.processes as u64;
+    let most = due.entries.saturating_add(processes);
+    assert!(rt; processes <= asked && asked <= most);
+    compare(rt, alloc, &finish, due)
+}
+
+/// Runs a network, which memory alone may prevent.
+pub(crate) fn finish_of<R: Threads + Wait + Abort + Sync, G: Gate>(
+    rt: &R,
+    alloc: Global,
+    net: Net<Standard>,
+    bodies: Vec<StandardBody>,
+    workers: usize,
+    gate: &G,
+) -> Result<Finish<Standard>, AllocError> {
+    match run(rt, alloc, net, bodies, workers, gate) {
+        Ok(finish) => Ok(finish),
         Err(RunFault::Memory { net: _, bodies: _ }) => Err(AllocError),
         Err(_) => panic!(rt; "no run"),
     }
@@ -289,11 +358,7 @@ fn any_number_of_workers(rt: HostRuntime) -> Result<(), Fail> {
     ];
     for (text, due) in due {
         for workers in [1, 2, 16] {
-            let sketch = read_sketch(alloc, text.as_bytes())?;
-            let net = Net::check(alloc, &sketch)?;
-            let cards = cards_of(alloc, &net)?;
-            let piece = Piece::Run { workers, due };
-            make_and_play(&rt, alloc, cards.as_slice(), Some(Nets::One(net)), &piece)?;
+            play_text(&rt, alloc, text, &Piece::Run { workers, due })?;
         }
     }
     Ok(())
@@ -309,11 +374,7 @@ fn scenes_on_monitors(rt: HostRuntime) -> Result<(), Fail> {
         (COUNTER_INTO_SINK, Scene::OneTask { dropped: true }),
         (COPIED_AND_WOVEN, Scene::MostWatchers),
     ] {
-        let sketch = read_sketch(alloc, text.as_bytes())?;
-        let net = Net::check(alloc, &sketch)?;
-        let cards = cards_of(alloc, &net)?;
-        let piece = Piece::Monitored(scene);
-        make_and_play(&rt, alloc, cards.as_slice(), Some(Nets::One(net)), &piece)?;
+        play_text(&rt, alloc, text, &Piece::Monitored(scene))?;
     }
     Ok(())
 }
@@ -333,5 +394,23 @@ fn an_answer_of_another_monitor(rt: HostRuntime) -> Result<(), Fail> {
     };
     let piece = Piece::Monitored(Scene::MissingSeat);
     make_and_play(&rt, alloc, &[src, snk, src, snk], Some(nets), &piece)?;
+    Ok(())
+}
+
+#[test]
+fn an_answer_comes_a_second_time(rt: HostRuntime) -> Result<(), Fail> {
+    let alloc = rt.alloc();
+    let sketch = read_sketch(alloc, COUNTER_INTO_SINK.as_bytes())?;
+    let net = Net::check(alloc, &sketch)?;
+    let src = Card {
+        kind: 0,
+        args: [1, 3, 0],
+    };
+    let snk = Card {
+        kind: 1,
+        args: [3, 0, 0],
+    };
+    let nets = Some(Nets::One(net));
+    make_and_play(&rt, alloc, &[src, snk, src], nets, &Piece::SecondAnswer)?;
     Ok(())
 }

@@ -1,10 +1,10 @@
-//! Two monitors of one network, and an answer that comes to the wrong one.
+//! Answers that no monitor asked for: of another monitor, and made a second time.
 ghost use Rattle.std.specs.Prelude.{◌≡◌};
 
 use kpn_body::{Body, Finished, Task};
 use kpn_machine::{Machine, Outcome, Stranger};
 use kpn_monitor::{EntryLedger, Monitor, Opening, Seat, Taken};
-use kpn_net::Net;
+use kpn_net::{Kinds, Net};
 use kpn_watch::{Phase, Progress};
 use std::alloc::{AllocError, Global};
 use std::marker::Brand;
@@ -116,6 +116,91 @@ fn stranger_between<B: Body, E: EntryLedger, O: Ledger, F: EntryLedger, P: Ledge
         panic!(rt; "not closed");
     };
     assert_eq!(rt; closed.receipts(), 1);
+    assert!(rt; closed.settle(watcher) == running(1));
+    Ok(())
+}
+
+/// Opens a monitor of a counter of three into a sink of three, with a second body for the counter.
+pub(crate) fn one_monitor<B: Body, R: Wait + Abort>(
+    rt: &R,
+    alloc: Global,
+    net: Net<B::Kinds>,
+    mut bodies: Vec<B>,
+) -> Result<(), AllocError> {
+    let second = bodies.pop().expect(rt, "no body");
+    let Ok(machine) = Machine::open(alloc, net, bodies) else {
+        return Err(AllocError);
+    };
+    let Ok(opening) = Opening::new(alloc, machine) else {
+        return Err(AllocError);
+    };
+    second_answer::<B, Brand, Brand, R>(rt, alloc, opening, unasked(second))
+}
+
+/// An answer of the body as the task of process 0 at its start, which no monitor asked for.
+fn unasked<B: Body>(body: B) -> Finished<B> {
+    let card = body.card();
+    let start = B::Kinds::start(&card);
+    B::Kinds::starts(card);
+    Task::new(0, body, start, None).call()
+}
+
+/// Commits an answer of process 0 at its start that is not asked for, and hands it back; nothing that
+/// a watcher sees changes.
+fn refuse_again<B: Body, E: EntryLedger, O: Ledger, R: Wait + Abort>(
+    rt: &R,
+    monitor: &Monitor<B, E, O>,
+    seat: &mut Seat<E, O>,
+    finished: Finished<B>,
+) -> Finished<B> {
+    let Err(Stranger { finished }) = monitor.commit(rt, finished, seat) else {
+        panic!(rt; "not a stranger");
+    };
+    assert_eq!(rt; finished.process(), 0);
+    assert_eq!(rt; finished.local(), [0, 0, 0, 0]);
+    assert_eq!(rt; finished.last(), None);
+    finished
+}
+
+/// The counter's first answer comes a second time, from a body that the monitor does not have: while
+/// the counter is ready, and while it is out in another state.
+fn second_answer<B: Body, E: EntryLedger, O: Ledger, R: Wait + Abort>(
+    rt: &R,
+    alloc: Global,
+    opening: Opening<B>,
+    second: Finished<B>,
+) -> Result<(), AllocError>
+    requires network { opening.machine.network ≡ E.net }
+    requires board { opening.board ≡ E.board }
+    requires entries { (opening.entries.name ≡ E.name) × (opening.entries.parts ≡ E.parts) }
+    requires overs { (opening.overs.name ≡ O.name) × (opening.overs.parts ≡ O.parts) }
+{
+    let (monitor, mut seat) = Monitor::<B, E, O>::open(opening);
+    let Ok(mut watcher) = monitor.watch(rt) else {
+        panic!(rt; "no watcher");
+    };
+    let finished = take_counter(rt, &monitor, &mut seat).call();
+    let outcome = monitor.commit(rt, finished, &mut seat);
+    assert!(rt; matches!(&outcome, Ok(Outcome::Done(1))));
+    let second = refuse_again(rt, &monitor, &mut seat, second);
+    assert!(rt; monitor.look(&mut watcher) == running(1));
+    let Taken::Task(task) = monitor.take(rt, &mut seat) else {
+        panic!(rt; "the counter is not ready");
+    };
+    assert_eq!(rt; task.process(), 0);
+    assert_eq!(rt; task.local(), [1, 0, 0, 0]);
+    let _second = refuse_again(rt, &monitor, &mut seat, second);
+    assert!(rt; monitor.look(&mut watcher) == running(1));
+    let outcome = monitor.commit(rt, task.call(), &mut seat);
+    assert!(rt; matches!(&outcome, Ok(Outcome::Parked(0))));
+    assert!(rt; monitor.look(&mut watcher) == running(1));
+    let mut seats = Vec::new(alloc);
+    seats.push(seat)?;
+    let Ok(mut closed) = monitor.close(seats) else {
+        panic!(rt; "not closed");
+    };
+    assert_eq!(rt; closed.receipts(), 1);
+    assert_eq!(rt; closed.history().len(), 1);
     assert!(rt; closed.settle(watcher) == running(1));
     Ok(())
 }
