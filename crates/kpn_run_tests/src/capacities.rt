@@ -1,7 +1,6 @@
 //! The same network from all starting capacities.
-use crate::runs::{Piece, play_text};
 use crate::texts::{COPIED_AND_WOVEN, ENDLESS, TWO_FULL_CHANNELS};
-use crate::whole::Whole;
+use crate::whole::{Whole, shows_endless, shows_whole};
 use kpn_net::Token;
 use kpn_net::Token::Word;
 use std::alloc::Global;
@@ -71,12 +70,11 @@ fn parks_case_from_all_capacities(rt: HostRuntime) -> Result<(), Fail> {
         let described = with_capacities(alloc, COPIED_AND_WOVEN, &capacities)?;
         let lines = woven_lines(alloc, capacities)?;
         for workers in [1, 4] {
-            let whole = Whole {
-                workers,
+            let due = Whole {
                 text: lines.as_str(),
                 streams: &streams,
             };
-            play_text(&rt, alloc, described.as_str(), &Piece::Whole(whole))?;
+            shows_whole(&rt, alloc, described.as_str(), workers, due)?;
         }
     }
     Ok(())
@@ -115,12 +113,11 @@ fn two_growing_channels_from_all_capacities(rt: HostRuntime) -> Result<(), Fail>
             let described = with_capacities(alloc, TWO_FULL_CHANNELS, &[first, second])?;
             let lines = two_full_lines(alloc, first, second)?;
             for workers in [1, 4] {
-                let whole = Whole {
-                    workers,
+                let due = Whole {
                     text: lines.as_str(),
                     streams: &[(0, COUNTED), (1, COUNTED)],
                 };
-                play_text(&rt, alloc, described.as_str(), &Piece::Whole(whole))?;
+                shows_whole(&rt, alloc, described.as_str(), workers, due)?;
             }
         }
     }
@@ -134,7 +131,7 @@ fn an_endless_network_from_two_capacities(rt: HostRuntime) -> Result<(), Fail> {
     for capacity in [1, 2] {
         let described = with_capacities(alloc, ENDLESS, &[capacity; 12])?;
         for workers in [1, 4, 16] {
-            play_text(&rt, alloc, described.as_str(), &Piece::Endless { workers })?;
+            shows_endless(&rt, alloc, described.as_str(), workers)?;
         }
     }
     Ok(())

@@ -1,6 +1,5 @@
 //! The largest networks: 64 processes, by one worker and by sixteen.
-use crate::runs::{Piece, play_text};
-use crate::whole::Whole;
+use crate::whole::{Whole, shows_whole};
 use kpn_net::Token;
 use std::alloc::{AllocError, Global};
 use std::fmt::Write as _;
@@ -47,12 +46,11 @@ fn thirty_two_pairs(rt: HostRuntime) -> Result<(), Fail> {
     let text = pairs(alloc)?;
     let lines = pair_lines(alloc)?;
     for workers in [1, 16] {
-        let whole = Whole {
-            workers,
+        let due = Whole {
             text: lines.as_str(),
             streams: &[(31, &[Token::Word(1)])],
         };
-        play_text(&rt, alloc, text.as_str(), &Piece::Whole(whole))?;
+        shows_whole(&rt, alloc, text.as_str(), workers, due)?;
     }
     Ok(())
 }
@@ -113,12 +111,11 @@ fn a_chain_of_sixty_four(rt: HostRuntime) -> Result<(), Fail> {
     let lines = chain_lines(alloc)?;
     let tokens = hundred(alloc)?;
     for workers in [1, 16] {
-        let whole = Whole {
-            workers,
+        let due = Whole {
             text: lines.as_str(),
             streams: &[(62, tokens.as_slice())],
         };
-        play_text(&rt, alloc, text.as_str(), &Piece::Whole(whole))?;
+        shows_whole(&rt, alloc, text.as_str(), workers, due)?;
     }
     Ok(())
 }

@@ -2,11 +2,17 @@
 #![tactic(auto)]
 
 #[cfg(test)]
+mod bodies;
+#[cfg(test)]
 mod capacities;
+#[cfg(test)]
+mod due;
 #[cfg(test)]
 mod large;
 #[cfg(test)]
 mod meeting;
+#[cfg(test)]
+mod monitors;
 #[cfg(test)]
 mod refusals;
 #[cfg(test)]

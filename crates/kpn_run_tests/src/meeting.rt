@@ -3,10 +3,12 @@ ghost use Rattle.std.specs.Prelude.{◌≡◌, IsSome};
 ghost use Rattle.kpn_net.specs.Standard.{standard};
 ghost use Rattle.kpn_body.specs.Standard.{signature, Admitted};
 
-use crate::runs::{COUNTER_ENDS, run_bodies};
+use crate::bodies::{Parts, parts_of};
+use crate::due::COUNTER_ENDS;
+use crate::runs::run_bodies;
 use crate::texts::COUNTER_INTO_SINK;
 use kpn_body::{Call, StandardBody, answer};
-use kpn_net::{Answer, Card, Local, Net, Token, read_sketch};
+use kpn_net::{Answer, Card, Local, Token};
 use std::alloc::Global;
 use std::process::Abort;
 use std::sync::atomic::{AtomicU64, Ordering};
@@ -47,11 +49,20 @@ fn no_calls() -> Calls {
     }
 }
 
+/// Runs a counter of three into a sink of three by two workers, with these bodies.
+fn run_counter<R: Threads + Wait + Abort + Sync>(
+    rt: &R,
+    alloc: Global,
+    bodies: Vec<StandardBody>,
+) -> Result<(), Fail> {
+    let Parts { net, bodies: _ } = parts_of(alloc, COUNTER_INTO_SINK)?;
+    run_bodies(rt, alloc, net, bodies, 2, &COUNTER_ENDS)?;
+    Ok(())
+}
+
 /// Runs a counter into a sink by two workers, with closures that wait for each other at the call of
 /// this number. How often they were called decides whether they wait, and not what they answer.
 fn meet_at<R: Threads + Wait + Abort + Sync>(rt: &R, alloc: Global, at: u64) -> Result<(), Fail> {
-    let sketch = read_sketch(alloc, COUNTER_INTO_SINK.as_bytes())?;
-    let net = Net::check(alloc, &sketch)?;
     let calls = Arc::new(alloc, no_calls())?;
     let (one, two) = (Arc::try_clone(&calls)?, Arc::try_clone(&calls)?);
     let mut bodies = Vec::new(alloc);
@@ -87,7 +98,7 @@ fn meet_at<R: Threads + Wait + Abort + Sync>(rt: &R, alloc: Global, at: u64) -> 
         },
     )?;
     bodies.push(StandardBody::new(snk, right))?;
-    run_bodies(rt, alloc, net, bodies, 2, COUNTER_ENDS)?;
+    run_counter(rt, alloc, bodies)?;
     assert_eq!(rt; calls.seen.load(Ordering::SeqCst), 2);
     Ok(())
 }

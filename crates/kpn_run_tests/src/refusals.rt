@@ -5,15 +5,17 @@
 ghost use Rattle.std.specs.Prelude.{◌≡◌, ◌<◌};
 ghost use Rattle.kpn_machine.specs.Scheduler.{IsFresh};
 
-use crate::runs::{Nets, Piece, WOVEN_ENDS, compare, make_and_play};
+use crate::bodies::bodies_of;
+use crate::due::{WOVEN_ENDS, compare};
+use crate::monitors::{Ended, close_alone, ended_of, work_alone};
 use crate::texts::COPIED_AND_WOVEN;
-use kpn_body::{Body, Standard, StandardBody};
+use kpn_body::{Body, Standard};
 use kpn_front::load::load;
-use kpn_machine::{Machine, OpenFault, cards_of};
+use kpn_machine::{Machine, OpenFault};
 use kpn_monitor::{EntryLedger, Monitor, Opening};
-use kpn_net::{End, Entry, Net, NetFault, Token};
+use kpn_net::{End, Entry, Kinds, Net, NetFault, Token};
 use kpn_report::Report;
-use kpn_run::{Finish, Open, RunFault, Worked, report, run, stream_of, work};
+use kpn_run::{Finish, Open, RunFault, report, run, stream_of};
 use std::alloc::{AllocError, Global};
 use std::marker::Brand;
 use std::process::Abort;
@@ -24,7 +26,7 @@ use std::thread::Threads;
 
 /// Which request for memory was refused, of those after which the test goes on.
 #[derive(Clone, Copy, PartialEq, Eq)]
-pub(crate) enum Refused {
+enum Refused {
     Nothing,
     Load,
     Machine,
@@ -53,14 +55,31 @@ impl Refused {
     }
 }
 
+/// Loads a description, again from its beginning where memory was refused.
+fn load_again<R: Abort>(rt: &R, alloc: Global, text: &str) -> (Net<Standard>, Refused) {
+    match load_text(alloc, text) {
+        Ok(net) => return (net, Refused::Nothing),
+        Err(fault) => assert_eq!(rt; fault, NetFault::Memory),
+    }
+    let Ok(net) = load_text(alloc, text) else {
+        panic!(rt; "refused again");
+    };
+    (net, Refused::Load)
+}
+
+fn load_text(alloc: Global, text: &str) -> Result<Net<Standard>, NetFault> {
+    let mut source = text.as_bytes();
+    load(alloc, &mut source)
+}
+
 /// Runs Parks's case, again with what came back where memory was refused.
-fn finish_again<R: Threads + Wait + Abort + Sync>(
+fn finish_again<B: Body, R: Threads + Wait + Abort + Sync>(
     rt: &R,
     alloc: Global,
-    net: Net<Standard>,
-    bodies: Vec<StandardBody>,
+    net: Net<B::Kinds>,
+    bodies: Vec<B>,
     workers: usize,
-) -> (Finish<Standard>, Refused) {
+) -> (Finish<B::Kinds>, Refused) {
     let (net, bodies) = match run(rt, alloc, net, bodies, workers, &Open) {
         Ok(finish) => return (finish, Refused::Nothing),
         Err(RunFault::Memory { net, bodies }) => (net, bodies),
@@ -75,52 +94,57 @@ fn finish_again<R: Threads + Wait + Abort + Sync>(
 }
 
 /// Reports, again where memory was refused.
-fn report_again<R: Abort>(rt: &R, alloc: Global, finish: &Finish<Standard>) -> (Report, Refused) {
-    match report(alloc, finish) {
-        Ok(report) => (report, Refused::Nothing),
-        Err(AllocError) => {
-            let report = report(alloc, finish).ok().expect(rt, "refused again");
-            (report, Refused::Report)
-        }
+fn report_again<K: Kinds, R: Abort>(
+    rt: &R,
+    alloc: Global,
+    finish: &Finish<K>,
+) -> (Report, Refused) {
+    if let Ok(report) = report(alloc, finish) {
+        return (report, Refused::Nothing);
     }
+    let Ok(report) = report(alloc, finish) else {
+        panic!(rt; "refused again");
+    };
+    (report, Refused::Report)
 }
 
 /// The stream of the last channel, again where memory was refused.
-fn stream_again<R: Abort>(
+fn stream_again<K: Kinds, R: Abort>(
     rt: &R,
     alloc: Global,
-    net: &Net<Standard>,
+    net: &Net<K>,
     history: &[Entry],
 ) -> (Vec<Token>, Refused) {
     assert!(rt; 3 < net.channels());
-    match stream_of(alloc, net, history, 3) {
-        Ok(stream) => (stream, Refused::Nothing),
-        Err(AllocError) => {
-            let stream = stream_of(alloc, net, history, 3)
-                .ok()
-                .expect(rt, "refused again");
-            (stream, Refused::Stream)
-        }
+    if let Ok(stream) = stream_of(alloc, net, history, 3) {
+        return (stream, Refused::Nothing);
     }
+    let Ok(stream) = stream_of(alloc, net, history, 3) else {
+        panic!(rt; "refused again");
+    };
+    (stream, Refused::Stream)
 }
 
 /// A run whose growth was refused its memory: it ended there, with a history that no other run of the
 /// network contradicts, and without a detail.
-fn ends_for_memory<R: Abort>(
+fn ends_for_memory<K: Kinds, R: Abort>(
     rt: &R,
     alloc: Global,
-    finish: &Finish<Standard>,
-) -> Result<Refused, AllocError> {
+    finish: &Finish<K>,
+) -> Result<(), AllocError> {
     assert_eq!(rt; finish.receipts(), finish.history().len() as u64);
+    assert_eq!(rt; growths_in(finish.history()), 0);
     let report = report(alloc, finish)?;
     assert_eq!(rt; report.end, End::Memory);
     assert!(rt; report.detail.is_none());
-    let growths = finish
-        .history()
+    Ok(())
+}
+
+fn growths_in(history: &[Entry]) -> usize {
+    history
         .iter()
-        .filter(|entry| matches!(entry, Entry::Grew { .. }));
-    assert_eq!(rt; growths.count(), 0);
-    Ok(Refused::Growth)
+        .filter(|entry| matches!(entry, Entry::Grew { .. }))
+        .count()
 }
 
 /// The first of these that was refused.
@@ -133,32 +157,41 @@ fn first_refused(all: &[Refused]) -> Refused {
     Refused::Nothing
 }
 
-/// Runs Parks's case, with its report and a stream.
-pub(crate) fn run_refused<R: Threads + Wait + Abort + Sync>(
+/// The report and a stream of a run of Parks's case that wasn't refused its growth.
+fn tell_again<K: Kinds, R: Abort>(
     rt: &R,
     alloc: Global,
-    net: Net<Standard>,
-    bodies: Vec<StandardBody>,
-    workers: usize,
+    finish: &Finish<K>,
 ) -> Result<Refused, AllocError> {
-    let (finish, run) = finish_again(rt, alloc, net, bodies, workers);
-    if finish.end() == End::Memory {
-        return ends_for_memory(rt, alloc, &finish);
-    }
-    let (reported, report) = report_again(rt, alloc, &finish);
+    let (reported, report) = report_again(rt, alloc, finish);
     assert_eq!(rt; reported.end, End::Deadlock);
     assert!(rt; reported.detail.is_some());
     let (tokens, stream) = stream_again(rt, alloc, finish.net(), finish.history());
     assert_eq!(rt; tokens.as_slice(), WOVEN_ENDS.stream);
-    let refused = first_refused(&[run, report, stream]);
-    match compare(rt, alloc, &finish, WOVEN_ENDS) {
-        Ok(()) => Ok(refused),
-        Err(AllocError) => Ok(Refused::Elsewhere),
+    compare(rt, alloc, finish, &WOVEN_ENDS)?;
+    Ok(first_refused(&[report, stream]))
+}
+
+/// Loads and runs Parks's case, with its report and a stream. The error is want of memory for what is
+/// the test's own.
+fn run_refused<R: Threads + Wait + Abort + Sync>(
+    rt: &R,
+    alloc: Global,
+    workers: usize,
+) -> Result<Refused, AllocError> {
+    let (net, load) = load_again(rt, alloc, COPIED_AND_WOVEN);
+    let bodies = bodies_of(alloc, &net)?;
+    let (finish, run) = finish_again(rt, alloc, net, bodies, workers);
+    if finish.end() == End::Memory {
+        ends_for_memory(rt, alloc, &finish)?;
+        return Ok(Refused::Growth);
     }
+    let told = tell_again(rt, alloc, &finish)?;
+    Ok(first_refused(&[load, run, told]))
 }
 
 /// Opens a machine of Parks's case, again with what came back where memory was refused.
-fn machine_again<R: Abort, B: Body>(
+fn machine_again<B: Body, R: Abort>(
     rt: &R,
     alloc: Global,
     net: Net<B::Kinds>,
@@ -180,7 +213,7 @@ fn machine_again<R: Abort, B: Body>(
 }
 
 /// Puts a machine under a lock, again with the machine that came back where memory was refused.
-fn opening_again<R: Abort, B: Body>(
+fn opening_again<B: Body, R: Abort>(
     rt: &R,
     alloc: Global,
     machine: Machine<B>,
@@ -198,19 +231,6 @@ fn opening_again<R: Abort, B: Body>(
     }
 }
 
-/// Opens a monitor of Parks's case, and works on it to its end.
-pub(crate) fn open_refused<R: Wait + Abort, B: Body>(
-    rt: &R,
-    alloc: Global,
-    net: Net<B::Kinds>,
-    bodies: Vec<B>,
-) -> Result<Refused, AllocError> {
-    let (machine, first) = machine_again(rt, alloc, net, bodies);
-    let (opening, second) = opening_again(rt, alloc, machine);
-    let third = work_to_the_end::<B, Brand, Brand, R>(rt, alloc, opening)?;
-    Ok(first_refused(&[first, second, third]))
-}
-
 /// Works alone to the end of Parks's case.
 fn work_to_the_end<B: Body, E: EntryLedger, O: Ledger, R: Wait + Abort>(
     rt: &R,
@@ -223,47 +243,42 @@ fn work_to_the_end<B: Body, E: EntryLedger, O: Ledger, R: Wait + Abort>(
     requires overs { (opening.overs.name ≡ O.name) × (opening.overs.parts ≡ O.parts) }
 {
     let (monitor, seat) = Monitor::<B, E, O>::open(opening);
-    let Worked { seat, stranger } = work(rt, &monitor, seat, &Open);
-    assert!(rt; stranger.is_none());
-    let mut seats = Vec::new(alloc);
-    seats.push(seat)?;
-    let Ok(closed) = monitor.close(seats) else {
-        panic!(rt; "not closed");
-    };
-    if closed.end() == Some(End::Memory) {
-        assert_eq!(rt; closed.receipts(), closed.history().len() as u64);
-        return Ok(Refused::Growth);
-    }
-    assert_eq!(rt; closed.end(), Some(End::Deadlock));
-    assert_eq!(rt; closed.receipts(), 33);
-    Ok(Refused::Nothing)
+    let seat = work_alone(rt, &monitor, seat);
+    let closed = close_alone(rt, alloc, monitor, seat)?;
+    Ok(growth_refused(rt, ended_of(&closed)))
 }
 
-/// Loads a description, again from its beginning where memory was refused.
-fn load_again<R: Abort>(rt: &R, alloc: Global, text: &str) -> (Net<Standard>, Refused) {
-    let mut source = text.as_bytes();
-    match load::<Standard, &[u8]>(alloc, &mut source) {
-        Ok(net) => (net, Refused::Nothing),
-        Err(fault) => {
-            assert_eq!(rt; fault, NetFault::Memory);
-            let mut source = text.as_bytes();
-            let net = load(alloc, &mut source).ok().expect(rt, "refused again");
-            (net, Refused::Load)
-        }
+/// Whether a growth was refused its memory, where Parks's case is over.
+fn growth_refused<R: Abort>(rt: &R, ended: Ended) -> Refused {
+    assert_eq!(rt; ended.receipts, ended.entries as u64);
+    if ended.end == Some(End::Memory) {
+        return Refused::Growth;
     }
+    assert_eq!(rt; ended.end, Some(End::Deadlock));
+    assert_eq!(rt; ended.receipts, 33);
+    Refused::Nothing
 }
 
-/// Loads Parks's case and plays on it. The error is want of memory for what is the test's own.
-fn play_refused<R: Threads + Wait + Abort + Sync>(
+/// Opens a monitor, and works on it to its end.
+fn open_refused<B: Body, R: Wait + Abort>(
     rt: &R,
     alloc: Global,
-    piece: &Piece<'_>,
+    net: Net<B::Kinds>,
+    bodies: Vec<B>,
 ) -> Result<Refused, AllocError> {
-    let (net, loaded) = load_again(rt, alloc, COPIED_AND_WOVEN);
-    let cards = cards_of(alloc, &net)?;
-    let nets = Some(Nets::One(net));
-    let played = make_and_play(rt, alloc, cards.as_slice(), nets, piece)?;
-    Ok(first_refused(&[loaded, played]))
+    let (machine, first) = machine_again(rt, alloc, net, bodies);
+    let (opening, second) = opening_again(rt, alloc, machine);
+    let third = work_to_the_end::<B, Brand, Brand, R>(rt, alloc, opening)?;
+    Ok(first_refused(&[first, second, third]))
+}
+
+/// Loads Parks's case, and opens a monitor of it. The error is want of memory for what is the test's
+/// own.
+fn monitor_refused<R: Wait + Abort>(rt: &R, alloc: Global) -> Result<Refused, AllocError> {
+    let (net, load) = load_again(rt, alloc, COPIED_AND_WOVEN);
+    let bodies = bodies_of(alloc, &net)?;
+    let opened = open_refused(rt, alloc, net, bodies)?;
+    Ok(first_refused(&[load, opened]))
 }
 
 /// The word for what was refused.
@@ -273,21 +288,21 @@ fn told(refused: Result<Refused, AllocError>) -> &'static str {
 
 #[test]
 fn a_run_by_one_worker(rt: HostRuntime) -> Result<(), Fail> {
-    let word = told(play_refused(&rt, rt.alloc(), &Piece::Refused { workers: 1 }));
+    let word = told(run_refused(&rt, rt.alloc(), 1));
     println!(rt; "refused: {word}")?;
     Ok(())
 }
 
 #[test]
 fn a_run_by_two_workers(rt: HostRuntime) -> Result<(), Fail> {
-    let word = told(play_refused(&rt, rt.alloc(), &Piece::Refused { workers: 2 }));
+    let word = told(run_refused(&rt, rt.alloc(), 2));
     println!(rt; "refused: {word}")?;
     Ok(())
 }
 
 #[test]
 fn a_monitor_of_one_seat(rt: HostRuntime) -> Result<(), Fail> {
-    let word = told(play_refused(&rt, rt.alloc(), &Piece::RefusedOpening));
+    let word = told(monitor_refused(&rt, rt.alloc()));
     println!(rt; "refused: {word}")?;
     Ok(())
 }

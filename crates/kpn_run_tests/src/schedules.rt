@@ -1,15 +1,11 @@
 //! Schedules that come about by a gate, and by as many workers as there may be.
-use crate::runs::{COUNTER_ENDS, Due, Piece, WOVEN_ENDS, compare, finish_of, play_text};
+use crate::due::{COUNTER_ENDS, Due, WOVEN_ENDS};
+use crate::runs::shows;
 use crate::texts::{COPIED_AND_WOVEN, COUNTER_INTO_SINK, GROWING_CHAIN};
-use kpn_body::{Standard, StandardBody};
+use kpn_net::End;
 use kpn_net::Token::Word;
-use kpn_net::{End, Net};
 use kpn_run::{Hold, Open};
-use std::alloc::{AllocError, Global};
-use std::process::Abort;
-use std::sync::Wait;
 use std::test::Fail;
-use std::thread::Threads;
 
 /// A chain whose channels grow by turns, the smallest full one first.
 const CHAIN_GROWS: Due = Due {
@@ -53,47 +49,15 @@ stream c3 1 2 3 4 5 6 7 8 9
     ],
 };
 
-/// Runs a network by two workers, and holds each answer of the one process up until the other has
-/// passed.
-pub(crate) fn run_held<R: Threads + Wait + Abort + Sync>(
-    rt: &R,
-    alloc: Global,
-    net: Net<Standard>,
-    bodies: Vec<StandardBody>,
-    held: (usize, usize),
-    due: Due,
-) -> Result<(), AllocError> {
-    let (process, other) = held;
-    let gate = Hold::new(process, other, 1, 1_000_000);
-    let finish = finish_of(rt, alloc, net, bodies, 2, &gate)?;
-    compare(rt, alloc, &finish, due)
-}
-
-/// Runs a network by so many workers, and holds nobody up.
-pub(crate) fn run_opened<R: Threads + Wait + Abort + Sync>(
-    rt: &R,
-    alloc: Global,
-    net: Net<Standard>,
-    bodies: Vec<StandardBody>,
-    workers: usize,
-    due: Due,
-) -> Result<(), AllocError> {
-    let finish = finish_of(rt, alloc, net, bodies, workers, &Open)?;
-    compare(rt, alloc, &finish, due)
-}
-
-/// Each ordered pair of two of the four processes of Parks's case.
+/// Two workers, of which each answer of one process is held up until another has passed, for each ordered
+/// pair of two of the four processes of Parks's case.
 #[test]
 fn each_process_is_held_up_for_each_other(rt: HostRuntime) -> Result<(), Fail> {
     for process in 0..4 {
         for other in 0..4 {
             if process != other {
-                let piece = Piece::Held {
-                    process,
-                    other,
-                    due: WOVEN_ENDS,
-                };
-                play_text(&rt, rt.alloc(), COPIED_AND_WOVEN, &piece)?;
+                let gate = Hold::new(process, other, 1, 1_000_000);
+                shows(&rt, rt.alloc(), COPIED_AND_WOVEN, 2, &gate, &WOVEN_ENDS)?;
             }
         }
     }
@@ -103,33 +67,18 @@ fn each_process_is_held_up_for_each_other(rt: HostRuntime) -> Result<(), Fail> {
 /// Nobody is held up, by two workers.
 #[test]
 fn two_workers_of_two_processes(rt: HostRuntime) -> Result<(), Fail> {
-    let piece = Piece::Opened {
-        workers: 2,
-        due: COUNTER_ENDS,
-    };
-    play_text(&rt, rt.alloc(), COUNTER_INTO_SINK, &piece)?;
-    Ok(())
+    shows(&rt, rt.alloc(), COUNTER_INTO_SINK, 2, &Open, &COUNTER_ENDS)
 }
 
 /// Nobody is held up, by more workers than there are processes.
 #[test]
 fn sixteen_workers_of_two_processes(rt: HostRuntime) -> Result<(), Fail> {
-    let piece = Piece::Opened {
-        workers: 16,
-        due: COUNTER_ENDS,
-    };
-    play_text(&rt, rt.alloc(), COUNTER_INTO_SINK, &piece)?;
-    Ok(())
+    shows(&rt, rt.alloc(), COUNTER_INTO_SINK, 16, &Open, &COUNTER_ENDS)
 }
 
 #[test]
 fn sixteen_workers_of_parks_case(rt: HostRuntime) -> Result<(), Fail> {
-    let piece = Piece::Opened {
-        workers: 16,
-        due: WOVEN_ENDS,
-    };
-    play_text(&rt, rt.alloc(), COPIED_AND_WOVEN, &piece)?;
-    Ok(())
+    shows(&rt, rt.alloc(), COPIED_AND_WOVEN, 16, &Open, &WOVEN_ENDS)
 }
 
 /// Twenty runs of each of two networks whose channels grow: the same bytes each time. A thousand are made
@@ -138,7 +87,7 @@ fn sixteen_workers_of_parks_case(rt: HostRuntime) -> Result<(), Fail> {
 fn twenty_runs_by_sixteen_workers(rt: HostRuntime) -> Result<(), Fail> {
     for _run in 0..20 {
         for (text, due) in [(COPIED_AND_WOVEN, WOVEN_ENDS), (GROWING_CHAIN, CHAIN_GROWS)] {
-            play_text(&rt, rt.alloc(), text, &Piece::Opened { workers: 16, due })?;
+            shows(&rt, rt.alloc(), text, 16, &Open, &due)?;
         }
     }
     Ok(())
