@@ -4,3 +4,4 @@ mod histories;
 mod refusals;
 mod scenes;
 mod setup;
+mod strangers;

@@ -1,36 +1,13 @@
 //! Texts that were not written to be run: the longest, the largest, and what is no description.
 use crate::describing::{Description, Port};
-use crate::runs::WORKERS;
+use crate::runs::{WORKERS, outcome_of, outcome_of_words};
 use crate::texts::COUNTER;
-use kpn_execute::serve;
 use std::alloc::{AllocError, Global};
 use std::fmt::Write as _;
-use std::sync::Wait;
 use std::test::Fail;
-use std::thread::Threads;
 
 /// How many bytes a description may have.
 const LONGEST: usize = 1_048_576;
-
-/// Room for every text here, taken before the run.
-const ROOM: usize = 16384;
-
-/// The exit status of `kpn run` on these bytes by so many workers, and what is written.
-fn told<R: Threads + Wait + Sync>(
-    rt: &R,
-    alloc: Global,
-    workers: &str,
-    text: &[u8],
-) -> Result<(u8, Vec<u8>), AllocError> {
-    let mut out = Vec::with_capacity(alloc, ROOM)?;
-    let mut source = text;
-    let words = ["kpn", "run", "--workers", workers];
-    let status = match serve(rt, alloc, &words, &mut source, &mut out) {
-        Ok(served) => served.status,
-        Err(fault) => fault.status(),
-    };
-    Ok((status, out))
-}
 
 /// The counter's text with so many bytes, of which those at the end are line feeds.
 fn filled(alloc: Global, length: usize) -> Result<String, AllocError> {
@@ -49,10 +26,10 @@ entries 8
 fn the_longest_text_runs(rt: HostRuntime) -> Result<(), Fail> {
     for (length, status, lines) in [(LONGEST, 0u8, COUNTED), (LONGEST + 1, 2, "refused 15\n")] {
         let text = filled(rt.alloc(), length)?;
-        let (ended, written) = told(&rt, rt.alloc(), "1", text.as_bytes())?;
+        let told = outcome_of(&rt, rt.alloc(), text.as_str(), "1", None)?;
         assert_eq!(rt; text.len(), length);
-        assert_eq!(rt; ended, status);
-        assert!(rt; written.as_slice() == lines.as_bytes());
+        assert_eq!(rt; told.status, status);
+        assert!(rt; told.text.as_slice() == lines.as_bytes());
     }
     Ok(())
 }
@@ -67,9 +44,9 @@ static EDITS: [(&str, &str, &str); 2] = [
 fn hostile_edits_are_refused(rt: HostRuntime) -> Result<(), Fail> {
     for (old, new, line) in EDITS {
         let text = COUNTER.replace(rt.alloc(), old, new)?;
-        let (status, written) = told(&rt, rt.alloc(), "1", text.as_bytes())?;
-        assert_eq!(rt; status, 2, "{new}");
-        assert!(rt; written.as_slice() == line.as_bytes(), "{new}");
+        let told = outcome_of(&rt, rt.alloc(), text.as_str(), "1", None)?;
+        assert_eq!(rt; told.status, 2, "{new}");
+        assert!(rt; told.text.as_slice() == line.as_bytes(), "{new}");
     }
     Ok(())
 }
@@ -94,18 +71,18 @@ static NESTED: [(usize, bool, &str); 4] = [
 fn nested_arrays_are_refused(rt: HostRuntime) -> Result<(), Fail> {
     for (deep, closed, line) in NESTED {
         let text = nested(rt.alloc(), deep, closed)?;
-        let (status, written) = told(&rt, rt.alloc(), "1", text.as_bytes())?;
-        assert_eq!(rt; status, 2, "{deep}");
-        assert!(rt; written.as_slice() == line.as_bytes(), "{deep}");
+        let told = outcome_of(&rt, rt.alloc(), text.as_str(), "1", None)?;
+        assert_eq!(rt; told.status, 2, "{deep}");
+        assert!(rt; told.text.as_slice() == line.as_bytes(), "{deep}");
     }
     Ok(())
 }
 
 #[test]
 fn bytes_that_are_no_text_are_refused(rt: HostRuntime) -> Result<(), Fail> {
-    let (status, written) = told(&rt, rt.alloc(), "1", b"\xff")?;
-    assert_eq!(rt; status, 2);
-    assert!(rt; written.as_slice() == "refused 1\n".as_bytes());
+    let told = outcome_of_words(&rt, rt.alloc(), &["kpn", "run"], b"\xff")?;
+    assert_eq!(rt; told.status, 2);
+    assert!(rt; told.text.as_slice() == "refused 1\n".as_bytes());
     Ok(())
 }
 
@@ -132,10 +109,10 @@ fn one_too_many_is_refused(rt: HostRuntime) -> Result<(), Fail> {
         (1, 256, "refused 8\n"),
     ] {
         let description = crowd(rt.alloc(), processes, channels)?;
-        let (status, written) = told(&rt, rt.alloc(), "1", description.as_str().as_bytes())?;
-        assert_eq!(rt; status, 2, "{processes} and {channels}");
+        let told = outcome_of(&rt, rt.alloc(), description.as_str(), "1", None)?;
+        assert_eq!(rt; told.status, 2, "{processes} and {channels}");
         assert!(rt;
-            written.as_slice() == line.as_bytes(),
+            told.text.as_slice() == line.as_bytes(),
             "{processes} and {channels}"
         );
     }
@@ -190,12 +167,11 @@ fn chain_lines(alloc: Global) -> Result<String, Fail> {
 #[test]
 fn a_chain_of_sixty_four_processes_runs(rt: HostRuntime) -> Result<(), Fail> {
     let description = chain(rt.alloc())?;
-    let text = description.as_str().as_bytes();
     let lines = chain_lines(rt.alloc())?;
     for workers in WORKERS {
-        let (status, written) = told(&rt, rt.alloc(), workers, text)?;
-        assert_eq!(rt; status, 5, "{workers} workers");
-        assert!(rt; written.as_slice() == lines.as_bytes(), "{workers} workers");
+        let told = outcome_of(&rt, rt.alloc(), description.as_str(), workers, None)?;
+        assert_eq!(rt; told.status, 5, "{workers} workers");
+        assert!(rt; told.text.as_slice() == lines.as_bytes(), "{workers} workers");
     }
     Ok(())
 }

@@ -29,24 +29,25 @@ pub(crate) fn outcome_of<R: Threads + Wait + Sync>(
     workers: &str,
     show: Option<&str>,
 ) -> Result<Told, AllocError> {
+    let input = text.as_bytes();
     match show {
-        None => outcome_of_words(rt, alloc, &["kpn", "run", "--workers", workers], text),
+        None => outcome_of_words(rt, alloc, &["kpn", "run", "--workers", workers], input),
         Some(name) => {
             let words = ["kpn", "run", "--workers", workers, "--show", name];
-            outcome_of_words(rt, alloc, &words, text)
+            outcome_of_words(rt, alloc, &words, input)
         }
     }
 }
 
 /// The outcome of the program on these words and this input.
-fn outcome_of_words<R: Threads + Wait + Sync>(
+pub(crate) fn outcome_of_words<R: Threads + Wait + Sync>(
     rt: &R,
     alloc: Global,
     words: &[&str],
-    text: &str,
+    input: &[u8],
 ) -> Result<Told, AllocError> {
     let mut out = Vec::with_capacity(alloc, ROOM)?;
-    let mut source = text.as_bytes();
+    let mut source = input;
     let (status, fault) = match serve(rt, alloc, words, &mut source, &mut out) {
         Ok(served) => (
             served.status,
@@ -391,7 +392,7 @@ static CHECKS: [(&[&str], &str, u8, u8, &str); 6] = [
 #[test]
 fn words_choose_what_is_done(rt: HostRuntime) -> Result<(), Fail> {
     for (words, text, status, fault, lines) in CHECKS {
-        let told = outcome_of_words(&rt, rt.alloc(), words, text)?;
+        let told = outcome_of_words(&rt, rt.alloc(), words, text.as_bytes())?;
         assert_eq!(rt; told.status, status);
         assert_eq!(rt; told.fault, fault);
         assert!(rt; told.text.as_slice() == lines.as_bytes());

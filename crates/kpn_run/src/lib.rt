@@ -6,11 +6,13 @@
 
 mod executor;
 mod finish;
+mod hold;
 mod reporting;
 mod slot;
 mod worker;
 
 pub use executor::{RunFault, run};
 pub use finish::Finish;
+pub use hold::Hold;
 pub use reporting::{report, stream_of};
 pub use worker::{Gate, Open, Worked, work};

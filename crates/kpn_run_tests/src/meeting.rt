@@ -3,31 +3,37 @@ ghost use Rattle.std.specs.Prelude.{◌≡◌, IsSome};
 ghost use Rattle.kpn_net.specs.Standard.{standard};
 ghost use Rattle.kpn_body.specs.Standard.{signature, Admitted};
 
-use crate::runs::{COUNTER_ENDS, run_bodies};
+use crate::bodies::{Parts, parts_of};
+use crate::due::COUNTER_ENDS;
+use crate::runs::run_bodies;
 use crate::texts::COUNTER_INTO_SINK;
 use kpn_body::{Call, StandardBody, answer};
-use kpn_net::{Answer, Card, Local, Net, Token, read_sketch};
-use std::sync::Arc;
+use kpn_net::{Answer, Card, Local, Token};
+use std::alloc::Global;
+use std::process::Abort;
 use std::sync::atomic::{AtomicU64, Ordering};
+use std::sync::{Arc, Wait};
 use std::test::Fail;
 use std::thread;
+use std::thread::Threads;
 
-/// Two flags, and how many have seen the other's.
+/// How often each of two closures was called, and how many have seen that the other was called for
+/// the time at which they meet.
 #[derive(Drop)]
-struct Flags {
+struct Calls {
     left: AtomicU64,
     right: AtomicU64,
     seen: AtomicU64,
 }
 
-/// Sets a flag when it is first called, and waits for the other. Between two looks other threads may go
-/// on, so that a busy machine doesn't end the wait too soon.
-fn meet(mine: &AtomicU64, other: &AtomicU64, seen: &AtomicU64) {
-    if mine.swap(1, Ordering::SeqCst) == 1 {
+/// Counts a call, and waits at the call of the number `at` until the other has come as far. Between
+/// two looks other threads may go on, so that a busy machine doesn't end the wait too soon.
+fn meet(at: u64, mine: &AtomicU64, other: &AtomicU64, seen: &AtomicU64) {
+    if mine.fetch_add(1, Ordering::SeqCst).wrapping_add(1) != at {
         return;
     }
     for _ in 0..100_000_000u32 {
-        if other.load(Ordering::SeqCst) == 1 {
+        if other.load(Ordering::SeqCst) >= at {
             seen.fetch_add(1, Ordering::SeqCst);
             return;
         }
@@ -35,21 +41,30 @@ fn meet(mine: &AtomicU64, other: &AtomicU64, seen: &AtomicU64) {
     }
 }
 
-fn make_flags() -> Flags {
-    Flags {
+fn no_calls() -> Calls {
+    Calls {
         left: AtomicU64::new(0),
         right: AtomicU64::new(0),
         seen: AtomicU64::new(0),
     }
 }
 
-#[test]
-fn two_workers_meet(rt: HostRuntime) -> Result<(), Fail> {
-    let alloc = rt.alloc();
-    let sketch = read_sketch(alloc, COUNTER_INTO_SINK.as_bytes())?;
-    let net = Net::check(alloc, &sketch)?;
-    let flags = Arc::new(alloc, make_flags())?;
-    let (one, two) = (Arc::try_clone(&flags)?, Arc::try_clone(&flags)?);
+/// Runs a counter of three into a sink of three by two workers, with these bodies.
+fn run_counter<R: Threads + Wait + Abort + Sync>(
+    rt: &R,
+    alloc: Global,
+    bodies: Vec<StandardBody>,
+) -> Result<(), Fail> {
+    let Parts { net, bodies: _ } = parts_of(alloc, COUNTER_INTO_SINK)?;
+    run_bodies(rt, alloc, net, bodies, 2, &COUNTER_ENDS)?;
+    Ok(())
+}
+
+/// Runs a counter into a sink by two workers, with closures that wait for each other at the call of
+/// this number. How often they were called decides whether they wait, and not what they answer.
+fn meet_at<R: Threads + Wait + Abort + Sync>(rt: &R, alloc: Global, at: u64) -> Result<(), Fail> {
+    let calls = Arc::new(alloc, no_calls())?;
+    let (one, two) = (Arc::try_clone(&calls)?, Arc::try_clone(&calls)?);
     let mut bodies = Vec::new(alloc);
     let src = Card {
         kind: 0,
@@ -62,7 +77,7 @@ fn two_workers_meet(rt: HostRuntime) -> Result<(), Fail> {
             requires admitted { Admitted src local last }
             ensures { result ≡ standard.answer src local last }
         {
-            meet(&one.left, &one.right, &one.seen);
+            meet(at, &one.left, &one.right, &one.seen);
             answer(src, local, last)
         },
     )?;
@@ -78,12 +93,22 @@ fn two_workers_meet(rt: HostRuntime) -> Result<(), Fail> {
             requires admitted { Admitted snk local last }
             ensures { result ≡ standard.answer snk local last }
         {
-            meet(&two.right, &two.left, &two.seen);
+            meet(at, &two.right, &two.left, &two.seen);
             answer(snk, local, last)
         },
     )?;
     bodies.push(StandardBody::new(snk, right))?;
-    run_bodies(&rt, alloc, net, bodies, 2, COUNTER_ENDS)?;
-    assert_eq!(rt; flags.seen.load(Ordering::SeqCst), 2);
+    run_counter(rt, alloc, bodies)?;
+    assert_eq!(rt; calls.seen.load(Ordering::SeqCst), 2);
     Ok(())
+}
+
+#[test]
+fn two_workers_meet(rt: HostRuntime) -> Result<(), Fail> {
+    meet_at(&rt, rt.alloc(), 1)
+}
+
+#[test]
+fn two_workers_meet_at_the_second_call(rt: HostRuntime) -> Result<(), Fail> {
+    meet_at(&rt, rt.alloc(), 2)
 }

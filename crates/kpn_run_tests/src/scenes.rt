@@ -1,14 +1,16 @@
 //! What is played on a monitor.
 //!
-//! The code of a test can't name a monitor of standard bodies, so each scene is a function of any
-//! bodies and of any names.
+//! The names of a monitor's ledgers are type parameters, so each scene is a function of any names.
 ghost use Rattle.std.specs.Prelude.{◌≡◌, ◌<◌, [], All, IfOk, IfSome};
-ghost use Rattle.kpn_machine.specs.Scheduler.{IsFresh};
 
+use crate::monitors::{
+    Ended, close_alone, close_with, ended_of, next_task, opening_of, outcome_of, seat_of, seen_by,
+    shown_to, two_seats, watcher_of, work_alone,
+};
+use crate::texts::{COPIED_AND_WOVEN, COUNTER_INTO_SINK};
 use kpn_body::Body;
-use kpn_machine::Machine;
-use kpn_monitor::{CloseFault, Closed, EntryLedger, Monitor, Opening, Seat, Taken, Unclosed};
-use kpn_net::{End, Kinds, Net};
+use kpn_monitor::{CloseFault, Closed, EntryLedger, Monitor, Opening, Seat, Unclosed};
+use kpn_net::{End, Kinds};
 use kpn_run::{Open, Worked, work};
 use kpn_watch::{Phase, Progress, Watcher};
 use std::alloc::{AllocError, Global};
@@ -16,10 +18,11 @@ use std::marker::Brand;
 use std::process::Abort;
 use std::sync::Wait;
 use std::sync::ledger::Ledger;
+use std::test::Fail;
 use std::thread::{Threads, join};
 
 #[derive(Clone, Copy)]
-pub(crate) enum Scene {
+enum Scene {
     /// A watcher looks a thousand times while two threads work on Parks's case to its end.
     Watched,
     /// One seat works to the end, and the monitor is closed first without it.
@@ -42,31 +45,28 @@ const WOVEN: Progress = Progress {
     phase: Phase::Deadlock,
 };
 
-/// Opens a machine, and plays a scene on it.
-pub(crate) fn play_scene<B: Body, R: Threads + Wait + Abort + Sync>(
+const WOVEN_ENDED: Ended = Ended {
+    end: Some(End::Deadlock),
+    receipts: 33,
+    entries: 33,
+    processes: 4,
+};
+
+/// A counter of three into a sink of three.
+const COUNTER_ENDED: Ended = Ended {
+    end: Some(End::Terminated),
+    receipts: 8,
+    entries: 8,
+    processes: 2,
+};
+
+/// Plays a scene on a monitor.
+fn play<B: Body, R: Threads + Wait + Abort + Sync>(
     rt: &R,
     alloc: Global,
-    net: Net<B::Kinds>,
-    bodies: Vec<B>,
+    opening: Opening<B>,
     scene: Scene,
 ) -> Result<(), AllocError> {
-    let Ok(machine) = Machine::open(alloc, net, bodies) else {
-        return Err(AllocError);
-    };
-    open_scene(rt, alloc, machine, scene)
-}
-
-fn open_scene<B: Body, R: Threads + Wait + Abort + Sync>(
-    rt: &R,
-    alloc: Global,
-    machine: Machine<B>,
-    scene: Scene,
-) -> Result<(), AllocError>
-    requires { IsFresh machine }
-{
-    let Ok(opening) = Opening::new(alloc, machine) else {
-        return Err(AllocError);
-    };
     match scene {
         Scene::Watched => watched::<B, Brand, Brand, R>(rt, alloc, opening),
         Scene::MissingSeat => missing_seat::<B, Brand, Brand, R>(rt, alloc, opening),
@@ -84,9 +84,9 @@ fn looks<B: Body, E: EntryLedger, O: Ledger>(
     ensures { result.1.board ≡ E.board }
 {
     let mut rising = true;
-    let mut last = monitor.look(&mut watcher);
+    let mut last = seen_by(monitor, &mut watcher);
     for _ in 0..1000 {
-        let seen = monitor.look(&mut watcher);
+        let seen = seen_by(monitor, &mut watcher);
         rising = rising && last.entries <= seen.entries && last.growths <= seen.growths;
         last = seen;
     }
@@ -109,16 +109,6 @@ fn work_in_two<
     )
 }
 
-/// The seat of a worker whose answers were all taken.
-fn seat_of<B: Body, E: EntryLedger, O: Ledger, R: Abort>(
-    rt: &R,
-    worked: Worked<B, E, O>,
-) -> Seat<E, O> {
-    let Worked { seat, stranger } = worked;
-    assert!(rt; stranger.is_none());
-    seat
-}
-
 /// Closes with these two seats, and settles two watchers.
 fn settles<B: Body, E: EntryLedger, O: Ledger, R: Abort>(
     rt: &R,
@@ -132,18 +122,41 @@ fn settles<B: Body, E: EntryLedger, O: Ledger, R: Abort>(
     let mut all = Vec::new(alloc);
     all.push(seats.0)?;
     all.push(seats.1)?;
-    let Ok(mut closed) = monitor.close(all) else {
-        panic!(rt; "not closed");
-    };
-    let first = closed.settle(watchers.0);
-    assert!(rt; first == WOVEN);
-    let second = closed.settle(watchers.1);
-    assert!(rt; second == WOVEN);
-    assert_eq!(rt; closed.receipts(), 33);
-    assert_eq!(rt; closed.history().len(), 33);
-    assert_eq!(rt; closed.end(), Some(End::Deadlock));
-    assert_eq!(rt; closed.net().processes(), 4);
+    let mut closed = close_with(rt, monitor, all);
+    assert!(rt; ended_of(&closed) == WOVEN_ENDED);
+    assert!(rt; shown_to(&mut closed, watchers.0) == WOVEN);
+    assert!(rt; shown_to(&mut closed, watchers.1) == WOVEN);
     Ok(())
+}
+
+/// Two seats work while a watcher looks a thousand times.
+fn work_watched<
+    B: Body,
+    E: EntryLedger + Send + Sync,
+    O: Ledger + Send + Sync,
+    R: Threads + Wait + Abort + Sync,
+>(
+    rt: &R,
+    monitor: &Monitor<B, E, O>,
+    one: Seat<E, O>,
+    other: Seat<E, O>,
+    watcher: Watcher,
+) -> (Seat<E, O>, Seat<E, O>, Watcher)
+    requires { watcher.board ≡ E.board }
+    ensures { result.2.board ≡ E.board }
+{
+    let (looked, worked) = join(
+        rt,
+        || -> (bool, Watcher)
+            requires { watcher.board ≡ E.board }
+            ensures { result.1.board ≡ E.board }
+        { looks(monitor, watcher) },
+        || work_in_two(rt, monitor, one, other),
+    );
+    let (rising, watcher) = looked;
+    assert!(rt; rising);
+    let (one, other) = worked;
+    (seat_of(rt, one), seat_of(rt, other), watcher)
 }
 
 fn watched<
@@ -157,31 +170,35 @@ fn watched<
     requires entries { (opening.entries.name ≡ E.name) × (opening.entries.parts ≡ E.parts) }
     requires overs { (opening.overs.name ≡ O.name) × (opening.overs.parts ≡ O.parts) }
 {
-    let (monitor, mut one) = Monitor::<B, E, O>::open(opening);
-    let Some(other) = one.split() else {
-        panic!(rt; "one seat alone");
+    let (monitor, seat) = Monitor::<B, E, O>::open(opening);
+    let (one, other) = two_seats(rt, seat);
+    let first = watcher_of(rt, &monitor);
+    let mut second = watcher_of(rt, &monitor);
+    assert!(rt; seen_by(&monitor, &mut second) == NOTHING);
+    let (one, other, mut first) = work_watched(rt, &monitor, one, other, first);
+    assert!(rt; seen_by(&monitor, &mut first) == WOVEN);
+    settles(rt, alloc, monitor, (one, other), (first, second))
+}
+
+/// Closes a monitor with one of two seats, which is refused, and all comes back.
+fn not_closed<B: Body, E: EntryLedger, O: Ledger, R: Abort>(
+    rt: &R,
+    alloc: Global,
+    monitor: Monitor<B, E, O>,
+    seat: Seat<E, O>,
+) -> Result<(Monitor<B, E, O>, Vec<Seat<E, O>>), AllocError> {
+    let mut seats = Vec::new(alloc);
+    seats.push(seat)?;
+    let Err(unclosed) = monitor.close(seats) else {
+        panic!(rt; "closed without a seat");
     };
-    let Ok(first) = monitor.watch(rt) else {
-        panic!(rt; "no watcher");
-    };
-    let Ok(mut second) = monitor.watch(rt) else {
-        panic!(rt; "no second watcher");
-    };
-    assert!(rt; monitor.look(&mut second) == NOTHING);
-    let (looked, worked) = join(
-        rt,
-        || -> (bool, Watcher)
-            requires { first.board ≡ E.board }
-            ensures { result.1.board ≡ E.board }
-        { looks(&monitor, first) },
-        || work_in_two(rt, &monitor, one, other),
-    );
-    let (rising, mut first) = looked;
-    assert!(rt; rising);
-    assert!(rt; monitor.look(&mut first) == WOVEN);
-    let (one, other) = worked;
-    let seats = (seat_of(rt, one), seat_of(rt, other));
-    settles(rt, alloc, monitor, seats, (first, second))
+    let Unclosed {
+        monitor,
+        seats,
+        fault,
+    } = unclosed;
+    assert_eq!(rt; fault, CloseFault::SeatsMissing);
+    Ok((monitor, seats))
 }
 
 fn missing_seat<B: Body, E: EntryLedger, O: Ledger, R: Wait + Abort>(
@@ -194,28 +211,13 @@ fn missing_seat<B: Body, E: EntryLedger, O: Ledger, R: Wait + Abort>(
     requires entries { (opening.entries.name ≡ E.name) × (opening.entries.parts ≡ E.parts) }
     requires overs { (opening.overs.name ≡ O.name) × (opening.overs.parts ≡ O.parts) }
 {
-    let (monitor, mut other) = Monitor::<B, E, O>::open(opening);
-    let Some(seat) = other.split() else {
-        panic!(rt; "one seat alone");
-    };
-    let seat = seat_of(rt, work(rt, &monitor, seat, &Open));
-    let mut seats = Vec::new(alloc);
-    seats.push(other)?;
-    let Err(unclosed) = monitor.close(seats) else {
-        panic!(rt; "closed without a seat");
-    };
-    let Unclosed {
-        monitor,
-        mut seats,
-        fault,
-    } = unclosed;
-    assert_eq!(rt; fault, CloseFault::SeatsMissing);
+    let (monitor, seat) = Monitor::<B, E, O>::open(opening);
+    let (other, seat) = two_seats(rt, seat);
+    let seat = work_alone(rt, &monitor, seat);
+    let (monitor, mut seats) = not_closed(rt, alloc, monitor, other)?;
     seats.push(seat)?;
-    let Ok(closed) = monitor.close(seats) else {
-        panic!(rt; "not closed");
-    };
-    assert_eq!(rt; closed.end(), Some(End::Terminated));
-    assert_eq!(rt; closed.receipts(), 8);
+    let closed = close_with(rt, monitor, seats);
+    assert!(rt; ended_of(&closed) == COUNTER_ENDED);
     Ok(())
 }
 
@@ -231,23 +233,32 @@ fn one_task<B: Body, E: EntryLedger, O: Ledger, R: Wait + Abort>(
     requires overs { (opening.overs.name ≡ O.name) × (opening.overs.parts ≡ O.parts) }
 {
     let (monitor, mut seat) = Monitor::<B, E, O>::open(opening);
-    let Taken::Task(task) = monitor.take(rt, &mut seat) else {
-        panic!(rt; "no task");
-    };
-    if dropped {
-        drop(task);
-    } else {
-        assert!(rt; monitor.commit(rt, task.call(), &mut seat).is_ok());
-    }
-    let mut seats = Vec::new(alloc);
-    seats.push(seat)?;
-    let Ok(closed) = monitor.close(seats) else {
-        panic!(rt; "not closed");
-    };
-    assert!(rt; closed.end().is_none());
-    assert_eq!(rt; closed.history().len() as u64, closed.receipts());
-    assert!(rt; !dropped || closed.receipts() == 0);
+    answer_once(rt, &monitor, &mut seat, dropped);
+    let closed = close_alone(rt, alloc, monitor, seat)?;
+    has_no_end(rt, ended_of(&closed), dropped);
     Ok(())
+}
+
+/// Takes a task, and drops it or commits its answer.
+fn answer_once<B: Body, E: EntryLedger, O: Ledger, R: Wait + Abort>(
+    rt: &R,
+    monitor: &Monitor<B, E, O>,
+    seat: &mut Seat<E, O>,
+    dropped: bool,
+) {
+    let task = next_task(rt, monitor, seat);
+    if !dropped {
+        outcome_of(rt, monitor, task.call(), seat);
+    }
+}
+
+/// No end stands, and no entry where the one task was dropped.
+fn has_no_end<R: Abort>(rt: &R, ended: Ended, dropped: bool) {
+    assert!(rt; ended.end.is_none());
+    assert_eq!(rt; ended.entries as u64, ended.receipts);
+    if dropped {
+        assert_eq!(rt; ended.receipts, 0);
+    }
 }
 
 /// Makes watchers until the next would be one too many, and says whether there were 64.
@@ -281,7 +292,7 @@ fn all_look<B: Body, E: EntryLedger, O: Ledger>(
 {
     let mut same = true;
     while let Some(mut watcher) = watchers.pop() {
-        let seen = monitor.look(&mut watcher);
+        let seen = seen_by(monitor, &mut watcher);
         same = same && seen == due;
         looked.push(watcher)?;
     }
@@ -298,7 +309,7 @@ fn all_settle<K: Kinds, E: EntryLedger>(
 {
     let mut same = true;
     while let Some(watcher) = watchers.pop() {
-        let shown = closed.settle(watcher);
+        let shown = shown_to(closed, watcher);
         same = same && shown == due;
     }
     same
@@ -321,13 +332,24 @@ fn most_watchers<B: Body, E: EntryLedger, O: Ledger, R: Wait + Abort>(
     let mut looked = Vec::new(alloc);
     let same = all_look(&monitor, watchers, &mut looked, NOTHING)?;
     assert!(rt; same && looked.len() == 64);
-    let seat = seat_of(rt, work(rt, &monitor, seat, &Open));
-    let mut seats = Vec::new(alloc);
-    seats.push(seat)?;
-    let Ok(mut closed) = monitor.close(seats) else {
-        panic!(rt; "not closed");
-    };
+    let seat = work_alone(rt, &monitor, seat);
+    let mut closed = close_alone(rt, alloc, monitor, seat)?;
     let same = all_settle(&mut closed, looked, WOVEN);
     assert!(rt; same);
+    Ok(())
+}
+
+#[test]
+fn scenes_on_monitors(rt: HostRuntime) -> Result<(), Fail> {
+    for (text, scene) in [
+        (COPIED_AND_WOVEN, Scene::Watched),
+        (COUNTER_INTO_SINK, Scene::MissingSeat),
+        (COUNTER_INTO_SINK, Scene::OneTask { dropped: false }),
+        (COUNTER_INTO_SINK, Scene::OneTask { dropped: true }),
+        (COPIED_AND_WOVEN, Scene::MostWatchers),
+    ] {
+        let opening = opening_of(rt.alloc(), text)?;
+        play(&rt, rt.alloc(), opening, scene)?;
+    }
     Ok(())
 }

@@ -1,5 +1,5 @@
 //! Running sums, whose first sum is a start token.
-use crate::runs::Due;
+use crate::due::Due;
 use kpn_net::End;
 use kpn_net::Token::Word;
 

@@ -1,57 +1,44 @@
-//! Two monitors of one network, and an answer that comes to the wrong one.
+//! Answers that no monitor asked for: of another monitor, and made a second time.
 ghost use Rattle.std.specs.Prelude.{◌≡◌};
 
+use crate::bodies::{Parts, parts_of};
+use crate::monitors::{
+    Ended, close_alone, ended_of, handed_back, next_task, opening_of, outcome_of, seen_by,
+    shown_to, watcher_of,
+};
+use crate::texts::COUNTER_INTO_SINK;
 use kpn_body::{Body, Finished, Task};
-use kpn_machine::{Machine, Outcome, Stranger};
-use kpn_monitor::{EntryLedger, Monitor, Opening, Seat, Taken};
-use kpn_net::Net;
-use kpn_watch::{Phase, Progress};
+use kpn_machine::Outcome;
+use kpn_monitor::{EntryLedger, Monitor, Opening, Seat};
+use kpn_net::Kinds;
+use kpn_watch::{Phase, Progress, Watcher};
 use std::alloc::{AllocError, Global};
 use std::marker::Brand;
 use std::process::Abort;
 use std::sync::Wait;
 use std::sync::ledger::Ledger;
+use std::test::Fail;
 
-/// Opens two monitors, the second with the last two bodies.
-pub(crate) fn two_monitors<B: Body, R: Wait + Abort>(
+/// Opens two monitors.
+fn two_monitors<B: Body, R: Wait + Abort>(
     rt: &R,
     alloc: Global,
-    first: Net<B::Kinds>,
-    second: Net<B::Kinds>,
-    mut bodies: Vec<B>,
+    first: Opening<B>,
+    second: Opening<B>,
 ) -> Result<(), AllocError> {
-    let mut others = Vec::new(alloc);
-    let last = bodies.pop().expect(rt, "no body");
-    others.push(bodies.pop().expect(rt, "one body alone"))?;
-    others.push(last)?;
-    let Ok(first) = Machine::open(alloc, first, bodies) else {
-        return Err(AllocError);
-    };
-    let Ok(second) = Machine::open(alloc, second, others) else {
-        return Err(AllocError);
-    };
-    let Ok(first) = Opening::new(alloc, first) else {
-        return Err(AllocError);
-    };
-    let Ok(second) = Opening::new(alloc, second) else {
-        return Err(AllocError);
-    };
     stranger_between::<B, Brand, Brand, Brand, Brand, R>(rt, alloc, first, second)
 }
 
-/// Both processes go out; the task of the counter.
-fn take_counter<B: Body, E: EntryLedger, O: Ledger, R: Wait + Abort>(
+/// Both processes go out; the answer of the counter.
+fn counter_answers<B: Body, E: EntryLedger, O: Ledger, R: Wait + Abort>(
     rt: &R,
     monitor: &Monitor<B, E, O>,
     seat: &mut Seat<E, O>,
-) -> Task<B> {
-    let Taken::Task(one) = monitor.take(rt, seat) else {
-        panic!(rt; "no task");
-    };
-    let Taken::Task(other) = monitor.take(rt, seat) else {
-        panic!(rt; "one task alone");
-    };
-    if one.process() == 0 { one } else { other }
+) -> Finished<B> {
+    let one = next_task(rt, monitor, seat);
+    let other = next_task(rt, monitor, seat);
+    let counter = if one.process() == 0 { one } else { other };
+    counter.call()
 }
 
 /// Commits an answer whose process isn't out, closes, and hands it back.
@@ -62,17 +49,9 @@ fn refuse<B: Body, E: EntryLedger, O: Ledger, R: Wait + Abort>(
     mut seat: Seat<E, O>,
     finished: Finished<B>,
 ) -> Result<Finished<B>, AllocError> {
-    let Err(Stranger { finished }) = monitor.commit(rt, finished, &mut seat) else {
-        panic!(rt; "not a stranger");
-    };
-    let mut seats = Vec::new(alloc);
-    seats.push(seat)?;
-    let Ok(closed) = monitor.close(seats) else {
-        panic!(rt; "not closed");
-    };
-    assert!(rt; closed.history().is_empty());
-    assert_eq!(rt; closed.receipts(), 0);
-    assert!(rt; closed.end().is_none());
+    let finished = handed_back(rt, &monitor, finished, &mut seat);
+    let closed = close_alone(rt, alloc, monitor, seat)?;
+    assert!(rt; ended_of(&closed) == not_ended(0));
     Ok(finished)
 }
 
@@ -84,6 +63,50 @@ fn running(entries: u32) -> Progress {
     }
 }
 
+/// What stands in a monitor that is closed after so many entries, before the end.
+fn not_ended(entries: u32) -> Ended {
+    Ended {
+        end: None,
+        receipts: entries as u64,
+        entries: entries as usize,
+        processes: 2,
+    }
+}
+
+/// Commits the counter's first answer, which a watcher sees.
+fn commit_first<B: Body, E: EntryLedger, O: Ledger, R: Wait + Abort>(
+    rt: &R,
+    monitor: &Monitor<B, E, O>,
+    seat: &mut Seat<E, O>,
+    watcher: &mut Watcher,
+    finished: Finished<B>,
+)
+    requires { watcher.old.board ≡ E.board }
+    ensures { watcher.new.board ≡ E.board }
+{
+    let outcome = outcome_of(rt, monitor, finished, seat);
+    assert_eq!(rt; outcome, Outcome::Done(1));
+    assert!(rt; seen_by(monitor, watcher) == running(1));
+}
+
+/// Closes after one entry, which a watcher is shown.
+fn close_after_one<B: Body, E: EntryLedger, O: Ledger, R: Abort>(
+    rt: &R,
+    alloc: Global,
+    monitor: Monitor<B, E, O>,
+    seat: Seat<E, O>,
+    watcher: Watcher,
+) -> Result<(), AllocError>
+    requires { watcher.board ≡ E.board }
+{
+    let mut closed = close_alone(rt, alloc, monitor, seat)?;
+    assert!(rt; ended_of(&closed) == not_ended(1));
+    assert!(rt; shown_to(&mut closed, watcher) == running(1));
+    Ok(())
+}
+
+/// The counter's answer in the one monitor comes to the other, where the counter isn't out: it is
+/// handed back, and accepted where it was asked for.
 fn stranger_between<B: Body, E: EntryLedger, O: Ledger, F: EntryLedger, P: Ledger, R: Wait + Abort>(
     rt: &R,
     alloc: Global,
@@ -101,21 +124,111 @@ fn stranger_between<B: Body, E: EntryLedger, O: Ledger, F: EntryLedger, P: Ledge
 {
     let (monitor, mut seat) = Monitor::<B, E, O>::open(first);
     let (other, other_seat) = Monitor::<B, F, P>::open(second);
-    let Ok(mut watcher) = monitor.watch(rt) else {
-        panic!(rt; "no watcher");
-    };
-    let finished = take_counter(rt, &monitor, &mut seat).call();
+    let mut watcher = watcher_of(rt, &monitor);
+    let finished = counter_answers(rt, &monitor, &mut seat);
     let finished = refuse(rt, alloc, other, other_seat, finished)?;
-    assert!(rt; monitor.look(&mut watcher) == running(0));
-    let outcome = monitor.commit(rt, finished, &mut seat);
-    assert!(rt; matches!(&outcome, Ok(Outcome::Done(1))));
-    assert!(rt; monitor.look(&mut watcher) == running(1));
-    let mut seats = Vec::new(alloc);
-    seats.push(seat)?;
-    let Ok(mut closed) = monitor.close(seats) else {
-        panic!(rt; "not closed");
-    };
-    assert_eq!(rt; closed.receipts(), 1);
-    assert!(rt; closed.settle(watcher) == running(1));
+    assert!(rt; seen_by(&monitor, &mut watcher) == running(0));
+    commit_first(rt, &monitor, &mut seat, &mut watcher, finished);
+    close_after_one(rt, alloc, monitor, seat, watcher)
+}
+
+/// Opens a monitor of a counter of three into a sink of three, beside a second answer of the counter.
+fn one_monitor<B: Body, R: Wait + Abort>(
+    rt: &R,
+    alloc: Global,
+    opening: Opening<B>,
+    second: Finished<B>,
+) -> Result<(), AllocError> {
+    second_answer::<B, Brand, Brand, R>(rt, alloc, opening, second)
+}
+
+/// An answer of the body as the task of process 0 at its start, which no monitor asked for.
+fn unasked<B: Body>(body: B) -> Finished<B> {
+    let card = body.card();
+    let start = B::Kinds::start(&card);
+    B::Kinds::starts(card);
+    Task::new(0, body, start, None).call()
+}
+
+/// Commits an answer of process 0 at its start that is not asked for, and hands it back; a watcher still
+/// sees one entry.
+fn refuse_again<B: Body, E: EntryLedger, O: Ledger, R: Wait + Abort>(
+    rt: &R,
+    monitor: &Monitor<B, E, O>,
+    seat: &mut Seat<E, O>,
+    watcher: &mut Watcher,
+    finished: Finished<B>,
+) -> Finished<B>
+    requires { watcher.old.board ≡ E.board }
+    ensures { watcher.new.board ≡ E.board }
+{
+    let finished = handed_back(rt, monitor, finished, seat);
+    assert_eq!(rt; finished.process(), 0);
+    assert_eq!(rt; finished.local(), [0, 0, 0, 0]);
+    assert_eq!(rt; finished.last(), None);
+    assert!(rt; seen_by(monitor, watcher) == running(1));
+    finished
+}
+
+/// The counter's first answer comes a second time, from a body that the monitor does not have: while
+/// the counter is ready, and while it is out in another state.
+fn second_answer<B: Body, E: EntryLedger, O: Ledger, R: Wait + Abort>(
+    rt: &R,
+    alloc: Global,
+    opening: Opening<B>,
+    second: Finished<B>,
+) -> Result<(), AllocError>
+    requires network { opening.machine.network ≡ E.net }
+    requires board { opening.board ≡ E.board }
+    requires entries { (opening.entries.name ≡ E.name) × (opening.entries.parts ≡ E.parts) }
+    requires overs { (opening.overs.name ≡ O.name) × (opening.overs.parts ≡ O.parts) }
+{
+    let (monitor, mut seat) = Monitor::<B, E, O>::open(opening);
+    let mut watcher = watcher_of(rt, &monitor);
+    let finished = counter_answers(rt, &monitor, &mut seat);
+    commit_first(rt, &monitor, &mut seat, &mut watcher, finished);
+    let second = refuse_again(rt, &monitor, &mut seat, &mut watcher, second);
+    refuse_while_out(rt, &monitor, &mut seat, &mut watcher, second);
+    close_after_one(rt, alloc, monitor, seat, watcher)
+}
+
+/// Refuses the counter's first answer while the counter is out in its next state, whose answer has to
+/// wait.
+fn refuse_while_out<B: Body, E: EntryLedger, O: Ledger, R: Wait + Abort>(
+    rt: &R,
+    monitor: &Monitor<B, E, O>,
+    seat: &mut Seat<E, O>,
+    watcher: &mut Watcher,
+    second: Finished<B>,
+)
+    requires { watcher.old.board ≡ E.board }
+    ensures { watcher.new.board ≡ E.board }
+{
+    let task = next_task(rt, monitor, seat);
+    assert_eq!(rt; task.process(), 0);
+    assert_eq!(rt; task.local(), [1, 0, 0, 0]);
+    refuse_again(rt, monitor, seat, watcher, second);
+    let outcome = outcome_of(rt, monitor, task.call(), seat);
+    assert_eq!(rt; outcome, Outcome::Parked(0));
+    assert!(rt; seen_by(monitor, watcher) == running(1));
+}
+
+#[test]
+fn an_answer_of_another_monitor(rt: HostRuntime) -> Result<(), Fail> {
+    let alloc = rt.alloc();
+    let first = opening_of(alloc, COUNTER_INTO_SINK)?;
+    let second = opening_of(alloc, COUNTER_INTO_SINK)?;
+    two_monitors(&rt, alloc, first, second)?;
+    Ok(())
+}
+
+#[test]
+fn an_answer_comes_a_second_time(rt: HostRuntime) -> Result<(), Fail> {
+    let alloc = rt.alloc();
+    let opening = opening_of(alloc, COUNTER_INTO_SINK)?;
+    let Parts { net: _, mut bodies } = parts_of(alloc, COUNTER_INTO_SINK)?;
+    bodies.pop();
+    let counter = bodies.pop().expect(&rt, "no counter");
+    one_monitor(&rt, alloc, opening, unasked(counter))?;
     Ok(())
 }

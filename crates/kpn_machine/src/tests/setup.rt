@@ -105,7 +105,7 @@ fn due<R: Abort, T: Drop>(rt: &R, made: Result<T, NetFault>) -> Result<T, AllocE
 }
 
 /// The network whose sink reads so many tokens, with this budget.
-fn net_of<R: Abort>(
+pub(super) fn net_of<R: Abort>(
     rt: &R,
     alloc: Global,
     reads: u64,

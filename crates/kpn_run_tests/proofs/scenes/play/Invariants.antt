@@ -1,5 +1,5 @@
 -- The names are those of the opening.
-use Rattle.kpn_run_tests.proofs.scenes.open_scene.Given as goal
+use Rattle.kpn_run_tests.proofs.scenes.play.Given as goal
 
 abbrev pub ghosts-watched-E-EntryLedger : goal.ghosts-watched-E-EntryLedger
 ghosts-watched-E-EntryLedger g a = record { net = a.opening.machine.network; board = a.opening.board }

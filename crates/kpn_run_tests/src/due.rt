@@ -1,0 +1,160 @@
+//! What is due of runs, and how a run is compared with it.
+ghost use Rattle.std.specs.Prelude.{◌<◌, length};
+
+use kpn_machine::Standing;
+use kpn_net::Token::Word;
+use kpn_net::{End, Kinds, Token};
+use kpn_report::report_text;
+use kpn_run::{Finish, report, stream_of};
+use std::alloc::{AllocError, Global};
+use std::process::Abort;
+
+/// What is due of a run.
+#[derive(Clone, Copy)]
+pub(crate) struct Due {
+    pub(crate) end: End,
+    pub(crate) entries: u64,
+    pub(crate) processes: usize,
+    /// How many processes have stopped.
+    pub(crate) stopped: usize,
+    /// The whole text of the report, with the stream of the channel that is shown.
+    pub(crate) text: &'static str,
+    pub(crate) show: usize,
+    pub(crate) stream: &'static [Token],
+}
+
+/// A counter of three into a sink of three.
+pub(crate) const COUNTER_ENDS: Due = Due {
+    end: End::Terminated,
+    entries: 8,
+    processes: 2,
+    stopped: 2,
+    text: "end terminated
+process src stopped steps 4
+process snk stopped steps 4
+channel c0 put 3 left 0 capacity 1
+entries 8
+stream c0 1 2 3
+",
+    show: 0,
+    stream: &[Word(1), Word(2), Word(3)],
+};
+
+/// Parks's case.
+pub(crate) const WOVEN_ENDS: Due = Due {
+    end: End::Deadlock,
+    entries: 33,
+    processes: 4,
+    stopped: 2,
+    text: "end deadlock
+process src stopped steps 4
+process cp reads c0 steps 9
+process wv reads c1 steps 12
+process snk stopped steps 7
+channel c0 put 3 left 0 capacity 1
+channel c1 put 3 left 0 capacity 1
+channel c2 put 3 left 0 capacity 2
+channel c3 put 6 left 0 capacity 1
+grew c2 2
+entries 33
+stream c3 1 2 3 1 2 3
+",
+    show: 3,
+    stream: &[Word(1), Word(2), Word(3), Word(1), Word(2), Word(3)],
+};
+
+/// The channel of one place grows once.
+pub(crate) const SMALL_SINK_ENDS: Due = Due {
+    end: End::Terminated,
+    entries: 7,
+    processes: 2,
+    stopped: 2,
+    text: "end terminated
+process src stopped steps 4
+process snk stopped steps 2
+channel c0 put 3 left 2 capacity 2
+grew c0 2
+entries 7
+stream c0 1 2 3
+",
+    show: 0,
+    stream: &[Word(1), Word(2), Word(3)],
+};
+
+/// The smallest full channel grows first, and of equal ones the one of least number.
+pub(crate) const TWO_FULL_END: Due = Due {
+    end: End::Terminated,
+    entries: 13,
+    processes: 4,
+    stopped: 4,
+    text: "end terminated
+process a stopped steps 4
+process b stopped steps 4
+process x stopped steps 1
+process y stopped steps 1
+channel c0 put 3 left 3 capacity 3
+channel c1 put 3 left 3 capacity 3
+grew c1 2
+grew c0 3
+grew c1 3
+entries 13
+stream c1 1 2 3
+",
+    show: 1,
+    stream: &[Word(1), Word(2), Word(3)],
+};
+
+/// Compares a run with what is due, its report to the byte.
+pub(crate) fn compare<K: Kinds, R: Abort>(
+    rt: &R,
+    alloc: Global,
+    finish: &Finish<K>,
+    due: &Due,
+) -> Result<(), AllocError> {
+    compare_numbers(rt, finish, due);
+    let text = text_of(alloc, finish, Some(due.show))?;
+    assert_eq!(rt; text.as_str(), due.text);
+    compare_stream(rt, alloc, finish, due.show, due.stream)
+}
+
+/// Compares how a run ended, and how many of each there are.
+fn compare_numbers<K: Kinds, R: Abort>(rt: &R, finish: &Finish<K>, due: &Due) {
+    assert_eq!(rt; finish.receipts(), due.entries);
+    assert_eq!(rt; finish.history().len() as u64, due.entries);
+    assert_eq!(rt; finish.net().processes(), due.processes);
+    assert_eq!(rt; finish.standings().len(), due.processes);
+    assert_eq!(rt; stopped_in(finish.standings()), due.stopped);
+    assert_eq!(rt; finish.end(), due.end);
+}
+
+/// How many processes have stopped.
+fn stopped_in(standings: &[Standing]) -> usize {
+    standings
+        .iter()
+        .filter(|standing| matches!(standing, Standing::Stopped))
+        .count()
+}
+
+/// The text of a run's report, with the stream of a channel where one is to be shown.
+pub(crate) fn text_of<K: Kinds>(
+    alloc: Global,
+    finish: &Finish<K>,
+    show: Option<usize>,
+) -> Result<String, AllocError> {
+    let report = report(alloc, finish)?;
+    report_text(alloc, finish.net(), &report, show)
+}
+
+/// Compares the stream of a channel with the tokens that are due.
+pub(crate) fn compare_stream<K: Kinds, R: Abort>(
+    rt: &R,
+    alloc: Global,
+    finish: &Finish<K>,
+    channel: usize,
+    due: &[Token],
+) -> Result<(), AllocError> {
+    assert!(rt; channel < finish.net().channels());
+    let stream = stream_of(alloc, finish.net(), finish.history(), channel)?;
+    assert_eq!(rt; stream.as_slice(), due);
+    Ok(())
+}

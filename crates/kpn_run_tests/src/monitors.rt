@@ -1,0 +1,172 @@
+//! Calls of a monitor, of which no more is said than the scenes need.
+ghost use Rattle.std.specs.Prelude.{◌≡◌};
+
+use crate::bodies::{CardBody, Parts, parts_of};
+use kpn_body::{Body, Finished, Task};
+use kpn_machine::{Machine, Outcome, Stranger};
+use kpn_monitor::{Closed, EntryLedger, Monitor, Opening, Seat, Taken};
+use kpn_net::{End, Kinds};
+use kpn_run::{Open, Worked, work};
+use kpn_watch::{Progress, Watcher};
+use std::alloc::{AllocError, Global};
+use std::process::Abort;
+use std::sync::Wait;
+use std::sync::ledger::Ledger;
+use std::test::Fail;
+
+/// What stands in a monitor that is closed.
+#[derive(Clone, Copy, PartialEq, Eq)]
+pub(crate) struct Ended {
+    pub(crate) end: Option<End>,
+    pub(crate) receipts: u64,
+    pub(crate) entries: usize,
+    pub(crate) processes: usize,
+}
+
+/// What a monitor of the network of a text is opened with.
+pub(crate) fn opening_of(alloc: Global, text: &str) -> Result<Opening<CardBody>, Fail> {
+    let Parts { net, bodies } = parts_of(alloc, text)?;
+    let Ok(machine) = Machine::open(alloc, net, bodies) else {
+        return Err(AllocError.into());
+    };
+    let Ok(opening) = Opening::new(alloc, machine) else {
+        return Err(AllocError.into());
+    };
+    Ok(opening)
+}
+
+/// The parts of a seat by two.
+pub(crate) fn two_seats<E: EntryLedger, O: Ledger, R: Abort>(
+    rt: &R,
+    mut seat: Seat<E, O>,
+) -> (Seat<E, O>, Seat<E, O>) {
+    let Some(other) = seat.split() else {
+        panic!(rt; "one seat alone");
+    };
+    (seat, other)
+}
+
+/// A new watcher.
+pub(crate) fn watcher_of<B: Body, E: EntryLedger, O: Ledger, R: Wait + Abort>(
+    rt: &R,
+    monitor: &Monitor<B, E, O>,
+) -> Watcher
+    ensures { result.board ≡ E.board }
+{
+    let Ok(watcher) = monitor.watch(rt) else {
+        panic!(rt; "no watcher");
+    };
+    watcher
+}
+
+/// What a watcher sees.
+pub(crate) fn seen_by<B: Body, E: EntryLedger, O: Ledger>(
+    monitor: &Monitor<B, E, O>,
+    watcher: &mut Watcher,
+) -> Progress
+    requires { watcher.old.board ≡ E.board }
+    ensures { watcher.new.board ≡ E.board }
+{
+    monitor.look(watcher)
+}
+
+/// The next task of a run that goes on.
+pub(crate) fn next_task<B: Body, E: EntryLedger, O: Ledger, R: Wait + Abort>(
+    rt: &R,
+    monitor: &Monitor<B, E, O>,
+    seat: &mut Seat<E, O>,
+) -> Task<B> {
+    let Taken::Task(task) = monitor.take(rt, seat) else {
+        panic!(rt; "no task");
+    };
+    task
+}
+
+/// Commits an answer that was asked for.
+pub(crate) fn outcome_of<B: Body, E: EntryLedger, O: Ledger, R: Wait + Abort>(
+    rt: &R,
+    monitor: &Monitor<B, E, O>,
+    finished: Finished<B>,
+    seat: &mut Seat<E, O>,
+) -> Outcome {
+    let Ok(outcome) = monitor.commit(rt, finished, seat) else {
+        panic!(rt; "a stranger");
+    };
+    outcome
+}
+
+/// Commits an answer that wasn't asked for, which comes back.
+pub(crate) fn handed_back<B: Body, E: EntryLedger, O: Ledger, R: Wait + Abort>(
+    rt: &R,
+    monitor: &Monitor<B, E, O>,
+    finished: Finished<B>,
+    seat: &mut Seat<E, O>,
+) -> Finished<B> {
+    let Err(Stranger { finished }) = monitor.commit(rt, finished, seat) else {
+        panic!(rt; "not a stranger");
+    };
+    finished
+}
+
+/// Works alone to the end of the run, where no answer is refused.
+pub(crate) fn work_alone<B: Body, E: EntryLedger, O: Ledger, R: Wait + Abort>(
+    rt: &R,
+    monitor: &Monitor<B, E, O>,
+    seat: Seat<E, O>,
+) -> Seat<E, O> {
+    seat_of(rt, work(rt, monitor, seat, &Open))
+}
+
+/// The seat of a worker whose answers were all taken.
+pub(crate) fn seat_of<B: Body, E: EntryLedger, O: Ledger, R: Abort>(
+    rt: &R,
+    worked: Worked<B, E, O>,
+) -> Seat<E, O> {
+    let Worked { seat, stranger } = worked;
+    assert!(rt; stranger.is_none());
+    seat
+}
+
+/// Closes a monitor of which this seat has all parts.
+pub(crate) fn close_alone<B: Body, E: EntryLedger, O: Ledger, R: Abort>(
+    rt: &R,
+    alloc: Global,
+    monitor: Monitor<B, E, O>,
+    seat: Seat<E, O>,
+) -> Result<Closed<B::Kinds, E>, AllocError> {
+    let mut seats = Vec::new(alloc);
+    seats.push(seat)?;
+    Ok(close_with(rt, monitor, seats))
+}
+
+/// Closes a monitor of which these seats have all parts.
+pub(crate) fn close_with<B: Body, E: EntryLedger, O: Ledger, R: Abort>(
+    rt: &R,
+    monitor: Monitor<B, E, O>,
+    seats: Vec<Seat<E, O>>,
+) -> Closed<B::Kinds, E> {
+    let Ok(closed) = monitor.close(seats) else {
+        panic!(rt; "not closed");
+    };
+    closed
+}
+
+/// What stands in a monitor that is closed.
+pub(crate) fn ended_of<K: Kinds, E: EntryLedger>(closed: &Closed<K, E>) -> Ended {
+    Ended {
+        end: closed.end(),
+        receipts: closed.receipts(),
+        entries: closed.history().len(),
+        processes: closed.net().processes(),
+    }
+}
+
+/// What a watcher is shown of the whole history.
+pub(crate) fn shown_to<K: Kinds, E: EntryLedger>(
+    closed: &mut Closed<K, E>,
+    watcher: Watcher,
+) -> Progress
+    requires { watcher.board ≡ E.board }
+{
+    closed.settle(watcher)
+}

@@ -1,0 +1,94 @@
+//! Schedules that come about by a gate, and by as many workers as there may be.
+use crate::due::{COUNTER_ENDS, Due, WOVEN_ENDS};
+use crate::runs::shows;
+use crate::texts::{COPIED_AND_WOVEN, COUNTER_INTO_SINK, GROWING_CHAIN};
+use kpn_net::End;
+use kpn_net::Token::Word;
+use kpn_run::{Hold, Open};
+use std::test::Fail;
+
+/// A chain whose channels grow by turns, the smallest full one first.
+const CHAIN_GROWS: Due = Due {
+    end: End::Deadlock,
+    entries: 76,
+    processes: 5,
+    stopped: 2,
+    text: "end deadlock
+process p0 stopped steps 10
+process p1 reads c0 steps 18
+process p2 reads c1 steps 18
+process p3 reads c2 steps 18
+process p4 stopped steps 3
+channel c0 put 9 left 0 capacity 1
+channel c1 put 9 left 0 capacity 2
+channel c2 put 9 left 0 capacity 3
+channel c3 put 9 left 7 capacity 7
+grew c1 2
+grew c2 2
+grew c3 2
+grew c2 3
+grew c3 3
+grew c3 4
+grew c3 5
+grew c3 6
+grew c3 7
+entries 76
+stream c3 1 2 3 4 5 6 7 8 9
+",
+    show: 3,
+    stream: &[
+        Word(1),
+        Word(2),
+        Word(3),
+        Word(4),
+        Word(5),
+        Word(6),
+        Word(7),
+        Word(8),
+        Word(9),
+    ],
+};
+
+/// Two workers, of which each answer of one process is held up until another has passed, for each ordered
+/// pair of two of the four processes of Parks's case.
+#[test]
+fn each_process_is_held_up_for_each_other(rt: HostRuntime) -> Result<(), Fail> {
+    for process in 0..4 {
+        for other in 0..4 {
+            if process != other {
+                let gate = Hold::new(process, other, 1, 1_000_000);
+                shows(&rt, rt.alloc(), COPIED_AND_WOVEN, 2, &gate, &WOVEN_ENDS)?;
+            }
+        }
+    }
+    Ok(())
+}
+
+/// Nobody is held up, by two workers.
+#[test]
+fn two_workers_of_two_processes(rt: HostRuntime) -> Result<(), Fail> {
+    shows(&rt, rt.alloc(), COUNTER_INTO_SINK, 2, &Open, &COUNTER_ENDS)
+}
+
+/// Nobody is held up, by more workers than there are processes.
+#[test]
+fn sixteen_workers_of_two_processes(rt: HostRuntime) -> Result<(), Fail> {
+    shows(&rt, rt.alloc(), COUNTER_INTO_SINK, 16, &Open, &COUNTER_ENDS)
+}
+
+#[test]
+fn sixteen_workers_of_parks_case(rt: HostRuntime) -> Result<(), Fail> {
+    shows(&rt, rt.alloc(), COPIED_AND_WOVEN, 16, &Open, &WOVEN_ENDS)
+}
+
+/// Twenty runs of each of two networks whose channels grow: the same bytes each time. A thousand are made
+/// by `tests/repeat_runs_by_workers`.
+#[test]
+fn twenty_runs_by_sixteen_workers(rt: HostRuntime) -> Result<(), Fail> {
+    for _run in 0..20 {
+        for (text, due) in [(COPIED_AND_WOVEN, WOVEN_ENDS), (GROWING_CHAIN, CHAIN_GROWS)] {
+            shows(&rt, rt.alloc(), text, 16, &Open, &due)?;
+        }
+    }
+    Ok(())
+}

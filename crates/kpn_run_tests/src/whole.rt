@@ -1,0 +1,132 @@
+//! Runs of which the whole report is due, or which never end by themselves.
+ghost use Rattle.std.specs.Prelude.{◌<◌, length};
+
+use crate::due::{compare_stream, text_of};
+use crate::runs::finish_text;
+use kpn_net::Token::Word;
+use kpn_net::{Deed, End, Entry, Kinds, Token};
+use kpn_run::{Finish, Open, report, stream_of};
+use std::alloc::{AllocError, Global};
+use std::process::Abort;
+use std::sync::Wait;
+use std::test::Fail;
+use std::thread::Threads;
+
+/// What is due of a run in full, whoever makes it.
+#[derive(Clone, Copy)]
+pub(crate) struct Whole<'a> {
+    /// The text of the report, without a stream.
+    pub(crate) text: &'a str,
+    /// Channels, and what is put on each.
+    pub(crate) streams: &'a [(usize, &'a [Token])],
+}
+
+/// Runs the network of a text by so many workers, and compares its report and its streams.
+pub(crate) fn shows_whole<R: Threads + Wait + Abort + Sync>(
+    rt: &R,
+    alloc: Global,
+    text: &str,
+    workers: usize,
+    due: Whole<'_>,
+) -> Result<(), Fail> {
+    let finish = finish_text(rt, alloc, text, workers, &Open)?;
+    compare_whole(rt, alloc, &finish, due)?;
+    Ok(())
+}
+
+fn compare_whole<K: Kinds, R: Abort>(
+    rt: &R,
+    alloc: Global,
+    finish: &Finish<K>,
+    due: Whole<'_>,
+) -> Result<(), AllocError> {
+    assert_eq!(rt; finish.receipts(), finish.history().len() as u64);
+    let text = text_of(alloc, finish, None)?;
+    assert_eq!(rt; text.as_str(), due.text);
+    for (channel, tokens) in due.streams {
+        compare_stream(rt, alloc, finish, *channel, tokens)?;
+    }
+    Ok(())
+}
+
+/// The first ten of Hamming's numbers: the products of twos, threes and fives.
+const FIRST_TEN: [Token; 10] = [
+    Word(1),
+    Word(2),
+    Word(3),
+    Word(4),
+    Word(5),
+    Word(6),
+    Word(8),
+    Word(9),
+    Word(10),
+    Word(12),
+];
+
+/// Runs the network of Hamming's numbers until its budget of 1,000 is spent.
+pub(crate) fn shows_endless<R: Threads + Wait + Abort + Sync>(
+    rt: &R,
+    alloc: Global,
+    text: &str,
+    workers: usize,
+) -> Result<(), Fail> {
+    let finish = finish_text(rt, alloc, text, workers, &Open)?;
+    compare_endless(rt, alloc, &finish)?;
+    compare_taken(rt, alloc, &finish)?;
+    Ok(())
+}
+
+/// The budget of 1,000 is spent, and there is no detail.
+fn compare_endless<K: Kinds, R: Abort>(
+    rt: &R,
+    alloc: Global,
+    finish: &Finish<K>,
+) -> Result<(), AllocError> {
+    let entries = finish.history().len();
+    assert!(rt; 1000 <= entries && entries <= 1002);
+    assert_eq!(rt; finish.receipts(), entries as u64);
+    assert_eq!(rt; finish.end(), End::Budget);
+    let report = report(alloc, finish)?;
+    assert_eq!(rt; report.end, End::Budget);
+    assert!(rt; report.detail.is_none());
+    Ok(())
+}
+
+/// The sink, which reads channel 1, takes the ten numbers, and what is put there begins with them.
+fn compare_taken<K: Kinds, R: Abort>(
+    rt: &R,
+    alloc: Global,
+    finish: &Finish<K>,
+) -> Result<(), AllocError> {
+    let taken = taken_from(alloc, finish.history(), 1)?;
+    assert_eq!(rt; taken.as_slice(), FIRST_TEN.as_slice());
+    assert!(rt; 1 < finish.net().channels());
+    let stream = stream_of(alloc, finish.net(), finish.history(), 1)?;
+    assert!(rt; stream.as_slice().starts_with(&FIRST_TEN));
+    Ok(())
+}
+
+/// The tokens taken from a channel, in order.
+fn taken_from(alloc: Global, history: &[Entry], channel: usize) -> Result<Vec<Token>, AllocError> {
+    let mut tokens = Vec::new(alloc);
+    for entry in history {
+        if let Some(token) = token_taken(*entry, channel) {
+            tokens.push(token)?;
+        }
+    }
+    Ok(tokens)
+}
+
+/// The token that an entry takes from a channel.
+fn token_taken(entry: Entry, channel: usize) -> Option<Token> {
+    match entry {
+        Entry::Did {
+            process: _,
+            deed: Deed::Took {
+                channel: from,
+                token,
+            },
+        } if from == channel => Some(token),
+        _ => None,
+    }
+}
