@@ -7,8 +7,8 @@ ghost use Rattle.kpn_machine.specs.Scheduler.{IsFresh};
 
 use crate::bodies::bodies_of;
 use crate::due::{WOVEN_ENDS, compare};
-use crate::monitors::{Ended, close_alone, ended_of, work_alone};
-use crate::texts::COPIED_AND_WOVEN;
+use crate::monitors::{Ended, close_alone, ended_of, seen_by, watcher_of, work_alone};
+use crate::texts::{COPIED_AND_WOVEN, COUNTER_INTO_SMALL_SINK};
 use kpn_body::{Body, Standard};
 use kpn_front::load::load;
 use kpn_machine::{Machine, OpenFault};
@@ -16,6 +16,7 @@ use kpn_monitor::{EntryLedger, Monitor, Opening};
 use kpn_net::{End, Entry, Kinds, Net, NetFault, Token};
 use kpn_report::Report;
 use kpn_run::{Finish, Open, RunFault, report, run, stream_of};
+use kpn_watch::{Phase, Progress};
 use std::alloc::{AllocError, Global};
 use std::marker::Brand;
 use std::process::Abort;
@@ -190,7 +191,7 @@ fn run_refused<R: Threads + Wait + Abort + Sync>(
     Ok(first_refused(&[load, run, told]))
 }
 
-/// Opens a machine of Parks's case, again with what came back where memory was refused.
+/// Opens a machine of a counter and a sink, again with what came back where memory was refused.
 fn machine_again<B: Body, R: Abort>(
     rt: &R,
     alloc: Global,
@@ -204,8 +205,8 @@ fn machine_again<B: Body, R: Abort>(
         Err(refused) => refused,
     };
     assert_eq!(rt; refused.fault, OpenFault::Memory);
-    assert_eq!(rt; refused.net.processes(), 4);
-    assert_eq!(rt; refused.bodies.len(), 4);
+    assert_eq!(rt; refused.net.processes(), 2);
+    assert_eq!(rt; refused.bodies.len(), 2);
     match Machine::open(alloc, refused.net, refused.bodies) {
         Ok(machine) => (machine, Refused::Machine),
         Err(_) => panic!(rt; "refused again"),
@@ -231,7 +232,7 @@ fn opening_again<B: Body, R: Abort>(
     }
 }
 
-/// Works alone to the end of Parks's case.
+/// Works alone to the end of a counter of three into a sink of one, and looks at what stands then.
 fn work_to_the_end<B: Body, E: EntryLedger, O: Ledger, R: Wait + Abort>(
     rt: &R,
     alloc: Global,
@@ -243,19 +244,38 @@ fn work_to_the_end<B: Body, E: EntryLedger, O: Ledger, R: Wait + Abort>(
     requires overs { (opening.overs.name ≡ O.name) × (opening.overs.parts ≡ O.parts) }
 {
     let (monitor, seat) = Monitor::<B, E, O>::open(opening);
+    let mut watcher = watcher_of(rt, &monitor);
     let seat = work_alone(rt, &monitor, seat);
+    let seen = seen_by(&monitor, &mut watcher);
     let closed = close_alone(rt, alloc, monitor, seat)?;
-    Ok(growth_refused(rt, ended_of(&closed)))
+    Ok(growth_refused(rt, ended_of(&closed), seen))
 }
 
-/// Whether a growth was refused its memory, where Parks's case is over.
-fn growth_refused<R: Abort>(rt: &R, ended: Ended) -> Refused {
+/// What stands where the growth was refused its memory: two puts, a take and a stop.
+const BEFORE_THE_GROWTH: Progress = Progress {
+    entries: 4,
+    growths: 0,
+    phase: Phase::Memory,
+};
+
+/// What stands where it wasn't.
+const AFTER_ALL: Progress = Progress {
+    entries: 7,
+    growths: 1,
+    phase: Phase::Terminated,
+};
+
+/// Whether the growth was refused its memory, where the run is over.
+fn growth_refused<R: Abort>(rt: &R, ended: Ended, seen: Progress) -> Refused {
     assert_eq!(rt; ended.receipts, ended.entries as u64);
     if ended.end == Some(End::Memory) {
+        assert_eq!(rt; ended.receipts, 4);
+        assert_eq!(rt; seen, BEFORE_THE_GROWTH);
         return Refused::Growth;
     }
-    assert_eq!(rt; ended.end, Some(End::Deadlock));
-    assert_eq!(rt; ended.receipts, 33);
+    assert_eq!(rt; ended.end, Some(End::Terminated));
+    assert_eq!(rt; ended.receipts, 7);
+    assert_eq!(rt; seen, AFTER_ALL);
     Refused::Nothing
 }
 
@@ -272,10 +292,10 @@ fn open_refused<B: Body, R: Wait + Abort>(
     Ok(first_refused(&[first, second, third]))
 }
 
-/// Loads Parks's case, and opens a monitor of it. The error is want of memory for what is the test's
-/// own.
+/// Loads a counter of three and a sink of one, and opens a monitor of them. The error is want of memory
+/// for what is the test's own.
 fn monitor_refused<R: Wait + Abort>(rt: &R, alloc: Global) -> Result<Refused, AllocError> {
-    let (net, load) = load_again(rt, alloc, COPIED_AND_WOVEN);
+    let (net, load) = load_again(rt, alloc, COUNTER_INTO_SMALL_SINK);
     let bodies = bodies_of(alloc, &net)?;
     let opened = open_refused(rt, alloc, net, bodies)?;
     Ok(first_refused(&[load, opened]))
