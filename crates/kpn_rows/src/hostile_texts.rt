@@ -171,7 +171,10 @@ fn a_chain_of_sixty_four_processes_runs(rt: HostRuntime) -> Result<(), Fail> {
     for workers in WORKERS {
         let told = outcome_of(&rt, rt.alloc(), description.as_str(), workers, None)?;
         assert_eq!(rt; told.status, 5, "{workers} workers");
-        assert!(rt; told.text.as_slice() == lines.as_bytes(), "{workers} workers");
+        assert!(rt;
+            told.text.as_slice() == lines.as_bytes(),
+            "{workers} workers"
+        );
     }
     Ok(())
 }
