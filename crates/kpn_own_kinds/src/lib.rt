@@ -1,7 +1,8 @@
 //! How a caller brings kinds of processes of its own, and closures of its own for the standard ones.
 //!
-//! `flip` holds a family with one kind, from the table of its lines to its bodies, and `runs`, beside
-//! the tests, runs a network of it; `docs/own-kinds.md` explains it step by step.
+//! `flip` holds a family with one kind, from the table of its lines to its bodies, which store
+//! closures, and `runs`, beside the tests, runs a network of it; the last section of
+//! `docs/own-kinds.md` explains them.
 #![tactic(auto)]
 
 pub mod asked;
