@@ -153,7 +153,7 @@ fn describes_start_tokens_and_a_step(rt: HostRuntime) -> Result<(), Fail> {
     let alloc = rt.alloc();
     let sketch = read_sketch(alloc, COUNTER_AND_TOKENS).map_err(|_| "not read")?;
     let net: Net<CountAndSink> = Net::check(alloc, &sketch).map_err(|_| "refused")?;
-    assert!(rt; net.channels() == 1 && sketch.channels.len() == 1);
+    assert!(rt; net.channels() == 1 && sketch.channels.as_slice().len() == 1);
     let tokens = [Token::Word(7), Token::Word(9223372036854775807)];
     assert!(rt; net.tokens(0) == tokens.as_slice());
     assert!(rt; [net.capacity(0), net.step(), net.ceiling()] == [1000000, 1024, 1000000]);
