@@ -6,7 +6,7 @@ use kpn_front::say::WRITE_FAILED;
 use kpn_front::streams::Fallible;
 use kpn_front::words::WordsFault;
 use std::process::ExitCode;
-use std::rt::Env;
+use std::rt::{Clock, Env};
 use std::sync::Wait;
 use std::thread::Threads;
 use std::{env, io};
@@ -19,7 +19,9 @@ fn main(rt: HostRuntime) -> ExitCode {
 }
 
 /// Reads the words, does what they ask for, and answers the exit status.
-fn status_of<R: Env + Input + Print + Eprint + AllocGlobal + Wait + Threads + Sync>(rt: &R) -> u8 {
+fn status_of<R: Env + Input + Print + Eprint + AllocGlobal + Wait + Clock + Threads + Sync>(
+    rt: &R,
+) -> u8 {
     let Ok(words) = words_of(rt) else {
         return say_no_memory(rt);
     };

@@ -7,7 +7,7 @@ use std::marker::{Model, PhantomData};
 
 /// What a process was asked, and the answer that its card gives for it.
 ///
-/// It is made by `Task::call` alone, and can't be copied.
+/// It is made of a task alone, and can't be copied.
 #[derive(Drop)]
 pub struct Answered<K: Kinds> {
     process: usize,

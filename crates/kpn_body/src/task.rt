@@ -10,7 +10,7 @@ use std::marker::Model;
 /// A process that is asked for its next act, with the body that answers for it: the family admits
 /// its local state and last token for the body's card.
 ///
-/// A task can't be copied, so a process is called once each time that it is asked.
+/// A task can't be copied, and `call` calls its body once.
 #[derive(Drop)]
 pub struct Task<B: Body> {
     process: usize,
@@ -74,7 +74,27 @@ impl<B: Body> Task<B> {
     }
 
     /// Calls the body, and keeps its answer with what it was asked. Takes no lock and no memory.
+    #[inline]
     pub fn call(self) -> Finished<B>
+        ensures { result ≡ self }
+    {
+        let answer = self.ask();
+        self.answered(answer)
+    }
+
+    /// Calls the body, and leaves the task where it lies: `answered` puts the two together. Whoever asks
+    /// twice calls the body twice. Takes no lock and no memory.
+    #[inline]
+    pub fn ask(&self) -> Answer
+        ensures { result ≡ answer_to B.Kinds.family self.now }
+    {
+        self.body.answer(self.local, self.last)
+    }
+
+    /// Keeps the answer that `ask` gave with what was asked.
+    #[inline]
+    pub fn answered(self, answer: Answer) -> Finished<B>
+        requires { answer ≡ answer_to B.Kinds.family self }
         ensures { result ≡ self }
     {
         let Task {
@@ -84,7 +104,6 @@ impl<B: Body> Task<B> {
             last,
         } = self;
         let card = body.card();
-        let answer = body.answer(local, last);
         let answered = Answered::new(process, card, local, last, answer);
         Finished { answered, body }
     }
@@ -92,8 +111,8 @@ impl<B: Body> Task<B> {
 
 /// A task that was called: its answer, beside the body.
 ///
-/// It is made by `Task::call` alone, and can't be copied. Its card is the body's, and its answer is
-/// the card's for the local state and the last token that it holds.
+/// It is made of a task alone, by `Task::call` or `Task::answered`, and can't be copied. Its card is the
+/// body's, and its answer is the card's for the local state and the last token that it holds.
 #[derive(Drop)]
 pub struct Finished<B: Body> {
     answered: Answered<B::Kinds>,

@@ -37,7 +37,8 @@ fn asked<B: Body>(
     Ok(finished.into_body())
 }
 
-/// The same by the answer alone, which a caller may keep beside the body.
+/// The same by a task that is asked where it lies, and by the answer alone, which a caller may keep
+/// beside the body.
 fn asked_in_parts<B: Body>(
     rt: &impl Abort,
     body: B,
@@ -48,7 +49,10 @@ fn asked_in_parts<B: Body>(
     requires { B.Kinds.admits (B.card body) local last }
 {
     let card = body.card();
-    let (answered, body) = Task::new(5, body, local, last).call().into_parts();
+    let task = Task::new(5, body, local, last);
+    let answer = task.ask();
+    assert_eq!(rt; answer, expected);
+    let (answered, body) = task.answered(answer).into_parts();
     assert_eq!(rt; answered.process(), 5);
     assert_eq!(rt; answered.card(), card);
     assert_eq!(rt; answered.local(), local);

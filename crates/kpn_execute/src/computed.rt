@@ -8,6 +8,7 @@ use kpn_front::say::say_refused;
 use kpn_front::streams::Sink;
 use kpn_net::{Net, NetFault};
 use std::alloc::Global;
+use std::rt::Clock;
 use std::sync::Wait;
 use std::thread::Threads;
 
@@ -15,7 +16,7 @@ use std::thread::Threads;
 /// came of it, as `execute` does. A body is made for each process.
 ///
 /// Where memory for the bodies is refused, `refused 14` is written, and the answer is 4.
-pub fn execute_net<K: Computes, S: Sink, R: Wait + Threads + Sync>(
+pub fn execute_net<K: Computes, S: Sink, R: Wait + Clock + Threads + Sync>(
     rt: &R,
     alloc: Global,
     net: Net<K>,

@@ -13,6 +13,7 @@ use kpn_front::streams::{Sink, Source};
 use kpn_front::words::{Choice, WordsFault, read_words};
 use kpn_net::{Net, NetFault};
 use std::alloc::Global;
+use std::rt::Clock;
 use std::sync::Wait;
 use std::thread::Threads;
 
@@ -32,7 +33,7 @@ pub struct Served {
 ///
 /// The error is the fault of words that ask for neither, as `read_words` finds it: nothing was then
 /// read or written.
-pub fn serve<'a, I: Source, O: Sink, R: Wait + Threads + Sync>(
+pub fn serve<'a, I: Source, O: Sink, R: Wait + Clock + Threads + Sync>(
     rt: &R,
     alloc: Global,
     words: &'a [&'a str],
@@ -49,7 +50,7 @@ pub fn serve<'a, I: Source, O: Sink, R: Wait + Threads + Sync>(
 }
 
 /// Does what is chosen.
-fn serve_choice<I: Source, O: Sink, R: Wait + Threads + Sync>(
+fn serve_choice<I: Source, O: Sink, R: Wait + Clock + Threads + Sync>(
     rt: &R,
     alloc: Global,
     choice: Choice<'_>,

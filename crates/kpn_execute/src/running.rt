@@ -12,6 +12,7 @@ use kpn_net::{End, Kinds, Net, NetFault};
 use kpn_report::text_of;
 use kpn_run::{Open, RunFault, run};
 use std::alloc::{AllocError, Global};
+use std::rt::Clock;
 use std::sync::Wait;
 use std::thread::Threads;
 
@@ -34,7 +35,7 @@ struct Told {
 /// run, and `no channel NAME` is written), 4 where memory was refused, before the run or for the
 /// report (`refused 14`) or for a growth (`end memory`), 7 where the write fails, and 8 where the
 /// machine refused an answer of one of several workers (`lost`).
-pub fn execute<B: Body, S: Sink, R: Wait + Threads + Sync>(
+pub fn execute<B: Body, S: Sink, R: Wait + Clock + Threads + Sync>(
     rt: &R,
     alloc: Global,
     net: Net<B::Kinds>,
@@ -57,7 +58,7 @@ pub fn execute<B: Body, S: Sink, R: Wait + Threads + Sync>(
 }
 
 /// Runs a network and writes what came of it, with the stream of a channel where one is to be shown.
-fn tell<B: Body, S: Sink, R: Wait + Threads + Sync>(
+fn tell<B: Body, S: Sink, R: Wait + Clock + Threads + Sync>(
     rt: &R,
     alloc: Global,
     net: Net<B::Kinds>,
@@ -97,7 +98,7 @@ fn tell_alone<B: Body, S: Sink>(
 
 /// The same, by several workers.
 #[inline(never)]
-fn tell_by_workers<B: Body, S: Sink, R: Wait + Threads + Sync>(
+fn tell_by_workers<B: Body, S: Sink, R: Wait + Clock + Threads + Sync>(
     rt: &R,
     alloc: Global,
     net: Net<B::Kinds>,

@@ -12,6 +12,7 @@ use kpn_front::streams::Sink;
 use kpn_machine::cards_of;
 use kpn_net::{Answer, Card, Local, Net, NetFault, Token};
 use std::alloc::{AllocError, Global};
+use std::rt::Clock;
 use std::sync::Wait;
 use std::thread::Threads;
 
@@ -19,7 +20,7 @@ use std::thread::Threads;
 /// does. A body is made for each process, with a closure of its own.
 ///
 /// Where memory for a body is refused, `refused 14` is written, and the answer is 4.
-pub fn execute_standard<S: Sink, R: Wait + Threads + Sync>(
+pub fn execute_standard<S: Sink, R: Wait + Clock + Threads + Sync>(
     rt: &R,
     alloc: Global,
     net: Net<Standard>,
@@ -42,7 +43,7 @@ pub fn execute_standard<S: Sink, R: Wait + Threads + Sync>(
 /// The same, of a network with these cards. The error is want of memory for a body; nothing was then
 /// written. The network comes in an `Option`, since beside a `Net` that is held by value the check
 /// finds no proof of a loop that makes closures.
-fn make_and_execute<S: Sink, R: Wait + Threads + Sync>(
+fn make_and_execute<S: Sink, R: Wait + Clock + Threads + Sync>(
     rt: &R,
     alloc: Global,
     cards: &[Card],

@@ -244,6 +244,14 @@ fn is_out<B: Body>(
 }
 
 impl<B: Body> Machine<B> {
+    /// Whether the process of an answer is out, with this card, local state and last token.
+    #[inline(always)]
+    pub fn has_asked(&self, finished: &Finished<B>) -> bool
+        ensures { IsTrue result ↔ IsOut self.now finished.now }
+    {
+        is_out(&self.net, &self.store, self.places.as_slice(), finished)
+    }
+
     /// Takes the answer of a process that is out.
     ///
     /// Where an end stands, the process is laid back: ready again, as it was. Otherwise its act is
@@ -264,9 +272,24 @@ impl<B: Body> Machine<B> {
         ensures back { OnOk result (place self.new.places finished.process ≢ Out) }
         ensures others { OnOk result ((p : ℕ) → p ≢ finished.process → (place self.new.places p ≡ Out) ↔ (place self.old.places p ≡ Out)) }
     {
-        if !is_out(&self.net, &self.store, self.places.as_slice(), &finished) {
+        if !self.has_asked(&finished) {
             return Err(Stranger { finished });
         }
+        Ok(self.commit_asked(finished))
+    }
+
+    /// Takes the answer of a process that is out, as `commit` does, where it is known to be out, with this
+    /// card, local state and last token.
+    #[inline(always)]
+    pub fn commit_asked(&mut self, finished: Finished<B>) -> Outcome
+        requires { IsOut self.old finished }
+        ensures commits { Commits B.Kinds.family self.old finished result self.new }
+        ensures appends { Appends B.Kinds.family self.old self.new (number result) }
+        ensures tells { TellsEnabled B.Kinds.family self.old finished.process result }
+        ensures ends { self.old.end ≡ None → EndsAs B.Kinds.family self.new }
+        ensures back { place self.new.places finished.process ≢ Out }
+        ensures others { (p : ℕ) → p ≢ finished.process → (place self.new.places p ≡ Out) ↔ (place self.old.places p ≡ Out) }
+    {
         self.net.processes();
         let process = finished.process();
         let answer = finished.answer();
@@ -274,7 +297,7 @@ impl<B: Body> Machine<B> {
         self.commits += 1;
         if self.end.is_some() {
             self.places.update(process, Standing::Ready);
-            return Ok(Outcome::LaidBack);
+            return Outcome::LaidBack;
         }
         let (outcome, end) = work(
             &self.net,
@@ -284,7 +307,7 @@ impl<B: Body> Machine<B> {
             answer,
         );
         self.end = end;
-        Ok(outcome)
+        outcome
     }
 }
 

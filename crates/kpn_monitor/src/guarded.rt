@@ -3,17 +3,21 @@
 //! Each time the lock is free, the history is a run of the network from its start, an end that stands
 //! is bound and stays, the book of entries holds as many as the history has, an end stands where the
 //! book of overs is not empty, and what is published is the history with the phase of its end.
-ghost use Rattle.std.specs.Prelude.{◌≡◌, ◌+◌, ◌<◌, ◌↔◌, [], length, Some, IfNone, IfOk, IsErr, OnErr, IsSome, MatchResult};
+ghost use Rattle.std.specs.Prelude.{◌≡◌, ◌+◌, ◌<◌, ◌≤◌, ◌↔◌, [], ◌∷◌, ◌++◌, true, false, length, Some, IfNone, Ok, IfSome, IfOk, IfErr, IsErr, OnOk, OnErr, IsSome, MatchOption, MatchResult};
+ghost use Rattle.std.specs.List.{All, sum_by};
 ghost use Rattle.kpn_net.specs.declared.history.End.{End as EndV};
 ghost use Rattle.kpn_net.specs.Machine.{State};
 ghost use Rattle.kpn_net.specs.Determinacy.{IsRun};
 ghost use Rattle.kpn_watch.specs.declared.progress.Phase.TheVariants.{Running};
 ghost use Rattle.kpn_watch.specs.Phases.{phase_of};
-ghost use Rattle.kpn_monitor.specs.Kept.{IsShown, HasEnded, WasCommitted, WasTaken};
+ghost use Rattle.kpn_monitor.specs.Kept.{IsShown, HasEnded, WasCommitted, WasTaken, FoundNothing};
+ghost use Rattle.kpn_monitor.specs.Hands.{TakesOutAll, CommitsAll, WereCommitted};
 ghost use Rattle.kpn_body.specs.Input.{Input};
-ghost use Rattle.kpn_machine.specs.Scheduler.{EndHolds, IsFaithful, IsFresh, TakesOut};
+ghost use Rattle.kpn_machine.specs.Scheduler.{Scheduler, EndHolds, IsFaithful, IsFresh, TakesOut};
 ghost use Rattle.kpn_machine.specs.Commits.{Commits, Appends, number};
 
+use crate::giving::{give_all, give_one};
+use crate::hand::Hand;
 use crate::naming::EntryLedger;
 use crate::seat::Seat;
 use kpn_body::{Body, Finished, Task};
@@ -28,6 +32,17 @@ use std::sync::ledger::{Book, Ledger, Share};
 pub enum Taken<B: Body> {
     /// A process that is now out, with what its body is to be called on.
     Task(Task<B>),
+    /// The run is over.
+    Over(End),
+}
+
+/// What a hand was given.
+#[derive(Clone, Copy, Debug, PartialEq, Eq)]
+pub enum Next {
+    /// Tasks, one at least.
+    Tasks,
+    /// Nothing, since no process was ready, or none was asked for.
+    Nothing,
     /// The run is over.
     Over(End),
 }
@@ -92,6 +107,7 @@ impl<B: Body, E: EntryLedger, O: Ledger> Guarded<B, E, O> {
     /// room to book the meeting.
     pub(crate) fn take(&mut self, seat: &mut Seat<E, O>) -> Option<Taken<B>>
         ensures none { IfNone result ((seat.new ≡ seat.old) × (self.new ≡ self.old)) }
+        ensures nothing { IfNone result (FoundNothing B.Kinds.family B.Kinds.admits E.net) }
         ensures task { (t : Input) → result ≡ Some (Taken.Task t) → (seat.new ≡ seat.old) × TakesOut self.old.machine t self.new.machine }
         ensures over { (e : EndV) → result ≡ Some (Taken.Over e) → (seat.new ≡ record seat.old { overs = 1 }) × (self.old.machine.end ≡ Some e) × (self.new.machine ≡ self.old.machine) }
         ensures taken { (t : Input) → result ≡ Some (Taken.Task t) → WasTaken B.Kinds.family B.Kinds.admits E.net t }
@@ -127,17 +143,137 @@ impl<B: Body, E: EntryLedger, O: Ledger> Guarded<B, E, O> {
         ensures seat { MatchResult result (λ o. seat.new ≡ record seat.old { entries = seat.old.entries + number o }) (λ _. seat.new ≡ seat.old) }
         ensures committed { IfOk result (λ o. WasCommitted B.Kinds.family B.Kinds.admits E.net finished o) }
     {
-        self.machine.end();
-        match self.machine.commit(finished) {
-            Ok(outcome) => {
-                let ended = self.machine.end();
-                self.machine.net().processes();
-                self.publisher.publish(board, self.machine.history(), ended);
-                seat.add_entries(&mut self.entries, count_of(outcome));
-                Ok(outcome)
-            }
-            Err(stranger) => Err(stranger),
+        if !self.machine.has_asked(&finished) {
+            return Err(Stranger { finished });
         }
+        let outcome = give_one(&mut self.machine, finished);
+        let ended = self.machine.end();
+        self.machine.net().processes();
+        self.publisher.publish(board, self.machine.history(), ended);
+        seat.add_entries(&mut self.entries, count_of(outcome));
+        Ok(outcome)
+    }
+
+    /// Gives the answers of a hand to the machine, one after the other, then publishes and books what they
+    /// appended. It stops at an answer that the machine did not ask for, and hands it back.
+    pub(crate) fn give(
+        &mut self,
+        board: &Board,
+        hand: &mut Hand<B>,
+        seat: &mut Seat<E, O>,
+    ) -> Option<Finished<B>>
+        requires { board.now ≡ E.board }
+        ensures machine { MatchOption result (CommitsAll B.Kinds.family self.old.machine hand.old.tasks hand.new.outcomes self.new.machine hand.new.tasks) (λ i. CommitsAll B.Kinds.family self.old.machine hand.old.tasks hand.new.outcomes self.new.machine (i ∷ hand.new.tasks)) }
+        ensures committed { MatchOption result (WereCommitted B.Kinds.family B.Kinds.admits E.net hand.old.tasks hand.new.outcomes hand.new.tasks) (λ i. WereCommitted B.Kinds.family B.Kinds.admits E.net hand.old.tasks hand.new.outcomes (i ∷ hand.new.tasks)) }
+        ensures called { MatchOption result ((hand.new.called ≡ 0) × (length hand.new.outcomes ≡ hand.old.called)) (λ _. hand.new.called + 1 + length hand.new.outcomes ≡ hand.old.called) }
+        ensures count { MatchOption result (length hand.new.tasks + length hand.new.outcomes ≡ length hand.old.tasks) (λ _. length hand.new.tasks + 1 + length hand.new.outcomes ≡ length hand.old.tasks) }
+        ensures seat { seat.new ≡ record seat.old { entries = seat.old.entries + sum_by number hand.new.outcomes } }
+    {
+        hand.forget();
+        let before = self.machine.history().len();
+        let refused = give_all(&mut self.machine, hand);
+        let ended = self.machine.end();
+        self.machine.net().processes();
+        let history = self.machine.history();
+        self.publisher.publish(board, history, ended);
+        seat.add_entries(&mut self.entries, (history.len() - before) as u64);
+        refused
+    }
+
+    /// Tasks for a hand that has none, at most so many; or the end that stands, which the seat then has
+    /// met. Nothing, where none are asked for.
+    pub(crate) fn deal(&mut self, hand: &mut Hand<B>, seat: &mut Seat<E, O>, most: usize) -> Next
+        requires tasks { hand.old.tasks ≡ [] }
+        requires called { hand.old.called ≡ 0 }
+        ensures out { TakesOutAll self.old.machine hand.new.tasks self.new.machine }
+        ensures taken { All (WasTaken B.Kinds.family B.Kinds.admits E.net) hand.new.tasks }
+        ensures rest { (hand.new.called ≡ 0) × (hand.new.outcomes ≡ hand.old.outcomes) }
+        ensures tasks { result ≡ Next.Tasks → (seat.new ≡ seat.old) × (0 < length hand.new.tasks) }
+        ensures nothing { result ≡ Next.Nothing → (seat.new ≡ seat.old) × (hand.new.tasks ≡ []) }
+        ensures found { result ≡ Next.Nothing → 0 < most → FoundNothing B.Kinds.family B.Kinds.admits E.net }
+        ensures seat { (seat.new.parts ≡ seat.old.parts) × (seat.new.entries ≡ seat.old.entries) }
+        ensures over { (e : EndV) → result ≡ Next.Over e → (seat.new ≡ record seat.old { overs = 1 }) × (hand.new.tasks ≡ []) × (self.new.machine.end ≡ Some e) }
+        ensures ended { (e : EndV) → result ≡ Next.Over e → HasEnded B.Kinds.family B.Kinds.admits E.net e }
+    {
+        if most == 0 {
+            return Next::Nothing;
+        }
+        let wanted = hand.wanted(self.machine.ready(), most);
+        match self.take(seat) {
+            None => Next::Nothing,
+            Some(Taken::Over(end)) => Next::Over(end),
+            Some(Taken::Task(first)) => {
+                hand.put(first);
+                self.deal_more(hand, wanted);
+                Next::Tasks
+            }
+        }
+    }
+
+    /// Gives the answers of a hand, which were all called, and deals tasks to it where some are asked for.
+    pub(crate) fn exchange(
+        &mut self,
+        board: &Board,
+        hand: &mut Hand<B>,
+        seat: &mut Seat<E, O>,
+        most: usize,
+    ) -> Result<Next, Stranger<B>>
+        requires board { board.now ≡ E.board }
+        requires called { hand.old.called ≡ length hand.old.tasks }
+        ensures machine { IfOk result (λ _. (m : Scheduler) × CommitsAll B.Kinds.family self.old.machine hand.old.tasks hand.new.outcomes m [] × TakesOutAll m hand.new.tasks self.new.machine) }
+        ensures committed { OnOk result (WereCommitted B.Kinds.family B.Kinds.admits E.net hand.old.tasks hand.new.outcomes []) }
+        ensures stranger { IfErr result (λ s. WereCommitted B.Kinds.family B.Kinds.admits E.net hand.old.tasks hand.new.outcomes (s.finished ∷ hand.new.tasks) × CommitsAll B.Kinds.family self.old.machine hand.old.tasks hand.new.outcomes self.new.machine (s.finished ∷ hand.new.tasks)) }
+        ensures kept { OnErr result ((seat.new.overs ≡ seat.old.overs) × (hand.new.called ≡ length hand.new.tasks)) }
+        ensures seat { (seat.new.parts ≡ seat.old.parts) × (seat.new.entries ≡ seat.old.entries + sum_by number hand.new.outcomes) }
+        ensures taken { OnOk result (All (WasTaken B.Kinds.family B.Kinds.admits E.net) hand.new.tasks × (hand.new.called ≡ 0)) }
+        ensures tasks { result ≡ Ok Next.Tasks → (seat.new.overs ≡ seat.old.overs) × (0 < length hand.new.tasks) }
+        ensures nothing { result ≡ Ok Next.Nothing → (seat.new.overs ≡ seat.old.overs) × (hand.new.tasks ≡ []) }
+        ensures found { result ≡ Ok Next.Nothing → 0 < most → FoundNothing B.Kinds.family B.Kinds.admits E.net }
+        ensures over { (e : EndV) → result ≡ Ok (Next.Over e) → (seat.new.overs ≡ 1) × (hand.new.tasks ≡ []) × (self.new.machine.end ≡ Some e) }
+        ensures ended { (e : EndV) → result ≡ Ok (Next.Over e) → HasEnded B.Kinds.family B.Kinds.admits E.net e }
+    {
+        match self.give(board, hand, seat) {
+            Some(finished) => Err(Stranger { finished }),
+            None => Ok(self.deal(hand, seat, most)),
+        }
+    }
+
+    // More tasks, so that there are as many as are wanted, or no process is ready.
+    fn deal_more(&mut self, hand: &mut Hand<B>, wanted: usize)
+        requires one { length hand.old.tasks ≡ 1 }
+        requires room { wanted ≤ 16 }
+        ensures out { (s : Scheduler) → TakesOutAll s hand.old.tasks self.old.machine → TakesOutAll s hand.new.tasks self.new.machine }
+        ensures taken { All (WasTaken B.Kinds.family B.Kinds.admits E.net) hand.old.tasks → All (WasTaken B.Kinds.family B.Kinds.admits E.net) hand.new.tasks }
+        ensures some { 0 < length hand.new.tasks }
+        ensures rest { (hand.new.called ≡ hand.old.called) × (hand.new.outcomes ≡ hand.old.outcomes) }
+    {
+        for _i in 1..wanted {
+            if !self.deal_one(hand) {
+                break;
+            }
+        }
+    }
+
+    // One task more. False where no process is ready.
+    fn deal_one(&mut self, hand: &mut Hand<B>) -> bool
+        requires { length hand.old.tasks < 16 }
+        ensures more { result ≡ true → (i : Input) × (hand.new ≡ record hand.old { tasks = hand.old.tasks ++ i ∷ [] }) × TakesOut self.old.machine i self.new.machine × WasTaken B.Kinds.family B.Kinds.admits E.net i }
+        ensures none { result ≡ false → (hand.new ≡ hand.old) × (self.new ≡ self.old) }
+    {
+        self.machine.end();
+        match self.machine.take() {
+            Some(task) => {
+                self.machine.end();
+                hand.put(task);
+                true
+            }
+            None => false,
+        }
+    }
+
+    /// Whether a thread that takes would be given something.
+    pub(crate) fn has_work(&self) -> bool {
+        self.machine.ready() > 0 || self.machine.end().is_some()
     }
 
     /// A thread is about to wait.

@@ -6,15 +6,20 @@
 #![tactic(auto)]
 
 mod closed;
+mod giving;
 mod guarded;
+mod hand;
 mod monitor;
 mod naming;
 mod opening;
+mod resting;
 mod seat;
 
 pub use closed::{CloseFault, Closed, Unclosed};
-pub use guarded::Taken;
+pub use guarded::{Next, Taken};
+pub use hand::Hand;
 pub use monitor::Monitor;
 pub use naming::EntryLedger;
 pub use opening::Opening;
+pub use resting::Rest;
 pub use seat::Seat;

@@ -1,6 +1,6 @@
 //! A machine under a lock.
-ghost use Rattle.std.specs.Prelude.{◌≡◌, ◌≢◌, ◌+◌, ℕ, Some, IfOk, IfErr, IsSome, IsOk, MatchResult, slice_get};
-ghost use Rattle.std.specs.List.{sum_by};
+ghost use Rattle.std.specs.Prelude.{◌≡◌, ◌≢◌, ◌+◌, ◌<◌, ℕ, [], ◌∷◌, Some, Ok, IfOk, IfErr, OnOk, OnErr, IsSome, IsOk, MatchResult, length, slice_get};
+ghost use Rattle.std.specs.List.{All, sum_by};
 ghost use Rattle.kpn_net.specs.declared.history.End.{End as EndV};
 ghost use Rattle.kpn_net.specs.Machine.{State};
 ghost use Rattle.kpn_net.specs.Determinacy.{IsRun};
@@ -10,21 +10,32 @@ ghost use Rattle.kpn_watch.specs.Shown.{shows};
 ghost use Rattle.kpn_body.specs.Input.{Input};
 ghost use Rattle.kpn_machine.specs.Commits.{number};
 ghost use Rattle.kpn_monitor.specs.Names.{Shares};
-ghost use Rattle.kpn_monitor.specs.Kept.{HasEnded, IsAccount, WasCommitted, WasTaken};
+ghost use Rattle.kpn_monitor.specs.Kept.{FoundNothing, HasEnded, IsAccount, WasCommitted, WasTaken};
+ghost use Rattle.kpn_monitor.specs.Hands.{WereCommitted};
 
 use crate::closed::{CloseFault, Closed, Unclosed};
-use crate::guarded::{Guarded, Taken, Wakes};
+use crate::guarded::{Guarded, Next, Taken, Wakes};
+use crate::hand::Hand;
 use crate::naming::EntryLedger;
 use crate::opening::{Opening, Parts};
+use crate::resting::{Rest, Resters};
 use crate::seat::{Seat, merge, totals_of};
 use kpn_body::{Body, Finished};
 use kpn_machine::{Outcome, Stranger};
 use kpn_watch::{Board, Progress, WatchFault, Watcher};
+use std::hint::spin_loop;
+use std::rt::Clock;
 use std::sync::ledger::Ledger;
-use std::sync::{Condvar, Mutex, Wait};
+use std::sync::{Condvar, Mutex, MutexGuard, Wait};
+use std::time::Duration;
 
 /// The parts of a ledger.
 const PARTS: u32 = 65536;
+
+/// How often a thread looks whether the lock is free before it sleeps, and how long it pauses between.
+const LOOKS: u32 = 250;
+
+const PAUSES: u32 = 8;
 
 /// A machine that threads share, under a lock, with a board beside the lock on which each commit shows
 /// how far the history has come. Its type names the network, the board and two ledgers, so the type of
@@ -36,6 +47,8 @@ const PARTS: u32 = 65536;
 pub struct Monitor<B: Body, E: EntryLedger, O: Ledger> {
     state: Mutex<Guarded<B, E, O>>,
     changed: Condvar,
+    resters: Mutex<Resters>,
+    roused: Condvar,
     board: Board,
     ghost named: { board ≡ E.board },
 }
@@ -62,6 +75,8 @@ impl<B: Body, E: EntryLedger, O: Ledger> Monitor<B, E, O> {
         let monitor = Monitor {
             state: Mutex::new(Guarded::new(machine, publisher, entries, overs)),
             changed: Condvar::new(),
+            resters: Mutex::new(Resters::new()),
+            roused: Condvar::new(),
             board,
         };
         (monitor, Seat::whole(PARTS, entry_share, over_share))
@@ -108,6 +123,105 @@ impl<B: Body, E: EntryLedger, O: Ledger> Monitor<B, E, O> {
         drop(guarded);
         self.wake(wakes);
         answer
+    }
+
+    /// Gives the answers of a hand to the machine, each as `commit` does, and takes tasks as `take` does,
+    /// at most `most` of them, in one holding of the lock. Waits for nobody but the lock.
+    ///
+    /// The seat's share of entries grows by what the answers appended. The hand then has tasks, one at
+    /// least; or nothing, where no process was ready or `most` is 0; or the run is over, and the seat has
+    /// met the end: its share of overs is 1. The error is an answer that the machine did not ask for, with
+    /// the answers before it committed and those after it left in the hand.
+    pub fn exchange<R: Wait>(
+        &self,
+        rt: &R,
+        hand: &mut Hand<B>,
+        seat: &mut Seat<E, O>,
+        most: usize,
+    ) -> Result<Next, Stranger<B>>
+        requires { hand.old.called ≡ length hand.old.tasks }
+        ensures parts { seat.new.parts ≡ seat.old.parts }
+        ensures entries { seat.new.entries ≡ seat.old.entries + sum_by number hand.new.outcomes }
+        ensures committed { OnOk result (WereCommitted B.Kinds.family B.Kinds.admits E.net hand.old.tasks hand.new.outcomes []) }
+        ensures stranger { IfErr result (λ s. WereCommitted B.Kinds.family B.Kinds.admits E.net hand.old.tasks hand.new.outcomes (s.finished ∷ hand.new.tasks)) }
+        ensures kept { OnErr result ((seat.new.overs ≡ seat.old.overs) × (hand.new.called ≡ length hand.new.tasks)) }
+        ensures taken { OnOk result (All (WasTaken B.Kinds.family B.Kinds.admits E.net) hand.new.tasks × (hand.new.called ≡ 0)) }
+        ensures tasks { result ≡ Ok Next.Tasks → (seat.new.overs ≡ seat.old.overs) × (0 < length hand.new.tasks) }
+        ensures nothing { result ≡ Ok Next.Nothing → (seat.new.overs ≡ seat.old.overs) × (hand.new.tasks ≡ []) }
+        ensures found { result ≡ Ok Next.Nothing → 0 < most → FoundNothing B.Kinds.family B.Kinds.admits E.net }
+        ensures over { (e : EndV) → result ≡ Ok (Next.Over e) → (seat.new.overs ≡ 1) × (hand.new.tasks ≡ []) }
+        ensures ended { (e : EndV) → result ≡ Ok (Next.Over e) → HasEnded B.Kinds.family B.Kinds.admits E.net e }
+    {
+        let mut guarded = self.lock(rt);
+        let answer = guarded.exchange(&self.board, hand, seat, most);
+        let wakes = guarded.wakes();
+        drop(guarded);
+        self.wake(wakes);
+        if let Ok(Next::Over(_)) = answer {
+            self.rouse(rt);
+        }
+        answer
+    }
+
+    /// Rests until the run is over, or so long, and tells whether it did. A thread doesn't rest where the
+    /// run is over; nor, being idle, where a process is ready; nor, being spare, where all others that ever
+    /// wanted to rest do. Of all that rest one looks out: it alone rests for so long, and has another look
+    /// out once it goes on; the others rest until then. They rest beside another lock than the machine's.
+    /// Nothing is claimed of it.
+    pub fn rest<R: Wait + Clock>(
+        &self,
+        rt: &R,
+        hand: &mut Hand<B>,
+        why: Rest,
+        limit: Duration,
+    ) -> bool
+        ensures { hand.new ≡ hand.old }
+    {
+        if why == Rest::Idle && self.lock(rt).has_work() {
+            return false;
+        }
+        let is_new = hand.wants_rest_anew();
+        let mut resters = self.resters.lock(rt);
+        if !resters.begin(is_new, why) {
+            return false;
+        }
+        if !resters.want_lookout() {
+            resters = self.roused.wait(rt, resters);
+        }
+        if resters.want_lookout() {
+            resters.begin_looking_out();
+            resters = self.roused.wait_timeout(rt, resters, limit).0;
+            resters.end_looking_out();
+        }
+        let hands_over = resters.end();
+        drop(resters);
+        if hands_over {
+            self.roused.notify_one();
+        }
+        true
+    }
+
+    // The run is over: nobody rests any more.
+    fn rouse<R: Wait>(&self, rt: &R) {
+        let mut resters = self.resters.lock(rt);
+        let some = resters.finish();
+        drop(resters);
+        if some {
+            self.roused.notify_all();
+        }
+    }
+
+    // The lock. Holdings are short, so it looks for a while before it sleeps.
+    fn lock<R: Wait>(&self, rt: &R) -> MutexGuard<'_, Guarded<B, E, O>> {
+        for _ in 0..LOOKS {
+            if let Some(guarded) = self.state.try_lock() {
+                return guarded;
+            }
+            for _ in 0..PAUSES {
+                spin_loop();
+            }
+        }
+        self.state.lock(rt)
     }
 
     // Wakes as many waiting threads as are told. Nothing is claimed of it.
@@ -159,6 +273,8 @@ impl<B: Body, E: EntryLedger, O: Ledger> Monitor<B, E, O> {
         let Monitor {
             state,
             changed,
+            resters,
+            roused,
             board,
         } = self;
         let mut guarded = state.into_inner();
@@ -177,6 +293,8 @@ impl<B: Body, E: EntryLedger, O: Ledger> Monitor<B, E, O> {
         let monitor = Monitor {
             state: Mutex::new(guarded),
             changed,
+            resters,
+            roused,
             board,
         };
         Err(Unclosed {

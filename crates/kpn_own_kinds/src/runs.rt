@@ -11,6 +11,7 @@ use kpn_front::streams::Sink;
 use kpn_machine::cards_of;
 use kpn_net::{Answer, Card, Local, Net, Token};
 use std::alloc::{AllocError, Global};
+use std::rt::Clock;
 use std::sync::Wait;
 use std::thread::Threads;
 
@@ -19,7 +20,7 @@ use std::thread::Threads;
 ///
 /// The answer is the exit status, as `execute` gives it. The error is want of memory for the
 /// bodies; nothing was then written.
-pub(crate) fn run_flips<S: Sink, R: Wait + Threads + Sync>(
+pub(crate) fn run_flips<S: Sink, R: Wait + Clock + Threads + Sync>(
     rt: &R,
     alloc: Global,
     net: Net<Flips>,
@@ -37,7 +38,7 @@ pub(crate) fn run_flips<S: Sink, R: Wait + Threads + Sync>(
 
 /// The same, of a network with these cards. It comes in an `Option`, since beside a `Net` that is
 /// held by value the check finds no proof of a loop that makes closures.
-fn run_with_cards<S: Sink, R: Wait + Threads + Sync>(
+fn run_with_cards<S: Sink, R: Wait + Clock + Threads + Sync>(
     rt: &R,
     alloc: Global,
     cards: &[Card],

@@ -2,6 +2,7 @@
 use crate::texts::{CEILING, COUNTER, DEAD, ENDLESS, FLAGS, NOTHING, PARKS, TWO_FULL, WRAPS};
 use kpn_execute::serve;
 use std::alloc::{AllocError, Global};
+use std::rt::Clock;
 use std::sync::Wait;
 use std::test::Fail;
 use std::thread::Threads;
@@ -22,7 +23,7 @@ pub(crate) const WORKERS: [&str; 3] = ["1", "2", "16"];
 
 /// The outcome of `kpn run` on a description by so many workers, with the stream of a channel where one
 /// is named.
-pub(crate) fn outcome_of<R: Threads + Wait + Sync>(
+pub(crate) fn outcome_of<R: Threads + Wait + Clock + Sync>(
     rt: &R,
     alloc: Global,
     text: &str,
@@ -40,7 +41,7 @@ pub(crate) fn outcome_of<R: Threads + Wait + Sync>(
 }
 
 /// The outcome of the program on these words and this input.
-pub(crate) fn outcome_of_words<R: Threads + Wait + Sync>(
+pub(crate) fn outcome_of_words<R: Threads + Wait + Clock + Sync>(
     rt: &R,
     alloc: Global,
     words: &[&str],

@@ -2,6 +2,7 @@
 use crate::runs::{Told, edited, outcome_of};
 use crate::texts::{COUNTER, FLAGS, TWO_FULL};
 use std::alloc::{AllocError, Global};
+use std::rt::Clock;
 use std::sync::Wait;
 use std::test::Fail;
 use std::thread::Threads;
@@ -102,7 +103,7 @@ const WORKERS: [&str; 2] = ["1", "4"];
 
 /// The outcome of a description with edits, by so many workers, with the stream of a channel where
 /// one is named.
-fn outcome<R: Threads + Wait + Sync>(
+fn outcome<R: Threads + Wait + Clock + Sync>(
     rt: &R,
     alloc: Global,
     row: &Edited,

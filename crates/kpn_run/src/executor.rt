@@ -9,7 +9,7 @@ ghost use Rattle.kpn_run.specs.Runs.{IsFinish, IsInLine, SparesBudget, StaysWith
 ghost use Rattle.kpn_body.specs.Input.{Input};
 
 use crate::finish::Finish;
-use crate::slot::{WorkerSlot, leave_all, seat_all, work_all};
+use crate::slot::{Hands, WorkerSlot, hands_for, leave_all, seat_all, work_all};
 use crate::worker::Gate;
 use kpn_body::{Answered, Body, Finished};
 use kpn_laws::{determinacy_of, least_room_of, valid_runs};
@@ -18,6 +18,7 @@ use kpn_monitor::{EntryLedger, Monitor, Opening, Seat};
 use kpn_net::{Kinds, Net};
 use std::alloc::Global;
 use std::marker::Brand;
+use std::rt::Clock;
 use std::sync::Wait;
 use std::sync::ledger::Ledger;
 use std::thread::Threads;
@@ -60,7 +61,7 @@ pub enum RunFault<B: Body> {
 ///
 /// The calling thread is one worker, and each other has a thread of its own; where a thread can't be
 /// started, that worker runs in the calling thread. It returns when all have met the end.
-pub fn run<B: Body, R: Wait + Threads + Sync, G: Gate>(
+pub fn run<B: Body, R: Wait + Clock + Threads + Sync, G: Gate>(
     rt: &R,
     alloc: Global,
     net: Net<B::Kinds>,
@@ -99,7 +100,7 @@ pub fn run<B: Body, R: Wait + Threads + Sync, G: Gate>(
 }
 
 /// The same, of a machine that is open.
-fn run_machine<B: Body, R: Wait + Threads + Sync, G: Gate>(
+fn run_machine<B: Body, R: Wait + Clock + Threads + Sync, G: Gate>(
     rt: &R,
     alloc: Global,
     machine: Machine<B>,
@@ -158,7 +159,7 @@ fn run_named<
     B: Body,
     E: EntryLedger + Send + Sync,
     O: Ledger + Send + Sync,
-    R: Wait + Threads + Sync,
+    R: Wait + Clock + Threads + Sync,
     G: Gate,
 >(
     rt: &R,
@@ -184,8 +185,11 @@ fn run_named<
     let Ok(seats) = Vec::with_capacity(alloc, workers) else {
         return Err(put_back(opening.into_machine()));
     };
+    let Ok(hands) = hands_for(alloc, workers) else {
+        return Err(put_back(opening.into_machine()));
+    };
     let (monitor, seat) = Monitor::<B, E, O>::open(opening);
-    match run_seated(rt, gate, monitor, seat, workers, slots, seats) {
+    match run_seated(rt, gate, monitor, seat, workers, hands, slots, seats) {
         Ok(finish) => Ok(finish),
         Err(finished) => {
             let (answered, body) = finished.into_parts();
@@ -199,7 +203,7 @@ fn run_seated<
     B: Body,
     E: EntryLedger + Send + Sync,
     O: Ledger + Send + Sync,
-    R: Wait + Threads + Sync,
+    R: Wait + Clock + Threads + Sync,
     G: Gate,
 >(
     rt: &R,
@@ -207,6 +211,7 @@ fn run_seated<
     monitor: Monitor<B, E, O>,
     seat: Seat<E, O>,
     workers: usize,
+    hands: Hands<B>,
     mut slots: Vec<WorkerSlot<B, E, O>>,
     mut seats: Vec<Seat<E, O>>,
 ) -> Result<Finish<B::Kinds>, Finished<B>>
@@ -216,7 +221,7 @@ fn run_seated<
     requires seats { (seats.items ≡ []) × (workers ≤ vec_capacity seats) }
     ensures { IfOk result (IsFinish B.Kinds.family E.net) }
 {
-    seat_all(seat, workers, &mut slots);
+    seat_all(seat, workers, hands, &mut slots);
     work_all(rt, &monitor, gate, &mut slots);
     if let Some(finished) = leave_all(slots, &mut seats) {
         return Err(finished);

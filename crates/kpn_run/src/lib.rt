@@ -7,7 +7,9 @@
 mod executor;
 mod finish;
 mod hold;
+mod pace;
 mod reporting;
+mod round;
 mod slot;
 mod worker;
 

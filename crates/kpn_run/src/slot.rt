@@ -4,19 +4,24 @@ ghost use Rattle.std.specs.List.{All, sum_by};
 ghost use Rattle.kpn_monitor.specs.Names.{Shares};
 ghost use Rattle.kpn_run.specs.Runs.{AtSlot, HasMet};
 
-use crate::worker::{Gate, work_with};
+use crate::round::work_in_rounds;
+use crate::worker::Gate;
 use kpn_body::{Body, Finished};
-use kpn_monitor::{EntryLedger, Monitor, Seat};
+use kpn_monitor::{EntryLedger, Hand, Monitor, Seat};
+use std::alloc::{AllocError, Global};
 use std::marker::Model;
+use std::rt::Clock;
 use std::sync::Wait;
 use std::sync::ledger::Ledger;
 use std::thread;
 use std::thread::Threads;
 
-/// What a worker of `run` has: its seat, and an answer that the monitor refused, where there is one.
+/// What a worker of `run` has: its seat, its hand, and an answer that the monitor refused, where there is
+/// one.
 #[derive(Drop)]
 pub(crate) struct WorkerSlot<B: Body, E: EntryLedger, O: Ledger> {
     seat: Seat<E, O>,
+    hand: Hand<B>,
     stranger: Option<Finished<B>>,
 }
 
@@ -30,11 +35,12 @@ impl<B: Body, E: EntryLedger, O: Ledger> Model for WorkerSlot<B, E, O> {
 }
 
 impl<B: Body, E: EntryLedger, O: Ledger> WorkerSlot<B, E, O> {
-    fn new(seat: Seat<E, O>) -> WorkerSlot<B, E, O>
+    fn new(seat: Seat<E, O>, hand: Hand<B>) -> WorkerSlot<B, E, O>
         ensures { result.seat ≡ seat }
     {
         WorkerSlot {
             seat,
+            hand,
             stranger: None,
         }
     }
@@ -43,22 +49,46 @@ impl<B: Body, E: EntryLedger, O: Ledger> WorkerSlot<B, E, O> {
         ensures seat { result.0 ≡ self.seat }
         ensures lost { is_some result.1 ≡ self.lost }
     {
-        let WorkerSlot { seat, stranger } = self;
+        let WorkerSlot {
+            seat,
+            hand: _,
+            stranger,
+        } = self;
         (seat, stranger)
     }
 
-    fn work<R: Wait, G: Gate>(&mut self, rt: &R, monitor: &Monitor<B, E, O>, gate: &G)
+    fn work<R: Wait + Clock, G: Gate>(&mut self, rt: &R, monitor: &Monitor<B, E, O>, gate: &G)
         ensures parts { self.new.seat.parts ≡ self.old.seat.parts }
         ensures met { HasMet self.new }
     {
-        self.stranger = work_with(rt, monitor, gate, &mut self.seat);
+        self.stranger = work_in_rounds(rt, monitor, gate, &mut self.seat, &mut self.hand);
     }
+}
+
+/// Hands for workers, one at least.
+#[derive(Drop)]
+pub(crate) struct Hands<B: Body> {
+    last: Hand<B>,
+    others: Vec<Hand<B>>,
+}
+
+/// A hand for each worker, that shares with the others.
+pub(crate) fn hands_for<B: Body>(alloc: Global, workers: usize) -> Result<Hands<B>, AllocError> {
+    let mut others = Vec::with_capacity(alloc, workers)?;
+    for _ in 1..workers {
+        others.push(Hand::new(alloc, workers)?)?;
+    }
+    Ok(Hands {
+        last: Hand::new(alloc, workers)?,
+        others,
+    })
 }
 
 /// Makes a slot for each worker. Each seat has one part, but for the last, which has the others.
 pub(crate) fn seat_all<B: Body, E: EntryLedger, O: Ledger>(
     seat: Seat<E, O>,
     workers: usize,
+    hands: Hands<B>,
     slots: &mut Vec<WorkerSlot<B, E, O>>,
 )
     requires workers { (0 < workers) × (workers ≤ 16) }
@@ -67,12 +97,30 @@ pub(crate) fn seat_all<B: Body, E: EntryLedger, O: Ledger>(
     ensures some { (0 < length slots.new.items) × (length slots.new.items ≤ workers) }
 {
     let mut seat = seat;
+    let Hands { last, mut others } = hands;
     for _i in 1..workers {
-        if let Some(split) = seat.split() {
-            slots.push_reserved(WorkerSlot::new(split));
-        }
+        seat_one(&mut seat, others.pop(), slots);
     }
-    slots.push_reserved(WorkerSlot::new(seat));
+    slots.push_reserved(WorkerSlot::new(seat, last));
+}
+
+// A slot more, unless there is no hand for it or the seat has one part left.
+fn seat_one<B: Body, E: EntryLedger, O: Ledger>(
+    seat: &mut Seat<E, O>,
+    hand: Option<Hand<B>>,
+    slots: &mut Vec<WorkerSlot<B, E, O>>,
+)
+    requires room { length slots.old.items < vec_capacity slots.old }
+    ensures parts { sum_by (λ (b : AtSlot). b.seat.parts) slots.new.items + seat.new.parts ≡ sum_by (λ (b : AtSlot). b.seat.parts) slots.old.items + seat.old.parts }
+    ensures len { length slots.new.items ≤ length slots.old.items + 1 }
+    ensures room { vec_capacity slots.new ≡ vec_capacity slots.old }
+{
+    let Some(hand) = hand else {
+        return;
+    };
+    if let Some(split) = seat.split() {
+        slots.push_reserved(WorkerSlot::new(split, hand));
+    }
 }
 
 /// Works at all slots. The calling thread is one worker, and the others are started.
@@ -80,7 +128,7 @@ pub(crate) fn work_all<
     B: Body,
     E: EntryLedger + Send + Sync,
     O: Ledger + Send + Sync,
-    R: Wait + Threads + Sync,
+    R: Wait + Clock + Threads + Sync,
     G: Gate,
 >(rt: &R, monitor: &Monitor<B, E, O>, gate: &G, slots: &mut Vec<WorkerSlot<B, E, O>>)
     ensures parts { sum_by (λ (b : AtSlot). b.seat.parts) slots.new.items ≡ sum_by (λ (b : AtSlot). b.seat.parts) slots.old.items }
@@ -95,7 +143,7 @@ fn work_each<
     B: Body,
     E: EntryLedger + Send + Sync,
     O: Ledger + Send + Sync,
-    R: Wait + Threads + Sync,
+    R: Wait + Clock + Threads + Sync,
     G: Gate,
 >(rt: &R, monitor: &Monitor<B, E, O>, gate: &G, slots: &mut [WorkerSlot<B, E, O>])
     ensures parts { (k : ℕ) (d : AtSlot) → k < length slots.old → (slice_index_or slots.new k d).seat.parts ≡ (slice_index_or slots.old k d).seat.parts }

@@ -44,7 +44,7 @@ pub fn work<B: Body, E: EntryLedger, O: Ledger, R: Wait, G: Gate>(
 }
 
 // As `work`, with a seat that is lent.
-pub(crate) fn work_with<B: Body, E: EntryLedger, O: Ledger, R: Wait, G: Gate>(
+fn work_with<B: Body, E: EntryLedger, O: Ledger, R: Wait, G: Gate>(
     rt: &R,
     monitor: &Monitor<B, E, O>,
     gate: &G,

@@ -8,6 +8,8 @@ mod capacities;
 #[cfg(test)]
 mod due;
 #[cfg(test)]
+mod exchanges;
+#[cfg(test)]
 mod large;
 #[cfg(test)]
 mod meeting;

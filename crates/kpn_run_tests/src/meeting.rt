@@ -11,6 +11,7 @@ use kpn_body::{Call, StandardBody, answer};
 use kpn_net::{Answer, Card, Local, Token};
 use std::alloc::Global;
 use std::process::Abort;
+use std::rt::Clock;
 use std::sync::atomic::{AtomicU64, Ordering};
 use std::sync::{Arc, Wait};
 use std::test::Fail;
@@ -50,7 +51,7 @@ fn no_calls() -> Calls {
 }
 
 /// Runs a counter of three into a sink of three by two workers, with these bodies.
-fn run_counter<R: Threads + Wait + Abort + Sync>(
+fn run_counter<R: Threads + Wait + Clock + Abort + Sync>(
     rt: &R,
     alloc: Global,
     bodies: Vec<StandardBody>,
@@ -62,7 +63,11 @@ fn run_counter<R: Threads + Wait + Abort + Sync>(
 
 /// Runs a counter into a sink by two workers, with closures that wait for each other at the call of
 /// this number. How often they were called decides whether they wait, and not what they answer.
-fn meet_at<R: Threads + Wait + Abort + Sync>(rt: &R, alloc: Global, at: u64) -> Result<(), Fail> {
+fn meet_at<R: Threads + Wait + Clock + Abort + Sync>(
+    rt: &R,
+    alloc: Global,
+    at: u64,
+) -> Result<(), Fail> {
     let calls = Arc::new(alloc, no_calls())?;
     let (one, two) = (Arc::try_clone(&calls)?, Arc::try_clone(&calls)?);
     let mut bodies = Vec::new(alloc);

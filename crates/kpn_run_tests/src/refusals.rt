@@ -20,6 +20,7 @@ use kpn_watch::{Phase, Progress};
 use std::alloc::{AllocError, Global};
 use std::marker::Brand;
 use std::process::Abort;
+use std::rt::Clock;
 use std::sync::Wait;
 use std::sync::ledger::Ledger;
 use std::test::Fail;
@@ -74,7 +75,7 @@ fn load_text(alloc: Global, text: &str) -> Result<Net<Standard>, NetFault> {
 }
 
 /// Runs Parks's case, again with what came back where memory was refused.
-fn finish_again<B: Body, R: Threads + Wait + Abort + Sync>(
+fn finish_again<B: Body, R: Threads + Wait + Clock + Abort + Sync>(
     rt: &R,
     alloc: Global,
     net: Net<B::Kinds>,
@@ -175,7 +176,7 @@ fn tell_again<K: Kinds, R: Abort>(
 
 /// Loads and runs Parks's case, with its report and a stream. The error is want of memory for what is
 /// the test's own.
-fn run_refused<R: Threads + Wait + Abort + Sync>(
+fn run_refused<R: Threads + Wait + Clock + Abort + Sync>(
     rt: &R,
     alloc: Global,
     workers: usize,

@@ -11,6 +11,7 @@ use kpn_net::Net;
 use kpn_run::{Finish, Gate, Open, RunFault, run};
 use std::alloc::{AllocError, Global};
 use std::process::Abort;
+use std::rt::Clock;
 use std::sync::Wait;
 use std::sync::atomic::{AtomicU64, Ordering};
 use std::test::Fail;
@@ -30,7 +31,7 @@ impl Gate for Counts {
 }
 
 /// Runs a network, which memory alone may prevent.
-pub(crate) fn finish_of<B: Body, R: Threads + Wait + Abort + Sync, G: Gate>(
+pub(crate) fn finish_of<B: Body, R: Threads + Wait + Clock + Abort + Sync, G: Gate>(
     rt: &R,
     alloc: Global,
     net: Net<B::Kinds>,
@@ -46,7 +47,7 @@ pub(crate) fn finish_of<B: Body, R: Threads + Wait + Abort + Sync, G: Gate>(
 }
 
 /// Runs the network of a text.
-pub(crate) fn finish_text<R: Threads + Wait + Abort + Sync, G: Gate>(
+pub(crate) fn finish_text<R: Threads + Wait + Clock + Abort + Sync, G: Gate>(
     rt: &R,
     alloc: Global,
     text: &str,
@@ -59,7 +60,7 @@ pub(crate) fn finish_text<R: Threads + Wait + Abort + Sync, G: Gate>(
 }
 
 /// Runs the network of a text, and compares the run with what is due.
-pub(crate) fn shows<R: Threads + Wait + Abort + Sync, G: Gate>(
+pub(crate) fn shows<R: Threads + Wait + Clock + Abort + Sync, G: Gate>(
     rt: &R,
     alloc: Global,
     text: &str,
@@ -73,7 +74,7 @@ pub(crate) fn shows<R: Threads + Wait + Abort + Sync, G: Gate>(
 }
 
 /// A number of workers that is none of 1 to 16 is refused, and all comes back.
-fn refused_workers<B: Body, R: Threads + Wait + Abort + Sync>(
+fn refused_workers<B: Body, R: Threads + Wait + Clock + Abort + Sync>(
     rt: &R,
     alloc: Global,
     net: Net<B::Kinds>,
@@ -87,7 +88,7 @@ fn refused_workers<B: Body, R: Threads + Wait + Abort + Sync>(
 }
 
 /// Without its last body a network isn't run, and all comes back.
-fn refused_bodies<B: Body, R: Threads + Wait + Abort + Sync>(
+fn refused_bodies<B: Body, R: Threads + Wait + Clock + Abort + Sync>(
     rt: &R,
     alloc: Global,
     net: Net<B::Kinds>,
@@ -110,7 +111,7 @@ fn refused_bodies<B: Body, R: Threads + Wait + Abort + Sync>(
 }
 
 /// Runs a network, and compares the run and how often its gate was asked with what is due.
-fn run_counted<B: Body, R: Threads + Wait + Abort + Sync>(
+fn run_counted<B: Body, R: Threads + Wait + Clock + Abort + Sync>(
     rt: &R,
     alloc: Global,
     net: Net<B::Kinds>,
@@ -131,7 +132,7 @@ fn run_counted<B: Body, R: Threads + Wait + Abort + Sync>(
 
 /// Runs a network first by no worker and by 17, then without one of its bodies, which is refused each
 /// time, and at last by so many workers with what came back.
-pub(crate) fn run_bodies<B: Body, R: Threads + Wait + Abort + Sync>(
+pub(crate) fn run_bodies<B: Body, R: Threads + Wait + Clock + Abort + Sync>(
     rt: &R,
     alloc: Global,
     net: Net<B::Kinds>,

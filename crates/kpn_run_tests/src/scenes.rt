@@ -3,6 +3,7 @@
 //! The names of a monitor's ledgers are type parameters, so each scene is a function of any names.
 ghost use Rattle.std.specs.Prelude.{◌≡◌, ◌<◌, [], All, IfOk, IfSome};
 
+use crate::exchanges::exchanged;
 use crate::monitors::{
     Ended, close_alone, close_with, ended_of, next_task, opening_of, outcome_of, seat_of, seen_by,
     shown_to, two_seats, watcher_of, work_alone,
@@ -16,6 +17,7 @@ use kpn_watch::{Phase, Progress, Watcher};
 use std::alloc::{AllocError, Global};
 use std::marker::Brand;
 use std::process::Abort;
+use std::rt::Clock;
 use std::sync::Wait;
 use std::sync::ledger::Ledger;
 use std::test::Fail;
@@ -31,6 +33,8 @@ enum Scene {
     OneTask { dropped: bool },
     /// As many watchers as there may be, of Parks's case.
     MostWatchers,
+    /// One hand is exchanged until a counter of three has written into a sink of three.
+    Exchanged,
 }
 
 const NOTHING: Progress = Progress {
@@ -61,7 +65,7 @@ const COUNTER_ENDED: Ended = Ended {
 };
 
 /// Plays a scene on a monitor.
-fn play<B: Body, R: Threads + Wait + Abort + Sync>(
+fn play<B: Body, R: Threads + Wait + Clock + Abort + Sync>(
     rt: &R,
     alloc: Global,
     opening: Opening<B>,
@@ -72,6 +76,7 @@ fn play<B: Body, R: Threads + Wait + Abort + Sync>(
         Scene::MissingSeat => missing_seat::<B, Brand, Brand, R>(rt, alloc, opening),
         Scene::OneTask { dropped } => one_task::<B, Brand, Brand, R>(rt, alloc, opening, dropped),
         Scene::MostWatchers => most_watchers::<B, Brand, Brand, R>(rt, alloc, opening),
+        Scene::Exchanged => exchanged::<B, Brand, Brand, R>(rt, alloc, opening),
     }
 }
 
@@ -347,6 +352,7 @@ fn scenes_on_monitors(rt: HostRuntime) -> Result<(), Fail> {
         (COUNTER_INTO_SINK, Scene::OneTask { dropped: false }),
         (COUNTER_INTO_SINK, Scene::OneTask { dropped: true }),
         (COPIED_AND_WOVEN, Scene::MostWatchers),
+        (COUNTER_INTO_SINK, Scene::Exchanged),
     ] {
         let opening = opening_of(rt.alloc(), text)?;
         play(&rt, rt.alloc(), opening, scene)?;

@@ -8,6 +8,7 @@ use kpn_net::{Deed, End, Entry, Kinds, Token};
 use kpn_run::{Finish, Open, report, stream_of};
 use std::alloc::{AllocError, Global};
 use std::process::Abort;
+use std::rt::Clock;
 use std::sync::Wait;
 use std::test::Fail;
 use std::thread::Threads;
@@ -22,7 +23,7 @@ pub(crate) struct Whole<'a> {
 }
 
 /// Runs the network of a text by so many workers, and compares its report and its streams.
-pub(crate) fn shows_whole<R: Threads + Wait + Abort + Sync>(
+pub(crate) fn shows_whole<R: Threads + Wait + Clock + Abort + Sync>(
     rt: &R,
     alloc: Global,
     text: &str,
@@ -64,7 +65,7 @@ const FIRST_TEN: [Token; 10] = [
 ];
 
 /// Runs the network of Hamming's numbers until its budget of 1,000 is spent.
-pub(crate) fn shows_endless<R: Threads + Wait + Abort + Sync>(
+pub(crate) fn shows_endless<R: Threads + Wait + Clock + Abort + Sync>(
     rt: &R,
     alloc: Global,
     text: &str,

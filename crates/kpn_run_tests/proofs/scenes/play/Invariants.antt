@@ -36,3 +36,12 @@ ghosts-most_watchers-E-Ledger g a = record { name = a.opening.entries.name; part
 
 abbrev pub ghosts-most_watchers-O-Ledger : goal.ghosts-most_watchers-O-Ledger
 ghosts-most_watchers-O-Ledger g a = record { name = a.opening.overs.name; parts = a.opening.overs.parts }
+
+abbrev pub ghosts-exchanged-E-EntryLedger : goal.ghosts-exchanged-E-EntryLedger
+ghosts-exchanged-E-EntryLedger g a = record { net = a.opening.machine.network; board = a.opening.board }
+
+abbrev pub ghosts-exchanged-E-Ledger : goal.ghosts-exchanged-E-Ledger
+ghosts-exchanged-E-Ledger g a = record { name = a.opening.entries.name; parts = a.opening.entries.parts }
+
+abbrev pub ghosts-exchanged-O-Ledger : goal.ghosts-exchanged-O-Ledger
+ghosts-exchanged-O-Ledger g a = record { name = a.opening.overs.name; parts = a.opening.overs.parts }

@@ -4,8 +4,8 @@ use Rattle.std.proofs.lemmas.List.{map-set}
 use Rattle.kpn_machine.specs.Scheduler.{IsOutAt}
 use Rattle.kpn_state.proofs.Placed.{place_set_same}
 use Rattle.kpn_machine.proofs.Ends.{commits_end}
-use Rattle.kpn_machine.proofs.Sound.{sound_back, sound_worked, worked_appends, worked_tells, worked_back, worked_others, worked_commits, commits_fit, out_within, none_of, some_of, is_true, ready_not_out}
-use Rattle.kpn_machine.proofs.machine.Machine.commit.Goals as goal
+use Rattle.kpn_machine.proofs.Sound.{sound_back, sound_worked, worked_appends, worked_tells, worked_back, worked_others, worked_commits, commits_fit, out_within, none_of, some_of, ready_not_out}
+use Rattle.kpn_machine.proofs.machine.Machine.commit_asked.Goals as goal
 
 pub overflow_add-self : goal.overflow_add-self
 overflow_add-self g c =
@@ -18,7 +18,7 @@ overflow_add-self g c =
 
 pub invariant_of-self : goal.invariant_of-self
 invariant_of-self g c =
-    let out : IsOutAt c.self.inside.net c.self.inside.store.state c.self.inside.places c.args.finished = rw c.as_slice.ensures.value at (c.is_out.ensures.0 (is_true _ c.if-not-is_out.false)) in (
+    let out : IsOutAt c.self.inside.net c.self.inside.store.state c.self.inside.places c.args.finished = rw (← c.self.view_is) at c.requires in (
       rw (map-set, c.update.ensures, c.process-process.ensures, c.into_body.ensures)
           (sound_back g.B.Kinds.Kinds.family g.B.Kinds.Kinds.admits _ _ _ _ _ _ _ _ c.self.invariant.0 c.args.finished out (some_of _ (sym c.is_some.ensures ∙ c.if-is_some.true))),
       c.self.invariant.1,
@@ -29,12 +29,12 @@ returns-then-is_some-clause-appends g c = rw (← c.self.view_is) (record { entr
 
 pub returns-then-is_some-clause-back : goal.returns-then-is_some-clause-back
 returns-then-is_some-clause-back g c =
-    let out : IsOutAt c.self.inside.net c.self.inside.store.state c.self.inside.places c.args.finished = rw c.as_slice.ensures.value at (c.is_out.ensures.0 (is_true _ c.if-not-is_out.false)) in
+    let out : IsOutAt c.self.inside.net c.self.inside.store.state c.self.inside.places c.args.finished = rw (← c.self.view_is) at c.requires in
     λ e. ready_not_out (sym (place_set_same _ _ _ (out_within g.B.Kinds.Kinds.family g.B.Kinds.Kinds.admits _ _ _ _ _ _ _ _ c.self.invariant.0 c.args.finished out)) ∙ rw (c.update.ensures, c.process-process.ensures) at e)
 
 pub invariant_of-self-2 : goal.invariant_of-self-2
 invariant_of-self-2 g c =
-    let out : IsOutAt c.self.inside.net c.self.inside.store.state c.self.inside.places c.args.finished = rw c.as_slice.ensures.value at (c.is_out.ensures.0 (is_true _ c.if-not-is_out.false)) in
+    let out : IsOutAt c.self.inside.net c.self.inside.store.state c.self.inside.places c.args.finished = rw (← c.self.view_is) at c.requires in
     let none = none_of _ (sym c.is_some.ensures ∙ c.if-is_some.false) in
     let w = rw (c.process-process.ensures, c.answer-answer.ensures) at c.work-outcome.ensures.works in (
       rw (map-set, c.process-process.ensures, c.into_body.ensures)
@@ -44,7 +44,7 @@ invariant_of-self-2 g c =
 
 pub returns-clause-commits : goal.returns-clause-commits
 returns-clause-commits g c =
-    let out : IsOutAt c.self.inside.net c.self.inside.store.state c.self.inside.places c.args.finished = rw c.as_slice.ensures.value at (c.is_out.ensures.0 (is_true _ c.if-not-is_out.false)) in
+    let out : IsOutAt c.self.inside.net c.self.inside.store.state c.self.inside.places c.args.finished = rw (← c.self.view_is) at c.requires in
     let none = none_of _ (sym c.is_some.ensures ∙ c.if-is_some.false) in
     let w = rw (c.process-process.ensures, c.answer-answer.ensures) at c.work-outcome.ensures.works in
     rw (← c.self.view_is)
@@ -52,7 +52,7 @@ returns-clause-commits g c =
 
 pub returns-clause-appends : goal.returns-clause-appends
 returns-clause-appends g c =
-    let out : IsOutAt c.self.inside.net c.self.inside.store.state c.self.inside.places c.args.finished = rw c.as_slice.ensures.value at (c.is_out.ensures.0 (is_true _ c.if-not-is_out.false)) in
+    let out : IsOutAt c.self.inside.net c.self.inside.store.state c.self.inside.places c.args.finished = rw (← c.self.view_is) at c.requires in
     let none = none_of _ (sym c.is_some.ensures ∙ c.if-is_some.false) in
     let w = rw (c.process-process.ensures, c.answer-answer.ensures) at c.work-outcome.ensures.works in
     rw (← c.self.view_is)
@@ -60,7 +60,7 @@ returns-clause-appends g c =
 
 pub returns-clause-tells : goal.returns-clause-tells
 returns-clause-tells g c =
-    let out : IsOutAt c.self.inside.net c.self.inside.store.state c.self.inside.places c.args.finished = rw c.as_slice.ensures.value at (c.is_out.ensures.0 (is_true _ c.if-not-is_out.false)) in
+    let out : IsOutAt c.self.inside.net c.self.inside.store.state c.self.inside.places c.args.finished = rw (← c.self.view_is) at c.requires in
     let none = none_of _ (sym c.is_some.ensures ∙ c.if-is_some.false) in
     let w = rw (c.process-process.ensures, c.answer-answer.ensures) at c.work-outcome.ensures.works in
     rw (← c.self.view_is)
@@ -68,14 +68,14 @@ returns-clause-tells g c =
 
 pub returns-clause-back : goal.returns-clause-back
 returns-clause-back g c =
-    let out : IsOutAt c.self.inside.net c.self.inside.store.state c.self.inside.places c.args.finished = rw c.as_slice.ensures.value at (c.is_out.ensures.0 (is_true _ c.if-not-is_out.false)) in
+    let out : IsOutAt c.self.inside.net c.self.inside.store.state c.self.inside.places c.args.finished = rw (← c.self.view_is) at c.requires in
     let none = none_of _ (sym c.is_some.ensures ∙ c.if-is_some.false) in
     let w = rw (c.process-process.ensures, c.answer-answer.ensures) at c.work-outcome.ensures.works in
     worked_back g.B.Kinds.Kinds.family g.B.Kinds.Kinds.admits _ _ _ _ _ _ _ _ c.self.invariant.0 c.args.finished out none c.work-outcome.result.0 c.work-outcome.new.store.state c.work-outcome.new.store.history c.work-outcome.new.places c.work-outcome.result.1 c.work-outcome.new.store.room w
 
 pub returns-clause-others : goal.returns-clause-others
 returns-clause-others g c =
-    let out : IsOutAt c.self.inside.net c.self.inside.store.state c.self.inside.places c.args.finished = rw c.as_slice.ensures.value at (c.is_out.ensures.0 (is_true _ c.if-not-is_out.false)) in
+    let out : IsOutAt c.self.inside.net c.self.inside.store.state c.self.inside.places c.args.finished = rw (← c.self.view_is) at c.requires in
     let none = none_of _ (sym c.is_some.ensures ∙ c.if-is_some.false) in
     let w = rw (c.process-process.ensures, c.answer-answer.ensures) at c.work-outcome.ensures.works in
     rw (← c.self.view_is)

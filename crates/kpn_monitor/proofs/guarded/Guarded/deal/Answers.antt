@@ -1,0 +1,29 @@
+-- The first task went out, and then others; or none did.
+use Rattle.std.proofs.Common.{◌∙◌, ◌++◌, ◌∷◌, List, [], refl, ap, sym, subst}
+use Rattle.std.specs.Prelude.{Some}
+use Rattle.kpn_body.specs.Input.{Input}
+use Rattle.kpn_monitor.specs.Names.{Holding, Shares}
+use Rattle.kpn_monitor.specs.Kept.{WasTaken}
+use Rattle.kpn_monitor.specs.Hands.{TakesOutAll}
+use Rattle.kpn_monitor.proofs.Handing.{dealt_out, all_one}
+use Rattle.kpn_monitor.proofs.guarded.Guarded.deal.Goals as goal
+
+pub returns-in-Some-Task-clause-out : goal.returns-in-Some-Task-clause-out
+returns-in-Some-Task-clause-out g c =
+    let s = c.args.self.now.machine in
+    let t = c.in-Some-Task.first in
+    let taken = c.in-Some-Task.ensures.task t (ap Some c.in-Some-Task.field-0-is) in
+    c.deal_more.ensures.out s (dealt_out s c.args.hand.now c.put.new.self s t c.take.new.self.machine c.put.ensures taken.1 (subst (λ (l : List Input). TakesOutAll s l s) (sym c.requires.tasks) refl))
+
+pub returns-in-Some-Task-clause-taken : goal.returns-in-Some-Task-clause-taken
+returns-in-Some-Task-clause-taken g c =
+    let t = c.in-Some-Task.first in
+    let one = ap (λ (h : Holding). h.tasks) c.put.ensures ∙ ap (λ (l : List Input). l ++ t ∷ []) c.requires.tasks in
+    c.deal_more.ensures.taken (all_one (WasTaken g.B.Kinds.Kinds.family g.B.Kinds.Kinds.admits g.E.EntryLedger.net) c.put.new.self.tasks t one (c.in-Some-Task.ensures.taken t (ap Some c.in-Some-Task.field-0-is)))
+
+pub returns-in-Some-Task-clause-tasks : goal.returns-in-Some-Task-clause-tasks
+returns-in-Some-Task-clause-tasks g c = λ is. ((c.in-Some-Task.ensures.task c.in-Some-Task.first (ap Some c.in-Some-Task.field-0-is)).0, c.deal_more.ensures.some)
+
+pub returns-in-Some-Task-clause-seat : goal.returns-in-Some-Task-clause-seat
+returns-in-Some-Task-clause-seat g c =
+    let same = (c.in-Some-Task.ensures.task c.in-Some-Task.first (ap Some c.in-Some-Task.field-0-is)).0 in (ap (λ (s : Shares). s.parts) same, ap (λ (s : Shares). s.entries) same)

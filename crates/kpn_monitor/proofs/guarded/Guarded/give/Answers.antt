@@ -1,0 +1,50 @@
+-- What the answers appended is published and booked.
+use Rattle.std.proofs.Common.{◌∙◌, ◌+◌, length, ap, sym, subst, arith}
+use Rattle.std.specs.Prelude.{IsSome}
+use mathlib.Core.List.{IsPrefix}
+use Rattle.kpn_watch.specs.Boards.{Published}
+use Rattle.kpn_watch.specs.Phases.{phase_of}
+use Rattle.kpn_monitor.proofs.Handing.{gave, some_end}
+use Rattle.kpn_monitor.proofs.guarded.Guarded.give.Goals as goal
+
+pub publish-requires-clause-goes_on : goal.publish-requires-clause-goes_on
+publish-requires-clause-goes_on g c =
+    let gone = gave g.B.Kinds.Kinds.family _ _ _ _ _ _ c.give_all-refused.ensures.machine in
+    subst (λ l. IsPrefix l c.history-history.result.now) (sym c.self.invariant.1.entries) (subst (λ l. IsPrefix c.self.inside.machine.history l) (sym c.history-history.ensures) gone.history)
+
+pub publish-requires-clause-ended : goal.publish-requires-clause-ended
+publish-requires-clause-ended g c = λ ended.
+    let gone = gave g.B.Kinds.Kinds.family _ _ _ _ _ _ c.give_all-refused.ensures.machine in
+    let shown = c.self.invariant.1 in
+    let same = gone.ended (λ none. ended (shown.phase ∙ ap phase_of none)) in
+    (c.history-history.ensures ∙ same.0 ∙ sym shown.entries, ap phase_of (c.end-ended.ensures.end ∙ same.1) ∙ sym shown.phase)
+
+pub overflow_sub-history : goal.overflow_sub-history
+overflow_sub-history g c =
+    let gone = gave g.B.Kinds.Kinds.family _ _ _ _ _ _ c.give_all-refused.ensures.machine in
+    omega (arith, gone.count, ap length c.history-before.ensures, ap length c.history-history.ensures)
+
+pub invariant_of-self : goal.invariant_of-self
+invariant_of-self g c =
+    let gone = gave g.B.Kinds.Kinds.family _ _ _ _ _ _ c.give_all-refused.ensures.machine in
+    let kept = c.self.invariant.0 in (
+      record {
+        network = c.give_all-refused.ensures.network ∙ kept.network;
+        faithful = c.end-ended.ensures.faithful;
+        ended = λ met. subst IsSome (sym (gone.ended (some_end c.self.inside.machine.end (kept.ended met))).1) (kept.ended met);
+        counted = omega (arith, c.add_entries.ensures.book, kept.counted, gone.count, ap length c.history-before.ensures, ap length c.history-history.ensures);
+      },
+      record {
+        board_is = ap (λ (p : Published). p.board) c.publish.ensures ∙ c.self.invariant.1.board_is;
+        entries = ap (λ (p : Published). p.entries) c.publish.ensures ∙ c.history-history.ensures;
+        phase = ap (λ (p : Published). p.phase) c.publish.ensures ∙ ap phase_of c.end-ended.ensures.end;
+      },
+      c.self.invariant.2,
+      c.self.invariant.3,
+      c.self.invariant.4,
+    )
+
+pub returns-clause-seat : goal.returns-clause-seat
+returns-clause-seat g c =
+    let gone = gave g.B.Kinds.Kinds.family _ _ _ _ _ _ c.give_all-refused.ensures.machine in
+    c.add_entries.ensures.seat ∙ ap (λ k. record c.args.seat.now { entries = c.args.seat.now.entries + k }) (omega (arith, gone.count, ap length c.history-before.ensures, ap length c.history-history.ensures))

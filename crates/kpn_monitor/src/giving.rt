@@ -1,0 +1,45 @@
+//! The answers of a hand, given to a machine.
+ghost use Rattle.std.specs.Prelude.{◌≡◌, ◌+◌, ◌≤◌, [], ◌∷◌, length, MatchOption};
+ghost use Rattle.kpn_monitor.specs.Kept.{WasCommitted};
+ghost use Rattle.kpn_monitor.specs.Hands.{CommitsAll, WereCommitted};
+ghost use Rattle.kpn_machine.specs.Scheduler.{IsOut};
+ghost use Rattle.kpn_machine.specs.Commits.{Commits, Appends, number};
+
+use crate::hand::Hand;
+use kpn_body::{Body, Finished};
+use kpn_machine::{Machine, Outcome};
+
+/// Gives an answer to the machine that asked for it.
+#[inline(always)]
+pub(crate) fn give_one<B: Body>(machine: &mut Machine<B>, finished: Finished<B>) -> Outcome
+    requires { IsOut machine.old finished }
+    ensures commits { Commits B.Kinds.family machine.old finished result machine.new }
+    ensures appends { Appends B.Kinds.family machine.old machine.new (number result) }
+    ensures network { machine.new.network ≡ machine.old.network }
+    ensures committed { WasCommitted B.Kinds.family B.Kinds.admits machine.old.network finished result }
+{
+    machine.end();
+    machine.commit_asked(finished)
+}
+
+/// Gives the answers of a hand to a machine, one after the other. It stops at an answer that the machine
+/// did not ask for, and hands it back.
+pub(crate) fn give_all<B: Body>(machine: &mut Machine<B>, hand: &mut Hand<B>) -> Option<Finished<B>>
+    requires none { hand.old.outcomes ≡ [] }
+    requires few { length hand.old.tasks ≤ 16 }
+    requires within { hand.old.called ≤ length hand.old.tasks }
+    ensures machine { MatchOption result (CommitsAll B.Kinds.family machine.old hand.old.tasks hand.new.outcomes machine.new hand.new.tasks) (λ i. CommitsAll B.Kinds.family machine.old hand.old.tasks hand.new.outcomes machine.new (i ∷ hand.new.tasks)) }
+    ensures network { machine.new.network ≡ machine.old.network }
+    ensures committed { MatchOption result (WereCommitted B.Kinds.family B.Kinds.admits machine.old.network hand.old.tasks hand.new.outcomes hand.new.tasks) (λ i. WereCommitted B.Kinds.family B.Kinds.admits machine.old.network hand.old.tasks hand.new.outcomes (i ∷ hand.new.tasks)) }
+    ensures called { MatchOption result ((hand.new.called ≡ 0) × (length hand.new.outcomes ≡ hand.old.called)) (λ _. hand.new.called + 1 + length hand.new.outcomes ≡ hand.old.called) }
+    ensures count { MatchOption result (length hand.new.tasks + length hand.new.outcomes ≡ length hand.old.tasks) (λ _. length hand.new.tasks + 1 + length hand.new.outcomes ≡ length hand.old.tasks) }
+{
+    while let Some(finished) = hand.give() {
+        if !machine.has_asked(&finished) {
+            return Some(finished);
+        }
+        let outcome = give_one(machine, finished);
+        hand.note(outcome);
+    }
+    None
+}

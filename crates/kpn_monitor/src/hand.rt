@@ -1,0 +1,148 @@
+//! What a worker holds.
+ghost use Rattle.std.specs.Prelude.{◌≡◌, ◌+◌, ◌<◌, ◌≤◌, [], ◌∷◌, ◌++◌, Some, length, slice_get, IfOk, IfNone, IfSome};
+ghost use Rattle.circular_buffer.specs.Buffer.{buffer};
+ghost use Rattle.kpn_body.specs.Input.{Input};
+
+use circular_buffer::HeapCircularBuffer;
+use kpn_body::{Body, Finished, Task};
+use kpn_machine::Outcome;
+use kpn_net::Answer;
+use std::alloc::{AllocError, Global};
+use std::marker::Model;
+
+/// How many tasks a hand holds at most.
+const ROOM: usize = 16;
+
+/// The tasks that a worker holds, at most 16, and what came of the answers that it gave last.
+///
+/// The tasks stay in their place from the taking to the commit, each with its answer beside it once it
+/// is called. All memory is taken at the start. Into how many parts the ready processes are shared out
+/// (`sharers`) is told by no contract.
+#[derive(Drop)]
+pub struct Hand<B: Body> {
+    tasks: HeapCircularBuffer<Task<B>>,
+    answers: HeapCircularBuffer<Answer>,
+    outcomes: Vec<Outcome>,
+    sharers: usize,
+    wanted_rest: bool,
+}
+
+impl<B: Body> Model for Hand<B> {
+    ghost use Rattle.std.specs.Prelude.{◌≡◌, ◌≤◌, length, vec_capacity};
+    ghost use Rattle.kpn_monitor.specs.Names.{Holding};
+    ghost use Rattle.kpn_monitor.specs.Hands.{AreAnswers};
+
+    ghost Value = { Holding };
+
+    ghost view = { λ h. record { tasks = h.tasks.items; called = length h.answers.items; outcomes = h.outcomes.items } };
+
+    ghost invariant = { λ h. (h.tasks.capacity ≡ 16) × (h.answers.capacity ≡ 16) × (16 ≤ vec_capacity h.outcomes) × (length h.tasks.items ≤ 16) × (length h.answers.items ≤ length h.tasks.items) × AreAnswers B.Kinds.family h.tasks.items h.answers.items };
+}
+
+impl<B: Body> Hand<B> {
+    /// An empty hand, of a worker that shares the ready processes with others: of that many workers in
+    /// all, of which 0 counts as 1. The error is want of memory.
+    pub fn new(alloc: Global, sharers: usize) -> Result<Hand<B>, AllocError>
+        ensures { IfOk result (λ h. h ≡ record { tasks = []; called = 0; outcomes = [] }) }
+    {
+        Ok(Hand {
+            tasks: HeapCircularBuffer::with_capacity(alloc, ROOM)?,
+            answers: HeapCircularBuffer::with_capacity(alloc, ROOM)?,
+            outcomes: Vec::with_capacity(alloc, ROOM)?,
+            sharers: sharers.max(1),
+            wanted_rest: false,
+        })
+    }
+
+    /// Calls the first task that was not called yet, and tells its process. `None` exactly where all
+    /// were called, and nothing changes. Takes no lock and no memory.
+    #[inline]
+    pub fn call(&mut self) -> Option<usize>
+        ensures none { IfNone result ((self.old.called ≡ length self.old.tasks) × (self.new ≡ self.old)) }
+        ensures some { IfSome result (λ p. (i : Input) × (slice_get self.old.tasks self.old.called ≡ Some i) × (i.process ≡ p)) }
+        ensures called { IfSome result (λ _. (self.new ≡ record self.old { called = self.old.called + 1 }) × (self.old.called < length self.old.tasks)) }
+    {
+        let task = self.tasks.get(self.answers.len())?;
+        let process = task.process();
+        let answer = task.ask();
+        append(&mut self.answers, answer);
+        Some(process)
+    }
+
+    /// What came of the answers that were given last, in the order of their tasks.
+    pub fn outcomes(&self) -> &[Outcome]
+        ensures { result.now ≡ self.now.outcomes }
+    {
+        self.outcomes.as_slice()
+    }
+
+    /// Forgets what came of earlier answers.
+    pub(crate) fn forget(&mut self)
+        ensures forgotten { self.new ≡ record self.old { outcomes = [] } }
+        ensures few { length self.old.tasks ≤ 16 }
+        ensures within { self.old.called ≤ length self.old.tasks }
+    {
+        self.outcomes.clear();
+    }
+
+    /// The first task with its answer, where it was called.
+    #[inline]
+    pub(crate) fn give(&mut self) -> Option<Finished<B>>
+        ensures none { IfNone result ((self.old.called ≡ 0) × (self.new ≡ self.old)) }
+        ensures first { IfSome result (λ i. self.old.tasks ≡ i ∷ self.new.tasks) }
+        ensures called { IfSome result (λ _. self.old.called ≡ self.new.called + 1) }
+        ensures outcomes { self.new.outcomes ≡ self.old.outcomes }
+    {
+        let answer = self.answers.pop_front()?;
+        let Some(task) = self.tasks.pop_front() else {
+            unreachable!()
+        };
+        Some(task.answered(answer))
+    }
+
+    /// Keeps what came of an answer.
+    #[inline]
+    pub(crate) fn note(&mut self, outcome: Outcome)
+        requires { length self.old.outcomes < 16 }
+        ensures { self.new ≡ record self.old { outcomes = self.old.outcomes ++ outcome ∷ [] } }
+    {
+        self.outcomes.push_reserved(outcome);
+    }
+
+    /// Takes a task.
+    #[inline]
+    pub(crate) fn put(&mut self, task: Task<B>)
+        requires { length self.old.tasks < 16 }
+        ensures { self.new ≡ record self.old { tasks = self.old.tasks ++ task ∷ [] } }
+    {
+        append(&mut self.tasks, task);
+    }
+
+    /// How many tasks to take where so many are ready, and at most so many are wanted: its share, but
+    /// one at least.
+    pub(crate) fn wanted(&self, ready: usize, most: usize) -> usize
+        ensures { (1 ≤ result) × (result ≤ 16) }
+    {
+        (ready / self.sharers.max(1)).min(most).clamp(1, ROOM)
+    }
+
+    /// Whether its worker wants to rest for the first time.
+    pub(crate) fn wants_rest_anew(&mut self) -> bool
+        ensures { self.new ≡ self.old }
+    {
+        let anew = !self.wanted_rest;
+        self.wanted_rest = true;
+        anew
+    }
+}
+
+// Appends an item, for which there is room.
+#[inline]
+fn append<T: Drop>(ring: &mut HeapCircularBuffer<T>, item: T)
+    requires { length ring.old.items < ring.old.capacity }
+    ensures { ring.new ≡ buffer (ring.old.items ++ item ∷ []) ring.old.capacity }
+{
+    if ring.try_push_back(item).is_err() {
+        unreachable!()
+    }
+}

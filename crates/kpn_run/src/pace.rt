@@ -1,0 +1,157 @@
+//! How a worker goes about its work: how many tasks it takes at a time, and when it rests.
+//!
+//! No contract rests on what is told here. Times are in nanoseconds from any start.
+
+use kpn_monitor::{Next, Rest};
+
+/// The most tasks of one round.
+const MOST: usize = 16;
+/// Where the calls of a round take less than so many of its exchanges, the next round has up to twice as
+/// many tasks.
+const FEW_EXCHANGES: u64 = 8;
+/// Where they take longer than so many, it has half as many.
+const MANY_EXCHANGES: u64 = 16;
+/// After a round whose calls took less, so many rounds go by without a look at the clock.
+const BRIEF: u64 = 1_000;
+
+const UNTIMED_ROUNDS: u32 = 7;
+/// After so many more rounds that weren't worth it than rounds that were, a worker is spare.
+const PATIENCE: u32 = 8;
+/// A worker that finds nothing to do looks again for as long as its last calls took, and no longer than
+/// this, before it rests.
+const LONGEST_LOOK: u64 = 50_000;
+
+/// What a worker does after an exchange.
+#[derive(Clone, Copy)]
+pub(crate) enum Step {
+    Go,
+    Pause,
+    Rest(Rest),
+}
+
+/// What a worker knows of its last rounds. A round is an exchange, and the calls of the tasks that it
+/// gave.
+#[derive(Clone, Copy)]
+pub(crate) struct Pace {
+    /// How many tasks to take.
+    most: usize,
+    /// How long the last calls took, and the last exchange.
+    calling: u64,
+    exchanging: u64,
+    /// How long the worker has found nothing to do.
+    looking: u64,
+    /// How many more rounds weren't worth it than were.
+    strain: u32,
+    /// When the last calls, exchange or rest ended.
+    then: u64,
+    /// How many rounds to come are not timed.
+    untimed: u32,
+}
+
+impl Pace {
+    /// A worker begins now.
+    pub(crate) fn new(now: u64) -> Pace {
+        Pace {
+            most: 1,
+            calling: 0,
+            exchanging: 0,
+            looking: 0,
+            strain: 0,
+            then: now,
+            untimed: 0,
+        }
+    }
+
+    /// Whether the clock is looked at in this round.
+    pub(crate) fn is_timed(&self) -> bool {
+        self.untimed == 0
+    }
+
+    /// How many tasks to take after a round that wasn't timed.
+    pub(crate) fn most(&self) -> usize {
+        self.most.max(1)
+    }
+
+    /// A round that wasn't timed has ended. Whether the next one is.
+    pub(crate) fn pass(&mut self) -> bool {
+        self.untimed = self.untimed.saturating_sub(1);
+        self.untimed == 0
+    }
+
+    /// A round that is timed begins now.
+    pub(crate) fn resume(&mut self, now: u64) {
+        self.untimed = 0;
+        self.then = now;
+    }
+
+    /// All tasks that there were have been called, and it is now. How many to take: none where the worker
+    /// is spare, since of late the exchanges took longer than the calls.
+    pub(crate) fn called(&mut self, some: bool, now: u64) -> usize {
+        let took = now.saturating_sub(self.then);
+        self.then = now;
+        if some {
+            self.judge(took);
+        } else {
+            self.looking = self.looking.saturating_add(took);
+        }
+        if self.strain >= PATIENCE {
+            0
+        } else {
+            self.most()
+        }
+    }
+
+    /// The calls of a round took so long.
+    fn judge(&mut self, took: u64) {
+        self.calling = took;
+        if took < self.exchanging.saturating_mul(FEW_EXCHANGES) {
+            self.most = self.most.saturating_mul(2).min(MOST);
+        } else if took > self.exchanging.saturating_mul(MANY_EXCHANGES) {
+            self.most /= 2;
+        }
+        if took < self.exchanging {
+            self.strain = self.strain.saturating_add(1);
+        } else {
+            self.strain = self.strain.saturating_sub(1);
+        }
+    }
+
+    /// An exchange has ended, and it is now.
+    pub(crate) fn exchanged(&mut self, next: Next, now: u64) -> Step {
+        self.exchanging = now.saturating_sub(self.then);
+        self.then = now;
+        match next {
+            Next::Tasks | Next::Over(_) => {
+                self.looking = 0;
+                if self.calling < BRIEF {
+                    self.untimed = UNTIMED_ROUNDS;
+                }
+                Step::Go
+            }
+            Next::Nothing => self.step_without_task(),
+        }
+    }
+
+    fn step_without_task(&mut self) -> Step {
+        self.looking = self.looking.saturating_add(self.exchanging);
+        if self.strain >= PATIENCE {
+            Step::Rest(Rest::Spare)
+        } else if self.looking > self.calling.min(LONGEST_LOOK) {
+            Step::Rest(Rest::Idle)
+        } else {
+            Step::Pause
+        }
+    }
+
+    /// The worker has rested, or was told that it is needed, and it is now. A spare worker that has rested
+    /// is spare again after one more round that isn't worth it.
+    pub(crate) fn rested(&mut self, rested: bool, now: u64) {
+        self.looking = 0;
+        self.then = now;
+        self.strain = if rested {
+            self.strain.min(PATIENCE - 1)
+        } else {
+            0
+        };
+    }
+}

@@ -1,0 +1,138 @@
+//! What a worker of a run does.
+ghost use Rattle.std.specs.Prelude.{◌≡◌, length, IfNone};
+
+use crate::pace::{Pace, Step};
+use crate::worker::Gate;
+use kpn_body::{Body, Finished};
+use kpn_machine::Stranger;
+use kpn_monitor::{EntryLedger, Hand, Monitor, Next, Rest, Seat};
+use std::hint::spin_loop;
+use std::rt::Clock;
+use std::sync::Wait;
+use std::sync::ledger::Ledger;
+use std::time::{Duration, Instant};
+
+/// How long a worker rests at a time that is spare, and one that finds nothing to do, in microseconds.
+const SPARE_REST: u64 = 1_000;
+
+const IDLE_REST: u64 = 100;
+
+/// How often a worker pauses between two looks for something to do.
+const PAUSES: u32 = 64;
+
+/// Tells how many nanoseconds have gone by since it was made.
+#[derive(Clone, Copy)]
+struct Stopwatch {
+    start: Option<Instant>,
+}
+
+impl Stopwatch {
+    fn new<R: Clock>(rt: &R) -> Stopwatch {
+        Stopwatch {
+            start: Instant::now(rt).ok(),
+        }
+    }
+
+    /// 0 where the clock can't be read.
+    fn nanos<R: Clock>(&self, rt: &R) -> u64 {
+        let Some(start) = self.start else {
+            return 0;
+        };
+        match start.elapsed(rt) {
+            Ok(past) => u64::try_from(past.as_nanos()).unwrap_or(u64::MAX),
+            Err(_) => 0,
+        }
+    }
+}
+
+/// Calls the tasks of a hand, asks the gate after each, and exchanges the answers for other tasks, again
+/// and again, until the run is over or an answer is refused. Where none was, the seat has met an end. It
+/// may wait for other workers.
+pub(crate) fn work_in_rounds<B: Body, E: EntryLedger, O: Ledger, R: Wait + Clock, G: Gate>(
+    rt: &R,
+    monitor: &Monitor<B, E, O>,
+    gate: &G,
+    seat: &mut Seat<E, O>,
+    hand: &mut Hand<B>,
+) -> Option<Finished<B>>
+    ensures parts { seat.new.parts ≡ seat.old.parts }
+    ensures over { IfNone result (seat.new.overs ≡ 1) }
+{
+    let watch = Stopwatch::new(rt);
+    let mut pace = Pace::new(0);
+    for _ in rt.forever() {
+        let some = call_all(hand, gate);
+        let most = if pace.is_timed() {
+            pace.called(some, watch.nanos(rt))
+        } else {
+            pace.most()
+        };
+        match monitor.exchange(rt, hand, seat, most) {
+            Ok(Next::Over(_)) => return None,
+            Ok(next) => go_on(rt, monitor, hand, &watch, &mut pace, next),
+            Err(Stranger { finished }) => return Some(finished),
+        }
+    }
+    unreachable!()
+}
+
+// After an exchange: goes on, pauses or rests.
+fn go_on<B: Body, E: EntryLedger, O: Ledger, R: Wait + Clock>(
+    rt: &R,
+    monitor: &Monitor<B, E, O>,
+    hand: &mut Hand<B>,
+    watch: &Stopwatch,
+    pace: &mut Pace,
+    next: Next,
+) {
+    if !pace.is_timed() && matches!(next, Next::Tasks) {
+        if pace.pass() {
+            pace.resume(watch.nanos(rt));
+        }
+        return;
+    }
+    if !pace.is_timed() {
+        pace.resume(watch.nanos(rt));
+    }
+    let step = pace.exchanged(next, watch.nanos(rt));
+    take_step(rt, monitor, hand, watch, pace, step);
+}
+
+// Calls all tasks of a hand, and asks the gate after each. Whether there were any.
+fn call_all<B: Body, G: Gate>(hand: &mut Hand<B>, gate: &G) -> bool
+    ensures { hand.new.called ≡ length hand.new.tasks }
+{
+    let mut some = false;
+    while let Some(process) = hand.call() {
+        gate.before_commit(process);
+        some = true;
+    }
+    some
+}
+
+// Goes on, pauses or rests.
+fn take_step<B: Body, E: EntryLedger, O: Ledger, R: Wait + Clock>(
+    rt: &R,
+    monitor: &Monitor<B, E, O>,
+    hand: &mut Hand<B>,
+    watch: &Stopwatch,
+    pace: &mut Pace,
+    step: Step,
+) {
+    match step {
+        Step::Go => {}
+        Step::Pause => {
+            for _ in 0..PAUSES {
+                spin_loop();
+            }
+        }
+        Step::Rest(why) => {
+            let long = match why {
+                Rest::Spare => SPARE_REST,
+                Rest::Idle => IDLE_REST,
+            };
+            let rested = monitor.rest(rt, hand, why, Duration::from_micros(long));
+            pace.rested(rested, watch.nanos(rt));
+        }
+    }
+}

@@ -1,0 +1,124 @@
+//! Hands that a caller exchanges at a monitor.
+ghost use Rattle.std.specs.Prelude.{◌≡◌, length};
+
+use kpn_body::Body;
+use kpn_machine::Outcome;
+use kpn_monitor::{EntryLedger, Hand, Monitor, Next, Opening, Rest, Seat};
+use kpn_net::End;
+use kpn_watch::{Phase, Progress};
+use std::alloc::{AllocError, Global};
+use std::process::Abort;
+use std::rt::Clock;
+use std::sync::Wait;
+use std::sync::ledger::Ledger;
+use std::time::Duration;
+
+/// What an exchange came to: how many tasks were called before it, how many entries its answers
+/// appended, and what the hand was given.
+#[derive(Clone, Copy, Debug, PartialEq, Eq)]
+struct Round {
+    called: usize,
+    entries: usize,
+    next: Next,
+}
+
+/// Calls all tasks of a hand, and tells how many.
+fn call_all<B: Body, R: Wait>(rt: &R, hand: &mut Hand<B>) -> usize
+    ensures { hand.new.called ≡ length hand.new.tasks }
+{
+    let mut count = 0usize;
+    for _ in rt.forever() {
+        match hand.call() {
+            Some(_) => count = count.saturating_add(1),
+            None => return count,
+        }
+    }
+    unreachable!()
+}
+
+/// How many entries these outcomes stand for.
+fn entries_of(outcomes: &[Outcome]) -> usize {
+    let mut entries = 0usize;
+    for outcome in outcomes {
+        match *outcome {
+            Outcome::Done(count) | Outcome::Parked(count) => {
+                entries = entries.saturating_add(count);
+            }
+            Outcome::LaidBack => {}
+        }
+    }
+    entries
+}
+
+fn play_round<B: Body, E: EntryLedger, O: Ledger, R: Wait + Abort>(
+    rt: &R,
+    monitor: &Monitor<B, E, O>,
+    hand: &mut Hand<B>,
+    seat: &mut Seat<E, O>,
+    most: usize,
+) -> Round {
+    let called = call_all(rt, hand);
+    let Ok(next) = monitor.exchange(rt, hand, seat, most) else {
+        panic!(rt; "a stranger");
+    };
+    assert!(rt; hand.outcomes().len() == called);
+    Round {
+        called,
+        entries: entries_of(hand.outcomes()),
+        next,
+    }
+}
+
+/// One hand plays a counter of three into a sink of three to its end. In each round but the first both
+/// processes do what they do next; once a hand asks for no task, and once it is idle.
+pub(crate) fn exchanged<B: Body, E: EntryLedger, O: Ledger, R: Wait + Clock + Abort>(
+    rt: &R,
+    alloc: Global,
+    opening: Opening<B>,
+) -> Result<(), AllocError>
+    requires network { opening.machine.network ≡ E.net }
+    requires board { opening.board ≡ E.board }
+    requires entries { (opening.entries.name ≡ E.name) × (opening.entries.parts ≡ E.parts) }
+    requires overs { (opening.overs.name ≡ O.name) × (opening.overs.parts ≡ O.parts) }
+{
+    let (monitor, mut seat) = Monitor::<B, E, O>::open(opening);
+    let Ok(mut watcher) = monitor.watch(rt) else {
+        panic!(rt; "no watcher");
+    };
+    let mut hand = Hand::new(alloc, 1)?;
+    let due = [
+        (16, 0, 0, Next::Tasks),
+        (16, 2, 2, Next::Tasks),
+        (0, 2, 2, Next::Nothing),
+        (16, 0, 0, Next::Tasks),
+        (16, 2, 2, Next::Tasks),
+        (16, 2, 2, Next::Over(End::Terminated)),
+    ];
+    for (most, called, entries, next) in due {
+        let round = play_round(rt, &monitor, &mut hand, &mut seat, most);
+        assert_eq!(rt;
+            round,
+            Round {
+                called,
+                entries,
+                next
+            }
+        );
+    }
+    let rested = monitor.rest(rt, &mut hand, Rest::Idle, Duration::from_millis(1));
+    assert!(rt; !rested);
+    let shown = Progress {
+        entries: 8,
+        growths: 0,
+        phase: Phase::Terminated,
+    };
+    assert!(rt; monitor.look(&mut watcher) == shown);
+    let mut seats = Vec::new(alloc);
+    seats.push(seat)?;
+    let Ok(closed) = monitor.close(seats) else {
+        panic!(rt; "not closed");
+    };
+    assert_eq!(rt; closed.end(), Some(End::Terminated));
+    assert_eq!(rt; closed.receipts(), 8);
+    Ok(())
+}
