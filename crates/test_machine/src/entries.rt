@@ -1,0 +1,51 @@
+//! The entries that the histories have.
+use kpn_net::Deed::{Put, Stopped, Took};
+use kpn_net::Entry;
+use kpn_net::Entry::{Did, Grew};
+use kpn_net::Token::Word;
+
+/// The counter writes its first token.
+pub(crate) const PUT_1: Entry = Did {
+    process: 0,
+    deed: Put {
+        channel: 0,
+        token: Word(1),
+    },
+};
+
+pub(crate) const PUT_2: Entry = Did {
+    process: 0,
+    deed: Put {
+        channel: 0,
+        token: Word(2),
+    },
+};
+
+pub(crate) const PUT_3: Entry = Did {
+    process: 0,
+    deed: Put {
+        channel: 0,
+        token: Word(3),
+    },
+};
+
+/// The sink reads the first token.
+pub(crate) const TOOK_1: Entry = Did {
+    process: 1,
+    deed: Took {
+        channel: 0,
+        token: Word(1),
+    },
+};
+
+pub(crate) const COUNTER_STOPPED: Entry = Did {
+    process: 0,
+    deed: Stopped,
+};
+
+pub(crate) const SINK_STOPPED: Entry = Did {
+    process: 1,
+    deed: Stopped,
+};
+
+pub(crate) const GREW: Entry = Grew { channel: 0, to: 2 };

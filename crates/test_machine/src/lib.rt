@@ -1,0 +1,21 @@
+//! Tests of kpn_machine, in a crate of their own so that kpn_machine is proved once.
+#![tactic(auto)]
+
+#[cfg(test)]
+mod ends;
+#[cfg(test)]
+mod entries;
+#[cfg(test)]
+mod histories;
+#[cfg(test)]
+mod machines;
+#[cfg(test)]
+mod networks;
+#[cfg(test)]
+mod openings;
+#[cfg(test)]
+mod refusals;
+#[cfg(test)]
+mod standings;
+#[cfg(test)]
+mod strangers;

@@ -1,0 +1,116 @@
+//! What a machine is opened with, and what it hands back.
+use crate::machines::{CardMachine, machine_of, opened};
+use crate::networks::{COUNTER, Parts, SINK, SINK_OF_THREE, parts_of};
+use kpn_body::{Body, Standard};
+use kpn_compute::CardBody;
+use kpn_machine::{Machine, OpenFault, OpenRefused, cards_of};
+use kpn_net::{Card, Net};
+use std::alloc::{AllocError, Global};
+use std::process::Abort;
+use std::test::Fail;
+
+/// Compares the cards of bodies, in order.
+fn assert_cards<R: Abort>(rt: &R, bodies: &[CardBody<Standard>], cards: &[Card], name: &str) {
+    assert_eq!(rt; bodies.len(), cards.len(), "{name}");
+    for (body, card) in bodies.iter().zip(cards.iter()) {
+        assert_eq!(rt; body.card(), *card, "{name}");
+    }
+}
+
+/// What a fresh machine was opened with.
+fn taken_apart<R: Abort>(rt: &R, machine: CardMachine) -> Parts {
+    assert!(rt; machine.is_fresh());
+    let (net, bodies) = machine.into_parts();
+    Parts { net, bodies }
+}
+
+/// Compares the parts of a machine of a counter and a sink of three.
+fn assert_parts<R: Abort>(rt: &R, alloc: Global, parts: &Parts) -> Result<(), AllocError> {
+    let cards = cards_of(alloc, &parts.net)?;
+    assert_eq!(rt; cards.as_slice(), [COUNTER, SINK].as_slice());
+    assert_cards(rt, parts.bodies.as_slice(), &[COUNTER, SINK], "fresh");
+    Ok(())
+}
+
+#[test]
+fn the_parts_of_a_fresh_machine_open_again(rt: HostRuntime) -> Result<(), Fail> {
+    let machine = machine_of(&rt, rt.alloc(), SINK_OF_THREE)?;
+    let parts = taken_apart(&rt, machine);
+    assert_parts(&rt, rt.alloc(), &parts)?;
+    let Parts { net, bodies } = parts;
+    let machine = opened(&rt, rt.alloc(), net, bodies)?;
+    assert!(rt; machine.is_fresh());
+    Ok(())
+}
+
+/// What a machine was not opened with: the fault with its number, and the cards of the bodies.
+#[derive(Clone, Copy)]
+pub(crate) struct Misfit {
+    pub(crate) name: &'static str,
+    pub(crate) fault: OpenFault,
+    pub(crate) number: u8,
+    pub(crate) cards: &'static [Card],
+}
+
+const TOO_FEW: Misfit = Misfit {
+    name: "too few",
+    fault: OpenFault::Bodies,
+    number: 1,
+    cards: &[COUNTER],
+};
+
+const TURNED: Misfit = Misfit {
+    name: "turned",
+    fault: OpenFault::Card,
+    number: 2,
+    cards: &[SINK, COUNTER],
+};
+
+/// Compares what was handed back with what was to be opened.
+pub(crate) fn assert_handed_back<R: Abort>(
+    rt: &R,
+    refused: &OpenRefused<CardBody<Standard>>,
+    due: &Misfit,
+) {
+    let name = due.name;
+    assert_eq!(rt; refused.fault, due.fault, "{name}");
+    assert_eq!(rt; refused.fault.number(), due.number, "{name}");
+    assert_eq!(rt; refused.net.processes(), 2, "{name}");
+    assert_cards(rt, refused.bodies.as_slice(), due.cards, name);
+}
+
+/// Is refused a machine, and handed back what it was to be opened with.
+fn open_misfit<R: Abort>(
+    rt: &R,
+    alloc: Global,
+    net: Net<Standard>,
+    bodies: Vec<CardBody<Standard>>,
+    due: &Misfit,
+) {
+    let name = due.name;
+    match Machine::open(alloc, net, bodies) {
+        Ok(_) => panic!(rt; "opened with bodies: {name}"),
+        Err(refused) => assert_handed_back(rt, &refused, due),
+    }
+}
+
+fn open_with_too_few<R: Abort>(rt: &R, alloc: Global) -> Result<(), AllocError> {
+    let Parts { net, mut bodies } = parts_of(rt, alloc, SINK_OF_THREE)?;
+    bodies.pop();
+    open_misfit(rt, alloc, net, bodies, &TOO_FEW);
+    Ok(())
+}
+
+fn open_with_turned<R: Abort>(rt: &R, alloc: Global) -> Result<(), AllocError> {
+    let Parts { net, mut bodies } = parts_of(rt, alloc, SINK_OF_THREE)?;
+    bodies.reverse();
+    open_misfit(rt, alloc, net, bodies, &TURNED);
+    Ok(())
+}
+
+#[test]
+fn bodies_that_do_not_fit_are_handed_back(rt: HostRuntime) -> Result<(), Fail> {
+    open_with_too_few(&rt, rt.alloc())?;
+    open_with_turned(&rt, rt.alloc())?;
+    Ok(())
+}

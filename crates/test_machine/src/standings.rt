@@ -1,0 +1,220 @@
+//! Where the processes stand, from the opening to the end.
+use crate::entries::PUT_1;
+use crate::machines::{CardMachine, CardTask, commit_of, machine_of, take, take_all};
+use crate::networks::{SINK_OF_THREE, Sizes};
+use kpn_machine::Outcome::{Done, LaidBack};
+use kpn_machine::Standing;
+use kpn_machine::Standing::{Out, Ready, Stopped};
+use kpn_net::Act::Read;
+use kpn_net::{Answer, End};
+use std::alloc::{AllocError, Global};
+use std::process::Abort;
+use std::test::Fail;
+
+/// How many processes are ready and how many out, how many answers were taken, and whether the
+/// machine is fresh.
+#[derive(Clone, Copy, Debug, PartialEq, Eq)]
+struct Counts {
+    ready: usize,
+    out: usize,
+    commits: u64,
+    fresh: bool,
+}
+
+/// Where the two processes stand.
+#[derive(Clone, Copy)]
+struct Stand {
+    standings: [Standing; 2],
+    counts: Counts,
+}
+
+const FRESH: Stand = Stand {
+    standings: [Ready, Ready],
+    counts: Counts {
+        ready: 2,
+        out: 0,
+        commits: 0,
+        fresh: true,
+    },
+};
+
+const COUNTER_OUT: Stand = Stand {
+    standings: [Out, Ready],
+    counts: Counts {
+        ready: 1,
+        out: 1,
+        commits: 0,
+        fresh: false,
+    },
+};
+
+const SINK_OUT: Stand = Stand {
+    standings: [Ready, Out],
+    counts: Counts {
+        ready: 1,
+        out: 1,
+        commits: 0,
+        fresh: false,
+    },
+};
+
+const BOTH_OUT: Stand = Stand {
+    standings: [Out, Out],
+    counts: Counts {
+        ready: 0,
+        out: 2,
+        commits: 0,
+        fresh: false,
+    },
+};
+
+/// The sink of three that waits for its first token.
+const SINK_WAITS: Stand = Stand {
+    standings: [
+        Out,
+        Standing::Parked(Answer {
+            next: [1, 0, 0, 0],
+            act: Read(0),
+        }),
+    ],
+    counts: Counts {
+        ready: 0,
+        out: 1,
+        commits: 1,
+        fresh: false,
+    },
+};
+
+const FIRST_TOKEN_TAKEN: Stand = Stand {
+    standings: [Ready, Ready],
+    counts: Counts {
+        ready: 2,
+        out: 0,
+        commits: 2,
+        fresh: false,
+    },
+};
+
+const OVER: Stand = Stand {
+    standings: [Stopped, Stopped],
+    counts: Counts {
+        ready: 0,
+        out: 0,
+        commits: 8,
+        fresh: false,
+    },
+};
+
+fn counts_of(machine: &CardMachine) -> Counts {
+    Counts {
+        ready: machine.ready(),
+        out: machine.out(),
+        commits: machine.commits(),
+        fresh: machine.is_fresh(),
+    }
+}
+
+fn assert_stand<R: Abort>(rt: &R, machine: &CardMachine, due: &Stand, moment: &str) {
+    assert_eq!(rt; machine.standings(), due.standings.as_slice(), "{moment}");
+    assert_eq!(rt; counts_of(machine), due.counts, "{moment}");
+}
+
+/// Takes both processes, one after the other.
+fn go_out<R: Abort>(
+    rt: &R,
+    machine: &mut CardMachine,
+    tasks: &mut Vec<CardTask>,
+) -> Result<(), AllocError> {
+    assert_stand(rt, machine, &FRESH, "opened");
+    let first = take(machine).expect(rt, "none is ready");
+    let one_out = match first.process() {
+        0 => COUNTER_OUT,
+        _ => SINK_OUT,
+    };
+    assert_stand(rt, machine, &one_out, "one out");
+    tasks.push(first)?;
+    take_all(machine, tasks)?;
+    assert_stand(rt, machine, &BOTH_OUT, "both out");
+    assert!(rt; take(machine).is_none());
+    Ok(())
+}
+
+/// Commits the answers of both processes, which are out, and then the others to the end.
+fn come_back<R: Abort>(
+    rt: &R,
+    machine: &mut CardMachine,
+    tasks: &mut Vec<CardTask>,
+) -> Result<(), AllocError> {
+    commit_of(rt, machine, tasks, 1)?;
+    assert_stand(rt, machine, &SINK_WAITS, "the sink waits");
+    commit_of(rt, machine, tasks, 0)?;
+    assert_stand(rt, machine, &FIRST_TOKEN_TAKEN, "the first token is taken");
+    for process in [0, 1, 0, 1, 0, 1] {
+        commit_of(rt, machine, tasks, process)?;
+    }
+    assert_stand(rt, machine, &OVER, "over");
+    Ok(())
+}
+
+#[test]
+fn a_machine_tells_where_its_processes_stand(rt: HostRuntime) -> Result<(), Fail> {
+    let mut machine = machine_of(&rt, rt.alloc(), SINK_OF_THREE)?;
+    let mut tasks = Vec::with_capacity(rt.alloc(), 2)?;
+    assert_eq!(rt; machine.net().channels(), 1);
+    go_out(&rt, &mut machine, &mut tasks)?;
+    come_back(&rt, &mut machine, &mut tasks)?;
+    assert_eq!(rt; machine.end(), Some(End::Terminated));
+    Ok(())
+}
+
+/// The budget is spent while the sink is out.
+const ONE_LATE: Stand = Stand {
+    standings: [Ready, Out],
+    counts: Counts {
+        ready: 1,
+        out: 1,
+        commits: 1,
+        fresh: false,
+    },
+};
+
+const LAID_BACK: Stand = Stand {
+    standings: [Ready, Ready],
+    counts: Counts {
+        ready: 2,
+        out: 0,
+        commits: 2,
+        fresh: false,
+    },
+};
+
+/// Commits the answer of the sink after the end.
+fn answer_late<R: Abort>(
+    rt: &R,
+    alloc: Global,
+    machine: &mut CardMachine,
+) -> Result<(), AllocError> {
+    let mut tasks = Vec::with_capacity(alloc, 2)?;
+    let outcome = commit_of(rt, machine, &mut tasks, 0)?;
+    assert_eq!(rt; outcome, Done(1));
+    assert_eq!(rt; machine.end(), Some(End::Budget));
+    assert_stand(rt, machine, &ONE_LATE, "the budget is spent");
+    let outcome = commit_of(rt, machine, &mut tasks, 1)?;
+    assert_eq!(rt; outcome, LaidBack);
+    assert_stand(rt, machine, &LAID_BACK, "laid back");
+    Ok(())
+}
+
+#[test]
+fn an_answer_after_the_end_is_laid_back(rt: HostRuntime) -> Result<(), Fail> {
+    let sizes = Sizes {
+        budget: 1,
+        ..SINK_OF_THREE
+    };
+    let mut machine = machine_of(&rt, rt.alloc(), sizes)?;
+    answer_late(&rt, rt.alloc(), &mut machine)?;
+    assert_eq!(rt; machine.end(), Some(End::Budget));
+    assert_eq!(rt; machine.history(), [PUT_1].as_slice());
+    assert!(rt; take(&mut machine).is_none());
+    Ok(())
+}

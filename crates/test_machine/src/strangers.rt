@@ -1,0 +1,181 @@
+//! Answers that a machine did not ask for.
+ghost use Rattle.std.specs.Prelude.{IsSome, None};
+
+use crate::entries::PUT_1;
+use crate::machines::{
+    CardFinished, CardMachine, CardTask, answer_of, commit_of, handed_back, machine_of, outcome_of,
+    take, take_all,
+};
+use crate::networks::{COUNTER, Parts, SINK_OF_THREE, parts_of};
+use kpn_body::{Body, Finished, Task};
+use kpn_compute::{CardBody, Computes};
+use kpn_machine::Outcome::{Done, Parked};
+use kpn_net::{Card, Kinds, Local};
+use std::alloc::{AllocError, Global};
+use std::process::Abort;
+use std::test::Fail;
+
+/// The local state of a card at its start, in which it may be asked.
+fn start_of<K: Kinds>(card: Card) -> Local
+    requires { IsSome (K.signature_of card) }
+    ensures { K.admits card result None }
+{
+    let start = K::start(&card);
+    K::starts(card);
+    start
+}
+
+/// An answer of the body as the task of process 0 at its start, which no machine asked for.
+fn unasked<K: Computes>(body: CardBody<K>) -> Finished<CardBody<K>> {
+    let start = start_of::<K>(body.card());
+    Task::new(0, body, start, None).call()
+}
+
+/// The counter's first answer, from a body that no machine has.
+fn answer_of_another_body<R: Abort>(rt: &R, alloc: Global) -> Result<CardFinished, AllocError> {
+    let Parts { net: _, mut bodies } = parts_of(rt, alloc, SINK_OF_THREE)?;
+    bodies.pop();
+    let counter = bodies.pop().expect(rt, "no body");
+    Ok(unasked(counter))
+}
+
+/// Compares the counter's first answer.
+fn assert_first_answer<R: Abort>(rt: &R, finished: &CardFinished) {
+    assert_eq!(rt; finished.process(), 0);
+    assert_eq!(rt; finished.card(), COUNTER);
+    assert_eq!(rt; finished.local(), [0, 0, 0, 0]);
+    assert_eq!(rt; finished.last(), None);
+}
+
+/// Commits the counter's first answer again, which comes back and changes nothing.
+fn refuse_again<R: Abort>(
+    rt: &R,
+    machine: &mut CardMachine,
+    finished: CardFinished,
+) -> CardFinished {
+    assert!(rt; !machine.has_asked(&finished));
+    let finished = handed_back(rt, machine, finished);
+    assert_first_answer(rt, &finished);
+    assert_eq!(rt; machine.history(), [PUT_1].as_slice());
+    assert_eq!(rt; machine.commits(), 1);
+    finished
+}
+
+/// Both processes go out; the answer of the counter.
+fn counter_answers<R: Abort>(
+    rt: &R,
+    alloc: Global,
+    machine: &mut CardMachine,
+) -> Result<CardFinished, AllocError> {
+    let mut tasks = Vec::with_capacity(alloc, 2)?;
+    take_all(machine, &mut tasks)?;
+    Ok(answer_of(rt, &mut tasks, 0))
+}
+
+/// Commits the counter's first answer, which was asked for.
+fn accept_first<R: Abort>(rt: &R, machine: &mut CardMachine, finished: CardFinished) {
+    let outcome = outcome_of(rt, machine, finished);
+    assert_eq!(rt; outcome, Done(1));
+    assert_eq!(rt; machine.history(), [PUT_1].as_slice());
+    assert_eq!(rt; machine.commits(), 1);
+}
+
+/// Commits the counter's first answer where the counter is not out, which comes back and changes
+/// nothing.
+fn refuse_fresh<R: Abort>(
+    rt: &R,
+    machine: &mut CardMachine,
+    finished: CardFinished,
+) -> CardFinished {
+    let finished = handed_back(rt, machine, finished);
+    assert!(rt; machine.is_fresh());
+    assert_first_answer(rt, &finished);
+    finished
+}
+
+/// The task of the counter after its first token.
+fn second_task<R: Abort>(rt: &R, machine: &mut CardMachine) -> CardTask {
+    let task = take(machine).expect(rt, "the counter is not ready");
+    assert_eq!(rt; task.process(), 0);
+    assert_eq!(rt; task.card(), COUNTER);
+    assert_eq!(rt; task.local(), [1, 0, 0, 0]);
+    assert_eq!(rt; task.last(), None);
+    task
+}
+
+/// Refuses the counter's first answer while the counter is out in its next state, whose answer has to
+/// wait.
+fn refuse_while_out<R: Abort>(rt: &R, machine: &mut CardMachine, finished: CardFinished) {
+    let task = second_task(rt, machine);
+    refuse_again(rt, machine, finished);
+    let outcome = outcome_of(rt, machine, task.call());
+    assert_eq!(rt; outcome, Parked(0));
+    assert_eq!(rt; machine.commits(), 2);
+}
+
+/// The counter's first answer comes a second time: while the counter is ready, and while it is out in
+/// another state.
+#[test]
+fn an_answer_that_was_not_asked_for_is_handed_back(rt: HostRuntime) -> Result<(), Fail> {
+    let second = answer_of_another_body(&rt, rt.alloc())?;
+    let mut machine = machine_of(&rt, rt.alloc(), SINK_OF_THREE)?;
+    let finished = counter_answers(&rt, rt.alloc(), &mut machine)?;
+    accept_first(&rt, &mut machine, finished);
+    let second = refuse_again(&rt, &mut machine, second);
+    refuse_while_out(&rt, &mut machine, second);
+    Ok(())
+}
+
+/// The counter's answer in the one machine comes to the other, where the counter is not out: it is
+/// handed back, and accepted where it was asked for.
+#[test]
+fn an_answer_of_another_machine_is_handed_back(rt: HostRuntime) -> Result<(), Fail> {
+    let mut one = machine_of(&rt, rt.alloc(), SINK_OF_THREE)?;
+    let mut other = machine_of(&rt, rt.alloc(), SINK_OF_THREE)?;
+    let finished = counter_answers(&rt, rt.alloc(), &mut one)?;
+    let finished = refuse_fresh(&rt, &mut other, finished);
+    accept_first(&rt, &mut one, finished);
+    Ok(())
+}
+
+/// Commits what the counter answers after its first token, which has to wait.
+fn park_second<R: Abort>(
+    rt: &R,
+    alloc: Global,
+    machine: &mut CardMachine,
+) -> Result<(), AllocError> {
+    let mut tasks = Vec::with_capacity(alloc, 2)?;
+    let outcome = commit_of(rt, machine, &mut tasks, 0)?;
+    assert_eq!(rt; outcome, Parked(0));
+    Ok(())
+}
+
+/// Where both machines ask the same, the answer of the one is as good as that of the other; the one
+/// that comes second is handed back.
+#[test]
+fn an_answer_to_the_same_question_is_taken_once(rt: HostRuntime) -> Result<(), Fail> {
+    let mut one = machine_of(&rt, rt.alloc(), SINK_OF_THREE)?;
+    let mut other = machine_of(&rt, rt.alloc(), SINK_OF_THREE)?;
+    let finished = counter_answers(&rt, rt.alloc(), &mut one)?;
+    let own = counter_answers(&rt, rt.alloc(), &mut other)?;
+    accept_first(&rt, &mut other, finished);
+    refuse_again(&rt, &mut other, own);
+    park_second(&rt, rt.alloc(), &mut other)?;
+    Ok(())
+}
+
+/// The counter's first answer is taken without being compared again, since the machine said that it has
+/// asked for it.
+#[test]
+fn an_answer_that_was_asked_for_is_taken_at_once(rt: HostRuntime) -> Result<(), Fail> {
+    let mut machine = machine_of(&rt, rt.alloc(), SINK_OF_THREE)?;
+    let finished = counter_answers(&rt, rt.alloc(), &mut machine)?;
+    if !machine.has_asked(&finished) {
+        panic!(&rt; "the counter's answer was not asked for");
+    }
+    let outcome = machine.commit_asked(finished);
+    assert_eq!(&rt; outcome, Done(1));
+    assert_eq!(&rt; machine.history(), [PUT_1].as_slice());
+    assert_eq!(&rt; machine.commits(), 1);
+    Ok(())
+}
