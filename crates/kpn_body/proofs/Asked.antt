@@ -1,7 +1,7 @@
 -- What the tests ask is admitted.
 use Rattle.std.proofs.Common.{◌≡◌, ◌∷◌, [], Some, None, arith, sym, subst}
-use Rattle.kpn_net.specs.declared.kinds.Card.{Card}
-use Rattle.kpn_net.specs.declared.token.Token.TheVariants.{Word}
+use Rattle.kpn_model.specs.declared.kinds.Card.{Card}
+use Rattle.kpn_model.specs.declared.token.Token.TheVariants.{Word}
 use Rattle.kpn_standard.specs.Locals.{one}
 use Rattle.kpn_standard.specs.Signatures.{card}
 use Rattle.kpn_standard.specs.Admitted.{Admitted}

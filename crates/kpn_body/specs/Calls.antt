@@ -1,8 +1,8 @@
 -- What a stored closure of a card must meet.
 use Rattle.std.specs.Prelude.{◌≡◌, ℕ, List, Option}
 use Rattle.std.specs.Coded.{Π_prop, →_prop}
-use Rattle.kpn_net.specs.declared.token.Token.{Token}
-use Rattle.kpn_net.specs.declared.kinds.Answer.{Answer}
+use Rattle.kpn_model.specs.declared.token.Token.{Token}
+use Rattle.kpn_model.specs.declared.kinds.Answer.{Answer}
 use Rattle.kpn_body.specs.Equal.{answer_set}
 
 -- it may be called on all that the card admits

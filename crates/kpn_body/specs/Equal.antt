@@ -3,11 +3,11 @@ use Rattle.std.specs.Prelude.{◌≡◌, ◌⊎◌, ℕ, Bool, List}
 use Rattle.std.specs.Coded.{Coded, Coded-set, code_by, coded×, coded⊎, coded_ℕ, coded_bool, coded_list}
 use base.Stored.{coded_unit}
 use mathlib.Core.Logic.{inl, inr}
-use Rattle.kpn_net.specs.declared.token.Token.{Token}
-use Rattle.kpn_net.specs.declared.token.Token.TheVariants.{Word, Flag}
-use Rattle.kpn_net.specs.declared.kinds.Act.{Act}
-use Rattle.kpn_net.specs.declared.kinds.Act.TheVariants.{Read, Write, Stop}
-use Rattle.kpn_net.specs.declared.kinds.Answer.{Answer}
+use Rattle.kpn_model.specs.declared.token.Token.{Token}
+use Rattle.kpn_model.specs.declared.token.Token.TheVariants.{Word, Flag}
+use Rattle.kpn_model.specs.declared.kinds.Act.{Act}
+use Rattle.kpn_model.specs.declared.kinds.Act.TheVariants.{Read, Write, Stop}
+use Rattle.kpn_model.specs.declared.kinds.Answer.{Answer}
 
 -- a token as a number or a truth value, and back
 abbrev plain_token : Token → ℕ ⊎ Bool

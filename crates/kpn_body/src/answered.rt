@@ -2,7 +2,7 @@
 ghost use Rattle.std.specs.Prelude.{◌≡◌, IsSome};
 ghost use Rattle.kpn_body.specs.Input.{input, answer_to, IsAnswerTo};
 
-use kpn_net::{Answer, Card, Kinds, Local, Token};
+use kpn_model::{Answer, Card, Kinds, Local, Token};
 use std::marker::{Model, PhantomData};
 
 /// What a process was asked, and the answer that its card gives for it.

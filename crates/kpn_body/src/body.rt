@@ -1,7 +1,7 @@
 //! What answers for a process.
 ghost use Rattle.std.specs.Prelude.{◌≡◌, IsSome};
 
-use kpn_net::{Answer, Card, Kinds, Local, Token};
+use kpn_model::{Answer, Card, Kinds, Local, Token};
 
 /// What answers for the processes of one card: a card, and code that answers as the card says.
 ///
@@ -14,7 +14,7 @@ use kpn_net::{Answer, Card, Kinds, Local, Token};
 /// a type stores a boxed closure beside facts about the family's answers, and these can be stated
 /// where the family is known. `StandardBody` is the one of the standard kinds.
 pub trait Body: Send + Drop {
-    ghost use Rattle.kpn_net.specs.declared.kinds.Card.{Card};
+    ghost use Rattle.kpn_model.specs.declared.kinds.Card.{Card};
 
     /// The family.
     type Kinds: Kinds;

@@ -1,12 +1,12 @@
 //! The bodies of the standard kinds.
 ghost use Rattle.std.specs.Prelude.{◌≡◌, IsSome};
-ghost use Rattle.kpn_net.specs.Standard.{standard};
+ghost use Rattle.kpn_model.specs.Standard.{standard};
 ghost use Rattle.kpn_standard.specs.Signatures.{signature};
 ghost use Rattle.kpn_standard.specs.Admitted.{Admitted};
 ghost use Rattle.kpn_body.specs.Calls.{IsCallable, Answers, answers_prop};
 
 use crate::body::Body;
-use kpn_net::{Answer, Card, Local, Token};
+use kpn_model::{Answer, Card, Local, Token};
 use kpn_standard::Standard;
 
 /// A stored closure: from a local state, and the token of the read just done, to the answer.

@@ -4,7 +4,7 @@ ghost use Rattle.kpn_body.specs.Input.{input, answer_to};
 
 use crate::answered::Answered;
 use crate::body::Body;
-use kpn_net::{Answer, Card, Kinds, Local, Token};
+use kpn_model::{Answer, Card, Kinds, Local, Token};
 use std::marker::Model;
 
 /// A process that is asked for its next act, with the body that answers for it: the family admits

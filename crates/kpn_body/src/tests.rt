@@ -1,13 +1,13 @@
 //! Tasks of standard bodies: what the readers give, and two lines of the table of kinds.
 ghost use Rattle.std.specs.Prelude.{◌≡◌, IsSome, IfOk};
-ghost use Rattle.kpn_net.specs.Standard.{standard};
+ghost use Rattle.kpn_model.specs.Standard.{standard};
 ghost use Rattle.kpn_standard.specs.Signatures.{signature};
 ghost use Rattle.kpn_standard.specs.Admitted.{Admitted};
 
 use crate::*;
-use kpn_net::Act::Write;
-use kpn_net::Token::Word;
-use kpn_net::{Answer, Card, Kinds, Local, Token};
+use kpn_model::Act::Write;
+use kpn_model::Token::Word;
+use kpn_model::{Answer, Card, Kinds, Local, Token};
 use std::process::Abort;
 use std::test::Fail;
 

@@ -1,12 +1,12 @@
 -- The laws of two families as one.
 use Rattle.std.proofs.Common.{◌≡◌, ℕ, ◌<◌, ◌==◌, if◌then◌else◌, Bool, true, false, List, Option, Some, None, IsSome, option_and_then, refl, sym, ◌∙◌, ap, subst, arith}
-use Rattle.kpn_net.specs.declared.token.Token.{Token}
-use Rattle.kpn_net.specs.declared.kinds.Card.{Card}
-use Rattle.kpn_net.specs.declared.kinds.Signature.{Signature}
-use Rattle.kpn_net.specs.declared.kinds.Act.{Act}
-use Rattle.kpn_net.specs.declared.kinds.Act.TheVariants.{Read, Write, Stop}
-use Rattle.kpn_net.specs.Network.{Family}
-use Rattle.kpn_net.specs.Lawful.{sort_of, Fits, CardFits, port_at, NamesPort, AfterAct, LeadsOn, AreLawful}
+use Rattle.kpn_model.specs.declared.token.Token.{Token}
+use Rattle.kpn_model.specs.declared.kinds.Card.{Card}
+use Rattle.kpn_model.specs.declared.kinds.Signature.{Signature}
+use Rattle.kpn_model.specs.declared.kinds.Act.{Act}
+use Rattle.kpn_model.specs.declared.kinds.Act.TheVariants.{Read, Write, Stop}
+use Rattle.kpn_model.specs.Network.{Family}
+use Rattle.kpn_model.specs.Lawful.{sort_of, Fits, CardFits, port_at, NamesPort, AfterAct, LeadsOn, AreLawful}
 use Rattle.kpn_compute.specs.declared.both.TheConstants.{NO_KIND}
 use Rattle.kpn_compute.specs.Both.{is_first, own_card, both_ports, both_family, BothAdmit, picked}
 

@@ -1,10 +1,10 @@
 -- The laws of filters.
 use Rattle.std.proofs.Common.{◌≡◌, ℕ, Bool, true, false, List, [], ◌∷◌, length, Option, Some, None, IsSome, refl, arith}
 use Rattle.std.specs.List.{All}
-use Rattle.kpn_net.specs.declared.token.Token.{Token}
-use Rattle.kpn_net.specs.declared.token.Token.TheVariants.{Word, Flag}
-use Rattle.kpn_net.specs.declared.kinds.Card.{Card}
-use Rattle.kpn_net.specs.Lawful.{CardFits, NamesPort, LeadsOn, AreLawful}
+use Rattle.kpn_model.specs.declared.token.Token.{Token}
+use Rattle.kpn_model.specs.declared.token.Token.TheVariants.{Word, Flag}
+use Rattle.kpn_model.specs.declared.kinds.Card.{Card}
+use Rattle.kpn_model.specs.Lawful.{CardFits, NamesPort, LeadsOn, AreLawful}
 use Rattle.kpn_compute.specs.Filters.{ports_if, filter_ports, filter_answer, filter_family, IsWord, AreKept, FilterAdmits, OfEachCard, OfAllKept, KeepWords}
 
 -- what holds of three words written out holds of a list of three

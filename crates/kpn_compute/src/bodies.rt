@@ -1,6 +1,6 @@
 //! Bodies that are a card alone.
 ghost use Rattle.std.specs.Prelude.{◌≡◌, ◌<◌, IsSome, IfOk, Some, length, map, slice_get};
-ghost use Rattle.kpn_net.specs.Valid.{IsValid};
+ghost use Rattle.kpn_model.specs.Valid.{IsValid};
 
 use crate::computes::Computes;
 use kpn_body::Body;
@@ -17,7 +17,7 @@ pub struct CardBody<K: Computes> {
 
 impl<K: Computes> Model for CardBody<K> {
     ghost use Rattle.std.specs.Prelude.{IsSome};
-    ghost use Rattle.kpn_net.specs.declared.kinds.Card.{Card};
+    ghost use Rattle.kpn_model.specs.declared.kinds.Card.{Card};
 
     ghost Value = { Card };
 

@@ -13,7 +13,7 @@ use std::marker::PhantomData;
 /// are, `start` what a process keeps at first, and `step` what it keeps and writes after a word.
 pub trait Filters: Send + Sync {
     ghost use Rattle.std.specs.Prelude.{ℕ, Bool, List, Option};
-    ghost use Rattle.kpn_net.specs.declared.kinds.Card.{Card};
+    ghost use Rattle.kpn_model.specs.declared.kinds.Card.{Card};
     ghost use Rattle.kpn_compute.specs.Filters.{KeepWords};
 
     ghost named: { List ℕ → Option (ℕ × ℕ) };

@@ -2,20 +2,20 @@
 use Rattle.std.proofs.Common.{◌≡◌, ◌≢◌, ◌++◌, ℕ, zero, suc, true, List, length, Option, Some, replicate, refl, sym, ap, ◌∙◌, subst}
 use Rattle.std.proofs.lemmas.List.{length-map}
 use Rattle.std.specs.List.{count_by}
-use Rattle.kpn_net.specs.declared.token.Token.{Token}
-use Rattle.kpn_net.specs.declared.kinds.Card.{Card}
-use Rattle.kpn_net.specs.declared.history.Entry.{Entry}
-use Rattle.kpn_net.specs.declared.history.End.{End}
-use Rattle.kpn_net.specs.declared.history.End.TheVariants.{Terminated, Deadlock, Ceiling, Budget, Memory}
-use Rattle.kpn_net.specs.declared.history.Place.{Place}
-use Rattle.kpn_net.specs.Network.{Family, Network}
-use Rattle.kpn_net.specs.Machine.{State, IsOver, wants}
-use Rattle.kpn_net.specs.History.{Digest, digest, each_process, place_of}
-use Rattle.kpn_net.specs.Determinacy.{IsFinal, OneDigest}
-use Rattle.kpn_net.specs.Moments.{IsBound}
+use Rattle.kpn_model.specs.declared.token.Token.{Token}
+use Rattle.kpn_model.specs.declared.kinds.Card.{Card}
+use Rattle.kpn_model.specs.declared.history.Entry.{Entry}
+use Rattle.kpn_model.specs.declared.history.End.{End}
+use Rattle.kpn_model.specs.declared.history.End.TheVariants.{Terminated, Deadlock, Ceiling, Budget, Memory}
+use Rattle.kpn_model.specs.declared.history.Place.{Place}
+use Rattle.kpn_model.specs.Network.{Family, Network}
+use Rattle.kpn_model.specs.Machine.{State, IsOver, wants}
+use Rattle.kpn_model.specs.History.{Digest, digest, each_process, place_of}
+use Rattle.kpn_model.specs.Determinacy.{IsFinal, OneDigest}
+use Rattle.kpn_model.specs.Moments.{IsBound}
 use Rattle.kpn_state.specs.declared.standing.Standing.TheVariants.{Ready}
 use Rattle.kpn_state.specs.Standings.{place, is_out, parked_answer}
-use Rattle.kpn_net.specs.declared.parts.Process.{Process}
+use Rattle.kpn_model.specs.declared.parts.Process.{Process}
 use Rattle.kpn_machine.specs.Scheduler.{Scheduler, EndHolds, IsFaithful}
 use Rattle.kpn_machine.specs.declared.opening.OpenFault.{OpenFault}
 use Rattle.kpn_machine.specs.declared.opening.OpenFault.TheVariants.{Bodies, Card as WrongCard, Memory as OutOfMemory}

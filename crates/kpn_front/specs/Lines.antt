@@ -3,7 +3,7 @@ use Rattle.std.specs.Prelude.{ℕ, codes, decimal, List, ◌++◌, length}
 use Rattle.kpn_net.specs.declared.fault.NetFault.{NetFault}
 use Rattle.kpn_net.specs.declared.fault.NetFault.TheVariants.{Memory}
 use Rattle.kpn_net.specs.Fault.{number_of}
-use Rattle.kpn_net.specs.Network.{Network}
+use Rattle.kpn_model.specs.Network.{Network}
 
 -- what is written of a network that is accepted
 abbrev pub checked_line : Network → List ℕ

@@ -19,8 +19,8 @@ use std::test::Fail;
 struct CountAndSink;
 
 impl Kinds for CountAndSink {
-    ghost use Rattle.kpn_net.specs.declared.kinds.Act.TheVariants.{Stop};
-    ghost use Rattle.kpn_net.specs.declared.token.Sort.TheVariants.{Words};
+    ghost use Rattle.kpn_model.specs.declared.kinds.Act.TheVariants.{Stop};
+    ghost use Rattle.kpn_model.specs.declared.token.Sort.TheVariants.{Words};
 
     ghost named = { λ name. if bytes_eq name (codes "count") then Some (0, 2) else if bytes_eq name (codes "sink") then Some (1, 1) else None };
 

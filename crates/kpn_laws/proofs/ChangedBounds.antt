@@ -1,13 +1,13 @@
 -- A small network for each changed bound, of which it fails.
 use Rattle.std.proofs.Common.{◌≡◌, ◌≤◌, ◌<◌, inl, ⊎_elim, ℕ, List, [], ◌∷◌, ◌++◌, refl, subst, arith}
-use Rattle.kpn_net.specs.declared.history.Deed.{Deed}
-use Rattle.kpn_net.specs.declared.history.Entry.{Entry}
-use Rattle.kpn_net.specs.declared.history.Entry.TheVariants.{Did, Grew}
-use Rattle.kpn_net.specs.declared.history.End.TheVariants.{Terminated}
-use Rattle.kpn_net.specs.Network.{Network, resized}
-use Rattle.kpn_net.specs.Machine.{State, start, tokens, capacity, with_channel, Does, Run, IsArtificial, IsChosen}
-use Rattle.kpn_net.specs.History.{growths}
-use Rattle.kpn_net.specs.Standard.{standard}
+use Rattle.kpn_model.specs.declared.history.Deed.{Deed}
+use Rattle.kpn_model.specs.declared.history.Entry.{Entry}
+use Rattle.kpn_model.specs.declared.history.Entry.TheVariants.{Did, Grew}
+use Rattle.kpn_model.specs.declared.history.End.TheVariants.{Terminated}
+use Rattle.kpn_model.specs.Network.{Network, resized}
+use Rattle.kpn_model.specs.Machine.{State, start, tokens, capacity, with_channel, Does, Run, IsArtificial, IsChosen}
+use Rattle.kpn_model.specs.History.{growths}
+use Rattle.kpn_model.specs.Standard.{standard}
 use Rattle.kpn_laws.specs.Sufficient.{EndsWithin}
 use Rattle.kpn_laws.specs.Ends.{counter_into_sink}
 use Rattle.kpn_laws.specs.Growing.{growth_step}

@@ -1,11 +1,11 @@
 -- Where a network can come to its end in b places, each run does; where it can go on for ever, each can.
 use Rattle.std.proofs.Common.{◌≤◌, ◌<◌, ◌⊎◌, inl, inr, ⊎_elim, List, [], ◌∷◌, ◌++◌, length, refl, arith, ℕ, ◌+◌, ◌*◌, zero, suc, length-append}
-use Rattle.kpn_net.specs.Determinacy.{IsRun}
-use Rattle.kpn_net.specs.declared.history.Entry.{Entry}
-use Rattle.kpn_net.specs.declared.history.End.{End}
-use Rattle.kpn_net.specs.declared.history.End.TheVariants.{Terminated, Deadlock, Ceiling, Budget, Memory}
-use Rattle.kpn_net.specs.Network.{Network, Family, resized}
-use Rattle.kpn_net.specs.Machine.{State, start, Run, IsOver}
+use Rattle.kpn_model.specs.Determinacy.{IsRun}
+use Rattle.kpn_model.specs.declared.history.Entry.{Entry}
+use Rattle.kpn_model.specs.declared.history.End.{End}
+use Rattle.kpn_model.specs.declared.history.End.TheVariants.{Terminated, Deadlock, Ceiling, Budget, Memory}
+use Rattle.kpn_model.specs.Network.{Network, Family, resized}
+use Rattle.kpn_model.specs.Machine.{State, start, Run, IsOver}
 use Rattle.kpn_laws.specs.Sufficient.{EndsWithin, LastsWithin, Suffices}
 use Rattle.kpn_laws.specs.Completion.{CanGoOn, HasEnded, IsAbove, FewEntries, Completes, HasEnd, NeverEnds}
 use Rattle.kpn_laws.proofs.Runs.{run_push}

@@ -1,18 +1,18 @@
 -- A small network for each changed definition, of which the law fails.
 use Rattle.std.proofs.Common.{◌≡◌, ◌≤◌, ℕ, zero, suc, List, [], ◌∷◌, ◌++◌, refl, sym, ap, ◌∙◌, subst, arith, ◌==◌, false, eq-eqb}
-use Rattle.kpn_net.specs.declared.token.Token.TheVariants.{Word}
-use Rattle.kpn_net.specs.declared.kinds.Act.{Act}
-use Rattle.kpn_net.specs.declared.kinds.Act.TheVariants.{Read, Write, Stop}
-use Rattle.kpn_net.specs.declared.history.Deed.{Deed}
-use Rattle.kpn_net.specs.declared.history.Deed.TheVariants.{Took, Put, Stopped}
-use Rattle.kpn_net.specs.declared.history.Entry.{Entry}
-use Rattle.kpn_net.specs.declared.history.Entry.TheVariants.{Did, Grew}
-use Rattle.kpn_net.specs.declared.history.End.TheVariants.{Terminated}
-use Rattle.kpn_net.specs.Network.{Network}
-use Rattle.kpn_net.specs.Machine.{State, start, tokens, with_channel, after_deed, IsDeed, Step, Run}
-use Rattle.kpn_net.specs.History.{Digest}
-use Rattle.kpn_net.specs.Moments.{IsWithin}
-use Rattle.kpn_net.specs.Standard.{standard}
+use Rattle.kpn_model.specs.declared.token.Token.TheVariants.{Word}
+use Rattle.kpn_model.specs.declared.kinds.Act.{Act}
+use Rattle.kpn_model.specs.declared.kinds.Act.TheVariants.{Read, Write, Stop}
+use Rattle.kpn_model.specs.declared.history.Deed.{Deed}
+use Rattle.kpn_model.specs.declared.history.Deed.TheVariants.{Took, Put, Stopped}
+use Rattle.kpn_model.specs.declared.history.Entry.{Entry}
+use Rattle.kpn_model.specs.declared.history.Entry.TheVariants.{Did, Grew}
+use Rattle.kpn_model.specs.declared.history.End.TheVariants.{Terminated}
+use Rattle.kpn_model.specs.Network.{Network}
+use Rattle.kpn_model.specs.Machine.{State, start, tokens, with_channel, after_deed, IsDeed, Step, Run}
+use Rattle.kpn_model.specs.History.{Digest}
+use Rattle.kpn_model.specs.Moments.{IsWithin}
+use Rattle.kpn_model.specs.Standard.{standard}
 use Rattle.kpn_laws.specs.Ends.{counter_into_sink}
 use Rattle.kpn_laws.specs.Growing.{counter_outlives_sink, equal_capacities}
 use Rattle.kpn_laws.specs.ChangedRules.{RunBy, OneDigestBy, AlwaysWithinBy, EarlyGrowth, IsDeedAnyway, PutIntoFull, AnyOfEqual, TakenTells}

@@ -1,12 +1,12 @@
 -- Two runs that are over have one digest, and no run is longer.
 use Rattle.std.proofs.Common.{◌≡◌, ◌≤◌, List, ◌++◌, length, sym, ap, ◌∙◌, arith, ℕ, drop, subst, ◌+◌}
 use mathlib.Core.Path.{fun_ext}
-use Rattle.kpn_net.specs.declared.history.Entry.{Entry}
-use Rattle.kpn_net.specs.History.{deeds, taken, growths, grown, stream, digest, each_process, each_channel, place_of}
-use Rattle.kpn_net.specs.Network.{Network, channel_of, Family}
-use Rattle.kpn_net.specs.Machine.{State, wants, start, Run, IsOver}
-use Rattle.kpn_net.specs.declared.history.End.{End}
-use Rattle.kpn_net.specs.Determinacy.{OneDigest, NoneLonger}
+use Rattle.kpn_model.specs.declared.history.Entry.{Entry}
+use Rattle.kpn_model.specs.History.{deeds, taken, growths, grown, stream, digest, each_process, each_channel, place_of}
+use Rattle.kpn_model.specs.Network.{Network, channel_of, Family}
+use Rattle.kpn_model.specs.Machine.{State, wants, start, Run, IsOver}
+use Rattle.kpn_model.specs.declared.history.End.{End}
+use Rattle.kpn_model.specs.Determinacy.{OneDigest, NoneLonger}
 use Rattle.kpn_laws.proofs.Lists.{same_from_fronts, front-length}
 use Rattle.kpn_laws.proofs.Views.{puts, took}
 use Rattle.kpn_laws.proofs.Kept.{fresh_start}

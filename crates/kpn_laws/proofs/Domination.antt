@@ -2,16 +2,16 @@
 use Rattle.std.proofs.Common.{◌≡◌, ◌≤◌, inl, ⊎_elim, List, [], ◌∷◌, ◌++◌, length, refl, sym, ap, ◌∙◌, arith, append_assoc, length-append, ℕ, ◌≢◌, ◌<◌, Some, subst}
 use Rattle.std.proofs.lemmas.List.{append_cancel_left}
 use Rattle.std.proofs.lemmas.Bool.{cases_lt}
-use Rattle.kpn_net.specs.Determinacy.{IsFrontOf}
-use Rattle.kpn_net.specs.declared.token.Token.{Token}
-use Rattle.kpn_net.specs.declared.history.Deed.{Deed}
-use Rattle.kpn_net.specs.declared.history.Deed.TheVariants.{Took, Put, Stopped}
-use Rattle.kpn_net.specs.declared.history.Entry.{Entry}
-use Rattle.kpn_net.specs.declared.history.Entry.TheVariants.{Did, Grew}
-use Rattle.kpn_net.specs.History.{deeds, growths}
-use Rattle.kpn_net.specs.Network.{Network, channel_of, Family}
-use Rattle.kpn_net.specs.Machine.{State, tokens, capacity, answered, wants, IsDeed, Step, Run, IsBlocked, IsPossible, IsEnabled, IsQuiet, Does}
-use Rattle.kpn_net.specs.declared.kinds.Answer.{Answer}
+use Rattle.kpn_model.specs.Determinacy.{IsFrontOf}
+use Rattle.kpn_model.specs.declared.token.Token.{Token}
+use Rattle.kpn_model.specs.declared.history.Deed.{Deed}
+use Rattle.kpn_model.specs.declared.history.Deed.TheVariants.{Took, Put, Stopped}
+use Rattle.kpn_model.specs.declared.history.Entry.{Entry}
+use Rattle.kpn_model.specs.declared.history.Entry.TheVariants.{Did, Grew}
+use Rattle.kpn_model.specs.History.{deeds, growths}
+use Rattle.kpn_model.specs.Network.{Network, channel_of, Family}
+use Rattle.kpn_model.specs.Machine.{State, tokens, capacity, answered, wants, IsDeed, Step, Run, IsBlocked, IsPossible, IsEnabled, IsQuiet, Does}
+use Rattle.kpn_model.specs.declared.kinds.Answer.{Answer}
 use Rattle.kpn_laws.proofs.Lists.{front_trans, front_of_push, front-length, front_cases, front_to_push}
 use Rattle.kpn_laws.proofs.Views.{puts, took, deeds_push_grew, growths_push_did, growths_push_grew, puts_front, took_front}
 use Rattle.kpn_laws.proofs.States.{in_of-reader, out_of-writer}

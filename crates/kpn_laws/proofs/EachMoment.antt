@@ -1,19 +1,19 @@
 -- What holds at each moment of a run.
 use Rattle.std.proofs.Common.{◌≡◌, List, [], ◌∷◌, ◌++◌, length, refl, sym, ap, ◌∙◌, arith, ℕ, Some, get_or, drop, subst, suc, zero, map, drop_at}
-use Rattle.kpn_net.specs.declared.token.Token.{Token}
-use Rattle.kpn_net.specs.declared.history.Deed.{Deed}
-use Rattle.kpn_net.specs.declared.history.Deed.TheVariants.{Took, Put, Stopped}
-use Rattle.kpn_net.specs.declared.history.Entry.{Entry}
-use Rattle.kpn_net.specs.History.{taken, growths, grown, stream}
-use Rattle.kpn_net.specs.declared.parts.Channel.{Channel}
-use Rattle.kpn_net.specs.Network.{Network, no_channel, channel_of, Family}
-use Rattle.kpn_net.specs.Machine.{State, nothing_held, tokens, capacity, wants, IsDeed, after_deed, start, IsPossible, Does}
-use Rattle.kpn_net.specs.declared.kinds.Act.{Act}
-use Rattle.kpn_net.specs.declared.kinds.Act.TheVariants.{Read, Write, Stop}
-use Rattle.kpn_net.specs.declared.kinds.Answer.{Answer}
-use Rattle.kpn_net.specs.declared.history.End.TheVariants.{Budget}
-use Rattle.kpn_net.specs.Determinacy.{IsRun}
-use Rattle.kpn_net.specs.Moments.{OneState, FrontsAreRuns, HistoryTellsState, IsBound, BudgetSuffices, EnabledCanDo, OneCause}
+use Rattle.kpn_model.specs.declared.token.Token.{Token}
+use Rattle.kpn_model.specs.declared.history.Deed.{Deed}
+use Rattle.kpn_model.specs.declared.history.Deed.TheVariants.{Took, Put, Stopped}
+use Rattle.kpn_model.specs.declared.history.Entry.{Entry}
+use Rattle.kpn_model.specs.History.{taken, growths, grown, stream}
+use Rattle.kpn_model.specs.declared.parts.Channel.{Channel}
+use Rattle.kpn_model.specs.Network.{Network, no_channel, channel_of, Family}
+use Rattle.kpn_model.specs.Machine.{State, nothing_held, tokens, capacity, wants, IsDeed, after_deed, start, IsPossible, Does}
+use Rattle.kpn_model.specs.declared.kinds.Act.{Act}
+use Rattle.kpn_model.specs.declared.kinds.Act.TheVariants.{Read, Write, Stop}
+use Rattle.kpn_model.specs.declared.kinds.Answer.{Answer}
+use Rattle.kpn_model.specs.declared.history.End.TheVariants.{Budget}
+use Rattle.kpn_model.specs.Determinacy.{IsRun}
+use Rattle.kpn_model.specs.Moments.{OneState, FrontsAreRuns, HistoryTellsState, IsBound, BudgetSuffices, EnabledCanDo, OneCause}
 use Rattle.kpn_laws.proofs.Runs.{run_one, run_split}
 use Rattle.kpn_laws.proofs.Kept.{fresh_start}
 use Rattle.kpn_laws.proofs.KeptByRuns.{kept_run}

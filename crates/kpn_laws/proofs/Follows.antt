@@ -1,14 +1,14 @@
 -- What a process does next is settled by what it has done and by what was put for it.
 use Rattle.std.proofs.Common.{◌≡◌, List, [], ◌∷◌, ◌++◌, refl, sym, ap, ◌∙◌, append_assoc, ℕ, Some, Option, subst}
-use Rattle.kpn_net.specs.Determinacy.{IsFrontOf, AreInLine}
-use Rattle.kpn_net.specs.declared.token.Token.{Token}
-use Rattle.kpn_net.specs.declared.history.Deed.{Deed}
-use Rattle.kpn_net.specs.declared.history.Deed.TheVariants.{Took, Put, Stopped}
-use Rattle.kpn_net.specs.Network.{Network, channel_of, in_of, out_of, Family}
-use Rattle.kpn_net.specs.declared.history.Status.{Status}
-use Rattle.kpn_net.specs.Machine.{status, answered, start}
-use Rattle.kpn_net.specs.declared.kinds.Act.TheVariants.{Read, Write, Stop}
-use Rattle.kpn_net.specs.declared.kinds.Answer.{Answer}
+use Rattle.kpn_model.specs.Determinacy.{IsFrontOf, AreInLine}
+use Rattle.kpn_model.specs.declared.token.Token.{Token}
+use Rattle.kpn_model.specs.declared.history.Deed.{Deed}
+use Rattle.kpn_model.specs.declared.history.Deed.TheVariants.{Took, Put, Stopped}
+use Rattle.kpn_model.specs.Network.{Network, channel_of, in_of, out_of, Family}
+use Rattle.kpn_model.specs.declared.history.Status.{Status}
+use Rattle.kpn_model.specs.Machine.{status, answered, start}
+use Rattle.kpn_model.specs.declared.kinds.Act.TheVariants.{Read, Write, Stop}
+use Rattle.kpn_model.specs.declared.kinds.Answer.{Answer}
 use Rattle.kpn_laws.proofs.Lists.{same_next, in_line_after}
 use Rattle.kpn_laws.proofs.Views.{puts, took, puts_in_line, puts_front}
 use Rattle.kpn_laws.proofs.Steps.{after}

@@ -2,13 +2,13 @@
 use Rattle.std.proofs.Common.{◌≡◌, ◌≤◌, ◌<◌, ◌⊎◌, inl, inr, ⊎_elim, ℕ, ◌+◌, zero, suc, length, Bool, true, false, Option, Some, None, refl, sym, ap, ◌∙◌, arith, subst, min}
 use Rattle.std.proofs.lemmas.Bool.{cases_lt, cases_eq}
 use Rattle.std.proofs.lemmas.Option.{same_Some}
-use Rattle.kpn_net.specs.declared.kinds.Answer.{Answer}
-use Rattle.kpn_net.specs.declared.history.Deed.{Deed}
-use Rattle.kpn_net.specs.declared.history.Entry.TheVariants.{Did, Grew}
-use Rattle.kpn_net.specs.declared.history.End.{End}
-use Rattle.kpn_net.specs.declared.history.End.TheVariants.{Terminated, Deadlock, Ceiling}
-use Rattle.kpn_net.specs.Network.{Network, Family}
-use Rattle.kpn_net.specs.Machine.{State, tokens, capacity, wants, with_channel, after_deed, IsBlocked, IsQuiet, IsArtificial, IsChosen, IsOver}
+use Rattle.kpn_model.specs.declared.kinds.Answer.{Answer}
+use Rattle.kpn_model.specs.declared.history.Deed.{Deed}
+use Rattle.kpn_model.specs.declared.history.Entry.TheVariants.{Did, Grew}
+use Rattle.kpn_model.specs.declared.history.End.{End}
+use Rattle.kpn_model.specs.declared.history.End.TheVariants.{Terminated, Deadlock, Ceiling}
+use Rattle.kpn_model.specs.Network.{Network, Family}
+use Rattle.kpn_model.specs.Machine.{State, tokens, capacity, wants, with_channel, after_deed, IsBlocked, IsQuiet, IsArtificial, IsChosen, IsOver}
 use Rattle.kpn_laws.specs.Completion.{CanGoOn, IsAbove, GoesOn}
 use Rattle.kpn_laws.proofs.Steps.{live_within}
 use Rattle.kpn_laws.proofs.Schedule.{answer_deed, deed_of, full_of, all_done}

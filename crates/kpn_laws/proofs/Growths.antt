@@ -1,12 +1,12 @@
 -- No run grows more than one that is over, nor otherwise.
 use Rattle.std.proofs.Common.{◌≡◌, ⊎_elim, List, [], ◌∷◌, ◌++◌, refl, sym, ap, ◌∙◌, ℕ, subst, min, ◌+◌}
-use Rattle.kpn_net.specs.Determinacy.{IsFrontOf}
-use Rattle.kpn_net.specs.declared.history.Entry.{Entry}
-use Rattle.kpn_net.specs.declared.history.Entry.TheVariants.{Did, Grew}
-use Rattle.kpn_net.specs.History.{growths}
-use Rattle.kpn_net.specs.Network.{Network, Family}
-use Rattle.kpn_net.specs.Machine.{State, capacity, Step, Run, Grows, IsOver}
-use Rattle.kpn_net.specs.declared.history.End.{End}
+use Rattle.kpn_model.specs.Determinacy.{IsFrontOf}
+use Rattle.kpn_model.specs.declared.history.Entry.{Entry}
+use Rattle.kpn_model.specs.declared.history.Entry.TheVariants.{Did, Grew}
+use Rattle.kpn_model.specs.History.{growths}
+use Rattle.kpn_model.specs.Network.{Network, Family}
+use Rattle.kpn_model.specs.Machine.{State, capacity, Step, Run, Grows, IsOver}
+use Rattle.kpn_model.specs.declared.history.End.{End}
 use Rattle.kpn_laws.proofs.Lists.{push_split, front_cases, front_to_push}
 use Rattle.kpn_laws.proofs.Views.{growths_push_did, growths_push_grew}
 use Rattle.kpn_laws.proofs.Runs.{run_induction}

@@ -1,13 +1,13 @@
 -- What every run keeps between its start, its history and its state.
 use Rattle.std.proofs.Common.{◌≡◌, ◌≤◌, List, [], ◌∷◌, ◌++◌, length, refl, sym, ◌∙◌, arith, append-nil, ℕ, get_or, suc, zero, map}
 use Rattle.std.proofs.lemmas.List.{length-map}
-use Rattle.kpn_net.specs.Determinacy.{IsFrontOf}
-use Rattle.kpn_net.specs.declared.history.Deed.{Deed}
-use Rattle.kpn_net.specs.declared.history.Entry.{Entry}
-use Rattle.kpn_net.specs.History.{deeds, growths, grown}
-use Rattle.kpn_net.specs.declared.parts.Channel.{Channel}
-use Rattle.kpn_net.specs.Network.{Network, no_channel, channel_of, Family}
-use Rattle.kpn_net.specs.Machine.{State, nothing_held, status, tokens, capacity, start}
+use Rattle.kpn_model.specs.Determinacy.{IsFrontOf}
+use Rattle.kpn_model.specs.declared.history.Deed.{Deed}
+use Rattle.kpn_model.specs.declared.history.Entry.{Entry}
+use Rattle.kpn_model.specs.History.{deeds, growths, grown}
+use Rattle.kpn_model.specs.declared.parts.Channel.{Channel}
+use Rattle.kpn_model.specs.Network.{Network, no_channel, channel_of, Family}
+use Rattle.kpn_model.specs.Machine.{State, nothing_held, status, tokens, capacity, start}
 use Rattle.kpn_laws.proofs.Views.{puts, took}
 use Rattle.kpn_laws.proofs.Follows.{status_by, Follows}
 

@@ -1,16 +1,16 @@
 -- A deed keeps what every run keeps.
 use Rattle.std.proofs.Common.{◌≡◌, ⊎_elim, List, [], ◌∷◌, ◌++◌, length, refl, sym, ap, ◌∙◌, arith, append_assoc, ℕ, ◌<◌, Some, None, drop, subst, ne_eqb}
 use Rattle.std.proofs.lemmas.Bool.{cases_eq}
-use Rattle.kpn_net.specs.Determinacy.{IsFrontOf}
-use Rattle.kpn_net.specs.declared.history.Deed.{Deed}
-use Rattle.kpn_net.specs.declared.history.Deed.TheVariants.{Took, Put, Stopped}
-use Rattle.kpn_net.specs.declared.history.Entry.{Entry}
-use Rattle.kpn_net.specs.declared.history.Entry.TheVariants.{Did}
-use Rattle.kpn_net.specs.History.{deeds, grown}
-use Rattle.kpn_net.specs.Network.{Network, channel_of, Family}
-use Rattle.kpn_net.specs.Machine.{State, status, tokens, capacity, with_status, answered, wants, IsDeed, after_deed, start}
-use Rattle.kpn_net.specs.declared.kinds.Answer.{Answer}
-use Rattle.kpn_net.specs.declared.history.Status.TheVariants.{Live}
+use Rattle.kpn_model.specs.Determinacy.{IsFrontOf}
+use Rattle.kpn_model.specs.declared.history.Deed.{Deed}
+use Rattle.kpn_model.specs.declared.history.Deed.TheVariants.{Took, Put, Stopped}
+use Rattle.kpn_model.specs.declared.history.Entry.{Entry}
+use Rattle.kpn_model.specs.declared.history.Entry.TheVariants.{Did}
+use Rattle.kpn_model.specs.History.{deeds, grown}
+use Rattle.kpn_model.specs.Network.{Network, channel_of, Family}
+use Rattle.kpn_model.specs.Machine.{State, status, tokens, capacity, with_status, answered, wants, IsDeed, after_deed, start}
+use Rattle.kpn_model.specs.declared.kinds.Answer.{Answer}
+use Rattle.kpn_model.specs.declared.history.Status.TheVariants.{Live}
 use Rattle.kpn_laws.proofs.Lists.{push_split}
 use Rattle.kpn_laws.proofs.Views.{puts, took, deeds-append, deeds_push_same, deeds_push_other, growths_push_did, puts_push_none, took_push_none, puts_push_same, took_push_same, puts_one, took_one, puts_other, took_other}
 use Rattle.kpn_laws.proofs.States.{in_of-reader, out_of-writer, holds_within, tokens_set_same, tokens_set_other}

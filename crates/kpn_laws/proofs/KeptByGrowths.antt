@@ -1,12 +1,12 @@
 -- A growth keeps what every run keeps.
 use Rattle.std.proofs.Common.{◌≡◌, ◌≤◌, ⊎_elim, List, [], ◌∷◌, ◌++◌, length, sym, ap, ◌∙◌, arith, ℕ, ◌==◌, if◌then◌else◌, eq-eqb, ◌<◌, length-set, subst, ne_eqb}
 use Rattle.std.proofs.lemmas.Bool.{cases_eq}
-use Rattle.kpn_net.specs.Determinacy.{IsFrontOf}
-use Rattle.kpn_net.specs.declared.history.Entry.{Entry}
-use Rattle.kpn_net.specs.declared.history.Entry.TheVariants.{Grew}
-use Rattle.kpn_net.specs.History.{deeds, growths, grown}
-use Rattle.kpn_net.specs.Network.{Network, channel_of, Family}
-use Rattle.kpn_net.specs.Machine.{State, tokens, capacity, with_channel, IsBlocked}
+use Rattle.kpn_model.specs.Determinacy.{IsFrontOf}
+use Rattle.kpn_model.specs.declared.history.Entry.{Entry}
+use Rattle.kpn_model.specs.declared.history.Entry.TheVariants.{Grew}
+use Rattle.kpn_model.specs.History.{deeds, growths, grown}
+use Rattle.kpn_model.specs.Network.{Network, channel_of, Family}
+use Rattle.kpn_model.specs.Machine.{State, tokens, capacity, with_channel, IsBlocked}
 use Rattle.kpn_laws.proofs.Lists.{front_push_cases}
 use Rattle.kpn_laws.proofs.Views.{puts, took, deeds_push_grew, growths_push_grew, grown_push}
 use Rattle.kpn_laws.proofs.States.{out_of-writer, tokens_set_same, tokens_set_other, capacity_set_same, capacity_set_other}

@@ -1,9 +1,9 @@
 -- So every run keeps it.
 use Rattle.std.proofs.Common.{List, [], ◌∷◌, ◌++◌, sym, arith, subst}
-use Rattle.kpn_net.specs.declared.history.Entry.{Entry}
-use Rattle.kpn_net.specs.declared.history.Entry.TheVariants.{Did, Grew}
-use Rattle.kpn_net.specs.Network.{Network, Family}
-use Rattle.kpn_net.specs.Machine.{State, Step, Run}
+use Rattle.kpn_model.specs.declared.history.Entry.{Entry}
+use Rattle.kpn_model.specs.declared.history.Entry.TheVariants.{Did, Grew}
+use Rattle.kpn_model.specs.Network.{Network, Family}
+use Rattle.kpn_model.specs.Machine.{State, Step, Run}
 use Rattle.kpn_laws.proofs.Runs.{run_induction}
 use Rattle.kpn_laws.proofs.Kept.{IsFresh, Kept, kept_fresh}
 use Rattle.kpn_laws.proofs.KeptByDeeds.{kept_after}

@@ -1,7 +1,7 @@
 -- Lists of which one begins with the other.
 use Rattle.std.proofs.Common.{◌≡◌, ◌⊎◌, ◌≤◌, inl, inr, ⊎_elim, List, [], ◌∷◌, ◌++◌, length, refl, sym, ap, ◌∙◌, arith, append_assoc, append-nil, length-append}
 use Rattle.std.proofs.lemmas.List.{append_cancel_left}
-use Rattle.kpn_net.specs.Determinacy.{IsFrontOf, AreInLine}
+use Rattle.kpn_model.specs.Determinacy.{IsFrontOf, AreInLine}
 
 -- what a list is followed by to give itself is nothing
 nil_of_self : {X : Type 0} (xs r : List X) → xs ++ r ≡ xs → r ≡ []

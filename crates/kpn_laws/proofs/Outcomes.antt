@@ -1,11 +1,11 @@
 -- Whatever the starting capacities: one outcome, and everything in line.
 use Rattle.std.proofs.Common.{◌≡◌, List, ◌++◌, sym, ap, ◌∙◌, ℕ, subst}
-use Rattle.kpn_net.specs.Determinacy.{IsFrontOf, AreInLine, AreAllInLine, IsRun, IsFinal, IsNatural, HaveSameOutcome, OneOutcome, AllInLine}
-use Rattle.kpn_net.specs.declared.history.Entry.{Entry}
-use Rattle.kpn_net.specs.History.{deeds, put_on, stream, place_of}
-use Rattle.kpn_net.specs.Network.{Network, channel_of, Family, resized}
-use Rattle.kpn_net.specs.Machine.{State, status, answered, wants, start, Run, IsBlocked, IsQuiet}
-use Rattle.kpn_net.specs.declared.history.End.{End}
+use Rattle.kpn_model.specs.Determinacy.{IsFrontOf, AreInLine, AreAllInLine, IsRun, IsFinal, IsNatural, HaveSameOutcome, OneOutcome, AllInLine}
+use Rattle.kpn_model.specs.declared.history.Entry.{Entry}
+use Rattle.kpn_model.specs.History.{deeds, put_on, stream, place_of}
+use Rattle.kpn_model.specs.Network.{Network, channel_of, Family, resized}
+use Rattle.kpn_model.specs.Machine.{State, status, answered, wants, start, Run, IsBlocked, IsQuiet}
+use Rattle.kpn_model.specs.declared.history.End.{End}
 use Rattle.kpn_laws.proofs.Lists.{same_from_fronts, in_line_after}
 use Rattle.kpn_laws.proofs.Views.{puts, puts_in_line}
 use Rattle.kpn_laws.proofs.Follows.{status_by}

@@ -2,22 +2,22 @@
 use Rattle.std.proofs.Common.{min, ◌≡◌, ◌≢◌, ◌<◌, ⊎_elim, ℕ, ◌+◌, suc, zero, ◌&&◌, ◌||◌, not, nat_lt, nat_le, if◌then◌else◌, Bool, true, false, List, [], ◌∷◌, Option, Some, None, is_none, length, get_or, refl, sym, ap, ◌∙◌, subst, arith, ltb-true, lt-ltb, leb-true, le-leb, eq-eqb, eqb-true}
 use Rattle.std.proofs.lemmas.Bool.{cases_eq}
 use Rattle.std.proofs.lemmas.Option.{same_Some}
-use Rattle.kpn_net.specs.declared.token.Token.{Token}
-use Rattle.kpn_net.specs.declared.kinds.Act.{Act}
-use Rattle.kpn_net.specs.declared.kinds.Act.TheVariants.{Read, Write, Stop}
-use Rattle.kpn_net.specs.declared.kinds.Answer.{Answer}
-use Rattle.kpn_net.specs.declared.history.Deed.{Deed}
-use Rattle.kpn_net.specs.declared.history.Deed.TheVariants.{Took, Put, Stopped}
-use Rattle.kpn_net.specs.declared.history.Entry.{Entry}
-use Rattle.kpn_net.specs.declared.history.Entry.TheVariants.{Did, Grew}
-use Rattle.kpn_net.specs.declared.history.End.{End}
-use Rattle.kpn_net.specs.declared.history.End.TheVariants.{Terminated, Deadlock, Ceiling, Budget, Memory}
-use Rattle.kpn_net.specs.Network.{Family, Network, in_of, out_of}
-use Rattle.kpn_net.specs.declared.history.Status.{Status}
-use Rattle.kpn_net.specs.declared.history.Status.TheVariants.{Live, Done}
-use Rattle.kpn_net.specs.Machine.{State, status, tokens, capacity, wants, start, IsPossible, IsQuiet, IsDeed, after_deed, with_channel, IsChosen, Step, Run, IsBlocked, IsOver}
-use Rattle.kpn_net.specs.History.{Digest, digest}
-use Rattle.kpn_net.specs.Determinacy.{IsFinal}
+use Rattle.kpn_model.specs.declared.token.Token.{Token}
+use Rattle.kpn_model.specs.declared.kinds.Act.{Act}
+use Rattle.kpn_model.specs.declared.kinds.Act.TheVariants.{Read, Write, Stop}
+use Rattle.kpn_model.specs.declared.kinds.Answer.{Answer}
+use Rattle.kpn_model.specs.declared.history.Deed.{Deed}
+use Rattle.kpn_model.specs.declared.history.Deed.TheVariants.{Took, Put, Stopped}
+use Rattle.kpn_model.specs.declared.history.Entry.{Entry}
+use Rattle.kpn_model.specs.declared.history.Entry.TheVariants.{Did, Grew}
+use Rattle.kpn_model.specs.declared.history.End.{End}
+use Rattle.kpn_model.specs.declared.history.End.TheVariants.{Terminated, Deadlock, Ceiling, Budget, Memory}
+use Rattle.kpn_model.specs.Network.{Family, Network, in_of, out_of}
+use Rattle.kpn_model.specs.declared.history.Status.{Status}
+use Rattle.kpn_model.specs.declared.history.Status.TheVariants.{Live, Done}
+use Rattle.kpn_model.specs.Machine.{State, status, tokens, capacity, wants, start, IsPossible, IsQuiet, IsDeed, after_deed, with_channel, IsChosen, Step, Run, IsBlocked, IsOver}
+use Rattle.kpn_model.specs.History.{Digest, digest}
+use Rattle.kpn_model.specs.Determinacy.{IsFinal}
 use Rattle.kpn_laws.specs.Digested.{HasDigest}
 use Rattle.kpn_laws.proofs.Schedule.{Turn, Go, Grow, first_taken, read_deed, write_deed, full_at, act_deed, answer_deed, act_full, answer_full, deed_of, full_of, all_still, comes_first, all_after, went, goes, grows_at, turned, entered, played_on, played, all_done, none_full, stuck_at, some_stuck, is_over, digested, digest_of}
 use Rattle.kpn_laws.proofs.Steps.{live_within, done_wants_none}

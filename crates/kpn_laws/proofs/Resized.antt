@@ -1,11 +1,11 @@
 -- A network with other starting capacities is wired alike, and its start is fresh too.
 use Rattle.std.proofs.Common.{◌≡◌, List, [], ◌∷◌, length, refl, ap, ◌∙◌, ℕ, ◌==◌, Bool, ◌&&◌, Some, get_or, None, ◌+◌, suc, zero, cond, nat_lt, not, position}
 use Rattle.std.specs.List.{prefix_len}
-use Rattle.kpn_net.specs.declared.history.Entry.{Entry}
-use Rattle.kpn_net.specs.declared.parts.Channel.{Channel}
-use Rattle.kpn_net.specs.Network.{Network, no_channel, Family, resize, resized}
-use Rattle.kpn_net.specs.Machine.{State, start, Run}
-use Rattle.kpn_net.specs.Determinacy.{IsRun}
+use Rattle.kpn_model.specs.declared.history.Entry.{Entry}
+use Rattle.kpn_model.specs.declared.parts.Channel.{Channel}
+use Rattle.kpn_model.specs.Network.{Network, no_channel, Family, resize, resized}
+use Rattle.kpn_model.specs.Machine.{State, start, Run}
+use Rattle.kpn_model.specs.Determinacy.{IsRun}
 use Rattle.kpn_laws.proofs.Kept.{IsFresh, fresh_start}
 use Rattle.kpn_laws.proofs.Wiring.{AreWiredAlike, run_alike}
 

@@ -1,7 +1,7 @@
 -- Each run takes the least room.
 use Rattle.std.proofs.Common.{subst}
-use Rattle.kpn_net.specs.Determinacy.{IsRun}
-use Rattle.kpn_net.specs.Network.{Family}
+use Rattle.kpn_model.specs.Determinacy.{IsRun}
+use Rattle.kpn_model.specs.Network.{Family}
 use Rattle.kpn_laws.specs.RoomOfRun.{EachTakesLeastRoom}
 use Rattle.kpn_laws.proofs.LeastRoom.{grows_below, stays_below, ceiling_suffices}
 use Rattle.kpn_laws.proofs.FewGrowths.{few_growths}

@@ -1,10 +1,10 @@
 -- Runs: one more step, a run cut in two, and what is kept by each step.
 use Rattle.std.proofs.Common.{◌≡◌, List, [], ◌∷◌, ◌++◌, refl, sym, ap, ◌∙◌, append_assoc, append-nil, Some, subst}
-use Rattle.kpn_net.specs.declared.history.Entry.{Entry}
-use Rattle.kpn_net.specs.declared.history.Entry.TheVariants.{Did, Grew}
-use Rattle.kpn_net.specs.Network.{Network, Family}
-use Rattle.kpn_net.specs.Machine.{State, after_deed, Step, Run}
-use Rattle.kpn_net.specs.declared.kinds.Answer.{Answer}
+use Rattle.kpn_model.specs.declared.history.Entry.{Entry}
+use Rattle.kpn_model.specs.declared.history.Entry.TheVariants.{Did, Grew}
+use Rattle.kpn_model.specs.Network.{Network, Family}
+use Rattle.kpn_model.specs.Machine.{State, after_deed, Step, Run}
+use Rattle.kpn_model.specs.declared.kinds.Answer.{Answer}
 
 module _ (kinds : Family) (net : Network) where
   -- a run with one more step

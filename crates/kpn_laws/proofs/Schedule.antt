@@ -1,21 +1,21 @@
 -- A run computed from a schedule: which process goes on next, or which blocked writer's channel grows.
 use Rattle.std.specs.Prelude.{min, ℕ, zero, suc, ◌+◌, ◌==◌, ◌&&◌, ◌||◌, not, nat_lt, nat_le, if◌then◌else◌, Bool, true, false, List, [], ◌∷◌, Option, Some, None, length, is_none, unwrap_or}
-use Rattle.kpn_net.specs.declared.token.Token.{Token}
-use Rattle.kpn_net.specs.declared.kinds.Act.{Act}
-use Rattle.kpn_net.specs.declared.kinds.Act.TheVariants.{Read, Write, Stop}
-use Rattle.kpn_net.specs.declared.kinds.Answer.{Answer}
-use Rattle.kpn_net.specs.declared.history.Deed.{Deed}
-use Rattle.kpn_net.specs.declared.history.Deed.TheVariants.{Took, Put, Stopped}
-use Rattle.kpn_net.specs.declared.history.Entry.{Entry}
-use Rattle.kpn_net.specs.declared.history.Entry.TheVariants.{Did, Grew}
-use Rattle.kpn_net.specs.declared.history.End.{End}
-use Rattle.kpn_net.specs.declared.history.End.TheVariants.{Terminated, Deadlock, Ceiling, Budget, Memory}
-use Rattle.kpn_net.specs.Network.{Family, Network, in_of, out_of}
-use Rattle.kpn_net.specs.declared.history.Status.{Status}
-use Rattle.kpn_net.specs.declared.history.Status.TheVariants.{Live, Done}
-use Rattle.kpn_net.specs.Machine.{State, tokens, capacity, wants, start, after_deed, with_channel}
-use Rattle.kpn_net.specs.History.{Digest, digest}
-use Rattle.kpn_net.specs.Standard.{standard}
+use Rattle.kpn_model.specs.declared.token.Token.{Token}
+use Rattle.kpn_model.specs.declared.kinds.Act.{Act}
+use Rattle.kpn_model.specs.declared.kinds.Act.TheVariants.{Read, Write, Stop}
+use Rattle.kpn_model.specs.declared.kinds.Answer.{Answer}
+use Rattle.kpn_model.specs.declared.history.Deed.{Deed}
+use Rattle.kpn_model.specs.declared.history.Deed.TheVariants.{Took, Put, Stopped}
+use Rattle.kpn_model.specs.declared.history.Entry.{Entry}
+use Rattle.kpn_model.specs.declared.history.Entry.TheVariants.{Did, Grew}
+use Rattle.kpn_model.specs.declared.history.End.{End}
+use Rattle.kpn_model.specs.declared.history.End.TheVariants.{Terminated, Deadlock, Ceiling, Budget, Memory}
+use Rattle.kpn_model.specs.Network.{Family, Network, in_of, out_of}
+use Rattle.kpn_model.specs.declared.history.Status.{Status}
+use Rattle.kpn_model.specs.declared.history.Status.TheVariants.{Live, Done}
+use Rattle.kpn_model.specs.Machine.{State, tokens, capacity, wants, start, after_deed, with_channel}
+use Rattle.kpn_model.specs.History.{Digest, digest}
+use Rattle.kpn_model.specs.Standard.{standard}
 
 -- a turn: this process goes on, or the channel to which it wants to write grows
 pub data Turn : Type 0 where

@@ -1,17 +1,17 @@
 -- Runs of valid networks of lawful kinds: each token has its channel's sort, each local state is admitted.
 use Rattle.std.proofs.Common.{◌≡◌, List, sym, arith, ℕ, ◌<◌, Some, Option, subst, length, IsSome}
 use Rattle.std.specs.List.{AllByRecursion}
-use Rattle.kpn_net.specs.declared.token.Token.{Token}
-use Rattle.kpn_net.specs.declared.history.Entry.{Entry}
-use Rattle.kpn_net.specs.declared.history.Entry.TheVariants.{Did, Grew}
-use Rattle.kpn_net.specs.declared.kinds.Answer.{Answer}
-use Rattle.kpn_net.specs.declared.kinds.Card.{Card}
-use Rattle.kpn_net.specs.declared.kinds.Signature.{Signature}
-use Rattle.kpn_net.specs.Network.{Network, channel_of, Family, card_of, no_process}
-use Rattle.kpn_net.specs.Machine.{State, status, wants, start, Step}
-use Rattle.kpn_net.specs.Determinacy.{IsRun}
-use Rattle.kpn_net.specs.Lawful.{read_by, CardFits, NamesPort, LeadsOn, AreLawful}
-use Rattle.kpn_net.specs.Valid.{IsValid, IsOfSort, IsSorted, AlwaysSorted}
+use Rattle.kpn_model.specs.declared.token.Token.{Token}
+use Rattle.kpn_model.specs.declared.history.Entry.{Entry}
+use Rattle.kpn_model.specs.declared.history.Entry.TheVariants.{Did, Grew}
+use Rattle.kpn_model.specs.declared.kinds.Answer.{Answer}
+use Rattle.kpn_model.specs.declared.kinds.Card.{Card}
+use Rattle.kpn_model.specs.declared.kinds.Signature.{Signature}
+use Rattle.kpn_model.specs.Network.{Network, channel_of, Family, card_of, no_process}
+use Rattle.kpn_model.specs.Machine.{State, status, wants, start, Step}
+use Rattle.kpn_model.specs.Determinacy.{IsRun}
+use Rattle.kpn_model.specs.Lawful.{read_by, CardFits, NamesPort, LeadsOn, AreLawful}
+use Rattle.kpn_model.specs.Valid.{IsValid, IsOfSort, IsSorted, AlwaysSorted}
 use Rattle.kpn_laws.proofs.Steps.{live_within}
 use Rattle.kpn_laws.proofs.Runs.{run_induction}
 use Rattle.kpn_laws.proofs.Kept.{Kept, fresh_start}

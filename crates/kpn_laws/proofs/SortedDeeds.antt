@@ -4,20 +4,20 @@ use Rattle.std.proofs.lemmas.Bool.{cases_lt, cases_eq}
 use Rattle.std.proofs.lemmas.List.{get_or_past}
 use Rattle.std.proofs.lemmas.Option.{same_Some}
 use Rattle.std.specs.List.{AllByRecursion}
-use Rattle.kpn_net.specs.declared.token.Token.{Token}
-use Rattle.kpn_net.specs.declared.kinds.Answer.{Answer}
-use Rattle.kpn_net.specs.declared.kinds.Card.{Card}
-use Rattle.kpn_net.specs.declared.kinds.Signature.{Signature}
-use Rattle.kpn_net.specs.declared.history.Deed.{Deed}
-use Rattle.kpn_net.specs.declared.history.Deed.TheVariants.{Took, Put, Stopped}
-use Rattle.kpn_net.specs.declared.history.Status.{Status}
-use Rattle.kpn_net.specs.declared.history.Status.TheVariants.{Done, Live}
-use Rattle.kpn_net.specs.declared.parts.Process.{Process}
-use Rattle.kpn_net.specs.declared.parts.Channel.{Channel}
-use Rattle.kpn_net.specs.Network.{Network, Family, no_channel, no_process, channel_of, card_of, in_of, out_of}
-use Rattle.kpn_net.specs.Lawful.{sort_of, Fits, read_by, in_sort, out_sort, NamesPort, LeadsOn}
-use Rattle.kpn_net.specs.Machine.{State, status, tokens, with_status, answered, wants, IsDeed, after_deed, start}
-use Rattle.kpn_net.specs.Valid.{IsValid, IsOfSort, IsSorted}
+use Rattle.kpn_model.specs.declared.token.Token.{Token}
+use Rattle.kpn_model.specs.declared.kinds.Answer.{Answer}
+use Rattle.kpn_model.specs.declared.kinds.Card.{Card}
+use Rattle.kpn_model.specs.declared.kinds.Signature.{Signature}
+use Rattle.kpn_model.specs.declared.history.Deed.{Deed}
+use Rattle.kpn_model.specs.declared.history.Deed.TheVariants.{Took, Put, Stopped}
+use Rattle.kpn_model.specs.declared.history.Status.{Status}
+use Rattle.kpn_model.specs.declared.history.Status.TheVariants.{Done, Live}
+use Rattle.kpn_model.specs.declared.parts.Process.{Process}
+use Rattle.kpn_model.specs.declared.parts.Channel.{Channel}
+use Rattle.kpn_model.specs.Network.{Network, Family, no_channel, no_process, channel_of, card_of, in_of, out_of}
+use Rattle.kpn_model.specs.Lawful.{sort_of, Fits, read_by, in_sort, out_sort, NamesPort, LeadsOn}
+use Rattle.kpn_model.specs.Machine.{State, status, tokens, with_status, answered, wants, IsDeed, after_deed, start}
+use Rattle.kpn_model.specs.Valid.{IsValid, IsOfSort, IsSorted}
 use Rattle.kpn_laws.proofs.States.{in_of-reader, out_of-writer, in_of-input, out_of-out, holds_within, tokens_set_same, tokens_set_other}
 use Rattle.kpn_laws.proofs.Steps.{after, live_within, status_after_same, status_after_other, took_read, put_write}
 use Rattle.kpn_laws.proofs.Kept.{fresh_start}

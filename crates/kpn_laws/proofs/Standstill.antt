@@ -1,11 +1,11 @@
 -- Two runs that stand still after the same growths are in one state.
 use Rattle.std.proofs.Common.{◌≡◌, List, [], ◌++◌, sym, ap, ◌∙◌, append-nil, ℕ}
 use Rattle.std.proofs.lemmas.List.{append_cancel_left, ext_get_or}
-use Rattle.kpn_net.specs.declared.history.Entry.{Entry}
-use Rattle.kpn_net.specs.History.{deeds, growths, grown}
-use Rattle.kpn_net.specs.Network.{Network, channel_of, Family}
-use Rattle.kpn_net.specs.declared.history.Status.TheVariants.{Done}
-use Rattle.kpn_net.specs.Machine.{Held, State, nothing_held, status, tokens, capacity, Run, IsQuiet}
+use Rattle.kpn_model.specs.declared.history.Entry.{Entry}
+use Rattle.kpn_model.specs.History.{deeds, growths, grown}
+use Rattle.kpn_model.specs.Network.{Network, channel_of, Family}
+use Rattle.kpn_model.specs.declared.history.Status.TheVariants.{Done}
+use Rattle.kpn_model.specs.Machine.{Held, State, nothing_held, status, tokens, capacity, Run, IsQuiet}
 use Rattle.kpn_laws.proofs.Lists.{same_from_fronts}
 use Rattle.kpn_laws.proofs.Views.{puts, took}
 use Rattle.kpn_laws.proofs.Follows.{status_by}

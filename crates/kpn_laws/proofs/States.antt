@@ -3,12 +3,12 @@ use Rattle.std.proofs.Common.{◌≡◌, ◌≤◌, ⊎_elim, List, ◌∷◌, l
 use Rattle.std.proofs.lemmas.Bool.{cases_lt, cases_eq}
 use Rattle.std.proofs.lemmas.List.{get_or_past, set_past}
 use Rattle.std.proofs.lemmas.List.Quantifiers.{position-Some}
-use Rattle.kpn_net.specs.declared.token.Token.{Token}
-use Rattle.kpn_net.specs.declared.parts.Channel.{Channel}
-use Rattle.kpn_net.specs.Network.{Network, no_channel, channel_of, in_of, out_of}
-use Rattle.kpn_net.specs.declared.history.Status.{Status}
-use Rattle.kpn_net.specs.declared.history.Status.TheVariants.{Done}
-use Rattle.kpn_net.specs.Machine.{Held, State, nothing_held, status, tokens, capacity, with_status, with_channel}
+use Rattle.kpn_model.specs.declared.token.Token.{Token}
+use Rattle.kpn_model.specs.declared.parts.Channel.{Channel}
+use Rattle.kpn_model.specs.Network.{Network, no_channel, channel_of, in_of, out_of}
+use Rattle.kpn_model.specs.declared.history.Status.{Status}
+use Rattle.kpn_model.specs.declared.history.Status.TheVariants.{Done}
+use Rattle.kpn_model.specs.Machine.{Held, State, nothing_held, status, tokens, capacity, with_status, with_channel}
 
 -- if both hold, the first does
 left_true : (a b : Bool) → (a && b) ≡ true → a ≡ true

@@ -2,16 +2,16 @@
 use Rattle.std.proofs.Common.{◌≡◌, ⊎_elim, List, [], ◌∷◌, ◌++◌, length, refl, sym, ap, ℕ, ◌≢◌, ◌<◌, Some, Option, None, drop, length-set}
 use Rattle.std.proofs.lemmas.Bool.{cases_lt}
 use Rattle.std.proofs.lemmas.List.{get_or_past}
-use Rattle.kpn_net.specs.declared.token.Token.{Token}
-use Rattle.kpn_net.specs.declared.history.Deed.{Deed}
-use Rattle.kpn_net.specs.declared.history.Deed.TheVariants.{Took, Put, Stopped}
-use Rattle.kpn_net.specs.Network.{Network, in_of, out_of, Family}
-use Rattle.kpn_net.specs.declared.history.Status.{Status}
-use Rattle.kpn_net.specs.declared.history.Status.TheVariants.{Done, Live}
-use Rattle.kpn_net.specs.Machine.{State, status, tokens, capacity, answered, wants, IsDeed, after_deed}
-use Rattle.kpn_net.specs.declared.kinds.Act.{Act}
-use Rattle.kpn_net.specs.declared.kinds.Act.TheVariants.{Read, Write, Stop}
-use Rattle.kpn_net.specs.declared.kinds.Answer.{Answer}
+use Rattle.kpn_model.specs.declared.token.Token.{Token}
+use Rattle.kpn_model.specs.declared.history.Deed.{Deed}
+use Rattle.kpn_model.specs.declared.history.Deed.TheVariants.{Took, Put, Stopped}
+use Rattle.kpn_model.specs.Network.{Network, in_of, out_of, Family}
+use Rattle.kpn_model.specs.declared.history.Status.{Status}
+use Rattle.kpn_model.specs.declared.history.Status.TheVariants.{Done, Live}
+use Rattle.kpn_model.specs.Machine.{State, status, tokens, capacity, answered, wants, IsDeed, after_deed}
+use Rattle.kpn_model.specs.declared.kinds.Act.{Act}
+use Rattle.kpn_model.specs.declared.kinds.Act.TheVariants.{Read, Write, Stop}
+use Rattle.kpn_model.specs.declared.kinds.Answer.{Answer}
 use Rattle.kpn_laws.proofs.States.{status_set_same, status_set_other, capacity_kept}
 
 -- what becomes of a process that answered so by this deed

@@ -1,9 +1,9 @@
 -- Capacities that suffice, and runs that keep theirs.
 use Rattle.std.proofs.Common.{◌≡◌, ◌≤◌, ◌<◌, List, [], ◌∷◌, length, refl, sym, ap, ◌∙◌, arith, ℕ, ◌+◌, zero, suc, get_or, subst}
-use Rattle.kpn_net.specs.Determinacy.{IsFinal}
-use Rattle.kpn_net.specs.History.{growths, grown}
-use Rattle.kpn_net.specs.declared.parts.Channel.{Channel}
-use Rattle.kpn_net.specs.Network.{no_channel, channel_of, Family, resize, resized}
+use Rattle.kpn_model.specs.Determinacy.{IsFinal}
+use Rattle.kpn_model.specs.History.{growths, grown}
+use Rattle.kpn_model.specs.declared.parts.Channel.{Channel}
+use Rattle.kpn_model.specs.Network.{no_channel, channel_of, Family, resize, resized}
 use Rattle.kpn_laws.specs.Sufficient.{KeepsCapacities, OwnEndSuffices}
 use Rattle.kpn_laws.proofs.EachMoment.{history_tells_state}
 

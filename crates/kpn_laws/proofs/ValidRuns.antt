@@ -2,11 +2,11 @@
 use Rattle.std.proofs.Common.{◌≤◌, ℕ, ⊎_elim, Option, length, sym, ap, subst, arith}
 use Rattle.std.proofs.lemmas.Bool.{cases_lt}
 use Rattle.std.proofs.lemmas.List.{get_or_past}
-use Rattle.kpn_net.specs.declared.kinds.Card.{Card}
-use Rattle.kpn_net.specs.declared.kinds.Signature.{Signature}
-use Rattle.kpn_net.specs.declared.parts.Channel.{Channel}
-use Rattle.kpn_net.specs.Network.{Family, Network, no_channel, channel_of}
-use Rattle.kpn_net.specs.Valid.{IsValid}
+use Rattle.kpn_model.specs.declared.kinds.Card.{Card}
+use Rattle.kpn_model.specs.declared.kinds.Signature.{Signature}
+use Rattle.kpn_model.specs.declared.parts.Channel.{Channel}
+use Rattle.kpn_model.specs.Network.{Family, Network, no_channel, channel_of}
+use Rattle.kpn_model.specs.Valid.{IsValid}
 use Rattle.kpn_laws.specs.ValidRuns.{StartsWithin, StaysWithin}
 use Rattle.kpn_laws.proofs.Kept.{tokens_at}
 use Rattle.kpn_laws.proofs.Within.{always_within}

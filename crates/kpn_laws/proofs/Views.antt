@@ -1,12 +1,12 @@
 -- A history as each process and each channel sees it.
 use Rattle.std.proofs.Common.{◌≡◌, inl, inr, List, [], ◌∷◌, ◌++◌, refl, sym, ap, ◌∙◌, append-nil, ℕ, ◌==◌, if◌then◌else◌, Bool, true, false, eq-eqb}
-use Rattle.kpn_net.specs.Determinacy.{IsFrontOf, AreInLine}
-use Rattle.kpn_net.specs.declared.token.Token.{Token}
-use Rattle.kpn_net.specs.declared.history.Deed.{Deed}
-use Rattle.kpn_net.specs.declared.history.Deed.TheVariants.{Took, Put, Stopped}
-use Rattle.kpn_net.specs.declared.history.Entry.{Entry}
-use Rattle.kpn_net.specs.declared.history.Entry.TheVariants.{Did, Grew}
-use Rattle.kpn_net.specs.History.{deeds, put_on, taken, growths, grown}
+use Rattle.kpn_model.specs.Determinacy.{IsFrontOf, AreInLine}
+use Rattle.kpn_model.specs.declared.token.Token.{Token}
+use Rattle.kpn_model.specs.declared.history.Deed.{Deed}
+use Rattle.kpn_model.specs.declared.history.Deed.TheVariants.{Took, Put, Stopped}
+use Rattle.kpn_model.specs.declared.history.Entry.{Entry}
+use Rattle.kpn_model.specs.declared.history.Entry.TheVariants.{Did, Grew}
+use Rattle.kpn_model.specs.History.{deeds, put_on, taken, growths, grown}
 
 -- the tokens that these deeds put on c
 abbrev pub puts : List Deed → ℕ → List Token

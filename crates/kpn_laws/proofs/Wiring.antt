@@ -1,20 +1,20 @@
 -- Networks with the same channels at the same ports: the steps of one are those of the other.
 use Rattle.std.proofs.Common.{◌≡◌, List, [], ◌∷◌, refl, sym, ap, ◌∙◌, ℕ, ◌<◌, Some, Option, None, subst, min, ◌+◌}
-use Rattle.kpn_net.specs.declared.history.Deed.{Deed}
-use Rattle.kpn_net.specs.declared.history.Deed.TheVariants.{Took, Put, Stopped}
-use Rattle.kpn_net.specs.declared.history.Entry.{Entry}
-use Rattle.kpn_net.specs.declared.history.Entry.TheVariants.{Did, Grew}
-use Rattle.kpn_net.specs.Network.{Network, in_of, out_of, Family, card_of}
-use Rattle.kpn_net.specs.declared.history.Status.{Status}
-use Rattle.kpn_net.specs.declared.history.Status.TheVariants.{Done, Live}
-use Rattle.kpn_net.specs.Machine.{State, status, capacity, answered, IsDeed, Step, Run, IsBlocked, IsPossible, IsEnabled, IsQuiet, IsChosen, IsOver, IsArtificial}
-use Rattle.kpn_net.specs.declared.kinds.Act.{Act}
-use Rattle.kpn_net.specs.declared.kinds.Act.TheVariants.{Read, Write, Stop}
-use Rattle.kpn_net.specs.declared.kinds.Answer.{Answer}
-use Rattle.kpn_net.specs.declared.history.End.{End}
-use Rattle.kpn_net.specs.declared.history.End.TheVariants.{Terminated, Deadlock, Ceiling, Budget, Memory}
-use Rattle.kpn_net.specs.History.{place_of, place_of_act, reads, writes}
-use Rattle.kpn_net.specs.declared.kinds.Card.{Card}
+use Rattle.kpn_model.specs.declared.history.Deed.{Deed}
+use Rattle.kpn_model.specs.declared.history.Deed.TheVariants.{Took, Put, Stopped}
+use Rattle.kpn_model.specs.declared.history.Entry.{Entry}
+use Rattle.kpn_model.specs.declared.history.Entry.TheVariants.{Did, Grew}
+use Rattle.kpn_model.specs.Network.{Network, in_of, out_of, Family, card_of}
+use Rattle.kpn_model.specs.declared.history.Status.{Status}
+use Rattle.kpn_model.specs.declared.history.Status.TheVariants.{Done, Live}
+use Rattle.kpn_model.specs.Machine.{State, status, capacity, answered, IsDeed, Step, Run, IsBlocked, IsPossible, IsEnabled, IsQuiet, IsChosen, IsOver, IsArtificial}
+use Rattle.kpn_model.specs.declared.kinds.Act.{Act}
+use Rattle.kpn_model.specs.declared.kinds.Act.TheVariants.{Read, Write, Stop}
+use Rattle.kpn_model.specs.declared.kinds.Answer.{Answer}
+use Rattle.kpn_model.specs.declared.history.End.{End}
+use Rattle.kpn_model.specs.declared.history.End.TheVariants.{Terminated, Deadlock, Ceiling, Budget, Memory}
+use Rattle.kpn_model.specs.History.{place_of, place_of_act, reads, writes}
+use Rattle.kpn_model.specs.declared.kinds.Card.{Card}
 
 -- the same processes, with the same channels at their ports
 pub record AreWiredAlike (a b : Network) : Type 0 where

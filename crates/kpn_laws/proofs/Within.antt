@@ -1,16 +1,16 @@
 -- No channel ever holds more than its capacity.
 use Rattle.std.proofs.Common.{◌≡◌, ◌≤◌, ⊎_elim, List, [], ◌∷◌, ◌++◌, length, sym, ap, ◌∙◌, arith, length-append, ℕ, ◌<◌, Some, None, drop, subst, suc}
 use Rattle.std.proofs.lemmas.Bool.{cases_eq}
-use Rattle.kpn_net.specs.declared.history.Deed.{Deed}
-use Rattle.kpn_net.specs.declared.history.Deed.TheVariants.{Took, Put, Stopped}
-use Rattle.kpn_net.specs.declared.history.Entry.{Entry}
-use Rattle.kpn_net.specs.declared.history.Entry.TheVariants.{Did, Grew}
-use Rattle.kpn_net.specs.Network.{Network, Family}
-use Rattle.kpn_net.specs.Machine.{State, tokens, capacity, with_status, with_channel, IsDeed, after_deed, start, Step}
-use Rattle.kpn_net.specs.declared.kinds.Answer.{Answer}
-use Rattle.kpn_net.specs.declared.history.Status.TheVariants.{Live}
-use Rattle.kpn_net.specs.Determinacy.{IsRun}
-use Rattle.kpn_net.specs.Moments.{IsWithin, AlwaysWithin}
+use Rattle.kpn_model.specs.declared.history.Deed.{Deed}
+use Rattle.kpn_model.specs.declared.history.Deed.TheVariants.{Took, Put, Stopped}
+use Rattle.kpn_model.specs.declared.history.Entry.{Entry}
+use Rattle.kpn_model.specs.declared.history.Entry.TheVariants.{Did, Grew}
+use Rattle.kpn_model.specs.Network.{Network, Family}
+use Rattle.kpn_model.specs.Machine.{State, tokens, capacity, with_status, with_channel, IsDeed, after_deed, start, Step}
+use Rattle.kpn_model.specs.declared.kinds.Answer.{Answer}
+use Rattle.kpn_model.specs.declared.history.Status.TheVariants.{Live}
+use Rattle.kpn_model.specs.Determinacy.{IsRun}
+use Rattle.kpn_model.specs.Moments.{IsWithin, AlwaysWithin}
 use Rattle.kpn_laws.proofs.States.{out_of-writer, holds_within, tokens_set_same, tokens_set_other, capacity_set_same, capacity_set_other}
 use Rattle.kpn_laws.proofs.Steps.{capacity_after, took_read, put_write}
 use Rattle.kpn_laws.proofs.Runs.{run_induction}

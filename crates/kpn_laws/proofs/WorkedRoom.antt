@@ -1,13 +1,13 @@
 -- Networks for which a known number of places suffices, each shown by a schedule.
 use Rattle.std.proofs.Common.{◌≡◌, ◌≤◌, inl, ⊎_elim, ℕ, ◌+◌, zero, suc, List, [], ◌∷◌, ◌++◌, Bool, true, ◌&&◌, nat_le, Some, get_or, length, refl, subst, arith, leb-true}
-use Rattle.kpn_net.specs.declared.history.Entry.{Entry}
-use Rattle.kpn_net.specs.declared.history.End.{End}
-use Rattle.kpn_net.specs.declared.history.End.TheVariants.{Deadlock}
-use Rattle.kpn_net.specs.Network.{Network, channel_of, resized}
-use Rattle.kpn_net.specs.Machine.{Held, State, start, capacity, Run}
-use Rattle.kpn_net.specs.History.{growths}
-use Rattle.kpn_net.specs.Determinacy.{IsNatural}
-use Rattle.kpn_net.specs.Standard.{standard}
+use Rattle.kpn_model.specs.declared.history.Entry.{Entry}
+use Rattle.kpn_model.specs.declared.history.End.{End}
+use Rattle.kpn_model.specs.declared.history.End.TheVariants.{Deadlock}
+use Rattle.kpn_model.specs.Network.{Network, channel_of, resized}
+use Rattle.kpn_model.specs.Machine.{Held, State, start, capacity, Run}
+use Rattle.kpn_model.specs.History.{growths}
+use Rattle.kpn_model.specs.Determinacy.{IsNatural}
+use Rattle.kpn_model.specs.Standard.{standard}
 use Rattle.kpn_laws.specs.Sufficient.{EndsWithin}
 use Rattle.kpn_laws.specs.WorkedRoom.{longer_parks_case, TwoPlacesSuffice, NeverThree, ring, RingLasts}
 use Rattle.kpn_laws.proofs.Schedule.{Turn, Go, played, led, is_over}

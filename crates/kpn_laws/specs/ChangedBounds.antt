@@ -1,12 +1,12 @@
 -- The bound of the least room changed in four ways. Each is said of the networks of the standard kinds, and fails.
 use Rattle.std.specs.Prelude.{min, ◌≡◌, ◌⊎◌, ℕ, ◌+◌, ◌<◌, ◌≤◌, List}
-use Rattle.kpn_net.specs.declared.history.Entry.{Entry}
-use Rattle.kpn_net.specs.declared.history.Entry.TheVariants.{Did, Grew}
-use Rattle.kpn_net.specs.declared.history.End.{End}
-use Rattle.kpn_net.specs.Network.{Network, channel_of, resized}
-use Rattle.kpn_net.specs.Machine.{State, start, tokens, capacity, with_channel, Does, IsBlocked, IsArtificial, IsChosen}
-use Rattle.kpn_net.specs.Determinacy.{IsRun, IsFinal, IsNatural}
-use Rattle.kpn_net.specs.Standard.{standard}
+use Rattle.kpn_model.specs.declared.history.Entry.{Entry}
+use Rattle.kpn_model.specs.declared.history.Entry.TheVariants.{Did, Grew}
+use Rattle.kpn_model.specs.declared.history.End.{End}
+use Rattle.kpn_model.specs.Network.{Network, channel_of, resized}
+use Rattle.kpn_model.specs.Machine.{State, start, tokens, capacity, with_channel, Does, IsBlocked, IsArtificial, IsChosen}
+use Rattle.kpn_model.specs.Determinacy.{IsRun, IsFinal, IsNatural}
+use Rattle.kpn_model.specs.Standard.{standard}
 use Rattle.kpn_laws.specs.Sufficient.{Suffices}
 use Rattle.kpn_laws.specs.ChangedRules.{RunBy}
 

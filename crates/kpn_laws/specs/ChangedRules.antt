@@ -1,20 +1,20 @@
 -- Four definitions changed. A law is said of each as of the definition that stands, and fails.
 use Rattle.std.specs.Prelude.{min, ◌≡◌, ℕ, ◌+◌, ◌<◌, ◌≤◌, List, [], ◌∷◌, ◌++◌, Some}
-use Rattle.kpn_net.specs.declared.token.Token.{Token}
-use Rattle.kpn_net.specs.declared.kinds.Act.{Act}
-use Rattle.kpn_net.specs.declared.kinds.Act.TheVariants.{Write}
-use Rattle.kpn_net.specs.declared.kinds.Answer.{Answer}
-use Rattle.kpn_net.specs.declared.history.Deed.{Deed}
-use Rattle.kpn_net.specs.declared.history.Deed.TheVariants.{Put}
-use Rattle.kpn_net.specs.declared.history.Entry.{Entry}
-use Rattle.kpn_net.specs.declared.history.Entry.TheVariants.{Did, Grew}
-use Rattle.kpn_net.specs.declared.history.End.{End}
-use Rattle.kpn_net.specs.Network.{Network, channel_of, out_of}
-use Rattle.kpn_net.specs.Machine.{State, start, wants, tokens, capacity, with_channel, after_deed, IsDeed, Does, IsBlocked, IsArtificial, IsChosen, Grows, IsOver}
-use Rattle.kpn_net.specs.History.{taken, digest}
-use Rattle.kpn_net.specs.Determinacy.{IsRun}
-use Rattle.kpn_net.specs.Moments.{IsWithin}
-use Rattle.kpn_net.specs.Standard.{standard}
+use Rattle.kpn_model.specs.declared.token.Token.{Token}
+use Rattle.kpn_model.specs.declared.kinds.Act.{Act}
+use Rattle.kpn_model.specs.declared.kinds.Act.TheVariants.{Write}
+use Rattle.kpn_model.specs.declared.kinds.Answer.{Answer}
+use Rattle.kpn_model.specs.declared.history.Deed.{Deed}
+use Rattle.kpn_model.specs.declared.history.Deed.TheVariants.{Put}
+use Rattle.kpn_model.specs.declared.history.Entry.{Entry}
+use Rattle.kpn_model.specs.declared.history.Entry.TheVariants.{Did, Grew}
+use Rattle.kpn_model.specs.declared.history.End.{End}
+use Rattle.kpn_model.specs.Network.{Network, channel_of, out_of}
+use Rattle.kpn_model.specs.Machine.{State, start, wants, tokens, capacity, with_channel, after_deed, IsDeed, Does, IsBlocked, IsArtificial, IsChosen, Grows, IsOver}
+use Rattle.kpn_model.specs.History.{taken, digest}
+use Rattle.kpn_model.specs.Determinacy.{IsRun}
+use Rattle.kpn_model.specs.Moments.{IsWithin}
+use Rattle.kpn_model.specs.Standard.{standard}
 
 -- the entries lead from M to N, one step of this rule each
 abbrev pub RunBy : (State → Entry → State → Type 0) → State → List Entry → State → Type 0

@@ -1,10 +1,10 @@
 -- A run comes to its end, or goes on for ever, where the network can do so in bounded room.
 use Rattle.std.specs.Prelude.{◌⊎◌, ℕ, ◌+◌, ◌*◌, ◌<◌, ◌≤◌, List, length}
-use Rattle.kpn_net.specs.declared.history.Entry.{Entry}
-use Rattle.kpn_net.specs.declared.history.End.{End}
-use Rattle.kpn_net.specs.Network.{Family, Network}
-use Rattle.kpn_net.specs.Machine.{State, capacity, IsArtificial, IsChosen, Step, Run, IsOver}
-use Rattle.kpn_net.specs.Determinacy.{IsRun, IsNatural}
+use Rattle.kpn_model.specs.declared.history.Entry.{Entry}
+use Rattle.kpn_model.specs.declared.history.End.{End}
+use Rattle.kpn_model.specs.Network.{Family, Network}
+use Rattle.kpn_model.specs.Machine.{State, capacity, IsArtificial, IsChosen, Step, Run, IsOver}
+use Rattle.kpn_model.specs.Determinacy.{IsRun, IsNatural}
 use Rattle.kpn_laws.specs.Sufficient.{EndsWithin, LastsWithin}
 
 -- some entry can follow

@@ -1,11 +1,11 @@
 -- Worked networks: what the kinds compute, and start tokens in a loop.
 use Rattle.std.specs.Prelude.{true, false, [], ◌∷◌}
-use Rattle.kpn_net.specs.declared.token.Token.TheVariants.{Flag}
-use Rattle.kpn_net.specs.declared.history.End.TheVariants.{Deadlock}
-use Rattle.kpn_net.specs.declared.history.Place.TheVariants.{Stopped as Ended, Reads}
-use Rattle.kpn_net.specs.Network.{Network}
-use Rattle.kpn_net.specs.History.{Digest}
-use Rattle.kpn_net.specs.Standard.{standard}
+use Rattle.kpn_model.specs.declared.token.Token.TheVariants.{Flag}
+use Rattle.kpn_model.specs.declared.history.End.TheVariants.{Deadlock}
+use Rattle.kpn_model.specs.declared.history.Place.TheVariants.{Stopped as Ended, Reads}
+use Rattle.kpn_model.specs.Network.{Network}
+use Rattle.kpn_model.specs.History.{Digest}
+use Rattle.kpn_model.specs.Standard.{standard}
 use Rattle.kpn_laws.specs.Digested.{HasDigest}
 use Rattle.kpn_laws.specs.Building.{count, sink, copy, add, scale, merge, divides, switch, words, flags, holding, numbers, network}
 

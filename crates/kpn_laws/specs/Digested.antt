@@ -1,11 +1,11 @@
 -- What is said of a network: whichever run is over, this is its digest.
 use Rattle.std.specs.Prelude.{◌≡◌, List}
-use Rattle.kpn_net.specs.declared.history.Entry.{Entry}
-use Rattle.kpn_net.specs.declared.history.End.{End}
-use Rattle.kpn_net.specs.Network.{Family, Network}
-use Rattle.kpn_net.specs.Machine.{State}
-use Rattle.kpn_net.specs.History.{Digest, digest}
-use Rattle.kpn_net.specs.Determinacy.{IsFinal}
+use Rattle.kpn_model.specs.declared.history.Entry.{Entry}
+use Rattle.kpn_model.specs.declared.history.End.{End}
+use Rattle.kpn_model.specs.Network.{Family, Network}
+use Rattle.kpn_model.specs.Machine.{State}
+use Rattle.kpn_model.specs.History.{Digest, digest}
+use Rattle.kpn_model.specs.Determinacy.{IsFinal}
 
 -- some run that is over has this digest, and so has every other
 pub record HasDigest (kinds : Family) (net : Network) (d : Digest) : Type 0 where

@@ -1,10 +1,10 @@
 -- Worked networks: how a run ends, and what is left.
 use Rattle.std.specs.Prelude.{[], ◌∷◌}
-use Rattle.kpn_net.specs.declared.history.End.TheVariants.{Terminated, Deadlock}
-use Rattle.kpn_net.specs.declared.history.Place.TheVariants.{Stopped as Ended, Reads}
-use Rattle.kpn_net.specs.Network.{Network}
-use Rattle.kpn_net.specs.History.{Digest}
-use Rattle.kpn_net.specs.Standard.{standard}
+use Rattle.kpn_model.specs.declared.history.End.TheVariants.{Terminated, Deadlock}
+use Rattle.kpn_model.specs.declared.history.Place.TheVariants.{Stopped as Ended, Reads}
+use Rattle.kpn_model.specs.Network.{Network}
+use Rattle.kpn_model.specs.History.{Digest}
+use Rattle.kpn_model.specs.Standard.{standard}
 use Rattle.kpn_laws.specs.Digested.{HasDigest}
 use Rattle.kpn_laws.specs.Building.{count, sink, take, copy, words, holding, numbers, network}
 

@@ -1,10 +1,10 @@
 -- Worked networks: which channel grows, and when none can.
 use Rattle.std.specs.Prelude.{[], ◌∷◌}
-use Rattle.kpn_net.specs.declared.history.End.TheVariants.{Terminated, Deadlock, Ceiling}
-use Rattle.kpn_net.specs.declared.history.Place.TheVariants.{Stopped as Ended, Reads, Writes}
-use Rattle.kpn_net.specs.Network.{Network}
-use Rattle.kpn_net.specs.History.{Digest}
-use Rattle.kpn_net.specs.Standard.{standard}
+use Rattle.kpn_model.specs.declared.history.End.TheVariants.{Terminated, Deadlock, Ceiling}
+use Rattle.kpn_model.specs.declared.history.Place.TheVariants.{Stopped as Ended, Reads, Writes}
+use Rattle.kpn_model.specs.Network.{Network}
+use Rattle.kpn_model.specs.History.{Digest}
+use Rattle.kpn_model.specs.Standard.{standard}
 use Rattle.kpn_laws.specs.Digested.{HasDigest}
 use Rattle.kpn_laws.specs.Building.{count, sink, copy, weave, words, numbers, network}
 

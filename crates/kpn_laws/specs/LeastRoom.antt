@@ -1,13 +1,13 @@
 -- Growth of the smallest full channel takes, but for the step, no more room than any capacities that
 -- suffice (Parks 1995).
 use Rattle.std.specs.Prelude.{◌≡◌, ◌⊎◌, ℕ, ◌+◌, ◌*◌, ◌<◌, ◌≤◌, List, ◌∷◌, ◌++◌, length}
-use Rattle.kpn_net.specs.declared.history.Entry.{Entry}
-use Rattle.kpn_net.specs.declared.history.Entry.TheVariants.{Grew}
-use Rattle.kpn_net.specs.declared.history.End.TheVariants.{Ceiling}
-use Rattle.kpn_net.specs.Network.{Family, Network, channel_of, resized}
-use Rattle.kpn_net.specs.Machine.{State, start, capacity, IsArtificial, IsChosen}
-use Rattle.kpn_net.specs.History.{deeds, growths, grown}
-use Rattle.kpn_net.specs.Determinacy.{IsFrontOf, IsRun, IsFinal}
+use Rattle.kpn_model.specs.declared.history.Entry.{Entry}
+use Rattle.kpn_model.specs.declared.history.Entry.TheVariants.{Grew}
+use Rattle.kpn_model.specs.declared.history.End.TheVariants.{Ceiling}
+use Rattle.kpn_model.specs.Network.{Family, Network, channel_of, resized}
+use Rattle.kpn_model.specs.Machine.{State, start, capacity, IsArtificial, IsChosen}
+use Rattle.kpn_model.specs.History.{deeds, growths, grown}
+use Rattle.kpn_model.specs.Determinacy.{IsFrontOf, IsRun, IsFinal}
 use Rattle.kpn_laws.specs.Sufficient.{IsBoundedBy, Suffices}
 
 -- each process does in F at most what it does in E, so F has no more entries, growths apart

@@ -1,12 +1,12 @@
 -- What is known of the room and the length of one run of one network.
 use Rattle.std.specs.Prelude.{◌≡◌, ◌⊎◌, ℕ, ◌+◌, ◌*◌, ◌<◌, ◌≤◌, List, ◌∷◌, ◌++◌, length}
-use Rattle.kpn_net.specs.declared.history.Entry.{Entry}
-use Rattle.kpn_net.specs.declared.history.Entry.TheVariants.{Grew}
-use Rattle.kpn_net.specs.declared.history.End.TheVariants.{Ceiling}
-use Rattle.kpn_net.specs.Network.{Family, Network, channel_of}
-use Rattle.kpn_net.specs.Machine.{State, capacity, IsOver}
-use Rattle.kpn_net.specs.History.{growths, grown}
-use Rattle.kpn_net.specs.Determinacy.{IsRun}
+use Rattle.kpn_model.specs.declared.history.Entry.{Entry}
+use Rattle.kpn_model.specs.declared.history.Entry.TheVariants.{Grew}
+use Rattle.kpn_model.specs.declared.history.End.TheVariants.{Ceiling}
+use Rattle.kpn_model.specs.Network.{Family, Network, channel_of}
+use Rattle.kpn_model.specs.Machine.{State, capacity, IsOver}
+use Rattle.kpn_model.specs.History.{growths, grown}
+use Rattle.kpn_model.specs.Determinacy.{IsRun}
 use Rattle.kpn_laws.specs.Sufficient.{EndsWithin, Suffices}
 
 -- the run E to M takes, but for the step, no more than b places a channel: each growth is from fewer than

@@ -1,12 +1,12 @@
 -- How many places a channel suffice for a network: with some capacities of so many it comes to its end, or
 -- goes on for ever.
 use Rattle.std.specs.Prelude.{◌≡◌, ◌⊎◌, ℕ, ◌+◌, ◌<◌, ◌≤◌, List, [], length}
-use Rattle.kpn_net.specs.declared.history.Entry.{Entry}
-use Rattle.kpn_net.specs.declared.history.End.{End}
-use Rattle.kpn_net.specs.Network.{Family, Network, resized}
-use Rattle.kpn_net.specs.Machine.{State, capacity}
-use Rattle.kpn_net.specs.History.{growths}
-use Rattle.kpn_net.specs.Determinacy.{IsRun, IsFinal, IsNatural}
+use Rattle.kpn_model.specs.declared.history.Entry.{Entry}
+use Rattle.kpn_model.specs.declared.history.End.{End}
+use Rattle.kpn_model.specs.Network.{Family, Network, resized}
+use Rattle.kpn_model.specs.Machine.{State, capacity}
+use Rattle.kpn_model.specs.History.{growths}
+use Rattle.kpn_model.specs.Determinacy.{IsRun, IsFinal, IsNatural}
 
 -- no channel has more than b places
 abbrev pub IsBoundedBy : State → ℕ → Type 0

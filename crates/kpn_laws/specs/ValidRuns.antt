@@ -1,13 +1,13 @@
 -- Runs of valid networks stay within the capacities.
 use Rattle.std.specs.Prelude.{List, Option}
-use Rattle.kpn_net.specs.declared.kinds.Card.{Card}
-use Rattle.kpn_net.specs.declared.kinds.Signature.{Signature}
-use Rattle.kpn_net.specs.declared.history.Entry.{Entry}
-use Rattle.kpn_net.specs.Network.{Family, Network}
-use Rattle.kpn_net.specs.Machine.{State, start}
-use Rattle.kpn_net.specs.Determinacy.{IsRun}
-use Rattle.kpn_net.specs.Moments.{IsWithin}
-use Rattle.kpn_net.specs.Valid.{IsValid}
+use Rattle.kpn_model.specs.declared.kinds.Card.{Card}
+use Rattle.kpn_model.specs.declared.kinds.Signature.{Signature}
+use Rattle.kpn_model.specs.declared.history.Entry.{Entry}
+use Rattle.kpn_model.specs.Network.{Family, Network}
+use Rattle.kpn_model.specs.Machine.{State, start}
+use Rattle.kpn_model.specs.Determinacy.{IsRun}
+use Rattle.kpn_model.specs.Moments.{IsWithin}
+use Rattle.kpn_model.specs.Valid.{IsValid}
 
 -- no channel of a valid network begins with more tokens than its capacity
 abbrev pub StartsWithin : (Card → Option Signature) → Family → Type 0

@@ -1,12 +1,12 @@
 -- Networks of the standard kinds for which a known number of places suffices.
 use Rattle.std.specs.Prelude.{◌≡◌, ℕ, ◌<◌, codes, List, [], ◌∷◌, length}
-use Rattle.kpn_net.specs.declared.parts.Process.{Process}
-use Rattle.kpn_net.specs.declared.parts.Channel.{Channel}
-use Rattle.kpn_net.specs.declared.history.Entry.{Entry}
-use Rattle.kpn_net.specs.Network.{Network}
-use Rattle.kpn_net.specs.Machine.{State, capacity}
-use Rattle.kpn_net.specs.Determinacy.{IsRun}
-use Rattle.kpn_net.specs.Standard.{standard}
+use Rattle.kpn_model.specs.declared.parts.Process.{Process}
+use Rattle.kpn_model.specs.declared.parts.Channel.{Channel}
+use Rattle.kpn_model.specs.declared.history.Entry.{Entry}
+use Rattle.kpn_model.specs.Network.{Network}
+use Rattle.kpn_model.specs.Machine.{State, capacity}
+use Rattle.kpn_model.specs.Determinacy.{IsRun}
+use Rattle.kpn_model.specs.Standard.{standard}
 use Rattle.kpn_laws.specs.Sufficient.{EndsWithin, LastsWithin}
 use Rattle.kpn_laws.specs.Building.{count, sink, copy, scale, weave, words, holding, numbers, network}
 

@@ -1,8 +1,8 @@
 //! What can come to its end in bounded room comes to its end.
-ghost use Rattle.kpn_net.specs.Network.{Family};
+ghost use Rattle.kpn_model.specs.Network.{Family};
 ghost use Rattle.kpn_laws.specs.Completion.{GoesOn, FewEntries, Completes, HasEnd, NeverEnds};
 
-use kpn_net::Kinds;
+use kpn_model::Kinds;
 
 /// What can come to its end in bounded room comes to its end, and what can go on for ever goes on, from
 /// any starting capacities and whatever the schedule, for every family of kinds and every network.

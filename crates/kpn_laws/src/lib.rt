@@ -1,4 +1,4 @@
-//! The laws of Kahn process networks with bounded channels, over the definitions of kpn_net alone.
+//! The laws of Kahn process networks with bounded channels, over the definitions of kpn_model alone.
 //!
 //! A function here does nothing: what it ensures is proved, the laws for every family of kinds and every
 //! network, and a caller that calls it may use them from there on. docs/determinacy.md and

@@ -1,10 +1,10 @@
 //! Whichever process goes on next, the outcome is the same.
-ghost use Rattle.kpn_net.specs.Network.{Family};
-ghost use Rattle.kpn_net.specs.Determinacy.{OneDigest, NoneLonger, OneOutcome, AllInLine};
-ghost use Rattle.kpn_net.specs.Moments.{OneState, FrontsAreRuns, AlwaysWithin, HistoryTellsState, BudgetSuffices, EnabledCanDo, OneCause};
+ghost use Rattle.kpn_model.specs.Network.{Family};
+ghost use Rattle.kpn_model.specs.Determinacy.{OneDigest, NoneLonger, OneOutcome, AllInLine};
+ghost use Rattle.kpn_model.specs.Moments.{OneState, FrontsAreRuns, AlwaysWithin, HistoryTellsState, BudgetSuffices, EnabledCanDo, OneCause};
 
 use crate::run::moments;
-use kpn_net::Kinds;
+use kpn_model::Kinds;
 
 /// The laws of determinacy, for every family of kinds and every network (Kahn 1974, of runs that end).
 ///

@@ -1,10 +1,10 @@
 //! No run takes more room than the network needs.
-ghost use Rattle.kpn_net.specs.Network.{Family};
+ghost use Rattle.kpn_model.specs.Network.{Family};
 ghost use Rattle.kpn_laws.specs.Sufficient.{OwnEndSuffices, KeepsCapacities};
 ghost use Rattle.kpn_laws.specs.LeastRoom.{Dominates, ChosenHasFewer, GrowsBelow, StaysBelow, LeastPossible, FewGrowths, CeilingSuffices};
 ghost use Rattle.kpn_laws.specs.RoomOfRun.{EachTakesLeastRoom};
 
-use kpn_net::Kinds;
+use kpn_model::Kinds;
 
 /// Growth of the smallest full channel takes, but for the step, no more room than any capacities that
 /// suffice, for every family of kinds and every network (Parks 1995).

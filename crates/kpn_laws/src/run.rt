@@ -1,13 +1,13 @@
 //! What holds at each moment of a run.
 ghost use Rattle.std.specs.Prelude.{Option};
-ghost use Rattle.kpn_net.specs.declared.kinds.Card.{Card};
-ghost use Rattle.kpn_net.specs.declared.kinds.Signature.{Signature};
-ghost use Rattle.kpn_net.specs.Network.{Family};
-ghost use Rattle.kpn_net.specs.Moments.{OneState, FrontsAreRuns, AlwaysWithin, HistoryTellsState, BudgetSuffices, EnabledCanDo, OneCause};
-ghost use Rattle.kpn_net.specs.Valid.{AlwaysSorted};
+ghost use Rattle.kpn_model.specs.declared.kinds.Card.{Card};
+ghost use Rattle.kpn_model.specs.declared.kinds.Signature.{Signature};
+ghost use Rattle.kpn_model.specs.Network.{Family};
+ghost use Rattle.kpn_model.specs.Moments.{OneState, FrontsAreRuns, AlwaysWithin, HistoryTellsState, BudgetSuffices, EnabledCanDo, OneCause};
+ghost use Rattle.kpn_model.specs.Valid.{AlwaysSorted};
 ghost use Rattle.kpn_laws.specs.ValidRuns.{StartsWithin, StaysWithin};
 
-use kpn_net::Kinds;
+use kpn_model::Kinds;
 
 /// The laws of the moments of a run, for every family of kinds and every network.
 ///

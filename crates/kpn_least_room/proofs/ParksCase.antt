@@ -2,17 +2,17 @@
 use Rattle.std.proofs.Common.{◌≡◌, ◌≢◌, ℕ, ◌<◌, ◌≤◌, ⊎_elim, inl, zero, suc, List, Option, ◌∷◌, refl, sym, cond, ◌+◌, Some, length, ap, arith, subst}
 use Rattle.std.specs.List.{count_by}
 use Rattle.std.proofs.lemmas.List.Recursion.{is_count_by}
-use Rattle.kpn_net.specs.declared.token.Token.{Token}
-use Rattle.kpn_net.specs.declared.kinds.Card.{Card}
-use Rattle.kpn_net.specs.declared.history.Entry.{Entry}
-use Rattle.kpn_net.specs.declared.history.Entry.TheVariants.{Did, Grew}
-use Rattle.kpn_net.specs.declared.history.End.{End}
-use Rattle.kpn_net.specs.declared.history.End.TheVariants.{Budget, Ceiling}
-use Rattle.kpn_net.specs.Network.{Family, Network, channel_of}
-use Rattle.kpn_net.specs.Machine.{State, capacity, IsOver}
-use Rattle.kpn_net.specs.History.{growths}
-use Rattle.kpn_net.specs.Moments.{IsBound}
-use Rattle.kpn_net.specs.Standard.{standard}
+use Rattle.kpn_model.specs.declared.token.Token.{Token}
+use Rattle.kpn_model.specs.declared.kinds.Card.{Card}
+use Rattle.kpn_model.specs.declared.history.Entry.{Entry}
+use Rattle.kpn_model.specs.declared.history.Entry.TheVariants.{Did, Grew}
+use Rattle.kpn_model.specs.declared.history.End.{End}
+use Rattle.kpn_model.specs.declared.history.End.TheVariants.{Budget, Ceiling}
+use Rattle.kpn_model.specs.Network.{Family, Network, channel_of}
+use Rattle.kpn_model.specs.Machine.{State, capacity, IsOver}
+use Rattle.kpn_model.specs.History.{growths}
+use Rattle.kpn_model.specs.Moments.{IsBound}
+use Rattle.kpn_model.specs.Standard.{standard}
 use Rattle.kpn_laws.specs.RoomOfRun.{TakesAtMost, TakesLeastRoom}
 use Rattle.kpn_laws.specs.WorkedRoom.{longer_parks_case, TwoPlacesSuffice}
 use Rattle.kpn_least_room.specs.Growth.{is_growth}

@@ -1,9 +1,9 @@
 //! A run of Parks's case, and how much room it takes.
 ghost use Rattle.std.specs.Prelude.{◌≡◌, ◌≢◌, ℕ, ◌<◌, ◌≤◌, Some, IsSome, count_by, length};
-ghost use Rattle.kpn_net.specs.declared.history.End.TheVariants.{Budget, Ceiling};
-ghost use Rattle.kpn_net.specs.Machine.{capacity};
-ghost use Rattle.kpn_net.specs.History.{growths};
-ghost use Rattle.kpn_net.specs.Standard.{standard};
+ghost use Rattle.kpn_model.specs.declared.history.End.TheVariants.{Budget, Ceiling};
+ghost use Rattle.kpn_model.specs.Machine.{capacity};
+ghost use Rattle.kpn_model.specs.History.{growths};
+ghost use Rattle.kpn_model.specs.Standard.{standard};
 ghost use Rattle.kpn_state.specs.Standings.{is_out};
 ghost use Rattle.kpn_laws.specs.WorkedRoom.{longer_parks_case};
 ghost use Rattle.kpn_least_room.specs.Growth.{is_growth};

@@ -1,7 +1,7 @@
 //! The run of Parks's case with a counter of five: its end, its growths and its length, as worked out by
 //! hand.
 ghost use Rattle.std.specs.Prelude.{◌≡◌, ◌<◌, All, IfSome, IsSome, Some, length, slice_get};
-ghost use Rattle.kpn_net.specs.Standard.{standard};
+ghost use Rattle.kpn_model.specs.Standard.{standard};
 ghost use Rattle.kpn_body.specs.Standard.{signature, Admitted};
 ghost use Rattle.kpn_machine.specs.Opening.{cards_of};
 ghost use Rattle.kpn_laws.specs.WorkedRoom.{longer_parks_case as the_case};

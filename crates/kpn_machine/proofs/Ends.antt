@@ -2,10 +2,10 @@
 use Rattle.std.proofs.Common.{◌≡◌, ◌↔◌, List, length, refl, sym, ap, ◌∙◌, arith, ℕ, ◌<◌, ◌≤◌, Bool, true, false, nat_le, if◌then◌else◌, Some, None, subst}
 use Rattle.std.proofs.lemmas.Grind.{common_steps}
 use Rattle.std.specs.List.{list_any}
-use Rattle.kpn_net.specs.declared.history.End.{End}
-use Rattle.kpn_net.specs.declared.history.End.TheVariants.{Terminated, Deadlock, Ceiling, Budget, Memory}
-use Rattle.kpn_net.specs.Network.{Network, Family}
-use Rattle.kpn_net.specs.Machine.{State, IsOver}
+use Rattle.kpn_model.specs.declared.history.End.{End}
+use Rattle.kpn_model.specs.declared.history.End.TheVariants.{Terminated, Deadlock, Ceiling, Budget, Memory}
+use Rattle.kpn_model.specs.Network.{Network, Family}
+use Rattle.kpn_model.specs.Machine.{State, IsOver}
 use Rattle.kpn_laws.proofs.Causes.{cause_same, over_grows_not}
 use Rattle.kpn_body.specs.Input.{Input}
 use Rattle.kpn_state.specs.Story.{Story}

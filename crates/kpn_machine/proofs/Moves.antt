@@ -3,11 +3,11 @@ use Rattle.std.proofs.Common.{◌≡◌, ◌≢◌, ◌↔◌, ⊎_elim, ◌⊎�
 use Rattle.std.proofs.lemmas.Bool.{cases_eq}
 use Rattle.std.specs.List.{sum_by}
 use Rattle.std.proofs.lemmas.List.Sums.{sum_by-set, sum_by-le, sum_by-le-sum_by}
-use Rattle.kpn_net.specs.declared.kinds.Answer.{Answer}
-use Rattle.kpn_net.specs.declared.history.Deed.{Deed}
-use Rattle.kpn_net.specs.declared.history.Deed.TheVariants.{Took, Put, Stopped}
-use Rattle.kpn_net.specs.declared.history.End.{End}
-use Rattle.kpn_net.specs.Network.{Network, Family}
+use Rattle.kpn_model.specs.declared.kinds.Answer.{Answer}
+use Rattle.kpn_model.specs.declared.history.Deed.{Deed}
+use Rattle.kpn_model.specs.declared.history.Deed.TheVariants.{Took, Put, Stopped}
+use Rattle.kpn_model.specs.declared.history.End.{End}
+use Rattle.kpn_model.specs.Network.{Network, Family}
 use Rattle.kpn_state.specs.Story.{Story}
 use Rattle.kpn_state.specs.declared.standing.Standing.{Standing}
 use Rattle.kpn_state.specs.declared.standing.Standing.TheVariants.{Ready, Out, Parked, Stopped as Ended}

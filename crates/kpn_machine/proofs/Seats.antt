@@ -3,9 +3,9 @@ use Rattle.std.proofs.Common.{◌≡◌, ◌≢◌, ⊎_elim, List, [], ◌∷�
 use Rattle.std.specs.Option.{option_map}
 use Rattle.std.proofs.lemmas.Bool.{cases_eq, cases_lt}
 use Rattle.std.proofs.lemmas.List.{map-set, length-map}
-use Rattle.kpn_net.specs.declared.kinds.Card.{Card}
-use Rattle.kpn_net.specs.declared.parts.Process.{Process}
-use Rattle.kpn_net.specs.Network.{no_process}
+use Rattle.kpn_model.specs.declared.kinds.Card.{Card}
+use Rattle.kpn_model.specs.declared.parts.Process.{Process}
+use Rattle.kpn_model.specs.Network.{no_process}
 use Rattle.kpn_machine.specs.Opening.{cards_of}
 
 -- a process's card is the card of its number

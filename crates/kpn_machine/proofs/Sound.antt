@@ -5,19 +5,19 @@ use Rattle.std.proofs.lemmas.Bool.{cases_eq}
 use Rattle.std.specs.Bool.{IsTrue}
 use Rattle.std.specs.Option.{is_some}
 use Rattle.std.specs.List.{list_any}
-use Rattle.kpn_net.specs.declared.token.Token.{Token}
-use Rattle.kpn_net.specs.declared.kinds.Card.{Card}
-use Rattle.kpn_net.specs.declared.kinds.Signature.{Signature}
-use Rattle.kpn_net.specs.declared.kinds.Answer.{Answer}
-use Rattle.kpn_net.specs.declared.history.Entry.{Entry}
-use Rattle.kpn_net.specs.declared.history.Status.TheVariants.{Done as Halted}
-use Rattle.kpn_net.specs.declared.history.End.{End}
-use Rattle.kpn_net.specs.declared.history.End.TheVariants.{Terminated, Deadlock, Ceiling, Budget, Memory}
-use Rattle.kpn_net.specs.Network.{Network, Family, card_of}
-use Rattle.kpn_net.specs.Machine.{State, status, answered, wants, start}
-use Rattle.kpn_net.specs.Determinacy.{IsRun}
-use Rattle.kpn_net.specs.Moments.{IsWithin, AtEachMoment}
-use Rattle.kpn_net.specs.Valid.{IsValid, IsSorted, AlwaysSorted}
+use Rattle.kpn_model.specs.declared.token.Token.{Token}
+use Rattle.kpn_model.specs.declared.kinds.Card.{Card}
+use Rattle.kpn_model.specs.declared.kinds.Signature.{Signature}
+use Rattle.kpn_model.specs.declared.kinds.Answer.{Answer}
+use Rattle.kpn_model.specs.declared.history.Entry.{Entry}
+use Rattle.kpn_model.specs.declared.history.Status.TheVariants.{Done as Halted}
+use Rattle.kpn_model.specs.declared.history.End.{End}
+use Rattle.kpn_model.specs.declared.history.End.TheVariants.{Terminated, Deadlock, Ceiling, Budget, Memory}
+use Rattle.kpn_model.specs.Network.{Network, Family, card_of}
+use Rattle.kpn_model.specs.Machine.{State, status, answered, wants, start}
+use Rattle.kpn_model.specs.Determinacy.{IsRun}
+use Rattle.kpn_model.specs.Moments.{IsWithin, AtEachMoment}
+use Rattle.kpn_model.specs.Valid.{IsValid, IsSorted, AlwaysSorted}
 use Rattle.kpn_laws.specs.ValidRuns.{StaysWithin}
 use Rattle.kpn_laws.proofs.EachMoment.{enabled_can_do, fronts}
 use Rattle.kpn_body.specs.Input.{Input, answer_to}

@@ -1,11 +1,11 @@
 -- What taking an answer does.
 use Rattle.std.specs.Prelude.{◌≡◌, ◌≢◌, ◌⊎◌, ◌↔◌, ℕ, ◌+◌, ◌<◌, ◌≤◌, false, List, Some, None, length, set, ◌++◌}
 use Rattle.std.specs.List.{list_any}
-use Rattle.kpn_net.specs.declared.history.Entry.{Entry}
-use Rattle.kpn_net.specs.declared.history.End.{End}
-use Rattle.kpn_net.specs.declared.history.End.TheVariants.{Terminated, Deadlock, Ceiling, Budget, Memory}
-use Rattle.kpn_net.specs.Network.{Family}
-use Rattle.kpn_net.specs.Machine.{Run, IsEnabled, IsOver}
+use Rattle.kpn_model.specs.declared.history.Entry.{Entry}
+use Rattle.kpn_model.specs.declared.history.End.{End}
+use Rattle.kpn_model.specs.declared.history.End.TheVariants.{Terminated, Deadlock, Ceiling, Budget, Memory}
+use Rattle.kpn_model.specs.Network.{Family}
+use Rattle.kpn_model.specs.Machine.{Run, IsEnabled, IsOver}
 use Rattle.kpn_body.specs.Input.{Input, answer_to}
 use Rattle.kpn_state.specs.declared.standing.Standing.TheVariants.{Ready}
 use Rattle.kpn_steps.specs.declared.settle.Settled.TheVariants.{Enlarged}

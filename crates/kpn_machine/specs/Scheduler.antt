@@ -1,17 +1,17 @@
 -- What contracts see of a machine.
 use Rattle.std.specs.Prelude.{◌≡◌, ◌≢◌, ℕ, ◌+◌, ◌<◌, ◌≤◌, true, false, List, [], Option, Some, None, length, get_or, set}
 use Rattle.std.specs.List.{list_any, list_all, sum_by}
-use Rattle.kpn_net.specs.declared.token.Token.{Token}
-use Rattle.kpn_net.specs.declared.kinds.Card.{Card}
-use Rattle.kpn_net.specs.declared.history.Status.TheVariants.{Live}
-use Rattle.kpn_net.specs.declared.history.Entry.{Entry}
-use Rattle.kpn_net.specs.declared.history.End.{End}
-use Rattle.kpn_net.specs.declared.history.End.TheVariants.{Terminated, Deadlock, Ceiling, Budget, Memory}
-use Rattle.kpn_net.specs.Network.{Family, Network, card_of}
-use Rattle.kpn_net.specs.Machine.{State, status, wants, IsEnabled}
-use Rattle.kpn_net.specs.Determinacy.{IsRun}
-use Rattle.kpn_net.specs.Moments.{IsWithin, AtEachMoment, IsBound}
-use Rattle.kpn_net.specs.Valid.{IsSorted}
+use Rattle.kpn_model.specs.declared.token.Token.{Token}
+use Rattle.kpn_model.specs.declared.kinds.Card.{Card}
+use Rattle.kpn_model.specs.declared.history.Status.TheVariants.{Live}
+use Rattle.kpn_model.specs.declared.history.Entry.{Entry}
+use Rattle.kpn_model.specs.declared.history.End.{End}
+use Rattle.kpn_model.specs.declared.history.End.TheVariants.{Terminated, Deadlock, Ceiling, Budget, Memory}
+use Rattle.kpn_model.specs.Network.{Family, Network, card_of}
+use Rattle.kpn_model.specs.Machine.{State, status, wants, IsEnabled}
+use Rattle.kpn_model.specs.Determinacy.{IsRun}
+use Rattle.kpn_model.specs.Moments.{IsWithin, AtEachMoment, IsBound}
+use Rattle.kpn_model.specs.Valid.{IsSorted}
 use Rattle.kpn_body.specs.Input.{Input}
 use Rattle.kpn_state.specs.Story.{Story, story}
 use Rattle.kpn_state.specs.declared.standing.Standing.{Standing}

@@ -1,10 +1,10 @@
 //! The machine.
 ghost use Rattle.std.specs.Prelude.{count_by, ◌≡◌, ◌≢◌, ℕ, ◌<◌, ◌+◌, ◌↔◌, [], replicate, length, get_or, set, map, option_map, Some, None, IfSome, IfNone, IfErr, IfOk, OnOk, IsTrue, IsSome};
-ghost use Rattle.kpn_net.specs.Network.{card_of};
-ghost use Rattle.kpn_net.specs.Machine.{status, start};
+ghost use Rattle.kpn_model.specs.Network.{card_of};
+ghost use Rattle.kpn_model.specs.Machine.{status, start};
 ghost use Rattle.kpn_machine.specs.Opening.{cards_of, IsRefused};
-ghost use Rattle.kpn_net.specs.declared.history.Status.TheVariants.{Done, Live};
-ghost use Rattle.kpn_net.specs.Valid.{IsSorted};
+ghost use Rattle.kpn_model.specs.declared.history.Status.TheVariants.{Done, Live};
+ghost use Rattle.kpn_model.specs.Valid.{IsSorted};
 ghost use Rattle.kpn_state.specs.declared.standing.Standing.TheVariants.{Out, Ready as ReadyV};
 ghost use Rattle.kpn_state.specs.Standings.{place, is_out, is_ready, Keeps};
 ghost use Rattle.kpn_machine.specs.Scheduler.{scheduler, IsOut, IsOutAt, TakesOut, IsFaithful, IsFresh};

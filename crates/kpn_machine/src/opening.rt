@@ -1,8 +1,8 @@
 //! What a machine begins with.
 ghost use Rattle.std.specs.Prelude.{◌≡◌, ℕ, ◌<◌, ◌+◌, length, [], All, Some, None, IsSome, IfOk, OnOk, IfSome, IfNone, map, option_map, replicate};
 ghost use Rattle.std.specs.Vec.{vec_capacity};
-ghost use Rattle.kpn_net.specs.Network.{card_of};
-ghost use Rattle.kpn_net.specs.Machine.{start};
+ghost use Rattle.kpn_model.specs.Network.{card_of};
+ghost use Rattle.kpn_model.specs.Machine.{start};
 ghost use Rattle.kpn_state.specs.declared.standing.Standing.TheVariants.{Ready};
 ghost use Rattle.kpn_state.specs.Story.{story};
 ghost use Rattle.kpn_machine.specs.OpenFaults.{number_of};

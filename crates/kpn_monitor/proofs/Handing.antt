@@ -6,10 +6,10 @@ use Rattle.kpn_watch.proofs.Fronts.{prefix_self, prefix_trans}
 use Rattle.std.specs.List.{All, sum_by}
 use Rattle.std.proofs.lemmas.List.Sums.{sum_by-append, sum_by-cons}
 use Rattle.std.proofs.lemmas.List.Elements.{All-append}
-use Rattle.kpn_net.specs.declared.token.Token.{Token}
-use Rattle.kpn_net.specs.declared.kinds.Card.{Card}
-use Rattle.kpn_net.specs.declared.kinds.Answer.{Answer}
-use Rattle.kpn_net.specs.Network.{Family, Network}
+use Rattle.kpn_model.specs.declared.token.Token.{Token}
+use Rattle.kpn_model.specs.declared.kinds.Card.{Card}
+use Rattle.kpn_model.specs.declared.kinds.Answer.{Answer}
+use Rattle.kpn_model.specs.Network.{Family, Network}
 use Rattle.kpn_body.specs.Input.{Input, answer_to}
 use Rattle.kpn_steps.specs.declared.outcome.Outcome.{Outcome}
 use Rattle.kpn_steps.specs.declared.outcome.Outcome.TheVariants.{Done, Parked, LaidBack}

@@ -5,9 +5,9 @@
 //! book of overs is not empty, and what is published is the history with the phase of its end.
 ghost use Rattle.std.specs.Prelude.{◌≡◌, ◌+◌, ◌<◌, ◌≤◌, ◌↔◌, [], ◌∷◌, ◌++◌, true, false, length, Some, IfNone, Ok, IfSome, IfOk, IfErr, IsErr, OnOk, OnErr, IsSome, MatchOption, MatchResult};
 ghost use Rattle.std.specs.List.{All, sum_by};
-ghost use Rattle.kpn_net.specs.declared.history.End.{End as EndV};
-ghost use Rattle.kpn_net.specs.Machine.{State};
-ghost use Rattle.kpn_net.specs.Determinacy.{IsRun};
+ghost use Rattle.kpn_model.specs.declared.history.End.{End as EndV};
+ghost use Rattle.kpn_model.specs.Machine.{State};
+ghost use Rattle.kpn_model.specs.Determinacy.{IsRun};
 ghost use Rattle.kpn_watch.specs.declared.progress.Phase.TheVariants.{Running};
 ghost use Rattle.kpn_watch.specs.Phases.{phase_of};
 ghost use Rattle.kpn_monitor.specs.Kept.{IsShown, HasEnded, WasCommitted, WasTaken, FoundNothing};

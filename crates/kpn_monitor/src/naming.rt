@@ -6,7 +6,7 @@ use std::sync::ledger::Ledger;
 /// that is generic over it is called with `std::marker::Brand`, and that call picks the names.
 pub trait EntryLedger: Ledger {
     ghost use Rattle.atomic_table.specs.Seated.{TableId};
-    ghost use Rattle.kpn_net.specs.Network.{Network};
+    ghost use Rattle.kpn_model.specs.Network.{Network};
 
     ghost net: { Network };
 

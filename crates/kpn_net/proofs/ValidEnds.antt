@@ -8,14 +8,14 @@ use Rattle.std.specs.List.{find, list_any, All, position_or_len}
 use Rattle.std.specs.Ordering.{int_eq}
 use Rattle.std.specs.Prelude.{unsigned_abs}
 use Rattle.std.specs.Str.{bytes_eq}
-use Rattle.kpn_net.specs.declared.token.Sort.{Sort}
+use Rattle.kpn_model.specs.declared.token.Sort.{Sort}
 use Rattle.kpn_net.specs.declared.sketch.ProcessSketch.{ProcessSketch}
 use Rattle.kpn_net.specs.declared.sketch.ChannelSketch.{ChannelSketch}
-use Rattle.kpn_net.specs.declared.kinds.Card.{Card}
-use Rattle.kpn_net.specs.declared.kinds.Signature.{Signature}
+use Rattle.kpn_model.specs.declared.kinds.Card.{Card}
+use Rattle.kpn_model.specs.declared.kinds.Signature.{Signature}
 use Rattle.kpn_net.specs.Faults.{any_pair, same_process, port_sort, signature_of}
 use Rattle.kpn_net.specs.Sketched.{index_of}
-use Rattle.kpn_net.specs.Valid.{JustOne}
+use Rattle.kpn_model.specs.Valid.{JustOne}
 use Rattle.kpn_net.proofs.Lists.{no_pair_passes, found_index, found_passes, slice_get_within, none_passes_get}
 
 -- the first process of a name is the only one

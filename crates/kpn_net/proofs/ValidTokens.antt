@@ -4,14 +4,14 @@ use Rattle.std.proofs.lemmas.Bool.{or_parts}
 use Rattle.std.proofs.lemmas.Bool.Decides.{nat_tests}
 use Rattle.std.specs.List.{list_any, All, AllByRecursion}
 use Rattle.std.specs.Prelude.{unsigned_abs, int_lt}
-use Rattle.kpn_net.specs.declared.token.Sort.{Sort}
-use Rattle.kpn_net.specs.declared.token.Sort.TheVariants.{Words, Flags}
+use Rattle.kpn_model.specs.declared.token.Sort.{Sort}
+use Rattle.kpn_model.specs.declared.token.Sort.TheVariants.{Words, Flags}
 use Rattle.kpn_net.specs.declared.sketch.TokenSketch.{TokenSketch}
 use Rattle.kpn_net.specs.declared.sketch.TokenSketch.TheVariants.{Integer, Boolean}
-use Rattle.kpn_net.specs.Lawful.{sort_of, Fits}
+use Rattle.kpn_model.specs.Lawful.{sort_of, Fits}
 use Rattle.kpn_net.specs.Faults.{is_token}
 use Rattle.kpn_net.specs.Sketched.{token_in}
-use Rattle.kpn_net.specs.Valid.{IsOfSort}
+use Rattle.kpn_model.specs.Valid.{IsOfSort}
 
 sort_is : (w : Sort) (t : TokenSketch) → not (is_token w t) ≡ false → sort_of (token_in t) ≡ w
 sort_is Words (Integer z) h = refl

@@ -2,8 +2,8 @@
 use Rattle.std.specs.Prelude.{◌≡◌, ℕ, ℤ, pos, IsUtf8, IsSome, codes, List, [], ◌∷◌, Option, Some, None, option_and_then, if◌then◌else◌}
 use Rattle.toml.specs.Data.{Data, integer, boolean, Members, as_str, as_integer, as_table}
 use Rattle.std.specs.Str.{bytes_eq}
-use Rattle.kpn_net.specs.declared.token.Sort.{Sort}
-use Rattle.kpn_net.specs.declared.token.Sort.TheVariants.{Words, Flags}
+use Rattle.kpn_model.specs.declared.token.Sort.{Sort}
+use Rattle.kpn_model.specs.declared.token.Sort.TheVariants.{Words, Flags}
 use Rattle.kpn_net.specs.declared.sketch.TokenSketch.{TokenSketch}
 use Rattle.kpn_net.specs.declared.sketch.TokenSketch.TheVariants.{Integer, Boolean}
 use Rattle.kpn_net.specs.declared.sketch.ProcessSketch.{ProcessSketch}

@@ -1,12 +1,3 @@
-pub mod Network
-pub mod Lawful
-pub mod Machine
-pub mod History
-pub mod Determinacy
-pub mod Moments
-pub mod Name
-pub mod Valid
-pub mod Standard
 pub mod Fault
 pub mod Form
 pub mod Version

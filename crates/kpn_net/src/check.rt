@@ -3,14 +3,14 @@ ghost use Rattle.std.specs.Prelude.{◌≡◌, ◌&&◌, ◌||◌, not, int_lt, 
 ghost use Rattle.std.specs.List.{find, list_any, list_all};
 ghost use Rattle.std.specs.Ordering.{int_eq};
 ghost use Rattle.std.specs.Str.{bytes_eq};
-ghost use Rattle.kpn_net.specs.Lawful.{CardFits};
-ghost use Rattle.kpn_net.specs.Name.{is_letter, is_name_byte, is_name};
+ghost use Rattle.kpn_model.specs.Lawful.{CardFits};
+ghost use Rattle.kpn_model.specs.Name.{is_letter, is_name_byte, is_name};
 ghost use Rattle.kpn_net.specs.Faults.{any_pair, is_outside, same_process, same_channel, same_out, same_in, port_sort, is_sort, is_token, has_wrong_tokens, card_with, signature_of, has_unknown_kind, takes_other_count, has_wrong_args, signature_named, out_sort, in_sort, is_unused_out, is_unused_in, is_unused, has_unused_port, has_fault, first_fault};
 
 use crate::fault::NetFault;
-use crate::kinds::{Card, Kinds, Signature};
+use kpn_model::{Card, Kinds, Signature};
 use crate::sketch::{ChannelSketch, ProcessSketch, Sketch, TokenSketch};
-use crate::token::Sort;
+use kpn_model::Sort;
 use crate::version::{ceiling_in, greatest_budget_in, is_two};
 
 fn is_outside(low: i64, high: i64, x: i64) -> bool

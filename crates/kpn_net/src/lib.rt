@@ -1,28 +1,21 @@
-//! Kahn process networks (Kahn 1974): tokens, cards and kinds; descriptions, and the check that makes
-//! a network of one; and, in specs/, the definitions of the network, of its runs and of what is read
-//! off them.
+//! Descriptions of Kahn process networks (Kahn 1974), and the check that makes a network of one. The
+//! types of the model come along, so that a user takes them from here.
 #![tactic(auto)]
 
 mod check;
 pub mod fault;
 mod form;
-pub mod history;
-pub mod kinds;
 pub mod net;
-pub mod parts;
 mod ports;
 pub mod read;
 pub mod sketch;
-pub mod small;
-pub mod token;
 mod version;
 
 pub use fault::NetFault;
-pub use history::{Deed, End, Entry, Place, Status};
-pub use kinds::{Act, Answer, Card, Kinds, Local, Signature};
+pub use kpn_model::{
+    Act, Answer, Card, Channel, Deed, End, Ends, Entry, Kinds, Listed, Local, Place, Process,
+    Signature, Sort, Status, Text, Token,
+};
 pub use net::Net;
-pub use parts::{Channel, Ends, Process};
 pub use read::read_sketch;
 pub use sketch::{ChannelSketch, ProcessSketch, Sketch, TokenSketch};
-pub use small::{Listed, Text};
-pub use token::{Sort, Token};

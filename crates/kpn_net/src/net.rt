@@ -2,19 +2,19 @@
 ghost use Rattle.std.specs.Prelude.{All, ◌≡◌, ◌≢◌, ◌<◌, ◌≤◌, ℕ, List, Some, None, IsSome, IfOk, IfErr, IfSome, map, length, slice_get, option_map, position};
 ghost use Rattle.std.specs.Str.{bytes_eq};
 ghost use Rattle.kpn_net.specs.Faults.{first_fault};
-ghost use Rattle.kpn_net.specs.Lawful.{CardFits, Fits};
-ghost use Rattle.kpn_net.specs.Network.{card_of, channel_of, in_of, out_of};
+ghost use Rattle.kpn_model.specs.Lawful.{CardFits, Fits};
+ghost use Rattle.kpn_model.specs.Network.{card_of, channel_of, in_of, out_of};
 ghost use Rattle.kpn_net.specs.Sketched.{net_of, process_in, token_in, channel_in, index_of};
-ghost use Rattle.kpn_net.specs.Valid.{IsValid};
+ghost use Rattle.kpn_model.specs.Valid.{IsValid};
 
 use crate::check::{card_with, first_fault};
 use crate::fault::NetFault;
-use crate::kinds::{Card, Kinds};
-use crate::parts::{Channel, Ends, Process};
+use kpn_model::{Card, Kinds};
+use kpn_model::{Channel, Ends, Process};
 use crate::ports::{Ports, find_in, find_out, table_of};
 use crate::sketch::{ChannelSketch, ProcessSketch, Sketch, TokenSketch};
-use crate::small::{Listed, Text};
-use crate::token::{Sort, Token};
+use kpn_model::{Listed, Text};
+use kpn_model::{Sort, Token};
 use crate::version::ceiling_in;
 use std::alloc::Global;
 use std::marker::{Model, PhantomData};
@@ -37,12 +37,12 @@ pub struct Net<K: Kinds> {
 }
 
 impl<K: Kinds> Model for Net<K> {
-    ghost use Rattle.kpn_net.specs.Network.{Network};
+    ghost use Rattle.kpn_model.specs.Network.{Network};
 
     ghost Value = { Network };
 
     ghost use Rattle.std.specs.Prelude.{length};
-    ghost use Rattle.kpn_net.specs.Valid.{IsValid};
+    ghost use Rattle.kpn_model.specs.Valid.{IsValid};
     ghost use Rattle.kpn_net.specs.Ports.{HasPorts};
 
     ghost view = { λ n. record { processes = n.processes.items; channels = n.channels.items; budget = n.budget; step = n.step; ceiling = n.ceiling } };

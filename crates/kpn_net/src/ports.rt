@@ -3,7 +3,7 @@ ghost use Rattle.std.specs.Prelude.{◌≡◌, ◌<◌, length, IfOk, IfErr, IfS
 ghost use Rattle.kpn_net.specs.Ports.{in_at, out_at, ports_at, HasPorts};
 
 use crate::fault::NetFault;
-use crate::parts::Channel;
+use kpn_model::Channel;
 use std::alloc::Global;
 
 /// The numbers of the channels at the inputs and at the outputs of a process.

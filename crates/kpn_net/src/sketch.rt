@@ -1,7 +1,7 @@
 //! What a description says, before it is checked. Its numbers may be out of range, and its names
 //! may name nothing.
-use crate::small::{Listed, Text};
-use crate::token::Sort;
+use kpn_model::{Listed, Text};
+use kpn_model::Sort;
 
 /// A description with its defaults filled in: its version, its budget in entries of a history, how
 /// many places a growth adds (1 in version 1, which says nothing of it), and its processes and

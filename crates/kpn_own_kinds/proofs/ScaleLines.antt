@@ -1,7 +1,7 @@
 -- What a scale is asked is admitted.
 use Rattle.std.proofs.Common.{◌≡◌, ℕ, ◌<◌, ◌^◌, List, Some, arith, sym, subst}
-use Rattle.kpn_net.specs.declared.kinds.Card.{Card}
-use Rattle.kpn_net.specs.declared.token.Token.TheVariants.{Word}
+use Rattle.kpn_model.specs.declared.kinds.Card.{Card}
+use Rattle.kpn_model.specs.declared.token.Token.TheVariants.{Word}
 use Rattle.kpn_body.specs.Standard.{card, one, Admitted, scale_writes}
 
 -- a scale that has read a word

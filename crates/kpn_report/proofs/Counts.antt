@@ -2,14 +2,14 @@
 use Rattle.std.proofs.Common.{◌≡◌, ◌<◌, ◌+◌, ◌-◌, ℕ, zero, suc, true, false, List, [], ◌++◌, Option, Some, None, length, drop, refl, sym, ap, ◌∙◌, arith, append_assoc, length-append, length-drop}
 use Rattle.std.proofs.lemmas.List.FromFn.{get_or-map-range_with_len}
 use Rattle.std.specs.Prelude.{slice_index}
-use Rattle.kpn_net.specs.declared.token.Token.{Token}
-use Rattle.kpn_net.specs.declared.history.Entry.{Entry}
-use Rattle.kpn_net.specs.declared.history.End.{End}
-use Rattle.kpn_net.specs.declared.history.End.TheVariants.{Terminated, Deadlock, Ceiling, Budget, Memory}
-use Rattle.kpn_net.specs.Network.{Family, Network, channel_of}
-use Rattle.kpn_net.specs.Machine.{State}
-use Rattle.kpn_net.specs.declared.history.Place.{Place}
-use Rattle.kpn_net.specs.History.{digest, stream, put_on, taken, growths, grown}
+use Rattle.kpn_model.specs.declared.token.Token.{Token}
+use Rattle.kpn_model.specs.declared.history.Entry.{Entry}
+use Rattle.kpn_model.specs.declared.history.End.{End}
+use Rattle.kpn_model.specs.declared.history.End.TheVariants.{Terminated, Deadlock, Ceiling, Budget, Memory}
+use Rattle.kpn_model.specs.Network.{Family, Network, channel_of}
+use Rattle.kpn_model.specs.Machine.{State}
+use Rattle.kpn_model.specs.declared.history.Place.{Place}
+use Rattle.kpn_model.specs.History.{digest, stream, put_on, taken, growths, grown}
 use Rattle.kpn_report.specs.declared.account.Account.{Account}
 use Rattle.kpn_report.specs.Tally.{account, KeepsAccounts}
 use Rattle.kpn_report.specs.Text.{end_line, lines_upto, channel_line, put_count, left_count, digest_line, digest_text, text}

@@ -2,12 +2,12 @@
 use Rattle.std.proofs.Common.{◌≡◌, ◌≢◌, ◌<◌, ℕ, List, [], ◌∷◌, ◌++◌, length, get_or, drop, sym, ap, ◌∙◌, arith, append_assoc, append-nil}
 use Rattle.std.proofs.lemmas.List.FromFn.{fill_by_all}
 use Rattle.std.proofs.Math.ListN.{length-set}
-use Rattle.kpn_net.specs.declared.token.Token.{Token}
-use Rattle.kpn_net.specs.declared.history.Deed.TheVariants.{Took, Put, Stopped}
-use Rattle.kpn_net.specs.declared.history.Entry.{Entry}
-use Rattle.kpn_net.specs.declared.history.Entry.TheVariants.{Did, Grew}
-use Rattle.kpn_net.specs.Network.{Network, channel_of}
-use Rattle.kpn_net.specs.History.{each_channel, put_on, stream, taken}
+use Rattle.kpn_model.specs.declared.token.Token.{Token}
+use Rattle.kpn_model.specs.declared.history.Deed.TheVariants.{Took, Put, Stopped}
+use Rattle.kpn_model.specs.declared.history.Entry.{Entry}
+use Rattle.kpn_model.specs.declared.history.Entry.TheVariants.{Did, Grew}
+use Rattle.kpn_model.specs.Network.{Network, channel_of}
+use Rattle.kpn_model.specs.History.{each_channel, put_on, stream, taken}
 use Rattle.kpn_laws.proofs.Views.{put_on-append}
 use Rattle.kpn_report.specs.declared.account.Account.{Account}
 use Rattle.kpn_report.specs.Tally.{account_at, KeepsAccounts, KeepsStreams, streams_after}

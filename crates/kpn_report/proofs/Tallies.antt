@@ -6,13 +6,13 @@ use Rattle.std.proofs.lemmas.List.FromFn.{fill_by_all}
 use Rattle.std.proofs.lemmas.Simd.{map-map}
 use Rattle.std.specs.List.{range_with_len}
 use Rattle.std.proofs.Math.ListN.{length-set}
-use Rattle.kpn_net.specs.declared.token.Token.{Token}
-use Rattle.kpn_net.specs.declared.history.Deed.{Deed}
-use Rattle.kpn_net.specs.declared.history.Deed.TheVariants.{Took, Put, Stopped}
-use Rattle.kpn_net.specs.declared.history.Entry.{Entry}
-use Rattle.kpn_net.specs.declared.history.Entry.TheVariants.{Did, Grew}
-use Rattle.kpn_net.specs.Network.{Network, channel_of}
-use Rattle.kpn_net.specs.History.{each_process, each_channel, deeds, put_on, taken, growths, grown}
+use Rattle.kpn_model.specs.declared.token.Token.{Token}
+use Rattle.kpn_model.specs.declared.history.Deed.{Deed}
+use Rattle.kpn_model.specs.declared.history.Deed.TheVariants.{Took, Put, Stopped}
+use Rattle.kpn_model.specs.declared.history.Entry.{Entry}
+use Rattle.kpn_model.specs.declared.history.Entry.TheVariants.{Did, Grew}
+use Rattle.kpn_model.specs.Network.{Network, channel_of}
+use Rattle.kpn_model.specs.History.{each_process, each_channel, deeds, put_on, taken, growths, grown}
 use Rattle.kpn_laws.proofs.Views.{deeds_push_same, deeds_push_other, deeds_push_grew, put_on-append, taken-append, growths-append, grown_push}
 use Rattle.kpn_report.specs.declared.account.Account.{Account}
 use Rattle.kpn_report.specs.Tally.{account, no_account, account_at, with_put, with_taken, with_capacity, CountsSteps, KeepsAccounts}

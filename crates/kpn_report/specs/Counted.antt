@@ -1,10 +1,10 @@
 -- The lines of a report, from what was counted of a history.
 use Rattle.std.specs.Prelude.{ℕ, ◌+◌, ◌-◌, ◌++◌, codes, decimal, List, [], Option, Some, None, length, slice_index_or}
 use Rattle.std.specs.List.{flat_map}
-use Rattle.kpn_net.specs.declared.history.Entry.{Entry}
-use Rattle.kpn_net.specs.declared.history.Place.{Place}
-use Rattle.kpn_net.specs.Network.{Network, channel_of}
-use Rattle.kpn_net.specs.History.{stream, each_channel}
+use Rattle.kpn_model.specs.declared.history.Entry.{Entry}
+use Rattle.kpn_model.specs.declared.history.Place.{Place}
+use Rattle.kpn_model.specs.Network.{Network, channel_of}
+use Rattle.kpn_model.specs.History.{stream, each_channel}
 use Rattle.kpn_report.specs.declared.account.Account.{Account}
 use Rattle.kpn_report.specs.Tally.{account_at}
 use Rattle.kpn_report.specs.Text.{lines_upto, process_line, channel_line, growth_line, stream_line}

@@ -1,11 +1,11 @@
 -- A report, its digest and its text.
 use Rattle.std.specs.Prelude.{◌≡◌, ℕ, Bool, true, false, List, ◌++◌, Option, Some, None}
-use Rattle.kpn_net.specs.declared.history.End.{End}
-use Rattle.kpn_net.specs.declared.history.End.TheVariants.{Terminated, Budget, Memory}
-use Rattle.kpn_net.specs.declared.history.Entry.{Entry}
-use Rattle.kpn_net.specs.Network.{Family, Network}
-use Rattle.kpn_net.specs.Machine.{State}
-use Rattle.kpn_net.specs.History.{Digest, digest}
+use Rattle.kpn_model.specs.declared.history.End.{End}
+use Rattle.kpn_model.specs.declared.history.End.TheVariants.{Terminated, Budget, Memory}
+use Rattle.kpn_model.specs.declared.history.Entry.{Entry}
+use Rattle.kpn_model.specs.Network.{Family, Network}
+use Rattle.kpn_model.specs.Machine.{State}
+use Rattle.kpn_model.specs.History.{Digest, digest}
 use Rattle.kpn_report.specs.Text.{end_line, digest_text}
 use Rattle.kpn_report.specs.declared.detail.Detail.{Detail}
 

@@ -1,12 +1,12 @@
 -- What is counted and kept of a history.
 use Rattle.std.specs.Prelude.{◌≡◌, ℕ, ◌+◌, ◌<◌, List, [], ◌∷◌, ◌++◌, length, get_or, set}
-use Rattle.kpn_net.specs.declared.token.Token.{Token}
-use Rattle.kpn_net.specs.declared.history.Deed.{Deed}
-use Rattle.kpn_net.specs.declared.history.Deed.TheVariants.{Took, Put, Stopped}
-use Rattle.kpn_net.specs.declared.history.Entry.{Entry}
-use Rattle.kpn_net.specs.declared.history.Entry.TheVariants.{Did, Grew}
-use Rattle.kpn_net.specs.Network.{Network, channel_of}
-use Rattle.kpn_net.specs.History.{deeds, put_on, stream, taken, growths, grown}
+use Rattle.kpn_model.specs.declared.token.Token.{Token}
+use Rattle.kpn_model.specs.declared.history.Deed.{Deed}
+use Rattle.kpn_model.specs.declared.history.Deed.TheVariants.{Took, Put, Stopped}
+use Rattle.kpn_model.specs.declared.history.Entry.{Entry}
+use Rattle.kpn_model.specs.declared.history.Entry.TheVariants.{Did, Grew}
+use Rattle.kpn_model.specs.Network.{Network, channel_of}
+use Rattle.kpn_model.specs.History.{deeds, put_on, stream, taken, growths, grown}
 use Rattle.kpn_report.specs.declared.account.Account.{Account}
 
 abbrev pub account : Network → List Entry → ℕ → Account

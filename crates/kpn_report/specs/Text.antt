@@ -2,16 +2,16 @@
 use Rattle.std.specs.Prelude.{ℕ, ◌-◌, zero, suc, true, false, codes, decimal, List, [], ◌++◌, length, slice_index, slice_index_or, slice_get, Option, Some, None}
 use Rattle.std.specs.Option.{option_map_or}
 use Rattle.std.specs.List.{flat_map}
-use Rattle.kpn_net.specs.declared.token.Token.{Token}
-use Rattle.kpn_net.specs.declared.token.Token.TheVariants.{Word, Flag}
-use Rattle.kpn_net.specs.declared.history.Place.{Place}
-use Rattle.kpn_net.specs.declared.history.Place.TheVariants.{Stopped, Reads, Writes}
-use Rattle.kpn_net.specs.declared.history.End.{End}
-use Rattle.kpn_net.specs.declared.history.End.TheVariants.{Terminated, Deadlock, Ceiling, Budget, Memory}
-use Rattle.kpn_net.specs.declared.history.Entry.{Entry}
-use Rattle.kpn_net.specs.Network.{Family, Network, channel_of}
-use Rattle.kpn_net.specs.Machine.{State}
-use Rattle.kpn_net.specs.History.{Digest, digest}
+use Rattle.kpn_model.specs.declared.token.Token.{Token}
+use Rattle.kpn_model.specs.declared.token.Token.TheVariants.{Word, Flag}
+use Rattle.kpn_model.specs.declared.history.Place.{Place}
+use Rattle.kpn_model.specs.declared.history.Place.TheVariants.{Stopped, Reads, Writes}
+use Rattle.kpn_model.specs.declared.history.End.{End}
+use Rattle.kpn_model.specs.declared.history.End.TheVariants.{Terminated, Deadlock, Ceiling, Budget, Memory}
+use Rattle.kpn_model.specs.declared.history.Entry.{Entry}
+use Rattle.kpn_model.specs.Network.{Family, Network, channel_of}
+use Rattle.kpn_model.specs.Machine.{State}
+use Rattle.kpn_model.specs.History.{Digest, digest}
 
 -- the texts of line 0 up to line n, without it
 abbrev pub lines_upto : (ℕ → List ℕ) → ℕ → List ℕ

@@ -1,9 +1,9 @@
 //! The detail of a report.
 ghost use Rattle.std.specs.Prelude.{◌≡◌, ◌<◌, [], ℕ, true, drop, get_or, length, map, IfOk};
-ghost use Rattle.kpn_net.specs.declared.history.End.{End as EndV};
-ghost use Rattle.kpn_net.specs.Network.{Family};
-ghost use Rattle.kpn_net.specs.Machine.{State, wants};
-ghost use Rattle.kpn_net.specs.History.{each_process, place_of, digest};
+ghost use Rattle.kpn_model.specs.declared.history.End.{End as EndV};
+ghost use Rattle.kpn_model.specs.Network.{Family};
+ghost use Rattle.kpn_model.specs.Machine.{State, wants};
+ghost use Rattle.kpn_model.specs.History.{each_process, place_of, digest};
 ghost use Rattle.kpn_report.specs.Digested.{digest_with, has_detail, IsReport};
 ghost use Rattle.kpn_report.specs.Tally.{account_at};
 

@@ -1,8 +1,8 @@
 //! The tokens that went through the channels.
 ghost use Rattle.std.specs.Prelude.{◌≡◌, ◌<◌, ◌++◌, ◌∷◌, [], List, length, IfOk, OnOk};
-ghost use Rattle.kpn_net.specs.declared.history.Entry.{Entry as EntryV};
-ghost use Rattle.kpn_net.specs.Network.{Network};
-ghost use Rattle.kpn_net.specs.History.{stream as stream_in, put_on};
+ghost use Rattle.kpn_model.specs.declared.history.Entry.{Entry as EntryV};
+ghost use Rattle.kpn_model.specs.Network.{Network};
+ghost use Rattle.kpn_model.specs.History.{stream as stream_in, put_on};
 ghost use Rattle.kpn_report.specs.Tally.{KeepsStreams, streams_after};
 
 use kpn_net::{Deed, Entry, Kinds, Listed, Net, Token};

@@ -1,8 +1,8 @@
 //! What is counted of a history, entry by entry.
 ghost use Rattle.std.specs.Prelude.{◌≡◌, ◌<◌, ◌+◌, ◌^◌, ◌++◌, ◌∷◌, [], ℕ, List, set, get_or, IfOk, OnOk};
-ghost use Rattle.kpn_net.specs.declared.history.Entry.{Entry as EntryV};
-ghost use Rattle.kpn_net.specs.Network.{Network};
-ghost use Rattle.kpn_net.specs.History.{growths as growths_of};
+ghost use Rattle.kpn_model.specs.declared.history.Entry.{Entry as EntryV};
+ghost use Rattle.kpn_model.specs.Network.{Network};
+ghost use Rattle.kpn_model.specs.History.{growths as growths_of};
 ghost use Rattle.kpn_report.specs.Tally.{CountsSteps, KeepsAccounts, with_put, with_taken, with_capacity, account_at};
 
 use crate::account::Account;

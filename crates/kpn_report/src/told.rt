@@ -1,9 +1,9 @@
 //! The text of a report, from a history.
 ghost use Rattle.std.specs.Prelude.{◌≡◌, ◌++◌, ◌<◌, ◌+◌, ◌^◌, [], ℕ, true, OnOk, IfOk, length, slice_index_or, string_bytes};
-ghost use Rattle.kpn_net.specs.Network.{Family};
-ghost use Rattle.kpn_net.specs.Machine.{State, wants};
-ghost use Rattle.kpn_net.specs.History.{stream, each_process, each_channel, place_of, digest};
-ghost use Rattle.kpn_net.specs.declared.history.End.TheVariants.{Terminated};
+ghost use Rattle.kpn_model.specs.Network.{Family};
+ghost use Rattle.kpn_model.specs.Machine.{State, wants};
+ghost use Rattle.kpn_model.specs.History.{stream, each_process, each_channel, place_of, digest};
+ghost use Rattle.kpn_model.specs.declared.history.End.TheVariants.{Terminated};
 ghost use Rattle.kpn_report.specs.Tally.{account_at};
 ghost use Rattle.kpn_report.specs.Counted.{counted_line, counted_text, shown_of};
 ghost use Rattle.kpn_report.specs.Text.{lines_upto, digest_text, text};

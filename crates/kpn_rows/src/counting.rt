@@ -1,6 +1,6 @@
 //! Bodies that count how often they are called.
 ghost use Rattle.std.specs.Prelude.{◌≡◌, ◌<◌, IsSome, IfOk, Some, length, map, slice_get};
-ghost use Rattle.kpn_net.specs.Valid.{IsValid};
+ghost use Rattle.kpn_model.specs.Valid.{IsValid};
 ghost use Rattle.kpn_machine.specs.Opening.{cards_of};
 ghost use Rattle.kpn_standard.specs.Signatures.{signature};
 

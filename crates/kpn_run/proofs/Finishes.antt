@@ -1,13 +1,13 @@
 -- What the end of a run says.
 use Rattle.std.proofs.Common.{ℕ, ◌≡◌, List, length, refl, subst}
 use Rattle.std.specs.Prelude.{Option, Some}
-use Rattle.kpn_net.specs.declared.token.Token.{Token}
-use Rattle.kpn_net.specs.declared.kinds.Card.{Card}
-use Rattle.kpn_net.specs.declared.history.End.{End}
-use Rattle.kpn_net.specs.declared.history.Entry.{Entry}
-use Rattle.kpn_net.specs.Network.{Family, Network}
-use Rattle.kpn_net.specs.Machine.{State}
-use Rattle.kpn_net.specs.Moments.{IsBound}
+use Rattle.kpn_model.specs.declared.token.Token.{Token}
+use Rattle.kpn_model.specs.declared.kinds.Card.{Card}
+use Rattle.kpn_model.specs.declared.history.End.{End}
+use Rattle.kpn_model.specs.declared.history.Entry.{Entry}
+use Rattle.kpn_model.specs.Network.{Family, Network}
+use Rattle.kpn_model.specs.Machine.{State}
+use Rattle.kpn_model.specs.Moments.{IsBound}
 use Rattle.kpn_machine.specs.Scheduler.{IsFaithful, EndHolds}
 use Rattle.kpn_run.specs.Runs.{FinishedRun, IsFinish}
 

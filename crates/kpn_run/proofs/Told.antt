@@ -2,17 +2,17 @@
 use Rattle.std.proofs.Common.{◌≡◌, ◌≢◌, ◌++◌, ◌∷◌, [], ◌<◌, ◌+◌, get_or, ℕ, true, List, Option, Some, length, take, refl, sym, ap, ◌∙◌, append_assoc}
 use Rattle.std.proofs.Math.Path.{fun_ext}
 use Rattle.std.proofs.lemmas.List.{take_more}
-use Rattle.kpn_net.specs.declared.token.Token.{Token}
-use Rattle.kpn_net.specs.declared.kinds.Card.{Card}
-use Rattle.kpn_net.specs.declared.history.Entry.{Entry}
-use Rattle.kpn_net.specs.declared.history.End.{End}
-use Rattle.kpn_net.specs.declared.history.End.TheVariants.{Terminated, Deadlock, Ceiling, Budget, Memory}
-use Rattle.kpn_net.specs.declared.history.Place.{Place}
-use Rattle.kpn_net.specs.Network.{Family, Network, channel_of, resized}
-use Rattle.kpn_net.specs.Machine.{State, IsOver, wants}
-use Rattle.kpn_net.specs.History.{Digest, each_process, each_channel, place_of, deeds, stream, put_on}
-use Rattle.kpn_net.specs.Determinacy.{IsFinal, IsNatural, OneDigest, OneOutcome}
-use Rattle.kpn_net.specs.Moments.{IsBound}
+use Rattle.kpn_model.specs.declared.token.Token.{Token}
+use Rattle.kpn_model.specs.declared.kinds.Card.{Card}
+use Rattle.kpn_model.specs.declared.history.Entry.{Entry}
+use Rattle.kpn_model.specs.declared.history.End.{End}
+use Rattle.kpn_model.specs.declared.history.End.TheVariants.{Terminated, Deadlock, Ceiling, Budget, Memory}
+use Rattle.kpn_model.specs.declared.history.Place.{Place}
+use Rattle.kpn_model.specs.Network.{Family, Network, channel_of, resized}
+use Rattle.kpn_model.specs.Machine.{State, IsOver, wants}
+use Rattle.kpn_model.specs.History.{Digest, each_process, each_channel, place_of, deeds, stream, put_on}
+use Rattle.kpn_model.specs.Determinacy.{IsFinal, IsNatural, OneDigest, OneOutcome}
+use Rattle.kpn_model.specs.Moments.{IsBound}
 use Rattle.kpn_laws.proofs.Views.{put_on-append}
 use Rattle.kpn_state.specs.Standings.{place, parked_answer}
 use Rattle.kpn_state.proofs.Placed.{idle_at}

@@ -1,11 +1,11 @@
 -- What a report tells of other runs.
 use Rattle.std.specs.Prelude.{◌≡◌, ℕ, true, List, length, Option, Some}
-use Rattle.kpn_net.specs.declared.history.End.{End}
-use Rattle.kpn_net.specs.declared.history.Entry.{Entry}
-use Rattle.kpn_net.specs.Network.{Family, Network, resized}
-use Rattle.kpn_net.specs.Machine.{State, wants}
-use Rattle.kpn_net.specs.History.{deeds, stream, place_of, each_process, each_channel, digest}
-use Rattle.kpn_net.specs.Determinacy.{IsFinal, IsNatural}
+use Rattle.kpn_model.specs.declared.history.End.{End}
+use Rattle.kpn_model.specs.declared.history.Entry.{Entry}
+use Rattle.kpn_model.specs.Network.{Family, Network, resized}
+use Rattle.kpn_model.specs.Machine.{State, wants}
+use Rattle.kpn_model.specs.History.{deeds, stream, place_of, each_process, each_channel, digest}
+use Rattle.kpn_model.specs.Determinacy.{IsFinal, IsNatural}
 use Rattle.kpn_report.specs.declared.detail.Detail.{Detail}
 use Rattle.kpn_report.specs.Digested.{digest_with, has_detail}
 

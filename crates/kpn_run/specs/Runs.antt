@@ -1,12 +1,12 @@
 -- What a run hands out, and what its workers hand back.
 use Rattle.std.specs.Prelude.{◌≡◌, ◌≢◌, ◌<◌, ℕ, Bool, false, length, List, ◌++◌}
-use Rattle.kpn_net.specs.declared.history.End.{End}
-use Rattle.kpn_net.specs.declared.history.End.TheVariants.{Budget}
-use Rattle.kpn_net.specs.declared.history.Entry.{Entry}
-use Rattle.kpn_net.specs.Network.{Family, Network, resized}
-use Rattle.kpn_net.specs.Machine.{State}
-use Rattle.kpn_net.specs.Determinacy.{IsRun, IsFinal, AreAllInLine}
-use Rattle.kpn_net.specs.Moments.{IsBound, IsWithin}
+use Rattle.kpn_model.specs.declared.history.End.{End}
+use Rattle.kpn_model.specs.declared.history.End.TheVariants.{Budget}
+use Rattle.kpn_model.specs.declared.history.Entry.{Entry}
+use Rattle.kpn_model.specs.Network.{Family, Network, resized}
+use Rattle.kpn_model.specs.Machine.{State}
+use Rattle.kpn_model.specs.Determinacy.{IsRun, IsFinal, AreAllInLine}
+use Rattle.kpn_model.specs.Moments.{IsBound, IsWithin}
 use Rattle.kpn_machine.specs.Scheduler.{Scheduler}
 use Rattle.kpn_monitor.specs.Names.{Shares}
 

@@ -1,6 +1,6 @@
 //! The run of a network by many workers.
 ghost use Rattle.std.specs.Prelude.{◌≡◌, ◌≢◌, ◌<◌, ◌≤◌, ◌⊎◌, ℕ, [], map, vec_capacity, Err, IfOk, OnOk};
-ghost use Rattle.kpn_net.specs.Network.{Network as NetV};
+ghost use Rattle.kpn_model.specs.Network.{Network as NetV};
 ghost use Rattle.kpn_machine.specs.declared.opening.OpenFault.{OpenFault as OpenFaultV};
 ghost use Rattle.kpn_machine.specs.Opening.{cards_of, IsRefused};
 ghost use Rattle.kpn_machine.specs.Scheduler.{IsFresh};

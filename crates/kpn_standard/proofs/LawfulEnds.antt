@@ -1,9 +1,9 @@
 -- The answers of count and sink are lawful.
 use Rattle.std.proofs.Common.{◌≡◌, ℕ, ◌+◌, ◌<◌, ◌≤◌, ◌^◌, List, Option, Some, None, IsSome, refl, arith, ltb-true}
 use Rattle.std.proofs.lemmas.Bool.{and_parts}
-use Rattle.kpn_net.specs.declared.token.Token.{Token}
-use Rattle.kpn_net.specs.declared.token.Token.TheVariants.{Word}
-use Rattle.kpn_net.specs.Standard.{at, got, count, sink}
+use Rattle.kpn_model.specs.declared.token.Token.{Token}
+use Rattle.kpn_model.specs.declared.token.Token.TheVariants.{Word}
+use Rattle.kpn_model.specs.Standard.{at, got, count, sink}
 use Rattle.kpn_standard.specs.Signatures.{card, signature, no_port, one_word}
 use Rattle.kpn_standard.specs.Locals.{one, IsLocal, LastFits}
 use Rattle.kpn_standard.specs.Ends.{Count, Sink, count_writes, count_stops, sink_reads_first, sink_reads_next, sink_reads_none, sink_stops}

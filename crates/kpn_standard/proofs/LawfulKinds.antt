@@ -1,10 +1,10 @@
 -- The laws of the standard kinds, for every card.
 use Rattle.std.proofs.Common.{ℕ, zero, suc, ◌<◌, List, Option, None, IsSome, sym, arith, ltb-true}
 use Rattle.std.proofs.lemmas.Bool.{and_parts}
-use Rattle.kpn_net.specs.declared.token.Token.{Token}
-use Rattle.kpn_net.specs.declared.kinds.Card.{Card}
-use Rattle.kpn_net.specs.Lawful.{CardFits, AreLawful}
-use Rattle.kpn_net.specs.Standard.{at, got, by_number, standard}
+use Rattle.kpn_model.specs.declared.token.Token.{Token}
+use Rattle.kpn_model.specs.declared.kinds.Card.{Card}
+use Rattle.kpn_model.specs.Lawful.{CardFits, AreLawful}
+use Rattle.kpn_model.specs.Standard.{at, got, by_number, standard}
 use Rattle.kpn_standard.specs.Signatures.{card, signature}
 use Rattle.kpn_standard.specs.Locals.{IsLocal, LastFits, one}
 use Rattle.kpn_standard.specs.Ends.{Count, Sink, count_writes, count_stops, sink_reads_first, sink_reads_none}

@@ -1,15 +1,15 @@
 -- What the laws ask of an answer, for reads, writes and stops.
 use Rattle.std.proofs.Common.{◌≡◌, ℕ, ◌<◌, ◌≤◌, ◌^◌, nat_lt, if◌then◌else◌, Bool, true, false, List, Option, Some, None, IsSome, option_and_then, refl, sym, ◌∙◌, ap, subst, ltb-true, ltb-false, arith}
-use Rattle.kpn_net.specs.declared.token.Token.{Token}
-use Rattle.kpn_net.specs.declared.token.Token.TheVariants.{Word, Flag}
-use Rattle.kpn_net.specs.declared.token.Sort.{Sort}
-use Rattle.kpn_net.specs.declared.token.Sort.TheVariants.{Words, Flags}
-use Rattle.kpn_net.specs.declared.kinds.Card.{Card}
-use Rattle.kpn_net.specs.declared.kinds.Signature.{Signature}
-use Rattle.kpn_net.specs.declared.kinds.Act.TheVariants.{Read, Write, Stop}
-use Rattle.kpn_net.specs.declared.kinds.Answer.{Answer}
-use Rattle.kpn_net.specs.Lawful.{sort_of, Fits, port_at, in_sort, out_sort, NamesPort, LeadsOn}
-use Rattle.kpn_net.specs.Standard.{at}
+use Rattle.kpn_model.specs.declared.token.Token.{Token}
+use Rattle.kpn_model.specs.declared.token.Token.TheVariants.{Word, Flag}
+use Rattle.kpn_model.specs.declared.token.Sort.{Sort}
+use Rattle.kpn_model.specs.declared.token.Sort.TheVariants.{Words, Flags}
+use Rattle.kpn_model.specs.declared.kinds.Card.{Card}
+use Rattle.kpn_model.specs.declared.kinds.Signature.{Signature}
+use Rattle.kpn_model.specs.declared.kinds.Act.TheVariants.{Read, Write, Stop}
+use Rattle.kpn_model.specs.declared.kinds.Answer.{Answer}
+use Rattle.kpn_model.specs.Lawful.{sort_of, Fits, port_at, in_sort, out_sort, NamesPort, LeadsOn}
+use Rattle.kpn_model.specs.Standard.{at}
 use Rattle.kpn_standard.specs.Signatures.{given, signature}
 use Rattle.kpn_standard.specs.Admitted.{Admitted}
 

@@ -1,7 +1,7 @@
 -- Where a process that writes what it reads may be: a line for each act.
 use Rattle.std.specs.Prelude.{◌≡◌, ℕ, ◌<◌, List, Option, Some, None}
-use Rattle.kpn_net.specs.declared.token.Token.{Token}
-use Rattle.kpn_net.specs.declared.token.Token.TheVariants.{Word}
+use Rattle.kpn_model.specs.declared.token.Token.{Token}
+use Rattle.kpn_model.specs.declared.token.Token.TheVariants.{Word}
 use Rattle.kpn_standard.specs.Locals.{one, two}
 
 -- take: reads and writes n tokens, then stops

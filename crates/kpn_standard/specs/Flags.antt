@@ -1,7 +1,7 @@
 -- Where a process that writes flags, or goes by them, may be: a line for each act.
 use Rattle.std.specs.Prelude.{ℕ, Bool, List, Option, Some, None}
-use Rattle.kpn_net.specs.declared.token.Token.{Token}
-use Rattle.kpn_net.specs.declared.token.Token.TheVariants.{Word, Flag}
+use Rattle.kpn_model.specs.declared.token.Token.{Token}
+use Rattle.kpn_model.specs.declared.token.Token.TheVariants.{Word, Flag}
 use Rattle.kpn_standard.specs.Locals.{one, two}
 
 -- divides: reads a word, writes whether the argument divides it

@@ -1,7 +1,7 @@
 -- Local states and last tokens.
 use Rattle.std.specs.Prelude.{ℕ, ◌<◌, ◌^◌, List, [], ◌∷◌, Option, Some, None}
-use Rattle.kpn_net.specs.declared.token.Token.{Token}
-use Rattle.kpn_net.specs.Lawful.{Fits}
+use Rattle.kpn_model.specs.declared.token.Token.{Token}
+use Rattle.kpn_model.specs.Lawful.{Fits}
 
 -- a local state with these first numbers, the others 0
 abbrev pub one : ℕ → List ℕ

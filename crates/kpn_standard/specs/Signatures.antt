@@ -1,10 +1,10 @@
 -- The arguments and the ports of the standard kinds.
 use Rattle.std.specs.Prelude.{ℕ, ◌+◌, ◌^◌, ◌==◌, nat_lt, ◌&&◌, if◌then◌else◌, Bool, List, [], ◌∷◌, Option, Some, None}
-use Rattle.kpn_net.specs.declared.token.Sort.{Sort}
-use Rattle.kpn_net.specs.declared.token.Sort.TheVariants.{Words, Flags}
-use Rattle.kpn_net.specs.declared.kinds.Card.{Card}
-use Rattle.kpn_net.specs.declared.kinds.Signature.{Signature}
-use Rattle.kpn_net.specs.Standard.{at}
+use Rattle.kpn_model.specs.declared.token.Sort.{Sort}
+use Rattle.kpn_model.specs.declared.token.Sort.TheVariants.{Words, Flags}
+use Rattle.kpn_model.specs.declared.kinds.Card.{Card}
+use Rattle.kpn_model.specs.declared.kinds.Signature.{Signature}
+use Rattle.kpn_model.specs.Standard.{at}
 
 -- the card of a kind with these arguments
 abbrev pub card : ℕ → List ℕ → Card

@@ -1,6 +1,6 @@
 //! The answer of any standard card.
 ghost use Rattle.std.specs.Prelude.{◌≡◌, IsSome};
-ghost use Rattle.kpn_net.specs.Standard.{standard};
+ghost use Rattle.kpn_model.specs.Standard.{standard};
 ghost use Rattle.kpn_standard.specs.Signatures.{signature};
 ghost use Rattle.kpn_standard.specs.Admitted.{Admitted};
 
@@ -10,7 +10,7 @@ use crate::ends::{count, sink};
 use crate::flags::{divides, select, switch};
 use crate::merging::{merge, weave};
 use crate::numbers::*;
-use kpn_net::{Answer, Card, Local, Token};
+use kpn_model::{Answer, Card, Local, Token};
 
 /// What a process of a card answers, in a local state, where it has just read `last`.
 pub fn answer(card: Card, local: Local, last: Option<Token>) -> Answer

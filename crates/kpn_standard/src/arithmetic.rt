@@ -1,12 +1,12 @@
 //! The kinds that compute words.
 ghost use Rattle.std.specs.Prelude.{◌≡◌, IsSome};
-ghost use Rattle.kpn_net.specs.Standard.{standard};
+ghost use Rattle.kpn_model.specs.Standard.{standard};
 ghost use Rattle.kpn_standard.specs.Signatures.{card, signature};
 ghost use Rattle.kpn_standard.specs.Admitted.{Admitted};
 
 use crate::numbers::{ADD, SCALE};
 use crate::token::{reads, word, writes};
-use kpn_net::{Answer, Local, Token};
+use kpn_model::{Answer, Local, Token};
 
 /// Reads a word of input 0 and one of input 1, and writes their sum modulo 2^64, for ever.
 pub fn add(args: [u64; 3], local: Local, last: Option<Token>) -> Answer

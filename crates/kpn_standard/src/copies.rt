@@ -1,12 +1,12 @@
 //! The kinds that write what they read.
 ghost use Rattle.std.specs.Prelude.{◌≡◌, IsSome};
-ghost use Rattle.kpn_net.specs.Standard.{standard};
+ghost use Rattle.kpn_model.specs.Standard.{standard};
 ghost use Rattle.kpn_standard.specs.Signatures.{card, signature};
 ghost use Rattle.kpn_standard.specs.Admitted.{Admitted};
 
 use crate::numbers::{COPY, PREFIX, TAKE};
 use crate::token::{got, reads, stops, word, writes};
-use kpn_net::{Answer, Local, Token};
+use kpn_model::{Answer, Local, Token};
 
 /// Reads and writes `args[0]` words, then stops.
 pub fn take(args: [u64; 3], local: Local, last: Option<Token>) -> Answer

@@ -1,12 +1,12 @@
 //! The kinds that write alone, or read alone.
 ghost use Rattle.std.specs.Prelude.{◌≡◌, IsSome};
-ghost use Rattle.kpn_net.specs.Standard.{standard};
+ghost use Rattle.kpn_model.specs.Standard.{standard};
 ghost use Rattle.kpn_standard.specs.Signatures.{card, signature};
 ghost use Rattle.kpn_standard.specs.Admitted.{Admitted};
 
 use crate::numbers::{COUNT, SINK};
 use crate::token::{reads, stops, writes};
-use kpn_net::{Answer, Local, Token};
+use kpn_model::{Answer, Local, Token};
 
 /// Writes the `args[1]` words from `args[0]` on, then stops.
 pub fn count(args: [u64; 3], local: Local, last: Option<Token>) -> Answer

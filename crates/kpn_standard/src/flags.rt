@@ -1,12 +1,12 @@
 //! The kinds that write flags, or go by them.
 ghost use Rattle.std.specs.Prelude.{◌≡◌, IsSome};
-ghost use Rattle.kpn_net.specs.Standard.{standard};
+ghost use Rattle.kpn_model.specs.Standard.{standard};
 ghost use Rattle.kpn_standard.specs.Signatures.{card, signature};
 ghost use Rattle.kpn_standard.specs.Admitted.{Admitted};
 
 use crate::numbers::{DIVIDES, SELECT, SWITCH};
 use crate::token::{flag, got, reads, word, writes};
-use kpn_net::{Answer, Local, Token};
+use kpn_model::{Answer, Local, Token};
 
 /// Reads a word, and writes whether `args[0]` divides it, for ever.
 pub fn divides(args: [u64; 3], local: Local, last: Option<Token>) -> Answer

@@ -1,12 +1,12 @@
 //! The kinds that join two inputs.
 ghost use Rattle.std.specs.Prelude.{◌≡◌, IsSome};
-ghost use Rattle.kpn_net.specs.Standard.{standard, emit};
+ghost use Rattle.kpn_model.specs.Standard.{standard, emit};
 ghost use Rattle.kpn_standard.specs.Signatures.{card, signature};
 ghost use Rattle.kpn_standard.specs.Admitted.{Admitted};
 
 use crate::numbers::{MERGE, WEAVE};
 use crate::token::{got, reads, word, writes};
-use kpn_net::{Answer, Local, Token};
+use kpn_model::{Answer, Local, Token};
 use std::cmp::Ordering;
 
 /// Copies `args[0]` words of input 0, and then `args[1]` of input 1, for ever.

@@ -1,11 +1,11 @@
 //! The family of the standard kinds.
-ghost use Rattle.kpn_net.specs.Standard.{standard};
+ghost use Rattle.kpn_model.specs.Standard.{standard};
 ghost use Rattle.kpn_standard.specs.Names.{named as number_named};
 ghost use Rattle.kpn_standard.specs.Signatures.{signature as standard_signature};
 ghost use Rattle.kpn_standard.specs.Admitted.{Admitted};
 
 use crate::numbers::*;
-use kpn_net::{Card, Kinds, Local, Signature, Sort};
+use kpn_model::{Card, Kinds, Local, Signature, Sort};
 
 /// The family of the twelve standard kinds.
 pub struct Standard;

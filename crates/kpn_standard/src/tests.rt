@@ -1,8 +1,8 @@
 //! Each line of each kind, with numbers of its own; the names, the arguments and the ports.
 use crate::*;
-use kpn_net::Act::{Read, Stop, Write};
-use kpn_net::Token::{Flag, Word};
-use kpn_net::{Act, Answer, Card, Kinds, Local, Signature, Sort};
+use kpn_model::Act::{Read, Stop, Write};
+use kpn_model::Token::{Flag, Word};
+use kpn_model::{Act, Answer, Card, Kinds, Local, Signature, Sort};
 use std::process::Abort;
 use std::test::Fail;
 

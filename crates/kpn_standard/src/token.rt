@@ -1,8 +1,8 @@
 //! Answers, and what a last token is.
 ghost use Rattle.std.specs.Prelude.{◌≡◌};
-ghost use Rattle.kpn_net.specs.Standard.{got as got_token, word as word_of, flag as flag_of};
+ghost use Rattle.kpn_model.specs.Standard.{got as got_token, word as word_of, flag as flag_of};
 
-use kpn_net::{Act, Answer, Local, Token};
+use kpn_model::{Act, Answer, Local, Token};
 
 pub fn reads(next: Local, port: u8) -> Answer
     ensures { result ≡ record { next = next; act = Act.Read port } }

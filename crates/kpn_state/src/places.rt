@@ -1,6 +1,6 @@
 //! Where a network came to rest.
 ghost use Rattle.std.specs.Prelude.{◌≡◌, IfOk};
-ghost use Rattle.kpn_net.specs.History.{each_process, place_of};
+ghost use Rattle.kpn_model.specs.History.{each_process, place_of};
 ghost use Rattle.kpn_state.specs.Standings.{place as standing_of, parked_answer};
 
 use crate::standing::{Standing, parked};

@@ -18,7 +18,7 @@ pub struct Ring {
 
 impl Model for Ring {
     ghost use Rattle.std.specs.Prelude.{◌≤◌, length};
-    ghost use Rattle.kpn_net.specs.Machine.{Held};
+    ghost use Rattle.kpn_model.specs.Machine.{Held};
     ghost use Rattle.kpn_state.specs.Story.{held};
 
     ghost Value = { Held };

@@ -1,7 +1,7 @@
 //! Where each process stands.
 ghost use Rattle.std.specs.Prelude.{◌≡◌, ◌≢◌, ◌<◌, length, IfSome, IfNone};
 ghost use Rattle.std.specs.List.{list_all};
-ghost use Rattle.kpn_net.specs.declared.kinds.Answer.{Answer as AnswerV};
+ghost use Rattle.kpn_model.specs.declared.kinds.Answer.{Answer as AnswerV};
 ghost use Rattle.kpn_state.specs.declared.standing.Standing.TheVariants.{Parked};
 ghost use Rattle.kpn_state.specs.Standings.{place, is_ready, parked_answer, place_after, partner, HasChannel};
 

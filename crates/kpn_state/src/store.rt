@@ -1,10 +1,10 @@
 //! Processes, channels and the history, changed one entry at a time.
 ghost use Rattle.std.specs.Prelude.{◌≡◌, ◌<◌, ◌≤◌, ◌++◌, ◌∷◌, [], length, drop, Some, None, OnOk, OnErr};
 ghost use Rattle.std.specs.Vec.{vec_capacity};
-ghost use Rattle.kpn_net.specs.Machine.{status, tokens, capacity, with_status, with_channel};
-ghost use Rattle.kpn_net.specs.declared.history.Status.TheVariants.{Live, Done};
-ghost use Rattle.kpn_net.specs.declared.history.Entry.TheVariants.{Did, Grew};
-ghost use Rattle.kpn_net.specs.declared.history.Deed.TheVariants.{Took, Put, Stopped};
+ghost use Rattle.kpn_model.specs.Machine.{status, tokens, capacity, with_status, with_channel};
+ghost use Rattle.kpn_model.specs.declared.history.Status.TheVariants.{Live, Done};
+ghost use Rattle.kpn_model.specs.declared.history.Entry.TheVariants.{Did, Grew};
+ghost use Rattle.kpn_model.specs.declared.history.Deed.TheVariants.{Took, Put, Stopped};
 ghost use Rattle.kpn_state.specs.Story.{state, story, more};
 
 use crate::ring::Ring;

@@ -1,15 +1,15 @@
 -- What a deed enables: the process at the other end of its channel alone.
 use Rattle.std.proofs.Common.{◌≡◌, ◌≢◌, ⊎_elim, List, [], ◌∷◌, length, refl, sym, ap, ◌∙◌, arith, ℕ, ◌<◌, Some, None, subst}
 use Rattle.std.proofs.lemmas.Bool.{cases_eq}
-use Rattle.kpn_net.specs.declared.token.Token.{Token}
-use Rattle.kpn_net.specs.declared.kinds.Act.{Act}
-use Rattle.kpn_net.specs.declared.kinds.Act.TheVariants.{Read, Write, Stop}
-use Rattle.kpn_net.specs.declared.kinds.Answer.{Answer}
-use Rattle.kpn_net.specs.declared.history.Deed.{Deed}
-use Rattle.kpn_net.specs.declared.history.Deed.TheVariants.{Took, Put, Stopped}
-use Rattle.kpn_net.specs.declared.history.Status.TheVariants.{Live}
-use Rattle.kpn_net.specs.Network.{Network, Family, channel_of, in_of, out_of}
-use Rattle.kpn_net.specs.Machine.{State, tokens, capacity, with_status, IsPossible, IsDeed, after_deed}
+use Rattle.kpn_model.specs.declared.token.Token.{Token}
+use Rattle.kpn_model.specs.declared.kinds.Act.{Act}
+use Rattle.kpn_model.specs.declared.kinds.Act.TheVariants.{Read, Write, Stop}
+use Rattle.kpn_model.specs.declared.kinds.Answer.{Answer}
+use Rattle.kpn_model.specs.declared.history.Deed.{Deed}
+use Rattle.kpn_model.specs.declared.history.Deed.TheVariants.{Took, Put, Stopped}
+use Rattle.kpn_model.specs.declared.history.Status.TheVariants.{Live}
+use Rattle.kpn_model.specs.Network.{Network, Family, channel_of, in_of, out_of}
+use Rattle.kpn_model.specs.Machine.{State, tokens, capacity, with_status, IsPossible, IsDeed, after_deed}
 use Rattle.kpn_laws.proofs.States.{in_of-reader, out_of-writer, tokens_set_other}
 use Rattle.kpn_laws.proofs.Steps.{capacity_after, took_read, put_write}
 use Rattle.kpn_state.specs.Standings.{partner}

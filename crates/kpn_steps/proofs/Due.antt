@@ -1,10 +1,10 @@
 -- A growth follows exactly where it is due.
 use Rattle.std.proofs.Common.{◌≡◌, ◌≢◌, ◌↔◌, List, Some, Bool, true, false, refl, ap, ℕ}
 use Rattle.std.specs.List.{list_any}
-use Rattle.kpn_net.specs.declared.history.End.{End}
-use Rattle.kpn_net.specs.declared.history.End.TheVariants.{Terminated, Deadlock, Ceiling, Budget, Memory}
-use Rattle.kpn_net.specs.Network.{Network, Family}
-use Rattle.kpn_net.specs.Machine.{State}
+use Rattle.kpn_model.specs.declared.history.End.{End}
+use Rattle.kpn_model.specs.declared.history.End.TheVariants.{Terminated, Deadlock, Ceiling, Budget, Memory}
+use Rattle.kpn_model.specs.Network.{Network, Family}
+use Rattle.kpn_model.specs.Machine.{State}
 use Rattle.kpn_laws.proofs.Causes.{over_grows_not}
 use Rattle.kpn_state.specs.Story.{Story}
 use Rattle.kpn_state.specs.declared.standing.Standing.{Standing}

@@ -2,15 +2,15 @@
 use Rattle.std.proofs.Common.{◌≡◌, ◌≢◌, ⊎_elim, List, [], ◌∷◌, ◌++◌, length, sym, ap, ◌∙◌, arith, ℕ, ◌<◌, ◌≤◌, Some, None, Option, set, length-set, subst}
 use Rattle.std.proofs.lemmas.Bool.{cases_eq}
 use Rattle.std.specs.List.{AllByRecursion}
-use Rattle.kpn_net.specs.declared.token.Token.{Token}
-use Rattle.kpn_net.specs.declared.kinds.Card.{Card}
-use Rattle.kpn_net.specs.declared.kinds.Act.{Act}
-use Rattle.kpn_net.specs.declared.kinds.Act.TheVariants.{Read, Write, Stop}
-use Rattle.kpn_net.specs.declared.history.Deed.TheVariants.{Put}
-use Rattle.kpn_net.specs.declared.history.Status.TheVariants.{Live}
-use Rattle.kpn_net.specs.Network.{Network, Family, channel_of, out_of}
-use Rattle.kpn_net.specs.Machine.{State, tokens, capacity, with_status, with_channel, IsPossible, after_deed}
-use Rattle.kpn_net.specs.Valid.{IsOfSort}
+use Rattle.kpn_model.specs.declared.token.Token.{Token}
+use Rattle.kpn_model.specs.declared.kinds.Card.{Card}
+use Rattle.kpn_model.specs.declared.kinds.Act.{Act}
+use Rattle.kpn_model.specs.declared.kinds.Act.TheVariants.{Read, Write, Stop}
+use Rattle.kpn_model.specs.declared.history.Deed.TheVariants.{Put}
+use Rattle.kpn_model.specs.declared.history.Status.TheVariants.{Live}
+use Rattle.kpn_model.specs.Network.{Network, Family, channel_of, out_of}
+use Rattle.kpn_model.specs.Machine.{State, tokens, capacity, with_status, with_channel, IsPossible, after_deed}
+use Rattle.kpn_model.specs.Valid.{IsOfSort}
 use Rattle.kpn_laws.proofs.States.{out_of-writer, tokens_set_same, tokens_set_other, capacity_set_same, capacity_set_other}
 use Rattle.kpn_laws.proofs.Steps.{capacity_after}
 use Rattle.kpn_state.specs.declared.standing.Standing.{Standing}

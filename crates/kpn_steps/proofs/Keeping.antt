@@ -1,17 +1,17 @@
 -- What the machine keeps of its state through deeds and moves.
 use Rattle.std.proofs.Common.{◌≡◌, ◌≢◌, ⊎_elim, List, length, refl, sym, ap, ◌∙◌, ℕ, ◌<◌, ◌≤◌, Some, None, Option, set, length-set, subst}
 use Rattle.std.proofs.lemmas.Bool.{cases_eq}
-use Rattle.kpn_net.specs.declared.token.Token.{Token}
-use Rattle.kpn_net.specs.declared.kinds.Card.{Card}
-use Rattle.kpn_net.specs.declared.kinds.Signature.{Signature}
-use Rattle.kpn_net.specs.declared.kinds.Answer.{Answer}
-use Rattle.kpn_net.specs.declared.history.Deed.{Deed}
-use Rattle.kpn_net.specs.declared.history.Deed.TheVariants.{Took, Put, Stopped}
-use Rattle.kpn_net.specs.declared.history.Status.TheVariants.{Done}
-use Rattle.kpn_net.specs.Network.{Network, Family, card_of}
-use Rattle.kpn_net.specs.Lawful.{read_by, NamesPort, LeadsOn}
-use Rattle.kpn_net.specs.Machine.{State, status, answered, wants, IsPossible, IsDeed, after_deed}
-use Rattle.kpn_net.specs.Valid.{IsValid}
+use Rattle.kpn_model.specs.declared.token.Token.{Token}
+use Rattle.kpn_model.specs.declared.kinds.Card.{Card}
+use Rattle.kpn_model.specs.declared.kinds.Signature.{Signature}
+use Rattle.kpn_model.specs.declared.kinds.Answer.{Answer}
+use Rattle.kpn_model.specs.declared.history.Deed.{Deed}
+use Rattle.kpn_model.specs.declared.history.Deed.TheVariants.{Took, Put, Stopped}
+use Rattle.kpn_model.specs.declared.history.Status.TheVariants.{Done}
+use Rattle.kpn_model.specs.Network.{Network, Family, card_of}
+use Rattle.kpn_model.specs.Lawful.{read_by, NamesPort, LeadsOn}
+use Rattle.kpn_model.specs.Machine.{State, status, answered, wants, IsPossible, IsDeed, after_deed}
+use Rattle.kpn_model.specs.Valid.{IsValid}
 use Rattle.kpn_laws.proofs.SortedDeeds.{sorted_deed}
 use Rattle.kpn_laws.proofs.Steps.{after, processes_after, channels_after, live_within, status_after_same, status_after_other, capacity_after}
 use Rattle.kpn_state.specs.declared.standing.Standing.{Standing}

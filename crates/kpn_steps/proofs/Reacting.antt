@@ -1,13 +1,13 @@
 -- The machine's own steps, as the definitions' steps.
 use Rattle.std.proofs.Common.{◌≡◌, List, sym, ap, ◌∙◌, ℕ, Some, Option, set, subst}
 use Rattle.std.proofs.lemmas.Option.{same_Some}
-use Rattle.kpn_net.specs.declared.token.Token.{Token}
-use Rattle.kpn_net.specs.declared.kinds.Card.{Card}
-use Rattle.kpn_net.specs.declared.kinds.Answer.{Answer}
-use Rattle.kpn_net.specs.declared.history.Deed.{Deed}
-use Rattle.kpn_net.specs.declared.history.Entry.TheVariants.{Did}
-use Rattle.kpn_net.specs.Network.{Network, Family}
-use Rattle.kpn_net.specs.Machine.{State, wants, IsEnabled, IsPossible, IsDeed, after_deed}
+use Rattle.kpn_model.specs.declared.token.Token.{Token}
+use Rattle.kpn_model.specs.declared.kinds.Card.{Card}
+use Rattle.kpn_model.specs.declared.kinds.Answer.{Answer}
+use Rattle.kpn_model.specs.declared.history.Deed.{Deed}
+use Rattle.kpn_model.specs.declared.history.Entry.TheVariants.{Did}
+use Rattle.kpn_model.specs.Network.{Network, Family}
+use Rattle.kpn_model.specs.Machine.{State, wants, IsEnabled, IsPossible, IsDeed, after_deed}
 use Rattle.kpn_state.specs.Story.{Story, more}
 use Rattle.kpn_state.specs.declared.standing.Standing.{Standing}
 use Rattle.kpn_state.specs.declared.standing.Standing.TheVariants.{Parked}

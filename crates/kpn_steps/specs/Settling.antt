@@ -1,14 +1,14 @@
 -- What happens where no process is ready or out.
 use Rattle.std.specs.Prelude.{◌≡◌, ℕ, true, false, List}
 use Rattle.std.specs.List.{list_any}
-use Rattle.kpn_net.specs.declared.token.Token.{Token}
-use Rattle.kpn_net.specs.declared.kinds.Answer.{Answer}
-use Rattle.kpn_net.specs.declared.history.Deed.TheVariants.{Put}
-use Rattle.kpn_net.specs.declared.history.Entry.TheVariants.{Grew}
-use Rattle.kpn_net.specs.declared.history.End.{End}
-use Rattle.kpn_net.specs.declared.history.End.TheVariants.{Terminated, Deadlock, Ceiling, Budget, Memory}
-use Rattle.kpn_net.specs.Network.{Family, Network}
-use Rattle.kpn_net.specs.Machine.{State, Grows, IsOver}
+use Rattle.kpn_model.specs.declared.token.Token.{Token}
+use Rattle.kpn_model.specs.declared.kinds.Answer.{Answer}
+use Rattle.kpn_model.specs.declared.history.Deed.TheVariants.{Put}
+use Rattle.kpn_model.specs.declared.history.Entry.TheVariants.{Grew}
+use Rattle.kpn_model.specs.declared.history.End.{End}
+use Rattle.kpn_model.specs.declared.history.End.TheVariants.{Terminated, Deadlock, Ceiling, Budget, Memory}
+use Rattle.kpn_model.specs.Network.{Family, Network}
+use Rattle.kpn_model.specs.Machine.{State, Grows, IsOver}
 use Rattle.kpn_state.specs.Story.{Story, more}
 use Rattle.kpn_state.specs.declared.standing.Standing.{Standing}
 use Rattle.kpn_state.specs.declared.standing.Standing.TheVariants.{Parked}

@@ -1,9 +1,9 @@
 -- The work of a commit: a reaction, and what follows where no process is then ready or out.
 use Rattle.std.specs.Prelude.{◌≡◌, ℕ, ◌+◌, List, Option, Some, None, length, nat_le, if◌then◌else◌}
-use Rattle.kpn_net.specs.declared.kinds.Answer.{Answer}
-use Rattle.kpn_net.specs.declared.history.End.{End}
-use Rattle.kpn_net.specs.declared.history.End.TheVariants.{Budget}
-use Rattle.kpn_net.specs.Network.{Family, Network}
+use Rattle.kpn_model.specs.declared.kinds.Answer.{Answer}
+use Rattle.kpn_model.specs.declared.history.End.{End}
+use Rattle.kpn_model.specs.declared.history.End.TheVariants.{Budget}
+use Rattle.kpn_model.specs.Network.{Family, Network}
 use Rattle.kpn_state.specs.Story.{Story}
 use Rattle.kpn_state.specs.declared.standing.Standing.{Standing}
 use Rattle.kpn_steps.specs.declared.react.Reaction.{Reaction}

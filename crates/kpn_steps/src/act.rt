@@ -1,9 +1,9 @@
 //! Doing what a process wants, where it can be done.
 ghost use Rattle.std.specs.Prelude.{◌≡◌, ◌≢◌, ◌<◌, length, set, Some, IfSome, IfNone, IsSome};
-ghost use Rattle.kpn_net.specs.Network.{card_of};
-ghost use Rattle.kpn_net.specs.Lawful.{NamesPort, LeadsOn, read_by};
-ghost use Rattle.kpn_net.specs.Machine.{wants, IsPossible, IsDeed, after_deed};
-ghost use Rattle.kpn_net.specs.declared.history.Entry.TheVariants.{Did};
+ghost use Rattle.kpn_model.specs.Network.{card_of};
+ghost use Rattle.kpn_model.specs.Lawful.{NamesPort, LeadsOn, read_by};
+ghost use Rattle.kpn_model.specs.Machine.{wants, IsPossible, IsDeed, after_deed};
+ghost use Rattle.kpn_model.specs.declared.history.Entry.TheVariants.{Did};
 ghost use Rattle.kpn_state.specs.Story.{more};
 ghost use Rattle.kpn_state.specs.declared.standing.Standing.TheVariants.{Ready};
 ghost use Rattle.kpn_state.specs.Standings.{Keeps, place, place_after, partner, HasChannel};

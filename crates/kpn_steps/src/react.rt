@@ -1,7 +1,7 @@
 //! What follows an answer: a deed or a wait, and the deed of the parked process that it enables.
 ghost use Rattle.std.specs.Prelude.{◌≡◌, ◌≢◌, ◌<◌, ◌≤◌, ◌+◌, length, Some, None};
-ghost use Rattle.kpn_net.specs.Machine.{wants, status};
-ghost use Rattle.kpn_net.specs.declared.history.Status.TheVariants.{Done};
+ghost use Rattle.kpn_model.specs.Machine.{wants, status};
+ghost use Rattle.kpn_model.specs.declared.history.Status.TheVariants.{Done};
 ghost use Rattle.kpn_state.specs.Standings.{Keeps, place};
 ghost use Rattle.kpn_state.specs.declared.standing.Standing.TheVariants.{Out};
 ghost use Rattle.kpn_steps.specs.Reactions.{Reacts};

@@ -1,6 +1,6 @@
 //! The work of a commit.
 ghost use Rattle.std.specs.Prelude.{◌≡◌, ◌<◌, ◌≤◌, ◌+◌, length, Some, None};
-ghost use Rattle.kpn_net.specs.Machine.{wants};
+ghost use Rattle.kpn_model.specs.Machine.{wants};
 ghost use Rattle.kpn_state.specs.declared.standing.Standing.TheVariants.{Out};
 ghost use Rattle.kpn_state.specs.Standings.{Keeps, place};
 ghost use Rattle.kpn_steps.specs.Works.{Works, outcome_of, end_after, settled_entries};

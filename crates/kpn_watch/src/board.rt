@@ -1,13 +1,13 @@
 //! The published word, the right to publish, and the watchers.
 ghost use Rattle.std.specs.Prelude.{◌≡◌, ◌≢◌, ◌+◌, ◌^◌, ◌<◌, ◌↔◌, [], length, IfOk, OnErr, IsErr};
 ghost use mathlib.Core.List.{IsPrefix};
-ghost use Rattle.kpn_net.specs.History.{growths as growths_of};
+ghost use Rattle.kpn_model.specs.History.{growths as growths_of};
 ghost use Rattle.kpn_watch.specs.Shown.{shows};
 
 use crate::progress::{Phase, Progress};
 use crate::rule::{Compare, Look, News, Note, Publish, View, WordRule};
 use atomic_table::{Seat, Table};
-use kpn_net::Entry;
+use kpn_model::Entry;
 use std::alloc::{AllocError, Global};
 use std::marker::{Brand, Model};
 

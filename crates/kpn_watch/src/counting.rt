@@ -6,7 +6,7 @@ ghost use Rattle.kpn_watch.specs.Shown.{shows, is_growth};
 
 use crate::board::{Board, Publisher, WatchFault, Watcher};
 use crate::progress::{Phase, Progress};
-use kpn_net::{End, Entry};
+use kpn_model::{End, Entry};
 use std::marker::Model;
 
 /// A publisher that keeps how many entries and growths it published, so that a history that goes on is
@@ -21,7 +21,7 @@ pub struct CountingPublisher {
 
 impl Model for CountingPublisher {
     ghost use Rattle.std.specs.Prelude.{◌≡◌, ◌^◌, ◌<◌, length};
-    ghost use Rattle.kpn_net.specs.History.{growths as growths_of};
+    ghost use Rattle.kpn_model.specs.History.{growths as growths_of};
     ghost use Rattle.kpn_watch.specs.Boards.{Published};
 
     ghost Value = { Published };

@@ -2,7 +2,7 @@
 ghost use Rattle.std.specs.Prelude.{◌≡◌, ◌+◌, ◌*◌, ◌/◌, ◌%◌, ◌^◌, ◌<◌};
 ghost use Rattle.kpn_watch.specs.Phases.{number_of, phase_of};
 
-use kpn_net::End;
+use kpn_model::End;
 
 /// Whether a run goes on, or how it ended: the end of the same name.
 #[derive(Clone, Copy, PartialEq, Eq, Debug)]

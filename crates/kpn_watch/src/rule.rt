@@ -4,7 +4,7 @@
 //! seat has seen, and that goes on from what each other has seen.
 use crate::progress::Phase;
 use atomic_table::{Join, Play, Split, TableRule};
-use kpn_net::Entry;
+use kpn_model::Entry;
 use std::collections::LinkedList;
 use std::marker::{Brand, PhantomData};
 

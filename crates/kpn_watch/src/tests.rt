@@ -3,7 +3,7 @@ ghost use Rattle.std.specs.Prelude.{◌≡◌, ◌+◌, ◌^◌, ◌<◌, ◌%�
 ghost use Rattle.kpn_watch.specs.Phases.{phase_of};
 
 use super::*;
-use kpn_net::{Deed, End, Entry, Token};
+use kpn_model::{Deed, End, Entry, Token};
 use std::alloc::{AllocError, Global};
 use std::process::Abort;
 use std::test::Fail;

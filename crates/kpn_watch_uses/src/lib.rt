@@ -7,7 +7,7 @@ ghost use mathlib.Core.List.{IsPrefix};
 ghost use Rattle.kpn_watch.specs.Phases.{phase_of};
 ghost use Rattle.kpn_watch.specs.declared.progress.Phase.TheVariants.{Running};
 
-use kpn_net::{End, Entry};
+use kpn_model::{End, Entry};
 use kpn_watch::{Board, CountingPublisher, Progress, Publisher, WatchFault, Watcher};
 
 /// What two looks of one watcher told.

@@ -2,11 +2,11 @@
 use Rattle.std.proofs.Common.{ℕ, ◌<◌, ◌^◌, List, [], ◌∷◌, ◌++◌, map, None, refl, arith, lit<}
 use Rattle.std.proofs.lemmas.List.Elements.{All-nil, All-cons, All-from_recursion}
 use Rattle.std.specs.List.{All}
-use Rattle.kpn_net.specs.declared.parts.Process.{Process}
-use Rattle.kpn_net.specs.declared.parts.Channel.{Channel}
-use Rattle.kpn_net.specs.Lawful.{CardFits, Fits as TokenFits}
-use Rattle.kpn_net.specs.Standard.{standard}
-use Rattle.kpn_net.specs.Valid.{IsValid}
+use Rattle.kpn_model.specs.declared.parts.Process.{Process}
+use Rattle.kpn_model.specs.declared.parts.Channel.{Channel}
+use Rattle.kpn_model.specs.Lawful.{CardFits, Fits as TokenFits}
+use Rattle.kpn_model.specs.Standard.{standard}
+use Rattle.kpn_model.specs.Valid.{IsValid}
 use Rattle.kpn_net.proofs.ValidNet.{valid}
 use Rattle.kpn_standard.specs.Names.{named}
 use Rattle.kpn_standard.specs.Locals.{one}

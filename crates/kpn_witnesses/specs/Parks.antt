@@ -1,13 +1,13 @@
 -- Parks's case as a description: a counter, a copy, a weave of three and three, and a sink of six.
 use Rattle.std.specs.Prelude.{ℕ, ℤ, pos, codes, List, [], ◌∷◌, ◌==◌, if◌then◌else◌}
-use Rattle.kpn_net.specs.declared.token.Sort.TheVariants.{Words}
-use Rattle.kpn_net.specs.declared.history.End.TheVariants.{Deadlock}
-use Rattle.kpn_net.specs.declared.history.Place.TheVariants.{Stopped as Ended, Reads}
+use Rattle.kpn_model.specs.declared.token.Sort.TheVariants.{Words}
+use Rattle.kpn_model.specs.declared.history.End.TheVariants.{Deadlock}
+use Rattle.kpn_model.specs.declared.history.Place.TheVariants.{Stopped as Ended, Reads}
 use Rattle.kpn_net.specs.declared.sketch.ProcessSketch.{ProcessSketch}
 use Rattle.kpn_net.specs.declared.sketch.ChannelSketch.{ChannelSketch}
 use Rattle.kpn_net.specs.declared.sketch.Sketch.{Sketch}
-use Rattle.kpn_net.specs.Network.{Network, resized}
-use Rattle.kpn_net.specs.History.{Digest}
+use Rattle.kpn_model.specs.Network.{Network, resized}
+use Rattle.kpn_model.specs.History.{Digest}
 use Rattle.kpn_net.specs.Sketched.{net_of}
 use Rattle.kpn_standard.specs.Names.{named}
 use Rattle.kpn_laws.specs.Building.{numbers}

@@ -1,10 +1,10 @@
 -- The laws of a family, asked of cards with any numbers at all. They ask too much.
 use Rattle.std.specs.Prelude.{ℕ, List, Option, IsSome}
-use Rattle.kpn_net.specs.declared.token.Token.{Token}
-use Rattle.kpn_net.specs.declared.kinds.Card.{Card}
-use Rattle.kpn_net.specs.declared.kinds.Signature.{Signature}
-use Rattle.kpn_net.specs.Network.{Family}
-use Rattle.kpn_net.specs.Lawful.{NamesPort}
+use Rattle.kpn_model.specs.declared.token.Token.{Token}
+use Rattle.kpn_model.specs.declared.kinds.Card.{Card}
+use Rattle.kpn_model.specs.declared.kinds.Signature.{Signature}
+use Rattle.kpn_model.specs.Network.{Family}
+use Rattle.kpn_model.specs.Lawful.{NamesPort}
 
 -- the law of ports, of a card whose numbers need not fit
 abbrev pub NamesPortsOfAnyCard : (Card → Option Signature) → (Card → List ℕ → Option Token → Type 0) → Family → Type 0

@@ -1,7 +1,7 @@
 //! The standard kinds are lawful, and Parks's case is a valid network of them.
-ghost use Rattle.kpn_net.specs.Standard.{standard};
-ghost use Rattle.kpn_net.specs.Lawful.{AreLawful};
-ghost use Rattle.kpn_net.specs.Valid.{IsValid, AlwaysSorted};
+ghost use Rattle.kpn_model.specs.Standard.{standard};
+ghost use Rattle.kpn_model.specs.Lawful.{AreLawful};
+ghost use Rattle.kpn_model.specs.Valid.{IsValid, AlwaysSorted};
 ghost use Rattle.kpn_standard.specs.Signatures.{signature};
 ghost use Rattle.kpn_standard.specs.Admitted.{Admitted};
 ghost use Rattle.kpn_laws.specs.Digested.{HasDigest};
@@ -9,7 +9,7 @@ ghost use Rattle.kpn_witnesses.specs.Parks.{parks, parks_digest, roomy, roomy_di
 ghost use Rattle.kpn_witnesses.specs.Unbounded.{NamesPortsOfAnyCard};
 
 use kpn_laws::sorted_runs;
-use kpn_net::Kinds;
+use kpn_model::Kinds;
 use kpn_standard::Standard;
 
 /// The standard kinds are lawful, so each run of a valid network of them is well-typed at each moment.

@@ -1,7 +1,7 @@
 -- One body more, with the next card.
 use Rattle.std.proofs.Common.{◌≤◌, ◌∙◌, ap, sym, Some, length, map, arith}
 use Rattle.std.proofs.lemmas.List.{length-map}
-use Rattle.kpn_net.specs.declared.parts.Process.{Process}
+use Rattle.kpn_model.specs.declared.parts.Process.{Process}
 use Rattle.kpn_compute.proofs.Cards.{one_more, of_all}
 use Rattle.kpn_compute.proofs.bodies.bodies_of.Goals as goal
 

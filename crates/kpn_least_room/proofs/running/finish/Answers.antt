@@ -1,6 +1,6 @@
 -- What the run that ended says, by the law.
 use Rattle.std.proofs.Common.{◌∙◌, ap, arith, length}
-use Rattle.kpn_net.specs.History.{growths}
+use Rattle.kpn_model.specs.History.{growths}
 use Rattle.kpn_least_room.proofs.ParksCase.{counted, never_three, few_growths, few_entries, no_ceiling, no_budget}
 use Rattle.kpn_least_room.proofs.running.finish.Goals as goal
 

@@ -1,7 +1,7 @@
 -- One card more; and each has a signature, since the network is valid.
 use Rattle.std.proofs.Common.{◌≤◌, ◌∙◌, ◌∷◌, ◌++◌, [], length, arith, ap}
 use Rattle.std.proofs.lemmas.List.{length-map, take_all}
-use Rattle.kpn_net.specs.declared.parts.Process.{Process}
+use Rattle.kpn_model.specs.declared.parts.Process.{Process}
 use Rattle.kpn_machine.specs.Opening.{cards_of}
 use Rattle.kpn_machine.proofs.Cards.{card_more, all_signed}
 use Rattle.kpn_machine.proofs.opening.cards_of.Goals as goal

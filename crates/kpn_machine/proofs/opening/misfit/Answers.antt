@@ -1,7 +1,7 @@
 -- The bodies' cards, one by one.
 use Rattle.std.proofs.Common.{◌≡◌, sym, ap, ◌∙◌, arith, map, get_or, below_more}
 use Rattle.std.proofs.lemmas.List.{length-map}
-use Rattle.kpn_net.specs.Network.{no_process}
+use Rattle.kpn_model.specs.Network.{no_process}
 use Rattle.kpn_machine.proofs.Seats.{at_map, card_at, same_lists}
 use Rattle.kpn_machine.proofs.Sound.{is_true}
 use Rattle.kpn_machine.proofs.opening.misfit.Goals as goal

@@ -1,5 +1,5 @@
 use Rattle.std.proofs.Common.{◌≡◌, ◌<◌, ℕ, map, get_or}
-use Rattle.kpn_net.specs.Network.{no_process, card_of}
+use Rattle.kpn_model.specs.Network.{no_process, card_of}
 use Rattle.kpn_machine.proofs.opening.misfit.Given as goal
 
 abbrev pub invariant-loop-p : goal.invariant-loop-p

@@ -1,7 +1,7 @@
 use Rattle.std.proofs.Common.{arith, sym, ap, ◌∙◌, ◌++◌, ◌∷◌, [], None, below_more}
 use Rattle.std.proofs.lemmas.List.{map_more}
-use Rattle.kpn_net.specs.Network.{no_process}
-use Rattle.kpn_net.specs.declared.history.Status.TheVariants.{Live}
+use Rattle.kpn_model.specs.Network.{no_process}
+use Rattle.kpn_model.specs.declared.history.Status.TheVariants.{Live}
 use Rattle.kpn_machine.specs.Opening.{starting}
 use Rattle.kpn_machine.proofs.opening.start_statuses.Goals as goal
 

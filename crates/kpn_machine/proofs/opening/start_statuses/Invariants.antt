@@ -1,5 +1,5 @@
 use Rattle.std.proofs.Common.{◌≡◌, ◌<◌, ℕ, map, take, None}
-use Rattle.kpn_net.specs.Network.{card_of}
+use Rattle.kpn_model.specs.Network.{card_of}
 use Rattle.kpn_machine.specs.Opening.{starting}
 use Rattle.kpn_machine.proofs.opening.start_statuses.Given as goal
 

@@ -1,6 +1,6 @@
 -- One answer more was given, and what came of it was noted.
 use Rattle.std.proofs.Common.{◌∙◌, arith, subst}
-use Rattle.kpn_net.specs.Network.{Network}
+use Rattle.kpn_model.specs.Network.{Network}
 use Rattle.kpn_monitor.specs.Kept.{WasCommitted}
 use Rattle.kpn_monitor.proofs.Handing.{gave_machine, gave_committed, gave_many}
 use Rattle.kpn_monitor.proofs.giving.give_all.Goals as goal

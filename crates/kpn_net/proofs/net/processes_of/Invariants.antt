@@ -1,6 +1,6 @@
 use Rattle.std.proofs.Common.{◌≡◌, map, take}
 use Rattle.std.specs.List.{All}
-use Rattle.kpn_net.specs.Lawful.{CardFits}
+use Rattle.kpn_model.specs.Lawful.{CardFits}
 use Rattle.kpn_net.specs.Sketched.{process_in}
 use Rattle.kpn_net.proofs.net.processes_of.Given as goal
 

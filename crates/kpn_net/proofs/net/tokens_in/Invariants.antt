@@ -1,6 +1,6 @@
 use Rattle.std.proofs.Common.{◌≡◌, map, take}
 use Rattle.std.specs.List.{All}
-use Rattle.kpn_net.specs.Lawful.{Fits}
+use Rattle.kpn_model.specs.Lawful.{Fits}
 use Rattle.kpn_net.specs.Sketched.{token_in}
 use Rattle.kpn_net.proofs.net.tokens_in.Given as goal
 

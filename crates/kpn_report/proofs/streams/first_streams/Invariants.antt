@@ -1,5 +1,5 @@
 use Rattle.std.proofs.Common.{◌≡◌, ◌<◌, ℕ, [], length, get_or}
-use Rattle.kpn_net.specs.History.{stream}
+use Rattle.kpn_model.specs.History.{stream}
 use Rattle.kpn_report.proofs.streams.first_streams.Given as goal
 
 abbrev pub invariant-loop-c : goal.invariant-loop-c

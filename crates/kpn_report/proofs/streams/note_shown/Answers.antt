@@ -1,6 +1,6 @@
 -- The stream with the token that is put.
 use Rattle.std.proofs.Common.{◌++◌, ◌∷◌, [], sym, ap, ◌∙◌}
-use Rattle.kpn_net.specs.History.{put_on}
+use Rattle.kpn_model.specs.History.{put_on}
 use Rattle.kpn_report.proofs.Flows.{stream_more}
 use Rattle.kpn_report.proofs.streams.note_shown.Goals as goal
 

@@ -1,8 +1,8 @@
 -- One entry more.
 use Rattle.std.proofs.Common.{◌≡◌, ◌<◌, List, subst, sym, arith, take, length}
 use Rattle.std.proofs.lemmas.List.{take_more}
-use Rattle.kpn_net.specs.declared.history.Entry.{Entry}
-use Rattle.kpn_net.specs.History.{stream}
+use Rattle.kpn_model.specs.declared.history.Entry.{Entry}
+use Rattle.kpn_model.specs.History.{stream}
 use Rattle.kpn_report.proofs.streams.stream_of.Goals as goal
 
 pub loop-entry-preserved : goal.loop-entry-preserved

@@ -1,5 +1,5 @@
 use Rattle.std.proofs.Common.{◌≡◌, take}
-use Rattle.kpn_net.specs.History.{stream}
+use Rattle.kpn_model.specs.History.{stream}
 use Rattle.kpn_report.proofs.streams.stream_of.Given as goal
 
 abbrev pub invariant-loop-entry : goal.invariant-loop-entry

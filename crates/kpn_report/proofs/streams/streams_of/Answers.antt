@@ -1,7 +1,7 @@
 -- One entry more.
 use Rattle.std.proofs.Common.{◌<◌, List, subst, sym, arith, take, length}
 use Rattle.std.proofs.lemmas.List.{take_more}
-use Rattle.kpn_net.specs.declared.history.Entry.{Entry}
+use Rattle.kpn_model.specs.declared.history.Entry.{Entry}
 use Rattle.kpn_report.specs.Tally.{KeepsStreams}
 use Rattle.kpn_report.proofs.streams.streams_of.Goals as goal
 

@@ -1,6 +1,6 @@
 -- An entry's part in what is kept.
 use Rattle.std.proofs.Common.{◌++◌, ◌∷◌, [], sym, ap, ◌∙◌}
-use Rattle.kpn_net.specs.History.{growths}
+use Rattle.kpn_model.specs.History.{growths}
 use Rattle.kpn_laws.proofs.Views.{growths_push_did, growths_push_grew}
 use Rattle.kpn_report.proofs.Tallies.{keeps_grew, counts_did, counts_grew}
 use Rattle.kpn_report.proofs.tally.note.Goals as goal

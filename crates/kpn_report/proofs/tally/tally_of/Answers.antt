@@ -1,8 +1,8 @@
 -- One entry more, and no count is more than the number of entries.
 use Rattle.std.proofs.Common.{◌≡◌, ◌<◌, List, subst, sym, arith, take, length}
 use Rattle.std.proofs.lemmas.List.{take_more, length-take-le}
-use Rattle.kpn_net.specs.declared.history.Entry.{Entry}
-use Rattle.kpn_net.specs.History.{growths}
+use Rattle.kpn_model.specs.declared.history.Entry.{Entry}
+use Rattle.kpn_model.specs.History.{growths}
 use Rattle.kpn_report.specs.Tally.{CountsSteps, KeepsAccounts}
 use Rattle.kpn_report.proofs.Tallies.{few_deeds, few_put, few_taken}
 use Rattle.kpn_report.proofs.tally.tally_of.Goals as goal

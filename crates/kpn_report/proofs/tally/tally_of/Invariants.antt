@@ -1,5 +1,5 @@
 use Rattle.std.proofs.Common.{◌≡◌, take}
-use Rattle.kpn_net.specs.History.{growths}
+use Rattle.kpn_model.specs.History.{growths}
 use Rattle.kpn_report.specs.Tally.{CountsSteps, KeepsAccounts}
 use Rattle.kpn_report.proofs.tally.tally_of.Given as goal
 

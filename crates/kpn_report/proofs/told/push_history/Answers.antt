@@ -1,6 +1,6 @@
 -- The lines are those of the digest.
 use Rattle.std.proofs.Common.{arith}
-use Rattle.kpn_net.specs.declared.history.End.TheVariants.{Terminated}
+use Rattle.kpn_model.specs.declared.history.End.TheVariants.{Terminated}
 use Rattle.kpn_report.proofs.Tallies.{few_put, steps_listed}
 use Rattle.kpn_report.proofs.Counts.{pushed, counted_all}
 use Rattle.kpn_report.proofs.told.push_history.Goals as goal

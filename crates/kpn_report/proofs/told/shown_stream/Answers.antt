@@ -2,7 +2,7 @@
 use Rattle.std.proofs.Common.{◌<◌, ◌≤◌, length, [], sym, ◌∙◌, arith}
 use Rattle.std.proofs.lemmas.List.{get_or_past}
 use Rattle.std.proofs.lemmas.List.FromFn.{get_or-map-range_with_len, length-map-range_with_len}
-use Rattle.kpn_net.specs.History.{stream, each_channel}
+use Rattle.kpn_model.specs.History.{stream, each_channel}
 use Rattle.kpn_report.proofs.told.shown_stream.Goals as goal
 
 pub returns-then-c-channels : goal.returns-then-c-channels

@@ -1,7 +1,7 @@
 -- The first line, and the lines of the history where there is a detail.
 use Rattle.std.proofs.Common.{◌≡◌, ◌++◌, true, string_bytes, sym, ap, ◌∙◌}
-use Rattle.kpn_net.specs.declared.history.End.TheVariants.{Terminated}
-use Rattle.kpn_net.specs.History.{digest}
+use Rattle.kpn_model.specs.declared.history.End.TheVariants.{Terminated}
+use Rattle.kpn_model.specs.History.{digest}
 use Rattle.kpn_report.specs.Text.{digest_text}
 use Rattle.kpn_report.specs.Digested.{has_detail}
 use Rattle.kpn_report.proofs.Counts.{whole_text, first_line_alone}

@@ -1,6 +1,6 @@
 -- The opening is of this machine.
 use Rattle.std.proofs.Common.{◌∙◌, ap, subst}
-use Rattle.kpn_net.specs.Network.{Network}
+use Rattle.kpn_model.specs.Network.{Network}
 use Rattle.kpn_machine.specs.Opening.{cards_of}
 use Rattle.kpn_machine.specs.Scheduler.{Scheduler}
 use Rattle.kpn_run.specs.Runs.{IsFinish, StaysWithin, SparesBudget, IsInLine}

@@ -1,5 +1,5 @@
 use Rattle.std.proofs.Common.{◌∙◌, arith, ap, subst}
-use Rattle.kpn_net.specs.Network.{Network}
+use Rattle.kpn_model.specs.Network.{Network}
 use Rattle.kpn_run.specs.Runs.{IsFinish}
 use Rattle.std.specs.Prelude.{IsSome}
 use Rattle.kpn_run.proofs.Slots.{some_met, not_refused, not_open}

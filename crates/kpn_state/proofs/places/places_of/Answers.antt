@@ -1,7 +1,7 @@
 -- One more place.
 use Rattle.std.proofs.Common.{◌++◌, ◌∷◌, [], sym, ap, ◌∙◌, arith}
 use Rattle.std.proofs.lemmas.List.FromFn.{map-range_with_len_more}
-use Rattle.kpn_net.specs.History.{place_of}
+use Rattle.kpn_model.specs.History.{place_of}
 use Rattle.kpn_state.specs.Standings.{place, parked_answer}
 use Rattle.kpn_state.proofs.places.places_of.Goals as goal
 

@@ -1,6 +1,6 @@
 use Rattle.std.proofs.Common.{◌≡◌, map}
 use Rattle.std.specs.List.{range_with_len}
-use Rattle.kpn_net.specs.History.{place_of}
+use Rattle.kpn_model.specs.History.{place_of}
 use Rattle.kpn_state.specs.Standings.{place, parked_answer}
 use Rattle.kpn_state.proofs.places.places_of.Given as goal
 

@@ -1,8 +1,8 @@
 -- The laws of the family at the answer keep the state one of the network.
 use Rattle.std.proofs.Common.{◌≡◌, sym, ap, ◌∙◌}
 use Rattle.std.proofs.lemmas.Option.{same_Some}
-use Rattle.kpn_net.specs.declared.history.Status.{Status}
-use Rattle.kpn_net.specs.Machine.{answered}
+use Rattle.kpn_model.specs.declared.history.Status.{Status}
+use Rattle.kpn_model.specs.Machine.{answered}
 use Rattle.kpn_steps.proofs.Keeping.{keeps_deed}
 use Rattle.kpn_steps.proofs.act.advance.Goals as goal
 

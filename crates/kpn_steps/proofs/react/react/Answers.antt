@@ -1,7 +1,7 @@
 -- A deed, and the deed that it enables.
 use Rattle.std.proofs.Common.{◌≡◌, ℕ, sym, ap, ◌∙◌, Some, subst}
-use Rattle.kpn_net.specs.declared.kinds.Answer.{Answer}
-use Rattle.kpn_net.specs.Machine.{IsPossible}
+use Rattle.kpn_model.specs.declared.kinds.Answer.{Answer}
+use Rattle.kpn_model.specs.Machine.{IsPossible}
 use Rattle.kpn_state.specs.declared.standing.Standing.TheVariants.{Parked}
 use Rattle.kpn_state.specs.Standings.{place}
 use Rattle.kpn_state.proofs.Placed.{parked_same}

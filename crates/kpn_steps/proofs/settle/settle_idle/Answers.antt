@@ -1,7 +1,7 @@
 -- Where none is ready or out, the run ends as the definitions say, or the chosen channel grows.
 use Rattle.std.proofs.Common.{◌≡◌, ◌<◌, ◌+◌, min, length, sym, ◌∙◌, arith, refl, false}
 use Rattle.std.specs.List.{list_any}
-use Rattle.kpn_net.specs.Machine.{capacity}
+use Rattle.kpn_model.specs.Machine.{capacity}
 use Rattle.kpn_state.specs.Standings.{is_busy}
 use Rattle.kpn_steps.proofs.Idle.{idle_quiet, some_live, all_done, none_blocked, smallest_artificial, smallest_chosen}
 use Rattle.kpn_steps.proofs.Enlarging.{growth, grows_and_puts, keeps_enlarged, keeps_after_put}

@@ -3,13 +3,13 @@ use Rattle.std.proofs.Common.{◌≡◌, ◌<◌, ◌+◌, length, get_or, sym, 
 use Rattle.std.specs.Option.{option_map}
 use Rattle.std.proofs.lemmas.List.{length-map}
 use Rattle.std.proofs.lemmas.Option.{same_Some}
-use Rattle.kpn_net.specs.declared.parts.Process.{Process}
-use Rattle.kpn_net.specs.Network.{no_process}
+use Rattle.kpn_model.specs.declared.parts.Process.{Process}
+use Rattle.kpn_model.specs.Network.{no_process}
 use Rattle.kpn_machine.specs.Opening.{cards_of}
 use Rattle.kpn_machine.specs.Scheduler.{Scheduler}
 use Rattle.std.proofs.Common.{Some, true}
 use Rattle.std.specs.List.{list_all}
-use Rattle.kpn_net.specs.declared.kinds.Card.{Card}
+use Rattle.kpn_model.specs.declared.kinds.Card.{Card}
 use Rattle.kpn_state.specs.Standings.{is_ready}
 use Rattle.kpn_state.proofs.Placed.{ready_not_out_at}
 use Rattle.kpn_machine.proofs.Seats.{card_at, slot_at, kept_later, back_more, same_lists}

@@ -1,7 +1,7 @@
 use Rattle.std.proofs.Common.{◌≡◌, ◌<◌, ◌≤◌, ℕ, length, map, get_or, Some, None}
 use Rattle.std.specs.Option.{option_map}
 use Rattle.std.specs.Vec.{vec_capacity}
-use Rattle.kpn_net.specs.Network.{no_process}
+use Rattle.kpn_model.specs.Network.{no_process}
 use Rattle.kpn_machine.specs.Opening.{cards_of}
 use Rattle.kpn_machine.proofs.machine.Machine.into_parts.Given as goal
 

@@ -2,8 +2,8 @@
 use Rattle.std.proofs.Common.{◌≡◌, None, rules, subst}
 use Rattle.std.specs.List.{All}
 use Rattle.kpn_net.specs.Faults.{first_fault}
-use Rattle.kpn_net.specs.Lawful.{CardFits, Fits}
-use Rattle.kpn_net.specs.Network.{Network}
+use Rattle.kpn_model.specs.Lawful.{CardFits, Fits}
+use Rattle.kpn_model.specs.Network.{Network}
 use Rattle.kpn_net.specs.Sketched.{net_of}
 use Rattle.kpn_net.proofs.ValidNet.{valid}
 use Rattle.kpn_net.proofs.net.Net.check.Goals as goal

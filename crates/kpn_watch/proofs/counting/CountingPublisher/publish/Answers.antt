@@ -1,7 +1,7 @@
 -- The growths so far, and those among the new entries.
 use Rattle.std.proofs.Common.{length, subst, sym, ap, ◌∙◌, arith}
 use mathlib.Core.List.{IsPrefix}
-use Rattle.kpn_net.specs.History.{growths as growths_of}
+use Rattle.kpn_model.specs.History.{growths as growths_of}
 use Rattle.kpn_watch.specs.Boards.{Published}
 use Rattle.kpn_watch.proofs.Growths.{told}
 use Rattle.kpn_watch.proofs.Words.{growths_le}

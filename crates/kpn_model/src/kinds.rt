@@ -1,6 +1,6 @@
 //! Cards, answers, and families of kinds.
 ghost use Rattle.std.specs.Prelude.{◌≡◌, ℕ, List, Option, None, IsSome, IfSome, IsTrue};
-ghost use Rattle.kpn_net.specs.Lawful.{CardFits};
+ghost use Rattle.kpn_model.specs.Lawful.{CardFits};
 
 use crate::token::{Sort, Token};
 
@@ -53,11 +53,11 @@ pub struct Answer {
 /// ensures. An implementation proves them in `lawful`; `names_port`, `leads_on` and `starts`, which
 /// tell them of the values at hand, come with the trait.
 pub trait Kinds: Send + Sync {
-    ghost use Rattle.kpn_net.specs.declared.kinds.Card.{Card};
-    ghost use Rattle.kpn_net.specs.declared.kinds.Signature.{Signature};
-    ghost use Rattle.kpn_net.specs.declared.token.Token.{Token};
-    ghost use Rattle.kpn_net.specs.Network.{Family};
-    ghost use Rattle.kpn_net.specs.Lawful.{AreLawful, NamesPort, LeadsOn, is_filled};
+    ghost use Rattle.kpn_model.specs.declared.kinds.Card.{Card};
+    ghost use Rattle.kpn_model.specs.declared.kinds.Signature.{Signature};
+    ghost use Rattle.kpn_model.specs.declared.token.Token.{Token};
+    ghost use Rattle.kpn_model.specs.Network.{Family};
+    ghost use Rattle.kpn_model.specs.Lawful.{AreLawful, NamesPort, LeadsOn, is_filled};
 
     ghost named: { List ℕ → Option (ℕ × ℕ) };
 

@@ -1,11 +1,11 @@
 -- Whatever is chosen, the outcome is the same.
 use Rattle.std.specs.Prelude.{◌≡◌, ◌⊎◌, ℕ, ◌≤◌, List, ◌++◌, length}
-use Rattle.kpn_net.specs.declared.history.Entry.{Entry}
-use Rattle.kpn_net.specs.declared.history.End.{End}
-use Rattle.kpn_net.specs.Network.{Family, Network, resized}
-use Rattle.kpn_net.specs.declared.history.End.TheVariants.{Terminated, Deadlock}
-use Rattle.kpn_net.specs.Machine.{State, start, wants, Run, IsOver}
-use Rattle.kpn_net.specs.History.{deeds, stream, place_of, digest}
+use Rattle.kpn_model.specs.declared.history.Entry.{Entry}
+use Rattle.kpn_model.specs.declared.history.End.{End}
+use Rattle.kpn_model.specs.Network.{Family, Network, resized}
+use Rattle.kpn_model.specs.declared.history.End.TheVariants.{Terminated, Deadlock}
+use Rattle.kpn_model.specs.Machine.{State, start, wants, Run, IsOver}
+use Rattle.kpn_model.specs.History.{deeds, stream, place_of, digest}
 
 abbrev pub IsFrontOf : {X : Type 0} → List X → List X → Type 0
 IsFrontOf {X} xs ys = (rest : List X) × (xs ++ rest ≡ ys)

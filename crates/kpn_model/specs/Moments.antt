@@ -1,13 +1,13 @@
 -- What holds at each moment of a run.
 use Rattle.std.specs.Prelude.{◌≡◌, ◌≢◌, ◌↔◌, ℕ, ◌+◌, ◌<◌, ◌≤◌, List, ◌++◌, length, drop}
-use Rattle.kpn_net.specs.declared.history.Deed.{Deed}
-use Rattle.kpn_net.specs.declared.history.Entry.{Entry}
-use Rattle.kpn_net.specs.declared.history.End.{End}
-use Rattle.kpn_net.specs.declared.history.End.TheVariants.{Budget, Memory}
-use Rattle.kpn_net.specs.Network.{Family, Network, channel_of}
-use Rattle.kpn_net.specs.Machine.{State, tokens, capacity, IsEnabled, Does, IsArtificial, IsChosen, Run, IsOver, start}
-use Rattle.kpn_net.specs.History.{stream, taken, growths, grown}
-use Rattle.kpn_net.specs.Determinacy.{IsRun, IsFinal}
+use Rattle.kpn_model.specs.declared.history.Deed.{Deed}
+use Rattle.kpn_model.specs.declared.history.Entry.{Entry}
+use Rattle.kpn_model.specs.declared.history.End.{End}
+use Rattle.kpn_model.specs.declared.history.End.TheVariants.{Budget, Memory}
+use Rattle.kpn_model.specs.Network.{Family, Network, channel_of}
+use Rattle.kpn_model.specs.Machine.{State, tokens, capacity, IsEnabled, Does, IsArtificial, IsChosen, Run, IsOver, start}
+use Rattle.kpn_model.specs.History.{stream, taken, growths, grown}
+use Rattle.kpn_model.specs.Determinacy.{IsRun, IsFinal}
 
 -- how many entries and how many growths
 abbrev pub tally : List Entry → ℕ × ℕ

@@ -1,11 +1,11 @@
 -- A network: processes, and the channels between their ports.
 use Rattle.std.specs.Prelude.{ℕ, ◌+◌, ◌==◌, ◌&&◌, List, [], ◌∷◌, Option, get_or, position}
-use Rattle.kpn_net.specs.declared.token.Token.{Token}
-use Rattle.kpn_net.specs.declared.token.Sort.TheVariants.{Words}
-use Rattle.kpn_net.specs.declared.kinds.Card.{Card}
-use Rattle.kpn_net.specs.declared.kinds.Answer.{Answer}
-use Rattle.kpn_net.specs.declared.parts.Process.{Process}
-use Rattle.kpn_net.specs.declared.parts.Channel.{Channel}
+use Rattle.kpn_model.specs.declared.token.Token.{Token}
+use Rattle.kpn_model.specs.declared.token.Sort.TheVariants.{Words}
+use Rattle.kpn_model.specs.declared.kinds.Card.{Card}
+use Rattle.kpn_model.specs.declared.kinds.Answer.{Answer}
+use Rattle.kpn_model.specs.declared.parts.Process.{Process}
+use Rattle.kpn_model.specs.declared.parts.Channel.{Channel}
 
 -- how the processes of a family of kinds begin, and what they answer by their card, their local
 -- state and the token of the read just done

@@ -1,18 +1,18 @@
 -- Valid networks, and states whose tokens have their channels' sorts.
 use Rattle.std.specs.Prelude.{◌≡◌, ◌≢◌, ℕ, ◌<◌, ◌≤◌, true, List, Option, Some, IsSome, length}
 use Rattle.std.specs.List.{All, Any, AllPairs, AllByRecursion}
-use Rattle.kpn_net.specs.declared.token.Token.{Token}
-use Rattle.kpn_net.specs.declared.token.Sort.{Sort}
-use Rattle.kpn_net.specs.declared.kinds.Card.{Card}
-use Rattle.kpn_net.specs.declared.kinds.Signature.{Signature}
-use Rattle.kpn_net.specs.declared.parts.Channel.{Channel}
-use Rattle.kpn_net.specs.declared.history.Entry.{Entry}
-use Rattle.kpn_net.specs.declared.history.Status.TheVariants.{Live}
-use Rattle.kpn_net.specs.Name.{is_name}
-use Rattle.kpn_net.specs.Network.{Family, Network, card_of, channel_of}
-use Rattle.kpn_net.specs.Lawful.{sort_of, Fits, CardFits, in_sort, out_sort}
-use Rattle.kpn_net.specs.Machine.{State, status, tokens}
-use Rattle.kpn_net.specs.Determinacy.{IsRun}
+use Rattle.kpn_model.specs.declared.token.Token.{Token}
+use Rattle.kpn_model.specs.declared.token.Sort.{Sort}
+use Rattle.kpn_model.specs.declared.kinds.Card.{Card}
+use Rattle.kpn_model.specs.declared.kinds.Signature.{Signature}
+use Rattle.kpn_model.specs.declared.parts.Channel.{Channel}
+use Rattle.kpn_model.specs.declared.history.Entry.{Entry}
+use Rattle.kpn_model.specs.declared.history.Status.TheVariants.{Live}
+use Rattle.kpn_model.specs.Name.{is_name}
+use Rattle.kpn_model.specs.Network.{Family, Network, card_of, channel_of}
+use Rattle.kpn_model.specs.Lawful.{sort_of, Fits, CardFits, in_sort, out_sort}
+use Rattle.kpn_model.specs.Machine.{State, status, tokens}
+use Rattle.kpn_model.specs.Determinacy.{IsRun}
 
 -- just one of the items
 abbrev pub JustOne : {A : Type 0} → (A → Type 0) → List A → Type 0

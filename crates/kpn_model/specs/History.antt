@@ -1,19 +1,19 @@
 -- What is read off a history.
 use Rattle.std.specs.Prelude.{◌++◌, ℕ, ◌==◌, if◌then◌else◌, List, [], ◌∷◌, Option, Some, None, length, drop, map}
 use Rattle.std.specs.List.{range_with_len}
-use Rattle.kpn_net.specs.declared.token.Token.{Token}
-use Rattle.kpn_net.specs.declared.kinds.Act.{Act}
-use Rattle.kpn_net.specs.declared.kinds.Act.TheVariants.{Read, Write, Stop}
-use Rattle.kpn_net.specs.declared.kinds.Answer.{Answer}
-use Rattle.kpn_net.specs.declared.history.Deed.{Deed}
-use Rattle.kpn_net.specs.declared.history.Deed.TheVariants.{Took, Put}
-use Rattle.kpn_net.specs.declared.history.Entry.{Entry}
-use Rattle.kpn_net.specs.declared.history.Entry.TheVariants.{Did, Grew}
-use Rattle.kpn_net.specs.declared.history.End.{End}
-use Rattle.kpn_net.specs.declared.history.Place.{Place}
-use Rattle.kpn_net.specs.declared.history.Place.TheVariants.{Stopped as Ended, Reads, Writes}
-use Rattle.kpn_net.specs.Network.{Family, Network, channel_of, in_of, out_of}
-use Rattle.kpn_net.specs.Machine.{State, wants}
+use Rattle.kpn_model.specs.declared.token.Token.{Token}
+use Rattle.kpn_model.specs.declared.kinds.Act.{Act}
+use Rattle.kpn_model.specs.declared.kinds.Act.TheVariants.{Read, Write, Stop}
+use Rattle.kpn_model.specs.declared.kinds.Answer.{Answer}
+use Rattle.kpn_model.specs.declared.history.Deed.{Deed}
+use Rattle.kpn_model.specs.declared.history.Deed.TheVariants.{Took, Put}
+use Rattle.kpn_model.specs.declared.history.Entry.{Entry}
+use Rattle.kpn_model.specs.declared.history.Entry.TheVariants.{Did, Grew}
+use Rattle.kpn_model.specs.declared.history.End.{End}
+use Rattle.kpn_model.specs.declared.history.Place.{Place}
+use Rattle.kpn_model.specs.declared.history.Place.TheVariants.{Stopped as Ended, Reads, Writes}
+use Rattle.kpn_model.specs.Network.{Family, Network, channel_of, in_of, out_of}
+use Rattle.kpn_model.specs.Machine.{State, wants}
 
 -- the deeds of p, in order
 abbrev pub deeds : List Entry → ℕ → List Deed

@@ -1,18 +1,18 @@
 -- The ports of cards, and the laws of a family of kinds.
 use Rattle.std.specs.Prelude.{◌≡◌, ℕ, ◌<◌, ◌^◌, Bool, true, false, List, [], ◌∷◌, length, slice_get, Option, Some, None, IsSome, is_none, option_and_then}
 use Rattle.std.specs.List.{All, list_all}
-use Rattle.kpn_net.specs.declared.token.Token.{Token}
-use Rattle.kpn_net.specs.declared.token.Token.TheVariants.{Word, Flag}
-use Rattle.kpn_net.specs.declared.token.Sort.{Sort}
-use Rattle.kpn_net.specs.declared.token.Sort.TheVariants.{Words, Flags}
-use Rattle.kpn_net.specs.declared.kinds.Card.{Card}
-use Rattle.kpn_net.specs.declared.kinds.Signature.{Signature}
-use Rattle.kpn_net.specs.declared.kinds.Act.{Act}
-use Rattle.kpn_net.specs.declared.kinds.Act.TheVariants.{Read, Write, Stop}
-use Rattle.kpn_net.specs.declared.kinds.Answer.{Answer}
-use Rattle.kpn_net.specs.declared.history.Deed.{Deed}
-use Rattle.kpn_net.specs.declared.history.Deed.TheVariants.{Took, Put, Stopped}
-use Rattle.kpn_net.specs.Network.{Family}
+use Rattle.kpn_model.specs.declared.token.Token.{Token}
+use Rattle.kpn_model.specs.declared.token.Token.TheVariants.{Word, Flag}
+use Rattle.kpn_model.specs.declared.token.Sort.{Sort}
+use Rattle.kpn_model.specs.declared.token.Sort.TheVariants.{Words, Flags}
+use Rattle.kpn_model.specs.declared.kinds.Card.{Card}
+use Rattle.kpn_model.specs.declared.kinds.Signature.{Signature}
+use Rattle.kpn_model.specs.declared.kinds.Act.{Act}
+use Rattle.kpn_model.specs.declared.kinds.Act.TheVariants.{Read, Write, Stop}
+use Rattle.kpn_model.specs.declared.kinds.Answer.{Answer}
+use Rattle.kpn_model.specs.declared.history.Deed.{Deed}
+use Rattle.kpn_model.specs.declared.history.Deed.TheVariants.{Took, Put, Stopped}
+use Rattle.kpn_model.specs.Network.{Family}
 
 -- the sort of a token
 abbrev pub sort_of : Token → Sort

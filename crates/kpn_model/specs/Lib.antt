@@ -1,0 +1,9 @@
+pub mod Network
+pub mod Lawful
+pub mod Machine
+pub mod History
+pub mod Determinacy
+pub mod Moments
+pub mod Name
+pub mod Valid
+pub mod Standard

@@ -1,0 +1,16 @@
+//! The model of Kahn process networks (Kahn 1974): tokens, cards and families of kinds, what a run
+//! does; and, in specs/, the definitions of the network, of its runs and of what is read off them. It
+//! stands on std alone.
+#![tactic(auto)]
+
+pub mod history;
+pub mod kinds;
+pub mod parts;
+pub mod small;
+pub mod token;
+
+pub use history::{Deed, End, Entry, Place, Status};
+pub use kinds::{Act, Answer, Card, Kinds, Local, Signature};
+pub use parts::{Channel, Ends, Process};
+pub use small::{Listed, Text};
+pub use token::{Sort, Token};
