@@ -7,7 +7,7 @@ use Rattle.kpn_model.specs.declared.history.End.{End}
 use Rattle.kpn_model.specs.declared.history.End.TheVariants.{Terminated, Deadlock, Ceiling, Budget, Memory}
 use Rattle.kpn_net.specs.declared.fault.NetFault.TheVariants.{Memory as OutOfMemory}
 use Rattle.kpn_model.specs.Network.{Family, Network}
-use Rattle.kpn_model.specs.Machine.{State}
+use Rattle.kpn_model.specs.Semantics.{State}
 use Rattle.kpn_model.specs.Determinacy.{IsRun, IsFinal}
 use Rattle.kpn_model.specs.Moments.{IsBound}
 use Rattle.kpn_laws.specs.RoomOfRun.{TakesLeastRoom}

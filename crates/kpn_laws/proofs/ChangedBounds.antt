@@ -5,7 +5,7 @@ use Rattle.kpn_model.specs.declared.history.Entry.{Entry}
 use Rattle.kpn_model.specs.declared.history.Entry.TheVariants.{Did, Grew}
 use Rattle.kpn_model.specs.declared.history.End.TheVariants.{Terminated}
 use Rattle.kpn_model.specs.Network.{Network, resized}
-use Rattle.kpn_model.specs.Machine.{State, start, tokens, capacity, with_channel, Does, Run, IsArtificial, IsChosen}
+use Rattle.kpn_model.specs.Semantics.{State, start, tokens, capacity, with_channel, Does, Run, IsArtificial, IsChosen}
 use Rattle.kpn_model.specs.History.{growths}
 use Rattle.kpn_model.specs.Standard.{standard}
 use Rattle.kpn_laws.specs.Sufficient.{EndsWithin}

@@ -9,7 +9,7 @@ use Rattle.kpn_model.specs.declared.history.Entry.{Entry}
 use Rattle.kpn_model.specs.declared.history.Entry.TheVariants.{Did, Grew}
 use Rattle.kpn_model.specs.declared.history.End.TheVariants.{Terminated}
 use Rattle.kpn_model.specs.Network.{Network}
-use Rattle.kpn_model.specs.Machine.{State, start, tokens, with_channel, after_deed, IsDeed, Step, Run}
+use Rattle.kpn_model.specs.Semantics.{State, start, tokens, with_channel, after_deed, IsDeed, Step, Run}
 use Rattle.kpn_model.specs.History.{Digest}
 use Rattle.kpn_model.specs.Moments.{IsWithin}
 use Rattle.kpn_model.specs.Standard.{standard}

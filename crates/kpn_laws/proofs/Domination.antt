@@ -2,7 +2,7 @@
 use Rattle.std.proofs.Common.{◌≡◌, ◌≤◌, inl, ⊎_elim, List, [], ◌∷◌, ◌++◌, length, refl, sym, ap, ◌∙◌, arith, append_assoc, length-append, ℕ, ◌≢◌, ◌<◌, Some, subst}
 use Rattle.std.proofs.lemmas.List.{append_cancel_left}
 use Rattle.std.proofs.lemmas.Bool.{cases_lt}
-use Rattle.kpn_model.specs.Determinacy.{IsFrontOf}
+use Rattle.kpn_model.specs.Determinacy.{IsPrefixOf}
 use Rattle.kpn_model.specs.declared.token.Token.{Token}
 use Rattle.kpn_model.specs.declared.history.Deed.{Deed}
 use Rattle.kpn_model.specs.declared.history.Deed.TheVariants.{Took, Put, Stopped}
@@ -10,7 +10,7 @@ use Rattle.kpn_model.specs.declared.history.Entry.{Entry}
 use Rattle.kpn_model.specs.declared.history.Entry.TheVariants.{Did, Grew}
 use Rattle.kpn_model.specs.History.{deeds, growths}
 use Rattle.kpn_model.specs.Network.{Network, channel_of, Family}
-use Rattle.kpn_model.specs.Machine.{State, tokens, capacity, answered, wants, IsDeed, Step, Run, IsBlocked, IsPossible, IsEnabled, IsQuiet, Does}
+use Rattle.kpn_model.specs.Semantics.{State, tokens, capacity, answered, wants, IsDeed, Step, Run, IsBlocked, IsPossible, IsEnabled, IsQuiet, Does}
 use Rattle.kpn_model.specs.declared.kinds.Answer.{Answer}
 use Rattle.kpn_laws.proofs.Lists.{front_trans, front_of_push, front-length, front_cases, front_to_push}
 use Rattle.kpn_laws.proofs.Views.{puts, took, deeds_push_grew, growths_push_did, growths_push_grew, puts_front, took_front}
@@ -24,7 +24,7 @@ use Rattle.kpn_laws.proofs.KeptByRuns.{kept_run}
 use Rattle.kpn_laws.proofs.InLine.{at_deeds_push}
 
 module _ (kinds : Family) (net : Network) where
-  module _ (S S' : State) (E : List Entry) (M : State) (k : Kept kinds net S E M) (H : List Entry) (K : State) (j : Kept kinds net S' H K) (front : (q : ℕ) → IsFrontOf (deeds H q) (deeds E q)) where
+  module _ (S S' : State) (E : List Entry) (M : State) (k : Kept kinds net S E M) (H : List Entry) (K : State) (j : Kept kinds net S' H K) (front : (q : ℕ) → IsPrefixOf (deeds H q) (deeds E q)) where
     -- who has done the same wants the same
     same_wants : (p : ℕ) → deeds H p ≡ deeds E p → wants kinds net M p ≡ wants kinds net K p
     same_wants p same = ap (λ s. answered kinds net p s) (k.statuses p ∙ ap (λ l. status_by kinds net p l) (sym same) ∙ sym (j.statuses p))
@@ -89,20 +89,20 @@ module _ (kinds : Family) (net : Network) where
       (G : List Entry → Type 0) → ((H : List Entry) (e : Entry) → G (H ++ e ∷ []) → G H) → (S S' : State) → IsFresh kinds net S → IsFresh kinds net S'
       → (E : List Entry) (M : State) → Run kinds net S E M → IsQuiet kinds net M
       → ((H : List Entry) (K : State) (p c : ℕ) → Run kinds net S' H K → G H → IsBlocked kinds net M p c → capacity K c ≤ capacity M c)
-      → (F : List Entry) (N : State) → Run kinds net S' F N → G F → (p : ℕ) → IsFrontOf (deeds F p) (deeds E p)
+      → (F : List Entry) (N : State) → Run kinds net S' F N → G F → (p : ℕ) → IsPrefixOf (deeds F p) (deeds E p)
   dominated G down S S' fresh fresh' E M run quiet room =
       let k = kept_run kinds net S fresh E M run in
-      run_induction kinds net (λ H _. G H → (q : ℕ) → IsFrontOf (deeds H q) (deeds E q)) S' (λ g q. (deeds E q, refl))
+      run_induction kinds net (λ H _. G H → (q : ℕ) → IsPrefixOf (deeds H q) (deeds E q)) S' (λ g q. (deeds E q, refl))
       (λ H K e L before ih s g. let h = down H e g in step k H K e L (kept_run kinds net S' fresh' H K before) (λ p c b. room H K p c before h b) (ih h) s)
     where
       step :
           Kept kinds net S E M → (H : List Entry) (K : State) (e : Entry) (L : State) → Kept kinds net S' H K
-          → ((p c : ℕ) → IsBlocked kinds net M p c → capacity K c ≤ capacity M c) → ((q : ℕ) → IsFrontOf (deeds H q) (deeds E q))
-          → Step kinds net K e L → (q : ℕ) → IsFrontOf (deeds (H ++ e ∷ []) q) (deeds E q)
-      step k H K (Grew c to) L j rm ih s q = subst (λ l. IsFrontOf l (deeds E q)) (sym (deeds_push_grew H c to q)) (ih q)
+          → ((p c : ℕ) → IsBlocked kinds net M p c → capacity K c ≤ capacity M c) → ((q : ℕ) → IsPrefixOf (deeds H q) (deeds E q))
+          → Step kinds net K e L → (q : ℕ) → IsPrefixOf (deeds (H ++ e ∷ []) q) (deeds E q)
+      step k H K (Grew c to) L j rm ih s q = subst (λ l. IsPrefixOf l (deeds E q)) (sym (deeds_push_grew H c to q)) (ih q)
       step k H K (Did p d) L j rm ih s q =
           let now = deed_follows kinds net S' H K j p d s.answer s.wanted s.is_deed in
-          at_deeds_push kinds net (λ x l. IsFrontOf l (deeds E x)) H p d
+          at_deeds_push kinds net (λ x l. IsPrefixOf l (deeds E x)) H p d
           (⊎_elim
           (λ (same : deeds H p ≡ deeds E p). absurd (quiet p (enabled_too S S' E M k H K j ih p d L same s (λ c b. rm p c b))))
           (λ (m : (e : Deed) × ((rest : List Deed) × (deeds E p ≡ deeds H p ++ e ∷ rest))).
@@ -112,16 +112,16 @@ module _ (kinds : Family) (net : Network) where
           ih q
 
   -- a history's growths begin with those of its front
-  pub growths_down : (E H : List Entry) (e : Entry) → IsFrontOf (growths (H ++ e ∷ [])) (growths E) → IsFrontOf (growths H) (growths E)
-  growths_down E H (Did p d) f = subst (λ g. IsFrontOf g (growths E)) (growths_push_did H p d) f
-  growths_down E H (Grew c to) f = front_trans _ _ _ (front_of_push (growths H) (c, to)) (subst (λ g. IsFrontOf g (growths E)) (growths_push_grew H c to) f)
+  pub growths_down : (E H : List Entry) (e : Entry) → IsPrefixOf (growths (H ++ e ∷ [])) (growths E) → IsPrefixOf (growths H) (growths E)
+  growths_down E H (Did p d) f = subst (λ g. IsPrefixOf g (growths E)) (growths_push_did H p d) f
+  growths_down E H (Grew c to) f = front_trans _ _ _ (front_of_push (growths H) (c, to)) (subst (λ g. IsPrefixOf g (growths E)) (growths_push_grew H c to) f)
 
   -- with no more growths than one that stands still, no more is done
   pub dominated_by_growths :
       (S : State) → IsFresh kinds net S → (E : List Entry) (M : State) → Run kinds net S E M → IsQuiet kinds net M → (F : List Entry) (N : State)
-      → Run kinds net S F N → IsFrontOf (growths F) (growths E) → (p : ℕ) → IsFrontOf (deeds F p) (deeds E p)
+      → Run kinds net S F N → IsPrefixOf (growths F) (growths E) → (p : ℕ) → IsPrefixOf (deeds F p) (deeds E p)
   dominated_by_growths S fresh E M run quiet =
-      dominated (λ H. IsFrontOf (growths H) (growths E)) (growths_down E) S S fresh fresh E M run quiet
+      dominated (λ H. IsPrefixOf (growths H) (growths E)) (growths_down E) S S fresh fresh E M run quiet
       (λ H K p c before f b.
       let now = (kept_run kinds net S fresh H K before).capacities c in
       let later = (kept_run kinds net S fresh E M run).rising (growths H) f c in

@@ -7,7 +7,7 @@ use Rattle.kpn_model.specs.declared.history.Entry.{Entry}
 use Rattle.kpn_model.specs.History.{taken, growths, grown, stream}
 use Rattle.kpn_model.specs.declared.parts.Channel.{Channel}
 use Rattle.kpn_model.specs.Network.{Network, no_channel, channel_of, Family}
-use Rattle.kpn_model.specs.Machine.{State, nothing_held, tokens, capacity, wants, IsDeed, after_deed, start, IsPossible, Does}
+use Rattle.kpn_model.specs.Semantics.{State, nothing_held, tokens, capacity, wants, IsDeed, after_deed, start, IsPossible, Does}
 use Rattle.kpn_model.specs.declared.kinds.Act.{Act}
 use Rattle.kpn_model.specs.declared.kinds.Act.TheVariants.{Read, Write, Stop}
 use Rattle.kpn_model.specs.declared.kinds.Answer.{Answer}

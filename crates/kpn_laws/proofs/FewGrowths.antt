@@ -6,7 +6,7 @@ use Rattle.kpn_model.specs.declared.history.Entry.{Entry}
 use Rattle.kpn_model.specs.declared.history.Entry.TheVariants.{Did, Grew}
 use Rattle.kpn_model.specs.History.{growths}
 use Rattle.kpn_model.specs.Network.{Network, Family}
-use Rattle.kpn_model.specs.Machine.{State, tokens, capacity, with_channel, start, Step, Grows}
+use Rattle.kpn_model.specs.Semantics.{State, tokens, capacity, with_channel, start, Step, Grows}
 use Rattle.kpn_laws.specs.Sufficient.{Suffices}
 use Rattle.kpn_laws.specs.LeastRoom.{FewGrowths}
 use Rattle.kpn_laws.proofs.Views.{growths_push_did, growths_push_grew}

@@ -1,12 +1,12 @@
 -- What a process does next is settled by what it has done and by what was put for it.
 use Rattle.std.proofs.Common.{◌≡◌, List, [], ◌∷◌, ◌++◌, refl, sym, ap, ◌∙◌, append_assoc, ℕ, Some, Option, subst}
-use Rattle.kpn_model.specs.Determinacy.{IsFrontOf, AreInLine}
+use Rattle.kpn_model.specs.Determinacy.{IsPrefixOf, ArePrefixComparable}
 use Rattle.kpn_model.specs.declared.token.Token.{Token}
 use Rattle.kpn_model.specs.declared.history.Deed.{Deed}
 use Rattle.kpn_model.specs.declared.history.Deed.TheVariants.{Took, Put, Stopped}
 use Rattle.kpn_model.specs.Network.{Network, channel_of, in_of, out_of, Family}
 use Rattle.kpn_model.specs.declared.history.Status.{Status}
-use Rattle.kpn_model.specs.Machine.{status, answered, start}
+use Rattle.kpn_model.specs.Semantics.{status, answered, start}
 use Rattle.kpn_model.specs.declared.kinds.Act.TheVariants.{Read, Write, Stop}
 use Rattle.kpn_model.specs.declared.kinds.Answer.{Answer}
 use Rattle.kpn_laws.proofs.Lists.{same_next, in_line_after}
@@ -63,7 +63,7 @@ module _ (kinds : Family) (net : Network) where
   Follows D p ds Stopped = Ends p ds
 
   -- it stays so as all go on
-  pub follows_more : (D D' : ℕ → List Deed) (p : ℕ) (ds : List Deed) (d : Deed) → ((q : ℕ) → IsFrontOf (D q) (D' q)) → Follows D p ds d → Follows D' p ds d
+  pub follows_more : (D D' : ℕ → List Deed) (p : ℕ) (ds : List Deed) (d : Deed) → ((q : ℕ) → IsPrefixOf (D q) (D' q)) → Follows D p ds d → Follows D' p ds d
   follows_more D D' p ds (Took c t) more f =
       let w = (channel_of net c).writer in
       let x = puts_front (D w) (D' w) c (more w) in
@@ -82,7 +82,7 @@ module _ (kinds : Family) (net : Network) where
 
   -- both take the same token: what was put for them is in line, and they have taken as many
   same_take :
-      (D D' : ℕ → List Deed) (p : ℕ) (ds : List Deed) (c b : ℕ) (t u : Token) → ((q : ℕ) → AreInLine (D q) (D' q)) → Takes D p ds c t
+      (D D' : ℕ → List Deed) (p : ℕ) (ds : List Deed) (c b : ℕ) (t u : Token) → ((q : ℕ) → ArePrefixComparable (D q) (D' q)) → Takes D p ds c t
       → Takes D' p ds b u → Took c t ≡ Took b u
   same_take D D' p ds c b t u line f g =
       let a : f.answer ≡ g.answer = cc in
@@ -95,7 +95,7 @@ module _ (kinds : Family) (net : Network) where
 
   -- where two have done the same, and the others are in line, both do the same next
   pub follows_same :
-      (D D' : ℕ → List Deed) (p : ℕ) (ds : List Deed) (d e : Deed) → ((q : ℕ) → AreInLine (D q) (D' q)) → Follows D p ds d → Follows D' p ds e → d ≡ e
+      (D D' : ℕ → List Deed) (p : ℕ) (ds : List Deed) (d e : Deed) → ((q : ℕ) → ArePrefixComparable (D q) (D' q)) → Follows D p ds d → Follows D' p ds e → d ≡ e
   follows_same D D' p ds (Took c t) (Took b u) line f g = same_take D D' p ds c b t u line f g
   follows_same D D' p ds (Took c t) (Put b u) line f g = let a : f.answer ≡ g.answer = cc in cc
   follows_same D D' p ds (Took c t) Stopped line f g = let a : f.answer ≡ g.answer = cc in cc

@@ -1,11 +1,11 @@
 -- No run grows more than one that is over, nor otherwise.
 use Rattle.std.proofs.Common.{◌≡◌, ⊎_elim, List, [], ◌∷◌, ◌++◌, refl, sym, ap, ◌∙◌, ℕ, subst, min, ◌+◌}
-use Rattle.kpn_model.specs.Determinacy.{IsFrontOf}
+use Rattle.kpn_model.specs.Determinacy.{IsPrefixOf}
 use Rattle.kpn_model.specs.declared.history.Entry.{Entry}
 use Rattle.kpn_model.specs.declared.history.Entry.TheVariants.{Did, Grew}
 use Rattle.kpn_model.specs.History.{growths}
 use Rattle.kpn_model.specs.Network.{Network, Family}
-use Rattle.kpn_model.specs.Machine.{State, capacity, Step, Run, Grows, IsOver}
+use Rattle.kpn_model.specs.Semantics.{State, capacity, Step, Run, Grows, IsOver}
 use Rattle.kpn_model.specs.declared.history.End.{End}
 use Rattle.kpn_laws.proofs.Lists.{push_split, front_cases, front_to_push}
 use Rattle.kpn_laws.proofs.Views.{growths_push_did, growths_push_grew}
@@ -54,14 +54,14 @@ module _ (kinds : Family) (net : Network) where
   -- no run grows more than one that is over, nor otherwise
   pub growths_front :
       (S : State) → IsFresh kinds net S → (E : List Entry) (M : State) (a : End) → Run kinds net S E M → IsOver kinds net M a
-      → (F : List Entry) (N : State) → Run kinds net S F N → IsFrontOf (growths F) (growths E)
+      → (F : List Entry) (N : State) → Run kinds net S F N → IsPrefixOf (growths F) (growths E)
   growths_front S fresh E M a run over =
-      run_induction kinds net (λ H _. IsFrontOf (growths H) (growths E)) S (growths E, refl) (λ H K e L before ih s. step H K e L before ih s)
+      run_induction kinds net (λ H _. IsPrefixOf (growths H) (growths E)) S (growths E, refl) (λ H K e L before ih s. step H K e L before ih s)
     where
       step :
-          (H : List Entry) (K : State) (e : Entry) (L : State) → Run kinds net S H K → IsFrontOf (growths H) (growths E) → Step kinds net K e L
-          → IsFrontOf (growths (H ++ e ∷ [])) (growths E)
-      step H K (Did p d) L before ih s = subst (λ g. IsFrontOf g (growths E)) (sym (growths_push_did H p d)) ih
+          (H : List Entry) (K : State) (e : Entry) (L : State) → Run kinds net S H K → IsPrefixOf (growths H) (growths E) → Step kinds net K e L
+          → IsPrefixOf (growths (H ++ e ∷ [])) (growths E)
+      step H K (Did p d) L before ih s = subst (λ g. IsPrefixOf g (growths E)) (sym (growths_push_did H p d)) ih
       step H K (Grew c to) L before ih s =
           ⊎_elim
           (λ (same : growths H ≡ growths E).
@@ -74,5 +74,5 @@ module _ (kinds : Family) (net : Network) where
           let one : c ≡ m.0.0 = chosen_same kinds net K c m.0.0 s.chosen there.chosen in
           let two : to ≡ m.0.1 = s.to_is ∙ ap (λ x. min (capacity K x + net.step) net.ceiling) one ∙ sym there.to_is in
           let pair = pair_same c to m.0 one two in
-          subst (λ g. IsFrontOf g (growths E)) (sym (growths_push_grew H c to)) (front_to_push (growths H) (growths E) m.1.0 m.0 (c, to) m.1.1 pair))
+          subst (λ g. IsPrefixOf g (growths E)) (sym (growths_push_grew H c to)) (front_to_push (growths H) (growths E) m.1.0 m.0 (c, to) m.1.1 pair))
           (front_cases (growths H) (growths E) ih)

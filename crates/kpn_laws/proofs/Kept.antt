@@ -1,13 +1,13 @@
 -- What every run keeps between its start, its history and its state.
 use Rattle.std.proofs.Common.{◌≡◌, ◌≤◌, List, [], ◌∷◌, ◌++◌, length, refl, sym, ◌∙◌, arith, append-nil, ℕ, get_or, suc, zero, map}
 use Rattle.std.proofs.lemmas.List.{length-map}
-use Rattle.kpn_model.specs.Determinacy.{IsFrontOf}
+use Rattle.kpn_model.specs.Determinacy.{IsPrefixOf}
 use Rattle.kpn_model.specs.declared.history.Deed.{Deed}
 use Rattle.kpn_model.specs.declared.history.Entry.{Entry}
 use Rattle.kpn_model.specs.History.{deeds, growths, grown}
 use Rattle.kpn_model.specs.declared.parts.Channel.{Channel}
 use Rattle.kpn_model.specs.Network.{Network, no_channel, channel_of, Family}
-use Rattle.kpn_model.specs.Machine.{State, nothing_held, status, tokens, capacity, start}
+use Rattle.kpn_model.specs.Semantics.{State, nothing_held, status, tokens, capacity, start}
 use Rattle.kpn_laws.proofs.Views.{puts, took}
 use Rattle.kpn_laws.proofs.Follows.{status_by, Follows}
 
@@ -30,7 +30,7 @@ module _ (kinds : Family) (net : Network) where
     -- each capacity is the one that the growths tell
     pub capacities : (c : ℕ) → capacity M c ≡ grown (capacity S c) (growths H) c
     -- and was never greater
-    pub rising : (gs : List (ℕ × ℕ)) → IsFrontOf gs (growths H) → (c : ℕ) → grown (capacity S c) gs c ≤ capacity M c
+    pub rising : (gs : List (ℕ × ℕ)) → IsPrefixOf gs (growths H) → (c : ℕ) → grown (capacity S c) gs c ≤ capacity M c
     pub processes : length M.processes ≡ length net.processes
     pub channels : length M.channels ≡ length net.channels
 
@@ -40,7 +40,7 @@ module _ (kinds : Family) (net : Network) where
   nil_split (x ∷ ds) d rest e = cc
 
   -- where nothing has grown, nothing has a greater capacity
-  rising_fresh : (S : State) (gs : List (ℕ × ℕ)) → IsFrontOf gs [] → (c : ℕ) → grown (capacity S c) gs c ≤ capacity S c
+  rising_fresh : (S : State) (gs : List (ℕ × ℕ)) → IsPrefixOf gs [] → (c : ℕ) → grown (capacity S c) gs c ≤ capacity S c
   rising_fresh S [] f c = omega arith
   rising_fresh S (g ∷ gs) f c = let e = f.1 in cc
 

@@ -1,14 +1,14 @@
 -- A deed keeps what every run keeps.
 use Rattle.std.proofs.Common.{◌≡◌, ⊎_elim, List, [], ◌∷◌, ◌++◌, length, refl, sym, ap, ◌∙◌, arith, append_assoc, ℕ, ◌<◌, Some, None, drop, subst, ne_eqb}
 use Rattle.std.proofs.lemmas.Bool.{cases_eq}
-use Rattle.kpn_model.specs.Determinacy.{IsFrontOf}
+use Rattle.kpn_model.specs.Determinacy.{IsPrefixOf}
 use Rattle.kpn_model.specs.declared.history.Deed.{Deed}
 use Rattle.kpn_model.specs.declared.history.Deed.TheVariants.{Took, Put, Stopped}
 use Rattle.kpn_model.specs.declared.history.Entry.{Entry}
 use Rattle.kpn_model.specs.declared.history.Entry.TheVariants.{Did}
 use Rattle.kpn_model.specs.History.{deeds, grown}
 use Rattle.kpn_model.specs.Network.{Network, channel_of, Family}
-use Rattle.kpn_model.specs.Machine.{State, status, tokens, capacity, with_status, answered, wants, IsDeed, after_deed, start}
+use Rattle.kpn_model.specs.Semantics.{State, status, tokens, capacity, with_status, answered, wants, IsDeed, after_deed, start}
 use Rattle.kpn_model.specs.declared.kinds.Answer.{Answer}
 use Rattle.kpn_model.specs.declared.history.Status.TheVariants.{Live}
 use Rattle.kpn_laws.proofs.Lists.{push_split}
@@ -20,7 +20,7 @@ use Rattle.kpn_laws.proofs.Kept.{Kept}
 
 module _ (kinds : Family) (net : Network) where
   -- a process's deeds go on with the history
-  pub deeds_more : (H : List Entry) (e : Entry) (q : ℕ) → IsFrontOf (deeds H q) (deeds (H ++ e ∷ []) q)
+  pub deeds_more : (H : List Entry) (e : Entry) (q : ℕ) → IsPrefixOf (deeds H q) (deeds (H ++ e ∷ []) q)
   deeds_more H e q = (deeds (e ∷ []) q, sym (deeds-append H (e ∷ []) q))
 
   module _ (S : State) (H : List Entry) (M : State) (k : Kept kinds net S H M) where
@@ -145,7 +145,7 @@ module _ (kinds : Family) (net : Network) where
           follows = follows_did p d a w is;
           capacities = λ c. capacity_after kinds net M p c a.next d ∙ k.capacities c ∙ ap (λ gs. grown (capacity S c) gs c) (sym (growths_push_did H p d));
           rising = λ gs f c.
-              let before = k.rising gs (subst (λ x. IsFrontOf gs x) (growths_push_did H p d) f) c in
+              let before = k.rising gs (subst (λ x. IsPrefixOf gs x) (growths_push_did H p d) f) c in
               let same = capacity_after kinds net M p c a.next d in
               omega arith;
           processes = processes_after kinds net M p a.next d ∙ k.processes;

@@ -1,12 +1,12 @@
 -- A growth keeps what every run keeps.
 use Rattle.std.proofs.Common.{◌≡◌, ◌≤◌, ⊎_elim, List, [], ◌∷◌, ◌++◌, length, sym, ap, ◌∙◌, arith, ℕ, ◌==◌, if◌then◌else◌, eq-eqb, ◌<◌, length-set, subst, ne_eqb}
 use Rattle.std.proofs.lemmas.Bool.{cases_eq}
-use Rattle.kpn_model.specs.Determinacy.{IsFrontOf}
+use Rattle.kpn_model.specs.Determinacy.{IsPrefixOf}
 use Rattle.kpn_model.specs.declared.history.Entry.{Entry}
 use Rattle.kpn_model.specs.declared.history.Entry.TheVariants.{Grew}
 use Rattle.kpn_model.specs.History.{deeds, growths, grown}
 use Rattle.kpn_model.specs.Network.{Network, channel_of, Family}
-use Rattle.kpn_model.specs.Machine.{State, tokens, capacity, with_channel, IsBlocked}
+use Rattle.kpn_model.specs.Semantics.{State, tokens, capacity, with_channel, IsBlocked}
 use Rattle.kpn_laws.proofs.Lists.{front_push_cases}
 use Rattle.kpn_laws.proofs.Views.{puts, took, deeds_push_grew, growths_push_grew, grown_push}
 use Rattle.kpn_laws.proofs.States.{out_of-writer, tokens_set_same, tokens_set_other, capacity_set_same, capacity_set_other}
@@ -47,7 +47,7 @@ module _ (kinds : Family) (net : Network) where
 
     -- no capacity was greater before
     rising_grew :
-        (c to : ℕ) → c < length M.channels → capacity M c ≤ to → (gs : List (ℕ × ℕ)) → IsFrontOf gs (growths (H ++ Grew c to ∷ [])) → (b : ℕ)
+        (c to : ℕ) → c < length M.channels → capacity M c ≤ to → (gs : List (ℕ × ℕ)) → IsPrefixOf gs (growths (H ++ Grew c to ∷ [])) → (b : ℕ)
         → grown (capacity S b) gs b ≤ capacity (with_channel M c (tokens M c) to) b
     rising_grew c to within more gs f b =
         ⊎_elim
@@ -55,8 +55,8 @@ module _ (kinds : Family) (net : Network) where
         let all = capacities_grew c to within b in
         let same = ap (λ x. grown (capacity S b) x b) (e ∙ sym (growths_push_grew H c to)) in
         omega arith)
-        (λ (g : IsFrontOf gs (growths H)). let before = k.rising gs g b in let more' = no_less c to within more b in omega arith)
-        (front_push_cases gs (growths H) (c, to) (subst (λ x. IsFrontOf gs x) (growths_push_grew H c to) f))
+        (λ (g : IsPrefixOf gs (growths H)). let before = k.rising gs g b in let more' = no_less c to within more b in omega arith)
+        (front_push_cases gs (growths H) (c, to) (subst (λ x. IsPrefixOf gs x) (growths_push_grew H c to) f))
 
     -- a growth leaves each channel's tokens
     pub tokens_grew : (c to : ℕ) → c < length M.channels → (b : ℕ) → tokens (with_channel M c (tokens M c) to) b ≡ tokens M b

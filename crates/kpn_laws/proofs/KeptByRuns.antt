@@ -3,7 +3,7 @@ use Rattle.std.proofs.Common.{List, [], ◌∷◌, ◌++◌, sym, arith, subst}
 use Rattle.kpn_model.specs.declared.history.Entry.{Entry}
 use Rattle.kpn_model.specs.declared.history.Entry.TheVariants.{Did, Grew}
 use Rattle.kpn_model.specs.Network.{Network, Family}
-use Rattle.kpn_model.specs.Machine.{State, Step, Run}
+use Rattle.kpn_model.specs.Semantics.{State, Step, Run}
 use Rattle.kpn_laws.proofs.Runs.{run_induction}
 use Rattle.kpn_laws.proofs.Kept.{IsFresh, Kept, kept_fresh}
 use Rattle.kpn_laws.proofs.KeptByDeeds.{kept_after}

@@ -1,12 +1,12 @@
 -- Growth of the smallest full channel takes, but for the step, no more room than any capacities that suffice.
 use Rattle.std.proofs.Common.{◌≡◌, ◌≤◌, ◌<◌, ◌⊎◌, inl, inr, ⊎_elim, List, [], ◌∷◌, length, sym, ap, ◌∙◌, arith, append-nil, ℕ, ◌+◌, Some, subst}
 use Rattle.std.proofs.lemmas.Bool.{cases_lt, cases_eq}
-use Rattle.kpn_model.specs.Determinacy.{IsFrontOf, IsRun}
+use Rattle.kpn_model.specs.Determinacy.{IsPrefixOf, IsRun}
 use Rattle.kpn_model.specs.declared.history.Entry.{Entry}
 use Rattle.kpn_model.specs.declared.history.Entry.TheVariants.{Did, Grew}
 use Rattle.kpn_model.specs.History.{deeds, growths}
 use Rattle.kpn_model.specs.Network.{Network, channel_of, Family, resized}
-use Rattle.kpn_model.specs.Machine.{State, tokens, capacity, answered, wants, with_channel, start, Step, Run, Grows, IsPossible, IsBlocked, IsQuiet, IsArtificial, IsChosen}
+use Rattle.kpn_model.specs.Semantics.{State, tokens, capacity, answered, wants, with_channel, start, Step, Run, Grows, IsPossible, IsBlocked, IsQuiet, IsArtificial, IsChosen}
 use Rattle.kpn_laws.specs.Sufficient.{IsBoundedBy, EndsWithin, LastsWithin, Suffices}
 use Rattle.kpn_laws.specs.LeastRoom.{IsDominated, Dominates, ChosenHasFewer, GrowsBelow, StaysBelow, CeilingSuffices, LeastPossible}
 use Rattle.kpn_laws.proofs.Lists.{same_from_fronts, front-length}
@@ -27,10 +27,10 @@ use Rattle.kpn_laws.proofs.EachMoment.{starts_with, history_tells_state}
 module _ (kinds : Family) (net : Network) where
   module _ (S S' : State) (fresh : IsFresh kinds net S) (fresh' : IsFresh kinds net S') (E F : List Entry) (M N : State) (run : Run kinds net S E M) (run' : Run kinds net S' F N) where
     -- a run to a quiet state dominates one that never has more room where this one's writers are blocked
-    pub dominated_by_room : IsQuiet kinds net M → ((p c : ℕ) → IsBlocked kinds net M p c → capacity N c ≤ capacity M c) → (p : ℕ) → IsFrontOf (deeds F p) (deeds E p)
+    pub dominated_by_room : IsQuiet kinds net M → ((p c : ℕ) → IsBlocked kinds net M p c → capacity N c ≤ capacity M c) → (p : ℕ) → IsPrefixOf (deeds F p) (deeds E p)
     dominated_by_room quiet room =
         let j = kept_run kinds net S' fresh' F N run' in
-        dominated kinds net (λ H. IsFrontOf (growths H) (growths F)) (growths_down kinds net F) S S' fresh fresh' E M run quiet
+        dominated kinds net (λ H. IsPrefixOf (growths H) (growths F)) (growths_down kinds net F) S S' fresh fresh' E M run quiet
         (λ H K p c before f b.
         let now = (kept_run kinds net S' fresh' H K before).capacities c in
         let later = j.rising (growths H) f c in
@@ -38,7 +38,7 @@ module _ (kinds : Family) (net : Network) where
         omega arith) F N run' ([], append-nil _)
 
     -- and then has no fewer entries, growths apart
-    pub is_dominated : ((p : ℕ) → IsFrontOf (deeds F p) (deeds E p)) → IsDominated F E
+    pub is_dominated : ((p : ℕ) → IsPrefixOf (deeds F p) (deeds E p)) → IsDominated F E
     is_dominated front =
         let d = total_le kinds net (length net.processes) (λ p. length (deeds F p)) (λ p. length (deeds E p)) (λ p. front-length _ _ (front p)) in
         let e = entries_total kinds net S fresh E M run in

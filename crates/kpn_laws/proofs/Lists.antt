@@ -1,7 +1,7 @@
 -- Lists of which one begins with the other.
 use Rattle.std.proofs.Common.{◌≡◌, ◌⊎◌, ◌≤◌, inl, inr, ⊎_elim, List, [], ◌∷◌, ◌++◌, length, refl, sym, ap, ◌∙◌, arith, append_assoc, append-nil, length-append}
 use Rattle.std.proofs.lemmas.List.{append_cancel_left}
-use Rattle.kpn_model.specs.Determinacy.{IsFrontOf, AreInLine}
+use Rattle.kpn_model.specs.Determinacy.{IsPrefixOf, ArePrefixComparable}
 
 -- what a list is followed by to give itself is nothing
 nil_of_self : {X : Type 0} (xs r : List X) → xs ++ r ≡ xs → r ≡ []
@@ -13,7 +13,7 @@ nil_left [] s e = refl
 nil_left (x ∷ r) s e = cc
 
 -- two lists that each begin with the other are one
-pub same_from_fronts : {X : Type 0} (xs ys : List X) → IsFrontOf xs ys → IsFrontOf ys xs → xs ≡ ys
+pub same_from_fronts : {X : Type 0} (xs ys : List X) → IsPrefixOf xs ys → IsPrefixOf ys xs → xs ≡ ys
 same_from_fronts xs ys a b =
     let e : xs ++ (a.0 ++ b.0) ≡ xs = sym (append_assoc xs a.0 b.0) ∙ ap (λ l. l ++ b.0) a.1 ∙ b.1 in
     let n = nil_left a.0 b.0 (nil_of_self xs (a.0 ++ b.0) e) in
@@ -32,7 +32,7 @@ push_split (a ∷ xs) (b ∷ ys) zs x y e =
 
 -- a list in line with ys stays so with one more element, if that is the one that ys goes on with
 pub in_line_push :
-    {X : Type 0} (xs ys : List X) (d : X) → AreInLine xs ys → ((e : X) (rest : List X) → ys ≡ xs ++ e ∷ rest → d ≡ e) → AreInLine (xs ++ d ∷ []) ys
+    {X : Type 0} (xs ys : List X) (d : X) → ArePrefixComparable xs ys → ((e : X) (rest : List X) → ys ≡ xs ++ e ∷ rest → d ≡ e) → ArePrefixComparable (xs ++ d ∷ []) ys
 in_line_push xs ys d (inr b) h = inr (b.0 ++ d ∷ [], sym (append_assoc ys b.0 (d ∷ [])) ∙ ap (λ l. l ++ d ∷ []) b.1)
 in_line_push xs ys d (inl ([], e)) h = inr (d ∷ [], ap (λ l. l ++ d ∷ []) (sym e ∙ append-nil xs))
 in_line_push xs ys d (inl (f ∷ rest, e)) h =
@@ -46,38 +46,38 @@ same_next_in_front k r s w xs ys t u a e f =
     cc
 
 -- two lists in line go on with the same element
-pub same_next : {X : Type 0} (xs ys k r s : List X) (t u : X) → AreInLine xs ys → xs ≡ k ++ t ∷ r → ys ≡ k ++ u ∷ s → t ≡ u
+pub same_next : {X : Type 0} (xs ys k r s : List X) (t u : X) → ArePrefixComparable xs ys → xs ≡ k ++ t ∷ r → ys ≡ k ++ u ∷ s → t ≡ u
 same_next xs ys k r s t u (inl a) e f = same_next_in_front k r s a.0 xs ys t u a.1 e f
 same_next xs ys k r s t u (inr b) e f = sym (same_next_in_front k s r b.0 ys xs u t b.1 f e)
 
 -- a front of a front is a front
-pub front_trans : {X : Type 0} (xs ys zs : List X) → IsFrontOf xs ys → IsFrontOf ys zs → IsFrontOf xs zs
+pub front_trans : {X : Type 0} (xs ys zs : List X) → IsPrefixOf xs ys → IsPrefixOf ys zs → IsPrefixOf xs zs
 front_trans xs ys zs a b = (a.0 ++ b.0, sym (append_assoc xs a.0 b.0) ∙ ap (λ l. l ++ b.0) a.1 ∙ b.1)
 
 -- a list is a front of itself with one more element
-pub front_of_push : {X : Type 0} (xs : List X) (x : X) → IsFrontOf xs (xs ++ x ∷ [])
+pub front_of_push : {X : Type 0} (xs : List X) (x : X) → IsPrefixOf xs (xs ++ x ∷ [])
 front_of_push xs x = (x ∷ [], refl)
 
 -- a front is no longer than the whole
-pub front-length : {X : Type 0} (xs ys : List X) → IsFrontOf xs ys → length xs ≤ length ys
+pub front-length : {X : Type 0} (xs ys : List X) → IsPrefixOf xs ys → length xs ≤ length ys
 front-length xs ys a = omega (arith, length-append xs a.0, ap length a.1)
 
 -- a front is the whole, or goes on
-pub front_cases : {X : Type 0} (xs ys : List X) → IsFrontOf xs ys → (xs ≡ ys) ⊎ ((e : X) × ((rest : List X) × (ys ≡ xs ++ e ∷ rest)))
+pub front_cases : {X : Type 0} (xs ys : List X) → IsPrefixOf xs ys → (xs ≡ ys) ⊎ ((e : X) × ((rest : List X) × (ys ≡ xs ++ e ∷ rest)))
 front_cases xs ys ([], e) = inl (sym (append-nil xs) ∙ e)
 front_cases xs ys (f ∷ rest, e) = inr (f, (rest, sym e))
 
 -- a front stays one with the element more that the whole goes on with
-pub front_to_push : {X : Type 0} (xs ys rest : List X) (e d : X) → ys ≡ xs ++ e ∷ rest → d ≡ e → IsFrontOf (xs ++ d ∷ []) ys
+pub front_to_push : {X : Type 0} (xs ys rest : List X) (e d : X) → ys ≡ xs ++ e ∷ rest → d ≡ e → IsPrefixOf (xs ++ d ∷ []) ys
 front_to_push xs ys rest e d h g = (rest, append_assoc xs (d ∷ []) rest ∙ ap (λ x. xs ++ x ∷ rest) g ∙ sym h)
 
 -- after the same, what is in line stays so
-pub in_line_after : {X : Type 0} (ts xs ys : List X) → AreInLine xs ys → AreInLine (ts ++ xs) (ts ++ ys)
+pub in_line_after : {X : Type 0} (ts xs ys : List X) → ArePrefixComparable xs ys → ArePrefixComparable (ts ++ xs) (ts ++ ys)
 in_line_after ts xs ys (inl a) = inl (a.0, append_assoc ts xs a.0 ∙ ap (λ l. ts ++ l) a.1)
 in_line_after ts xs ys (inr b) = inr (b.0, append_assoc ts ys b.0 ∙ ap (λ l. ts ++ l) b.1)
 
 -- what a list with one more element begins with
-pub front_push_cases : {X : Type 0} (gs xs : List X) (x : X) → IsFrontOf gs (xs ++ x ∷ []) → (gs ≡ xs ++ x ∷ []) ⊎ IsFrontOf gs xs
+pub front_push_cases : {X : Type 0} (gs xs : List X) (x : X) → IsPrefixOf gs (xs ++ x ∷ []) → (gs ≡ xs ++ x ∷ []) ⊎ IsPrefixOf gs xs
 front_push_cases gs xs x ([], e) = inl (sym (append-nil gs) ∙ e)
 front_push_cases gs xs x (y ∷ ys, e) =
     ⊎_elim (λ p. inr ([], append-nil gs ∙ sym p.0)) (λ q. inr (y ∷ q.0, sym q.1)) (push_split xs gs ys x y (sym e))

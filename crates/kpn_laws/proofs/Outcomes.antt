@@ -1,10 +1,10 @@
 -- Whatever the starting capacities: one outcome, and everything in line.
 use Rattle.std.proofs.Common.{◌≡◌, List, ◌++◌, sym, ap, ◌∙◌, ℕ, subst}
-use Rattle.kpn_model.specs.Determinacy.{IsFrontOf, AreInLine, AreAllInLine, IsRun, IsFinal, IsNatural, HaveSameOutcome, OneOutcome, AllInLine}
+use Rattle.kpn_model.specs.Determinacy.{IsPrefixOf, ArePrefixComparable, AreAllPrefixComparable, IsRun, IsFinal, IsNatural, HaveSameOutcome, OneOutcome, AllPrefixComparable}
 use Rattle.kpn_model.specs.declared.history.Entry.{Entry}
 use Rattle.kpn_model.specs.History.{deeds, put_on, stream, place_of}
 use Rattle.kpn_model.specs.Network.{Network, channel_of, Family, resized}
-use Rattle.kpn_model.specs.Machine.{State, status, answered, wants, start, Run, IsBlocked, IsQuiet}
+use Rattle.kpn_model.specs.Semantics.{State, status, answered, wants, start, Run, IsBlocked, IsQuiet}
 use Rattle.kpn_model.specs.declared.history.End.{End}
 use Rattle.kpn_laws.proofs.Lists.{same_from_fronts, in_line_after}
 use Rattle.kpn_laws.proofs.Views.{puts, puts_in_line}
@@ -20,7 +20,7 @@ use Rattle.kpn_laws.proofs.Resized.{resize-tokens, wired_resized, fresh_resized,
 
 module _ (kinds : Family) (net : Network) (sizes : ℕ → ℕ) where
   -- of what each process does and of each stream, in any two runs, one begins with the other
-  all_in_line_here : (E F : List Entry) (M N : State) → IsRun kinds net E M → IsRun kinds (resized net sizes) F N → AreAllInLine net (resized net sizes) E F
+  all_in_line_here : (E F : List Entry) (M N : State) → IsRun kinds net E M → IsRun kinds (resized net sizes) F N → AreAllPrefixComparable net (resized net sizes) E F
   all_in_line_here E F M N run run' =
       let S = start kinds net in
       let S' = start kinds (resized net sizes) in
@@ -30,16 +30,16 @@ module _ (kinds : Family) (net : Network) (sizes : ℕ → ℕ) where
         deeds = line;
         streams = λ c.
             let w = (channel_of net c).writer in
-            let put : AreInLine (put_on E c) (put_on F c) =
-            subst (λ l. AreInLine l (put_on F c)) (sym (put_on_deeds kinds net S E M run c))
-            (subst (λ l. AreInLine (puts (deeds E w) c) l) (sym (put_on_deeds kinds net S' F N r c)) (puts_in_line (deeds E w) (deeds F w) c (line w))) in
-            subst (λ l. AreInLine (stream net E c) (l ++ put_on F c)) (sym (resize-tokens net.channels sizes c)) (in_line_after (channel_of net c).tokens _ _ put);
+            let put : ArePrefixComparable (put_on E c) (put_on F c) =
+            subst (λ l. ArePrefixComparable l (put_on F c)) (sym (put_on_deeds kinds net S E M run c))
+            (subst (λ l. ArePrefixComparable (puts (deeds E w) c) l) (sym (put_on_deeds kinds net S' F N r c)) (puts_in_line (deeds E w) (deeds F w) c (line w))) in
+            subst (λ l. ArePrefixComparable (stream net E c) (l ++ put_on F c)) (sym (resize-tokens net.channels sizes c)) (in_line_after (channel_of net c).tokens _ _ put);
       }
 
   -- a run that ends with no blocked writer has all that is done in any other
   dominates :
       (S S' : State) → IsFresh kinds net S → IsFresh kinds net S' → (E F : List Entry) (M N : State) → Run kinds net S E M → IsQuiet kinds net M
-      → ((p c : ℕ) → IsBlocked kinds net M p c → ⊥) → Run kinds net S' F N → (p : ℕ) → IsFrontOf (deeds F p) (deeds E p)
+      → ((p c : ℕ) → IsBlocked kinds net M p c → ⊥) → Run kinds net S' F N → (p : ℕ) → IsPrefixOf (deeds F p) (deeds E p)
   dominates S S' f f' E F M N run quiet free run' =
       dominated kinds net (λ _. Unit {0}) (λ _ _ _. tt) S S' f f' E M run quiet (λ H K p c _ _ b. absurd (free p c b)) F N run' tt
 
@@ -74,5 +74,5 @@ pub one_outcome : (kinds : Family) → OneOutcome kinds
 one_outcome kinds net sizes E F M N a b x n y m = one_outcome_here kinds net sizes E F M N a b x n y m
 
 -- any two runs are in line
-pub all_in_line : (kinds : Family) → AllInLine kinds
+pub all_in_line : (kinds : Family) → AllPrefixComparable kinds
 all_in_line kinds net sizes E F M N x y = all_in_line_here kinds net sizes E F M N x y

@@ -3,7 +3,7 @@ use Rattle.std.proofs.Common.{◌≡◌, List, [], ◌∷◌, ◌++◌, refl, sy
 use Rattle.kpn_model.specs.declared.history.Entry.{Entry}
 use Rattle.kpn_model.specs.declared.history.Entry.TheVariants.{Did, Grew}
 use Rattle.kpn_model.specs.Network.{Network, Family}
-use Rattle.kpn_model.specs.Machine.{State, after_deed, Step, Run}
+use Rattle.kpn_model.specs.Semantics.{State, after_deed, Step, Run}
 use Rattle.kpn_model.specs.declared.kinds.Answer.{Answer}
 
 module _ (kinds : Family) (net : Network) where

@@ -13,7 +13,7 @@ use Rattle.kpn_model.specs.declared.history.End.TheVariants.{Terminated, Deadloc
 use Rattle.kpn_model.specs.Network.{Family, Network, in_of, out_of}
 use Rattle.kpn_model.specs.declared.history.Status.{Status}
 use Rattle.kpn_model.specs.declared.history.Status.TheVariants.{Live, Done}
-use Rattle.kpn_model.specs.Machine.{State, tokens, capacity, wants, start, after_deed, with_channel}
+use Rattle.kpn_model.specs.Semantics.{State, tokens, capacity, wants, start, after_deed, with_channel}
 use Rattle.kpn_model.specs.History.{Digest, digest}
 use Rattle.kpn_model.specs.Standard.{standard}
 

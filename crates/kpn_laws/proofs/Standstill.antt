@@ -5,7 +5,7 @@ use Rattle.kpn_model.specs.declared.history.Entry.{Entry}
 use Rattle.kpn_model.specs.History.{deeds, growths, grown}
 use Rattle.kpn_model.specs.Network.{Network, channel_of, Family}
 use Rattle.kpn_model.specs.declared.history.Status.TheVariants.{Done}
-use Rattle.kpn_model.specs.Machine.{Held, State, nothing_held, status, tokens, capacity, Run, IsQuiet}
+use Rattle.kpn_model.specs.Semantics.{Held, State, nothing_held, status, tokens, capacity, Run, IsQuiet}
 use Rattle.kpn_laws.proofs.Lists.{same_from_fronts}
 use Rattle.kpn_laws.proofs.Views.{puts, took}
 use Rattle.kpn_laws.proofs.Follows.{status_by}

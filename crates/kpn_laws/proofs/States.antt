@@ -8,7 +8,7 @@ use Rattle.kpn_model.specs.declared.parts.Channel.{Channel}
 use Rattle.kpn_model.specs.Network.{Network, no_channel, channel_of, in_of, out_of}
 use Rattle.kpn_model.specs.declared.history.Status.{Status}
 use Rattle.kpn_model.specs.declared.history.Status.TheVariants.{Done}
-use Rattle.kpn_model.specs.Machine.{Held, State, nothing_held, status, tokens, capacity, with_status, with_channel}
+use Rattle.kpn_model.specs.Semantics.{Held, State, nothing_held, status, tokens, capacity, with_status, with_channel}
 
 -- if both hold, the first does
 left_true : (a b : Bool) → (a && b) ≡ true → a ≡ true

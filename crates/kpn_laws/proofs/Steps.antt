@@ -8,7 +8,7 @@ use Rattle.kpn_model.specs.declared.history.Deed.TheVariants.{Took, Put, Stopped
 use Rattle.kpn_model.specs.Network.{Network, in_of, out_of, Family}
 use Rattle.kpn_model.specs.declared.history.Status.{Status}
 use Rattle.kpn_model.specs.declared.history.Status.TheVariants.{Done, Live}
-use Rattle.kpn_model.specs.Machine.{State, status, tokens, capacity, answered, wants, IsDeed, after_deed}
+use Rattle.kpn_model.specs.Semantics.{State, status, tokens, capacity, answered, wants, IsDeed, after_deed}
 use Rattle.kpn_model.specs.declared.kinds.Act.{Act}
 use Rattle.kpn_model.specs.declared.kinds.Act.TheVariants.{Read, Write, Stop}
 use Rattle.kpn_model.specs.declared.kinds.Answer.{Answer}

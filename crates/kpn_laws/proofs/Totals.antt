@@ -5,7 +5,7 @@ use Rattle.kpn_model.specs.declared.history.Entry.{Entry}
 use Rattle.kpn_model.specs.declared.history.Entry.TheVariants.{Did, Grew}
 use Rattle.kpn_model.specs.History.{deeds, growths}
 use Rattle.kpn_model.specs.Network.{Network, Family}
-use Rattle.kpn_model.specs.Machine.{State, Step, Run}
+use Rattle.kpn_model.specs.Semantics.{State, Step, Run}
 use Rattle.kpn_laws.proofs.Views.{deeds_push_same, deeds_push_other, deeds_push_grew, growths_push_did, growths_push_grew}
 use Rattle.kpn_laws.proofs.Steps.{live_within}
 use Rattle.kpn_laws.proofs.Runs.{run_induction}

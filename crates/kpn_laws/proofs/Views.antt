@@ -1,6 +1,6 @@
 -- A history as each process and each channel sees it.
 use Rattle.std.proofs.Common.{◌≡◌, inl, inr, List, [], ◌∷◌, ◌++◌, refl, sym, ap, ◌∙◌, append-nil, ℕ, ◌==◌, if◌then◌else◌, Bool, true, false, eq-eqb}
-use Rattle.kpn_model.specs.Determinacy.{IsFrontOf, AreInLine}
+use Rattle.kpn_model.specs.Determinacy.{IsPrefixOf, ArePrefixComparable}
 use Rattle.kpn_model.specs.declared.token.Token.{Token}
 use Rattle.kpn_model.specs.declared.history.Deed.{Deed}
 use Rattle.kpn_model.specs.declared.history.Deed.TheVariants.{Took, Put, Stopped}
@@ -143,14 +143,14 @@ pub took_other : (b c : ℕ) (t : Token) → (b == c) ≡ false → took (Took b
 took_other b c t h = ap (λ x. if x then t ∷ [] else []) h
 
 -- what is put by lists of deeds in line is in line
-pub puts_in_line : (xs ys : List Deed) (c : ℕ) → AreInLine xs ys → AreInLine (puts xs c) (puts ys c)
+pub puts_in_line : (xs ys : List Deed) (c : ℕ) → ArePrefixComparable xs ys → ArePrefixComparable (puts xs c) (puts ys c)
 puts_in_line xs ys c (inl a) = inl (puts a.0 c, sym (puts-append xs a.0 c) ∙ ap (λ l. puts l c) a.1)
 puts_in_line xs ys c (inr b) = inr (puts b.0 c, sym (puts-append ys b.0 c) ∙ ap (λ l. puts l c) b.1)
 
 -- what a front of a list of deeds puts is a front of what the list puts
-pub puts_front : (xs ys : List Deed) (c : ℕ) → IsFrontOf xs ys → IsFrontOf (puts xs c) (puts ys c)
+pub puts_front : (xs ys : List Deed) (c : ℕ) → IsPrefixOf xs ys → IsPrefixOf (puts xs c) (puts ys c)
 puts_front xs ys c a = (puts a.0 c, sym (puts-append xs a.0 c) ∙ ap (λ l. puts l c) a.1)
 
 -- what a front of a list of deeds takes is a front of what the list takes
-pub took_front : (xs ys : List Deed) (c : ℕ) → IsFrontOf xs ys → IsFrontOf (took xs c) (took ys c)
+pub took_front : (xs ys : List Deed) (c : ℕ) → IsPrefixOf xs ys → IsPrefixOf (took xs c) (took ys c)
 took_front xs ys c a = (took a.0 c, sym (took-append xs a.0 c) ∙ ap (λ l. took l c) a.1)

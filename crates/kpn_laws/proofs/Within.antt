@@ -6,7 +6,7 @@ use Rattle.kpn_model.specs.declared.history.Deed.TheVariants.{Took, Put, Stopped
 use Rattle.kpn_model.specs.declared.history.Entry.{Entry}
 use Rattle.kpn_model.specs.declared.history.Entry.TheVariants.{Did, Grew}
 use Rattle.kpn_model.specs.Network.{Network, Family}
-use Rattle.kpn_model.specs.Machine.{State, tokens, capacity, with_status, with_channel, IsDeed, after_deed, start, Step}
+use Rattle.kpn_model.specs.Semantics.{State, tokens, capacity, with_status, with_channel, IsDeed, after_deed, start, Step}
 use Rattle.kpn_model.specs.declared.kinds.Answer.{Answer}
 use Rattle.kpn_model.specs.declared.history.Status.TheVariants.{Live}
 use Rattle.kpn_model.specs.Determinacy.{IsRun}

@@ -4,7 +4,7 @@ use Rattle.kpn_model.specs.declared.history.Entry.{Entry}
 use Rattle.kpn_model.specs.declared.history.End.{End}
 use Rattle.kpn_model.specs.declared.history.End.TheVariants.{Deadlock}
 use Rattle.kpn_model.specs.Network.{Network, channel_of, resized}
-use Rattle.kpn_model.specs.Machine.{Held, State, start, capacity, Run}
+use Rattle.kpn_model.specs.Semantics.{Held, State, start, capacity, Run}
 use Rattle.kpn_model.specs.History.{growths}
 use Rattle.kpn_model.specs.Determinacy.{IsNatural}
 use Rattle.kpn_model.specs.Standard.{standard}

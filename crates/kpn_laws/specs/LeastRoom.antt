@@ -5,14 +5,14 @@ use Rattle.kpn_model.specs.declared.history.Entry.{Entry}
 use Rattle.kpn_model.specs.declared.history.Entry.TheVariants.{Grew}
 use Rattle.kpn_model.specs.declared.history.End.TheVariants.{Ceiling}
 use Rattle.kpn_model.specs.Network.{Family, Network, channel_of, resized}
-use Rattle.kpn_model.specs.Machine.{State, start, capacity, IsArtificial, IsChosen}
+use Rattle.kpn_model.specs.Semantics.{State, start, capacity, IsArtificial, IsChosen}
 use Rattle.kpn_model.specs.History.{deeds, growths, grown}
-use Rattle.kpn_model.specs.Determinacy.{IsFrontOf, IsRun, IsFinal}
+use Rattle.kpn_model.specs.Determinacy.{IsPrefixOf, IsRun, IsFinal}
 use Rattle.kpn_laws.specs.Sufficient.{IsBoundedBy, Suffices}
 
 -- each process does in F at most what it does in E, so F has no more entries, growths apart
 pub record IsDominated (F E : List Entry) : Type 0 where
-  pub deeds : (p : ℕ) → IsFrontOf (deeds F p) (deeds E p)
+  pub deeds : (p : ℕ) → IsPrefixOf (deeds F p) (deeds E p)
   pub entries : length F + length (growths E) ≤ length E + length (growths F)
 
 -- a run to an artificial deadlock dominates each run, from any starting capacities, in which no channel

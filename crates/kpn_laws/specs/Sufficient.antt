@@ -4,7 +4,7 @@ use Rattle.std.specs.Prelude.{◌≡◌, ◌⊎◌, ℕ, ◌+◌, ◌<◌, ◌�
 use Rattle.kpn_model.specs.declared.history.Entry.{Entry}
 use Rattle.kpn_model.specs.declared.history.End.{End}
 use Rattle.kpn_model.specs.Network.{Family, Network, resized}
-use Rattle.kpn_model.specs.Machine.{State, capacity}
+use Rattle.kpn_model.specs.Semantics.{State, capacity}
 use Rattle.kpn_model.specs.History.{growths}
 use Rattle.kpn_model.specs.Determinacy.{IsRun, IsFinal, IsNatural}
 

@@ -19,6 +19,6 @@ pub use changed::changed_definitions;
 pub use ending::{completion, completion_of};
 pub use outcome::{determinacy, determinacy_of};
 pub use room::{least_room, least_room_of};
-pub use run::{moments, sorted_runs, valid_runs};
+pub use run::{moments, typed_runs, valid_runs};
 pub use sufficing::worked_room;
 pub use worked::worked_networks;

@@ -1,6 +1,6 @@
 //! Whichever process goes on next, the outcome is the same.
 ghost use Rattle.kpn_model.specs.Network.{Family};
-ghost use Rattle.kpn_model.specs.Determinacy.{OneDigest, NoneLonger, OneOutcome, AllInLine};
+ghost use Rattle.kpn_model.specs.Determinacy.{OneDigest, NoneLonger, OneOutcome, AllPrefixComparable};
 ghost use Rattle.kpn_model.specs.Moments.{OneState, FrontsAreRuns, AlwaysWithin, HistoryTellsState, BudgetSuffices, EnabledCanDo, OneCause};
 
 use crate::run::moments;
@@ -18,7 +18,7 @@ pub fn determinacy()
     ensures one_digest { (kinds : Family) → OneDigest kinds }
     ensures none_longer { (kinds : Family) → NoneLonger kinds }
     ensures one_outcome { (kinds : Family) → OneOutcome kinds }
-    ensures all_in_line { (kinds : Family) → AllInLine kinds }
+    ensures all_in_line { (kinds : Family) → AllPrefixComparable kinds }
 {}
 
 /// All laws of determinacy, and those of the moments of a run, for a family that is given as a type.
@@ -26,7 +26,7 @@ pub fn determinacy_of<K: Kinds>()
     ensures one_digest { OneDigest K.family }
     ensures none_longer { NoneLonger K.family }
     ensures one_outcome { OneOutcome K.family }
-    ensures all_in_line { AllInLine K.family }
+    ensures all_in_line { AllPrefixComparable K.family }
     ensures one_state { OneState K.family }
     ensures fronts { FrontsAreRuns K.family }
     ensures within { AlwaysWithin K.family }

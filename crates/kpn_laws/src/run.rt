@@ -4,7 +4,7 @@ ghost use Rattle.kpn_model.specs.declared.kinds.Card.{Card};
 ghost use Rattle.kpn_model.specs.declared.kinds.Signature.{Signature};
 ghost use Rattle.kpn_model.specs.Network.{Family};
 ghost use Rattle.kpn_model.specs.Moments.{OneState, FrontsAreRuns, AlwaysWithin, HistoryTellsState, BudgetSuffices, EnabledCanDo, OneCause};
-ghost use Rattle.kpn_model.specs.Valid.{AlwaysSorted};
+ghost use Rattle.kpn_model.specs.Valid.{StaysWellTyped};
 ghost use Rattle.kpn_laws.specs.ValidRuns.{StartsWithin, StaysWithin};
 
 use kpn_model::Kinds;
@@ -35,8 +35,8 @@ pub fn valid_runs()
 /// Each run of a valid network is well-typed at each moment: each token in a channel fits and has the
 /// channel's sort, and each live process is in a state that its card admits. It rests on the laws of
 /// the family, which each implementation of `Kinds` proves.
-pub fn sorted_runs<K: Kinds>()
-    ensures { AlwaysSorted K.signature_of K.admits K.family }
+pub fn typed_runs<K: Kinds>()
+    ensures { StaysWellTyped K.signature_of K.admits K.family }
 {
     K::lawful();
 }

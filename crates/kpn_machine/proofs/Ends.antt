@@ -5,21 +5,21 @@ use Rattle.std.specs.List.{list_any}
 use Rattle.kpn_model.specs.declared.history.End.{End}
 use Rattle.kpn_model.specs.declared.history.End.TheVariants.{Terminated, Deadlock, Ceiling, Budget, Memory}
 use Rattle.kpn_model.specs.Network.{Network, Family}
-use Rattle.kpn_model.specs.Machine.{State, IsOver}
+use Rattle.kpn_model.specs.Semantics.{State, IsOver}
 use Rattle.kpn_laws.proofs.Causes.{cause_same, over_grows_not}
 use Rattle.kpn_body.specs.Input.{Input}
-use Rattle.kpn_state.specs.Story.{Story}
+use Rattle.kpn_state.specs.StateAndHistory.{StateAndHistory}
 use Rattle.kpn_state.specs.declared.standing.Standing.{Standing}
 use Rattle.kpn_state.specs.declared.standing.Standing.TheVariants.{Ready, Parked, Stopped as Ended}
-use Rattle.kpn_steps.specs.declared.settle.Settled.{Settled}
-use Rattle.kpn_steps.specs.declared.settle.Settled.TheVariants.{Busy, Ended as Over, Enlarged}
-use Rattle.kpn_steps.specs.declared.outcome.Outcome.{Outcome}
+use Rattle.kpn_commit.specs.declared.settle.Settled.{Settled}
+use Rattle.kpn_commit.specs.declared.settle.Settled.TheVariants.{Busy, Ended as Over, Enlarged}
+use Rattle.kpn_commit.specs.declared.outcome.Outcome.{Outcome}
 use Rattle.kpn_state.specs.Standings.{is_busy}
-use Rattle.kpn_steps.specs.Settling.{CanGrow, EndsBy, Settles, GrowsAndPuts}
-use Rattle.kpn_steps.specs.Works.{end_after}
-use Rattle.kpn_machine.specs.Scheduler.{Scheduler, story_of}
+use Rattle.kpn_commit.specs.Settling.{CanGrow, EndsBy, Settles, GrowsAndPuts}
+use Rattle.kpn_commit.specs.Works.{end_after}
+use Rattle.kpn_machine.specs.MachineView.{MachineView, state_and_history_of}
 use Rattle.kpn_machine.specs.Commits.{IsCause, EndsAs, WorksOn, Commits}
-use Rattle.kpn_steps.specs.declared.outcome.Outcome.TheVariants.{Done, Parked as Parks, LaidBack}
+use Rattle.kpn_commit.specs.declared.outcome.Outcome.TheVariants.{Done, Parked as Parks, LaidBack}
 use Rattle.kpn_state.proofs.Placed.{place_set_same, place_within, busy_at}
 use Rattle.kpn_state.specs.Standings.{place}
 
@@ -64,7 +64,7 @@ module _ (kinds : Family) (net : Network) where
   found_memory M end e h = subst (λ x. EndsBy kinds net M x) e h
 
   -- after a growth its writer is ready
-  grown_busy : (s : Story) (places : List Standing) (t : Story) (moved : List Standing) → GrowsAndPuts kinds net s places t moved → list_any is_busy moved ≡ true
+  grown_busy : (s : StateAndHistory) (places : List Standing) (t : StateAndHistory) (moved : List Standing) → GrowsAndPuts kinds net s places t moved → list_any is_busy moved ≡ true
   grown_busy s places t moved g =
       let within = place_within places g.writer (λ f. parked_ended (sym g.parked ∙ f)) in
       busy_at moved g.writer (ap is_busy (ap (λ (l : List Standing). place l g.writer) g.puts.moves ∙ place_set_same places g.writer Ready within))
@@ -72,19 +72,19 @@ module _ (kinds : Family) (net : Network) where
       parked_ended : Parked g.wanted ≡ Ended → ⊥
       parked_ended e = cc
 
-  module _ (s : Story) (places : List Standing) (t : Story) (moved : List Standing) (budget entries : ℕ) where
+  module _ (s : StateAndHistory) (places : List Standing) (t : StateAndHistory) (moved : List Standing) (budget entries : ℕ) where
     ends_over : (x : Settled) → Settles kinds net s places x t moved → (cause : End) → IsCause cause → (end_after x budget entries ≡ Some cause) ↔ ((list_any is_busy moved ≡ false) × IsOver kinds net t.state cause)
     ends_over Busy h cause c = (λ e. absurd (budget_no_cause _ cause c e), λ o. absurd (true_false _ h.0 (ap (list_any is_busy) (sym h.2) ∙ o.0)))
     ends_over (Over end) h cause c = (
       λ e. let same = same_end end cause e in
-          (ap (list_any is_busy) h.2 ∙ h.0, subst (λ (y : Story). IsOver kinds net y.state cause) (sym h.1) (found_over s.state cause c (subst (λ x. EndsBy kinds net s.state x) same h.3))),
-      λ o. over_found s.state end cause c h.3 (subst (λ (y : Story). IsOver kinds net y.state cause) h.1 o.1),
+          (ap (list_any is_busy) h.2 ∙ h.0, subst (λ (y : StateAndHistory). IsOver kinds net y.state cause) (sym h.1) (found_over s.state cause c (subst (λ x. EndsBy kinds net s.state x) same h.3))),
+      λ o. over_found s.state end cause c h.3 (subst (λ (y : StateAndHistory). IsOver kinds net y.state cause) h.1 o.1),
     )
     ends_over Enlarged h cause c = (λ e. absurd (budget_no_cause _ cause c e), λ o. absurd (true_false _ (grown_busy s places t moved h.1) o.0))
 
     ends_memory : (x : Settled) → Settles kinds net s places x t moved → end_after x budget entries ≡ Some Memory → (list_any is_busy moved ≡ false) × CanGrow kinds net t.state
     ends_memory Busy h e = absurd (budget_no_memory _ e)
-    ends_memory (Over end) h e = (ap (list_any is_busy) h.2 ∙ h.0, subst (λ (y : Story). CanGrow kinds net y.state) (sym h.1) (found_memory s.state end (same_end end Memory e) h.3))
+    ends_memory (Over end) h e = (ap (list_any is_busy) h.2 ∙ h.0, subst (λ (y : StateAndHistory). CanGrow kinds net y.state) (sym h.1) (found_memory s.state end (same_end end Memory e) h.3))
     ends_memory Enlarged h e = absurd (budget_no_memory _ e)
 
     by_budget : (b : Bool) → nat_le budget entries ≡ b → (if b then Some Budget else None) ≡ Some Budget → budget ≤ entries
@@ -107,7 +107,7 @@ module _ (kinds : Family) (net : Network) where
 
 module _ (kinds : Family) where
   -- the end after a commit that was worked on
-  pub works_end : (s : Scheduler) (i : Input) (o : Outcome) (t : Scheduler) → WorksOn kinds s i o t → EndsAs kinds t
+  pub works_end : (s : MachineView) (i : Input) (o : Outcome) (t : MachineView) → WorksOn kinds s i o t → EndsAs kinds t
   works_end s i o t h =
       let w = h.works in
       let n = s.network in
@@ -115,15 +115,15 @@ module _ (kinds : Family) where
       subst (λ (net : Network). EndsAs kinds (record t { network = net })) (sym h.network)
       (record {
         over = λ cause c.
-            let e = ends_over kinds n w.between w.places_between (story_of t) t.places n.budget (length t.history) w.settled w.settles cause c in
+            let e = ends_over kinds n w.between w.places_between (state_and_history_of t) t.places n.budget (length t.history) w.settled w.settles cause c in
             (λ x. e.0 (sym is ∙ x), λ x. is ∙ e.1 x);
-        memory = λ x. ends_memory kinds n w.between w.places_between (story_of t) t.places n.budget (length t.history) w.settled w.settles (sym is ∙ x);
-        budget = λ x. ends_budget kinds n w.between w.places_between (story_of t) t.places n.budget (length t.history) w.settled w.settles (sym is ∙ x);
-        none = λ x. ends_none kinds n w.between w.places_between (story_of t) t.places n.budget (length t.history) w.settled (sym is ∙ x);
+        memory = λ x. ends_memory kinds n w.between w.places_between (state_and_history_of t) t.places n.budget (length t.history) w.settled w.settles (sym is ∙ x);
+        budget = λ x. ends_budget kinds n w.between w.places_between (state_and_history_of t) t.places n.budget (length t.history) w.settled w.settles (sym is ∙ x);
+        none = λ x. ends_none kinds n w.between w.places_between (state_and_history_of t) t.places n.budget (length t.history) w.settled (sym is ∙ x);
       })
 
   -- where no end stood, a commit was worked on
-  pub commits_end : (s : Scheduler) (i : Input) (o : Outcome) (t : Scheduler) → Commits kinds s i o t → s.end ≡ None → EndsAs kinds t
+  pub commits_end : (s : MachineView) (i : Input) (o : Outcome) (t : MachineView) → Commits kinds s i o t → s.end ≡ None → EndsAs kinds t
   commits_end s i (Done n) t h e = works_end s i (Done n) t h
   commits_end s i (Parks n) t h e = works_end s i (Parks n) t h
   commits_end s i LaidBack t h e = absurd (h.0 e)

@@ -6,17 +6,17 @@ use Rattle.kpn_model.specs.declared.history.Entry.{Entry}
 use Rattle.kpn_model.specs.declared.history.Entry.TheVariants.{Did, Grew}
 use Rattle.kpn_model.specs.declared.history.End.{End}
 use Rattle.kpn_model.specs.Network.{Network, Family}
-use Rattle.kpn_model.specs.Machine.{State, Run, Step}
-use Rattle.kpn_state.specs.Story.{Story, more}
+use Rattle.kpn_model.specs.Semantics.{State, Run, Step}
+use Rattle.kpn_state.specs.StateAndHistory.{StateAndHistory, more}
 use Rattle.kpn_state.specs.declared.standing.Standing.{Standing}
-use Rattle.kpn_steps.specs.declared.react.Reaction.{Reaction}
-use Rattle.kpn_steps.specs.declared.react.Reaction.TheVariants.{Waits, Acts, HandsOn}
-use Rattle.kpn_steps.specs.declared.settle.Settled.{Settled}
-use Rattle.kpn_steps.specs.declared.settle.Settled.TheVariants.{Busy, Ended as Over, Enlarged}
-use Rattle.kpn_steps.specs.declared.outcome.Outcome.{Outcome}
-use Rattle.kpn_steps.specs.Reactions.{Reacts}
-use Rattle.kpn_steps.specs.Settling.{Settles}
-use Rattle.kpn_steps.specs.Works.{Works, acted_entries, settled_entries, outcome_of}
+use Rattle.kpn_commit.specs.declared.react.Reaction.{Reaction}
+use Rattle.kpn_commit.specs.declared.react.Reaction.TheVariants.{Waits, Acts, HandsOn}
+use Rattle.kpn_commit.specs.declared.settle.Settled.{Settled}
+use Rattle.kpn_commit.specs.declared.settle.Settled.TheVariants.{Busy, Ended as Over, Enlarged}
+use Rattle.kpn_commit.specs.declared.outcome.Outcome.{Outcome}
+use Rattle.kpn_commit.specs.Reactions.{Reacts}
+use Rattle.kpn_commit.specs.Settling.{Settles}
+use Rattle.kpn_commit.specs.Works.{Works, acted_entries, settled_entries, outcome_of}
 use Rattle.kpn_machine.specs.Commits.{number}
 
 module _ (kinds : Family) (net : Network) where
@@ -26,27 +26,27 @@ module _ (kinds : Family) (net : Network) where
   run_both M N O (e ∷ E) F r q = (r.0, r.1, run_both r.0 N O E F r.2 q)
 
   -- the history goes on by this many entries, which lead from state to state
-  pub record GoesOn (s t : Story) (n : ℕ) : Type 0 where
+  pub record GoesOn (s t : StateAndHistory) (n : ℕ) : Type 0 where
     pub entries : List Entry
     pub history : t.history ≡ s.history ++ entries
     pub run : Run kinds net s.state entries t.state
     pub count : length entries ≡ n
     pub room : t.room ≡ s.room
 
-  goes_none : (s t : Story) → t ≡ s → GoesOn s t 0
+  goes_none : (s t : StateAndHistory) → t ≡ s → GoesOn s t 0
   goes_none s t e =
       record {
         entries = [];
-        history = ap (λ (x : Story). x.history) e ∙ sym (append-nil s.history);
-        run = ap (λ (x : Story). x.state) e;
+        history = ap (λ (x : StateAndHistory). x.history) e ∙ sym (append-nil s.history);
+        run = ap (λ (x : StateAndHistory). x.state) e;
         count = refl;
-        room = ap (λ (x : Story). x.room) e;
+        room = ap (λ (x : StateAndHistory). x.room) e;
       }
 
-  goes_one : (s t : Story) (e : Entry) → Step kinds net s.state e t.state → t ≡ more s t.state e → GoesOn s t 1
-  goes_one s t e step is = record { entries = e ∷ []; history = ap (λ (x : Story). x.history) is; run = (t.state, step, refl); count = refl; room = ap (λ (x : Story). x.room) is }
+  goes_one : (s t : StateAndHistory) (e : Entry) → Step kinds net s.state e t.state → t ≡ more s t.state e → GoesOn s t 1
+  goes_one s t e step is = record { entries = e ∷ []; history = ap (λ (x : StateAndHistory). x.history) is; run = (t.state, step, refl); count = refl; room = ap (λ (x : StateAndHistory). x.room) is }
 
-  goes_both : (s t u : Story) (m n : ℕ) → GoesOn s t m → GoesOn t u n → GoesOn s u (m + n)
+  goes_both : (s t u : StateAndHistory) (m n : ℕ) → GoesOn s t m → GoesOn t u n → GoesOn s u (m + n)
   goes_both s t u m n x y =
       record {
         entries = x.entries ++ y.entries;
@@ -58,7 +58,7 @@ module _ (kinds : Family) (net : Network) where
 
   -- a reaction's entries
   pub reaction_goes :
-      (s : Story) (places : List Standing) (p : ℕ) (a : Answer) (r : Reaction) (t : Story) (moved : List Standing) → Reacts kinds net s places p a r t moved → GoesOn s t (acted_entries r)
+      (s : StateAndHistory) (places : List Standing) (p : ℕ) (a : Answer) (r : Reaction) (t : StateAndHistory) (moved : List Standing) → Reacts kinds net s places p a r t moved → GoesOn s t (acted_entries r)
   reaction_goes s places p a Waits t moved h = goes_none s t h.1
   reaction_goes s places p a Acts t moved h = goes_one s t (Did p h.0) h.1.does h.1.entry
   reaction_goes s places p a HandsOn t moved h =
@@ -66,7 +66,7 @@ module _ (kinds : Family) (net : Network) where
 
   -- what follows it
   pub settled_goes :
-      (s : Story) (places : List Standing) (x : Settled) (t : Story) (moved : List Standing) → Settles kinds net s places x t moved → GoesOn s t (settled_entries x)
+      (s : StateAndHistory) (places : List Standing) (x : Settled) (t : StateAndHistory) (moved : List Standing) → Settles kinds net s places x t moved → GoesOn s t (settled_entries x)
   settled_goes s places Busy t moved h = goes_none s t h.1
   settled_goes s places (Over end) t moved h = goes_none s t h.1
   settled_goes s places Enlarged t moved h =
@@ -82,7 +82,7 @@ module _ (kinds : Family) (net : Network) where
 
   -- a commit's entries
   pub works_goes :
-      (s : Story) (places : List Standing) (p : ℕ) (a : Answer) (o : Outcome) (t : Story) (moved : List Standing) (end : Option End)
+      (s : StateAndHistory) (places : List Standing) (p : ℕ) (a : Answer) (o : Outcome) (t : StateAndHistory) (moved : List Standing) (end : Option End)
       → Works kinds net s places p a o t moved end → GoesOn s t (number o)
   works_goes s places p a o t moved end w =
       subst (λ n. GoesOn s t n) (number_is w.reaction w.settled ∙ ap number (sym w.outcome_is))

@@ -5,14 +5,14 @@ use Rattle.std.proofs.lemmas.Bool.{cases_lt, cases_eq}
 use Rattle.std.proofs.lemmas.List.{get_or_past}
 use Rattle.std.proofs.lemmas.List.Sums.{get_or-le-sum_by, sum_by-le}
 use Rattle.kpn_model.specs.Network.{Network, Family}
-use Rattle.kpn_model.specs.Machine.{State, Run}
+use Rattle.kpn_model.specs.Semantics.{State, Run}
 use Rattle.kpn_body.specs.Input.{Input}
 use Rattle.kpn_state.specs.declared.standing.Standing.{Standing}
 use Rattle.kpn_state.specs.declared.standing.Standing.TheVariants.{Ready, Out, Parked, Stopped as Ended}
-use Rattle.kpn_steps.specs.declared.outcome.Outcome.{Outcome}
-use Rattle.kpn_steps.specs.declared.outcome.Outcome.TheVariants.{Done, Parked as Parks, LaidBack}
+use Rattle.kpn_commit.specs.declared.outcome.Outcome.{Outcome}
+use Rattle.kpn_commit.specs.declared.outcome.Outcome.TheVariants.{Done, Parked as Parks, LaidBack}
 use Rattle.kpn_state.specs.Standings.{place, is_busy, is_out}
-use Rattle.kpn_machine.specs.Scheduler.{Scheduler, TakesOut}
+use Rattle.kpn_machine.specs.MachineView.{MachineView, TakesOut}
 use Rattle.kpn_machine.specs.Commits.{Commits, Appends, GoesOn, number}
 use Rattle.kpn_state.proofs.Placed.{place_set_other}
 use Rattle.kpn_machine.proofs.Entries.{run_both}
@@ -71,28 +71,28 @@ some_ready places busy out ready = true_false _ busy (all_idle places (λ p. idl
 
 module _ (kinds : Family) where
   -- a commit is in the same network
-  pub commits_network : (s : Scheduler) (i : Input) (o : Outcome) (t : Scheduler) → Commits kinds s i o t → t.network ≡ s.network
+  pub commits_network : (s : MachineView) (i : Input) (o : Outcome) (t : MachineView) → Commits kinds s i o t → t.network ≡ s.network
   commits_network s i (Done n) t h = h.network
   commits_network s i (Parks n) t h = h.network
-  commits_network s i LaidBack t h = ap (λ (x : Scheduler). x.network) h.1
+  commits_network s i LaidBack t h = ap (λ (x : MachineView). x.network) h.1
 
   -- and is one more
-  pub commits_more : (s : Scheduler) (i : Input) (o : Outcome) (t : Scheduler) → Commits kinds s i o t → t.commits ≡ s.commits + 1
+  pub commits_more : (s : MachineView) (i : Input) (o : Outcome) (t : MachineView) → Commits kinds s i o t → t.commits ≡ s.commits + 1
   commits_more s i (Done n) t h = h.commits
   commits_more s i (Parks n) t h = h.commits
-  commits_more s i LaidBack t h = ap (λ (x : Scheduler). x.commits) h.1
+  commits_more s i LaidBack t h = ap (λ (x : MachineView). x.commits) h.1
 
-  module _ (s : Scheduler) (i : Input) (mid : Scheduler) (o : Outcome) (t : Scheduler) (taken : TakesOut s i mid) (commits : Commits kinds mid i o t) where
+  module _ (s : MachineView) (i : Input) (mid : MachineView) (o : Outcome) (t : MachineView) (taken : TakesOut s i mid) (commits : Commits kinds mid i o t) where
     -- one process taken and committed is one more commit
     pub round_commits : t.commits ≡ s.commits + 1
-    round_commits = commits_more mid i o t commits ∙ ap (λ n. n + 1) (ap (λ (x : Scheduler). x.commits) taken.after)
+    round_commits = commits_more mid i o t commits ∙ ap (λ n. n + 1) (ap (λ (x : MachineView). x.commits) taken.after)
 
     -- one process taken and committed goes on with the run
-    pub round_goes : (first : Scheduler) → GoesOn kinds first s → Appends kinds mid t (number o) → GoesOn kinds first t
+    pub round_goes : (first : MachineView) → GoesOn kinds first s → Appends kinds mid t (number o) → GoesOn kinds first t
     round_goes first goes appends =
-        let same : mid.network ≡ first.network = ap (λ (x : Scheduler). x.network) taken.after ∙ goes.network in
-        let state : mid.state ≡ s.state = ap (λ (x : Scheduler). x.state) taken.after in
-        let history : mid.history ≡ s.history = ap (λ (x : Scheduler). x.history) taken.after in
+        let same : mid.network ≡ first.network = ap (λ (x : MachineView). x.network) taken.after ∙ goes.network in
+        let state : mid.state ≡ s.state = ap (λ (x : MachineView). x.state) taken.after in
+        let history : mid.history ≡ s.history = ap (λ (x : MachineView). x.history) taken.after in
         record {
           network = commits_network mid i o t commits ∙ same;
           commits = let before = goes.commits in let more = round_commits in omega arith;
@@ -106,9 +106,9 @@ module _ (kinds : Family) where
     pub round_none_out :
         ((p : ℕ) → place s.places p ≢ Out) → place t.places i.process ≢ Out → ((p : ℕ) → p ≢ i.process → (place t.places p ≡ Out) ↔ (place mid.places p ≡ Out)) → (p : ℕ) → place t.places p ≢ Out
     round_none_out none back others p e =
-        let places = ap (λ (x : Scheduler). x.places) taken.after in
+        let places = ap (λ (x : MachineView). x.places) taken.after in
         ⊎_elim (λ (x : p ≡ i.process). back (ap (λ y. place t.places y) (sym x) ∙ e))
         (λ ne. none p (sym (place_set_other s.places i.process p Out ne) ∙ ap (λ (l : List Standing). place l p) (sym places) ∙ (others p ne).0 e)) (cases_eq p i.process)
 
     pub round_network : t.network ≡ s.network
-    round_network = commits_network mid i o t commits ∙ ap (λ (x : Scheduler). x.network) taken.after
+    round_network = commits_network mid i o t commits ∙ ap (λ (x : MachineView). x.network) taken.after

@@ -8,19 +8,19 @@ use Rattle.kpn_model.specs.declared.history.Deed.{Deed}
 use Rattle.kpn_model.specs.declared.history.Deed.TheVariants.{Took, Put, Stopped}
 use Rattle.kpn_model.specs.declared.history.End.{End}
 use Rattle.kpn_model.specs.Network.{Network, Family}
-use Rattle.kpn_state.specs.Story.{Story}
+use Rattle.kpn_state.specs.StateAndHistory.{StateAndHistory}
 use Rattle.kpn_state.specs.declared.standing.Standing.{Standing}
 use Rattle.kpn_state.specs.declared.standing.Standing.TheVariants.{Ready, Out, Parked, Stopped as Ended}
-use Rattle.kpn_steps.specs.declared.react.Reaction.{Reaction}
-use Rattle.kpn_steps.specs.declared.react.Reaction.TheVariants.{Waits, Acts, HandsOn}
-use Rattle.kpn_steps.specs.declared.settle.Settled.{Settled}
-use Rattle.kpn_steps.specs.declared.settle.Settled.TheVariants.{Busy, Ended as Over, Enlarged}
-use Rattle.kpn_steps.specs.declared.outcome.Outcome.{Outcome}
+use Rattle.kpn_commit.specs.declared.react.Reaction.{Reaction}
+use Rattle.kpn_commit.specs.declared.react.Reaction.TheVariants.{Waits, Acts, HandsOn}
+use Rattle.kpn_commit.specs.declared.settle.Settled.{Settled}
+use Rattle.kpn_commit.specs.declared.settle.Settled.TheVariants.{Busy, Ended as Over, Enlarged}
+use Rattle.kpn_commit.specs.declared.outcome.Outcome.{Outcome}
 use Rattle.kpn_state.specs.Standings.{place, place_after}
-use Rattle.kpn_steps.specs.Reactions.{Handed, Reacts}
-use Rattle.kpn_steps.specs.Settling.{Settles, GrowsAndPuts}
-use Rattle.kpn_steps.specs.Works.{Works, acted_entries, settled_entries}
-use Rattle.kpn_machine.specs.Scheduler.{waits, stays_in}
+use Rattle.kpn_commit.specs.Reactions.{Handed, Reacts}
+use Rattle.kpn_commit.specs.Settling.{Settles, GrowsAndPuts}
+use Rattle.kpn_commit.specs.Works.{Works, acted_entries, settled_entries}
+use Rattle.kpn_machine.specs.MachineView.{waits, stays_in}
 use Rattle.kpn_state.proofs.Placed.{place_set_same, place_set_other, acted_not_out, place_within, parked_not_ended}
 
 parked_not_out : (a : Answer) → Parked a ≢ Out
@@ -77,17 +77,17 @@ in_within places = let all = sum_by-le stays_in 1 places (λ i d h. one_each _) 
 
 module _ (kinds : Family) (net : Network) where
   -- a reaction leaves as many places
-  same_length : (s : Story) (places : List Standing) (p : ℕ) (a : Answer) (r : Reaction) (t : Story) (moved : List Standing) → Reacts kinds net s places p a r t moved → length moved ≡ length places
+  same_length : (s : StateAndHistory) (places : List Standing) (p : ℕ) (a : Answer) (r : Reaction) (t : StateAndHistory) (moved : List Standing) → Reacts kinds net s places p a r t moved → length moved ≡ length places
   same_length s places p a Waits t moved h = ap length h.2 ∙ length-set places p (Parked a)
   same_length s places p a Acts t moved h = ap length h.1.moves ∙ length-set places p (place_after h.0)
   same_length s places p a HandsOn t moved h =
       ap length h.second.moves ∙ length-set h.places_between h.other (place_after h.handed) ∙ ap length h.first.moves ∙ length-set places p (place_after h.deed)
 
-  other_within : (s : Story) (places : List Standing) (p : ℕ) (t : Story) (moved : List Standing) (h : Handed kinds net s places p t moved) → h.other < length h.places_between
+  other_within : (s : StateAndHistory) (places : List Standing) (p : ℕ) (t : StateAndHistory) (moved : List Standing) (h : Handed kinds net s places p t moved) → h.other < length h.places_between
   other_within s places p t moved h = place_within h.places_between h.other (λ e. parked_not_ended h.wanted (sym h.parked ∙ e))
 
   -- after a reaction its process is not out
-  reaction_back : (s : Story) (places : List Standing) (p : ℕ) (a : Answer) (r : Reaction) (t : Story) (moved : List Standing) → p < length places → Reacts kinds net s places p a r t moved → place moved p ≢ Out
+  reaction_back : (s : StateAndHistory) (places : List Standing) (p : ℕ) (a : Answer) (r : Reaction) (t : StateAndHistory) (moved : List Standing) → p < length places → Reacts kinds net s places p a r t moved → place moved p ≢ Out
   reaction_back s places p a Waits t moved within h e = parked_not_out a (sym (place_set_same places p (Parked a) within) ∙ ap (λ (l : List Standing). place l p) (sym h.2) ∙ e)
   reaction_back s places p a Acts t moved within h e = acted_not_out h.0 (sym (place_set_same places p (place_after h.0) within) ∙ ap (λ (l : List Standing). place l p) (sym h.1.moves) ∙ e)
   reaction_back s places p a HandsOn t moved within h e =
@@ -95,7 +95,7 @@ module _ (kinds : Family) (net : Network) where
       stays_not_out h.places_between h.other p (place_after h.handed) (other_within s places p t moved h) (acted_not_out h.handed) first (ap (λ (l : List Standing). place l p) (sym h.second.moves) ∙ e)
 
   -- each other that was out is out
-  reaction_out : (s : Story) (places : List Standing) (p : ℕ) (a : Answer) (r : Reaction) (t : Story) (moved : List Standing) (q : ℕ) → q ≢ p → Reacts kinds net s places p a r t moved → place places q ≡ Out → place moved q ≡ Out
+  reaction_out : (s : StateAndHistory) (places : List Standing) (p : ℕ) (a : Answer) (r : Reaction) (t : StateAndHistory) (moved : List Standing) (q : ℕ) → q ≢ p → Reacts kinds net s places p a r t moved → place places q ≡ Out → place moved q ≡ Out
   reaction_out s places p a Waits t moved q ne h e = ap (λ (l : List Standing). place l q) h.2 ∙ place_set_other places p q (Parked a) ne ∙ e
   reaction_out s places p a Acts t moved q ne h e = ap (λ (l : List Standing). place l q) h.1.moves ∙ place_set_other places p q (place_after h.0) ne ∙ e
   reaction_out s places p a HandsOn t moved q ne h e =
@@ -103,7 +103,7 @@ module _ (kinds : Family) (net : Network) where
       ap (λ (l : List Standing). place l q) h.second.moves ∙ stays_out h.places_between h.other q (place_after h.handed) (λ f. parked_not_out h.wanted (sym h.parked ∙ f)) first
 
   -- and nobody else goes out
-  reaction_in : (s : Story) (places : List Standing) (p : ℕ) (a : Answer) (r : Reaction) (t : Story) (moved : List Standing) (q : ℕ) → p < length places → Reacts kinds net s places p a r t moved → place places q ≢ Out → place moved q ≢ Out
+  reaction_in : (s : StateAndHistory) (places : List Standing) (p : ℕ) (a : Answer) (r : Reaction) (t : StateAndHistory) (moved : List Standing) (q : ℕ) → p < length places → Reacts kinds net s places p a r t moved → place places q ≢ Out → place moved q ≢ Out
   reaction_in s places p a Waits t moved q within h n e = stays_not_out places p q (Parked a) within (parked_not_out a) n (ap (λ (l : List Standing). place l q) (sym h.2) ∙ e)
   reaction_in s places p a Acts t moved q within h n e = stays_not_out places p q (place_after h.0) within (acted_not_out h.0) n (ap (λ (l : List Standing). place l q) (sym h.1.moves) ∙ e)
   reaction_in s places p a HandsOn t moved q within h n e =
@@ -112,7 +112,7 @@ module _ (kinds : Family) (net : Network) where
 
   -- entries and waiting processes grow together by one at least
   reaction_count :
-      (s : Story) (places : List Standing) (p : ℕ) (a : Answer) (r : Reaction) (t : Story) (moved : List Standing) → p < length places → place places p ≡ Out → Reacts kinds net s places p a r t moved
+      (s : StateAndHistory) (places : List Standing) (p : ℕ) (a : Answer) (r : Reaction) (t : StateAndHistory) (moved : List Standing) → p < length places → place places p ≡ Out → Reacts kinds net s places p a r t moved
       → sum_by waits places + 1 ≤ acted_entries r + sum_by waits moved
   reaction_count s places p a Waits t moved within out h =
       let c = moved_count waits places p (Parked a) within in
@@ -136,31 +136,31 @@ module _ (kinds : Family) (net : Network) where
       let f = ap (sum_by waits) h.second.moves in
       omega arith
 
-  writer_within : (s : Story) (places : List Standing) (t : Story) (moved : List Standing) (h : GrowsAndPuts kinds net s places t moved) → h.writer < length places
+  writer_within : (s : StateAndHistory) (places : List Standing) (t : StateAndHistory) (moved : List Standing) (h : GrowsAndPuts kinds net s places t moved) → h.writer < length places
   writer_within s places t moved h = place_within places h.writer (λ e. parked_not_ended h.wanted (sym h.parked ∙ e))
 
   -- what follows a reaction leaves as many places
-  settled_length : (s : Story) (places : List Standing) (x : Settled) (t : Story) (moved : List Standing) → Settles kinds net s places x t moved → length moved ≡ length places
+  settled_length : (s : StateAndHistory) (places : List Standing) (x : Settled) (t : StateAndHistory) (moved : List Standing) → Settles kinds net s places x t moved → length moved ≡ length places
   settled_length s places Busy t moved h = ap length h.2
   settled_length s places (Over end) t moved h = ap length h.2
   settled_length s places Enlarged t moved h = ap length h.1.puts.moves ∙ length-set places h.1.writer Ready
 
   -- and puts nobody out
-  settled_back : (s : Story) (places : List Standing) (x : Settled) (t : Story) (moved : List Standing) (q : ℕ) → Settles kinds net s places x t moved → place places q ≢ Out → place moved q ≢ Out
+  settled_back : (s : StateAndHistory) (places : List Standing) (x : Settled) (t : StateAndHistory) (moved : List Standing) (q : ℕ) → Settles kinds net s places x t moved → place places q ≢ Out → place moved q ≢ Out
   settled_back s places Busy t moved q h n e = n (ap (λ (l : List Standing). place l q) (sym h.2) ∙ e)
   settled_back s places (Over end) t moved q h n e = n (ap (λ (l : List Standing). place l q) (sym h.2) ∙ e)
   settled_back s places Enlarged t moved q h n e =
       stays_not_out places h.1.writer q Ready (writer_within s places t moved h.1) ready_not_out n (ap (λ (l : List Standing). place l q) (sym h.1.puts.moves) ∙ e)
 
   -- nor takes anybody back
-  settled_out : (s : Story) (places : List Standing) (x : Settled) (t : Story) (moved : List Standing) (q : ℕ) → Settles kinds net s places x t moved → place places q ≡ Out → place moved q ≡ Out
+  settled_out : (s : StateAndHistory) (places : List Standing) (x : Settled) (t : StateAndHistory) (moved : List Standing) (q : ℕ) → Settles kinds net s places x t moved → place places q ≡ Out → place moved q ≡ Out
   settled_out s places Busy t moved q h e = ap (λ (l : List Standing). place l q) h.2 ∙ e
   settled_out s places (Over end) t moved q h e = ap (λ (l : List Standing). place l q) h.2 ∙ e
   settled_out s places Enlarged t moved q h e =
       ap (λ (l : List Standing). place l q) h.1.puts.moves ∙ stays_out places h.1.writer q Ready (λ f. parked_not_out h.1.wanted (sym h.1.parked ∙ f)) e
 
   -- a growth's put takes a waiting process, for two entries
-  settled_count : (s : Story) (places : List Standing) (x : Settled) (t : Story) (moved : List Standing) → Settles kinds net s places x t moved → sum_by waits places ≤ settled_entries x + sum_by waits moved
+  settled_count : (s : StateAndHistory) (places : List Standing) (x : Settled) (t : StateAndHistory) (moved : List Standing) → Settles kinds net s places x t moved → sum_by waits places ≤ settled_entries x + sum_by waits moved
   settled_count s places Busy t moved h = let e = ap (sum_by waits) h.2 in omega arith
   settled_count s places (Over end) t moved h = let e = ap (sum_by waits) h.2 in omega arith
   settled_count s places Enlarged t moved h =
@@ -169,7 +169,7 @@ module _ (kinds : Family) (net : Network) where
       let e = ap (sum_by waits) h.1.puts.moves in
       omega arith
 
-  module _ (s : Story) (places : List Standing) (p : ℕ) (a : Answer) (o : Outcome) (t : Story) (moved : List Standing) (end : Option End) (w : Works kinds net s places p a o t moved end) where
+  module _ (s : StateAndHistory) (places : List Standing) (p : ℕ) (a : Answer) (o : Outcome) (t : StateAndHistory) (moved : List Standing) (end : Option End) (w : Works kinds net s places p a o t moved end) where
     -- a commit leaves as many places
     pub works_length : length moved ≡ length places
     works_length = settled_length w.between w.places_between w.settled t moved w.settles ∙ same_length s places p a w.reaction w.between w.places_between w.reacts

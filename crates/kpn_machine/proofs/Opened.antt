@@ -10,13 +10,13 @@ use Rattle.kpn_model.specs.declared.history.Status.TheVariants.{Live, Done}
 use Rattle.kpn_model.specs.declared.parts.Process.{Process}
 use Rattle.kpn_model.specs.declared.parts.Channel.{Channel}
 use Rattle.kpn_model.specs.Network.{Network, Family, no_channel, card_of, no_process}
-use Rattle.kpn_model.specs.Machine.{nothing_held, start}
+use Rattle.kpn_model.specs.Semantics.{nothing_held, start}
 use Rattle.kpn_model.specs.Valid.{IsValid}
-use Rattle.kpn_laws.proofs.SortedDeeds.{sorted_start}
+use Rattle.kpn_laws.proofs.WellTypedDeeds.{sorted_start}
 use Rattle.kpn_state.specs.declared.standing.Standing.TheVariants.{Ready, Parked, Stopped as Ended}
-use Rattle.kpn_state.specs.Standings.{place, is_busy, Keeps}
+use Rattle.kpn_state.specs.Standings.{place, is_busy, StandingsFit}
 use Rattle.kpn_machine.specs.Opening.{cards_of, AreSeated}
-use Rattle.kpn_machine.specs.Scheduler.{scheduler, IsSound}
+use Rattle.kpn_machine.specs.MachineView.{machine_view, IsSound}
 use Rattle.kpn_state.proofs.Placed.{busy_at}
 use Rattle.kpn_machine.proofs.Seats.{card_at}
 
@@ -57,7 +57,7 @@ capacity_start (l ∷ ls) zero = refl
 capacity_start (l ∷ ls) (suc c) = capacity_start ls c
 
 module _ (signature : Card → Option Signature) (admits : Card → List ℕ → Option Token → Type 0) (kinds : Family) (net : Network) (valid : IsValid signature net) (starts : (p : ℕ) → p < length net.processes → admits (card_of net p) (kinds.start (card_of net p)) None) where
-  keeps_start : Keeps kinds admits net None (start kinds net) (replicate (length net.processes) Ready)
+  keeps_start : StandingsFit kinds admits net None (start kinds net) (replicate (length net.processes) Ready)
   keeps_start =
       let n = length net.processes in
       record {
@@ -77,7 +77,7 @@ module _ (signature : Card → Option Signature) (admits : Card → List ℕ →
 
   pub sound_opened :
       (cards : List Card) (bodies : List (Option Card)) → cards ≡ cards_of net.processes → AreSeated cards bodies → length bodies ≡ length net.processes
-      → IsSound kinds admits (scheduler net (start kinds net) [] (replicate (length net.processes) Ready) None 0) (net.budget + 2) bodies
+      → IsSound kinds admits (machine_view net (start kinds net) [] (replicate (length net.processes) Ready) None 0) (net.budget + 2) bodies
   sound_opened cards bodies same seated many =
       let first = valid.some_process in
       let all = length-map net.processes (λ (p : Process). p.card) in

@@ -14,33 +14,33 @@ use Rattle.kpn_model.specs.declared.history.Status.TheVariants.{Done as Halted}
 use Rattle.kpn_model.specs.declared.history.End.{End}
 use Rattle.kpn_model.specs.declared.history.End.TheVariants.{Terminated, Deadlock, Ceiling, Budget, Memory}
 use Rattle.kpn_model.specs.Network.{Network, Family, card_of}
-use Rattle.kpn_model.specs.Machine.{State, status, answered, wants, start}
+use Rattle.kpn_model.specs.Semantics.{State, status, answered, wants, start}
 use Rattle.kpn_model.specs.Determinacy.{IsRun}
 use Rattle.kpn_model.specs.Moments.{IsWithin, AtEachMoment}
-use Rattle.kpn_model.specs.Valid.{IsValid, IsSorted, AlwaysSorted}
+use Rattle.kpn_model.specs.Valid.{IsValid, IsWellTyped, StaysWellTyped}
 use Rattle.kpn_laws.specs.ValidRuns.{StaysWithin}
 use Rattle.kpn_laws.proofs.EachMoment.{enabled_can_do, fronts}
 use Rattle.kpn_body.specs.Input.{Input, answer_to}
-use Rattle.kpn_state.specs.Story.{Story, story}
+use Rattle.kpn_state.specs.StateAndHistory.{StateAndHistory, state_and_history}
 use Rattle.kpn_state.specs.declared.standing.Standing.{Standing}
 use Rattle.kpn_state.specs.declared.standing.Standing.TheVariants.{Ready, Out, Parked, Stopped as Ended}
-use Rattle.kpn_steps.specs.declared.react.Reaction.{Reaction}
-use Rattle.kpn_steps.specs.declared.react.Reaction.TheVariants.{Waits, Acts, HandsOn}
-use Rattle.kpn_steps.specs.declared.settle.Settled.{Settled}
-use Rattle.kpn_steps.specs.declared.settle.Settled.TheVariants.{Busy, Ended as Over, Enlarged}
-use Rattle.kpn_steps.specs.declared.outcome.Outcome.{Outcome}
-use Rattle.kpn_steps.specs.declared.outcome.Outcome.TheVariants.{Done, Parked as Parks, LaidBack}
-use Rattle.kpn_state.specs.Standings.{place, is_busy, parked_answer, Keeps}
-use Rattle.kpn_steps.specs.Reactions.{Reacts}
-use Rattle.kpn_steps.specs.Settling.{EndsBy, Settles}
-use Rattle.kpn_steps.specs.Works.{Works, acted_entries, settled_entries, outcome_of, end_after}
-use Rattle.kpn_machine.specs.Scheduler.{Scheduler, scheduler, IsOutAt, HasBodies, EndIs, waits, stays_in, IsSound, EndHolds, IsFaithful}
+use Rattle.kpn_commit.specs.declared.react.Reaction.{Reaction}
+use Rattle.kpn_commit.specs.declared.react.Reaction.TheVariants.{Waits, Acts, HandsOn}
+use Rattle.kpn_commit.specs.declared.settle.Settled.{Settled}
+use Rattle.kpn_commit.specs.declared.settle.Settled.TheVariants.{Busy, Ended as Over, Enlarged}
+use Rattle.kpn_commit.specs.declared.outcome.Outcome.{Outcome}
+use Rattle.kpn_commit.specs.declared.outcome.Outcome.TheVariants.{Done, Parked as Parks, LaidBack}
+use Rattle.kpn_state.specs.Standings.{place, is_busy, parked_answer, StandingsFit}
+use Rattle.kpn_commit.specs.Reactions.{Reacts}
+use Rattle.kpn_commit.specs.Settling.{EndsBy, Settles}
+use Rattle.kpn_commit.specs.Works.{Works, acted_entries, settled_entries, outcome_of, end_after}
+use Rattle.kpn_machine.specs.MachineView.{MachineView, machine_view, IsOutAt, HasBodies, EndIs, waits, stays_in, IsSound, EndHolds, IsFaithful}
 use Rattle.kpn_machine.specs.Commits.{number, Appends, WorksOn, Commits, TellsEnabled}
 use Rattle.kpn_state.proofs.Placed.{place_set_same, place_set_other, place_within, busy_at, out_not_ended, ready_not_ended}
-use Rattle.kpn_steps.proofs.Keeping.{keeps_moved}
-use Rattle.kpn_steps.proofs.Idle.{enabled_busy}
-use Rattle.kpn_steps.proofs.Working.{handed_busy}
-use Rattle.kpn_steps.proofs.Due.{grows_exactly}
+use Rattle.kpn_commit.proofs.Keeping.{keeps_moved}
+use Rattle.kpn_commit.proofs.Idle.{enabled_busy}
+use Rattle.kpn_commit.proofs.Working.{handed_busy}
+use Rattle.kpn_commit.proofs.Due.{grows_exactly}
 use Rattle.kpn_machine.proofs.Entries.{GoesOn, run_both, number_is, works_goes}
 use Rattle.kpn_machine.proofs.Moves.{waiting_in, in_within, waits_moved, in_moved, out_or_not, works_back, works_out, works_others, works_count}
 
@@ -83,13 +83,13 @@ module _ (kinds : Family) (net : Network) where
   by_cause M E Memory h = h
 
   -- the end that follows is bound
-  end_follows : (s : Story) (places : List Standing) (x : Settled) (t : Story) (moved : List Standing) → Settles kinds net s places x t moved → EndIs kinds net t.state t.history (end_after x net.budget (length t.history))
+  end_follows : (s : StateAndHistory) (places : List Standing) (x : Settled) (t : StateAndHistory) (moved : List Standing) → Settles kinds net s places x t moved → EndIs kinds net t.state t.history (end_after x net.budget (length t.history))
   end_follows s places Busy t moved h = by_budget t.state t.history _ refl
-  end_follows s places (Over end) t moved h = by_cause t.state t.history end (subst (λ (y : Story). EndsBy kinds net y.state end) (sym h.1) h.3)
+  end_follows s places (Over end) t moved h = by_cause t.state t.history end (subst (λ (y : StateAndHistory). EndsBy kinds net y.state end) (sym h.1) h.3)
   end_follows s places Enlarged t moved h = by_budget t.state t.history _ refl
 
   -- and without one some process is ready or out
-  busy_follows : (s : Story) (places : List Standing) (x : Settled) (t : Story) (moved : List Standing) (budget entries : ℕ) → Settles kinds net s places x t moved → end_after x budget entries ≡ None → list_any is_busy moved ≡ true
+  busy_follows : (s : StateAndHistory) (places : List Standing) (x : Settled) (t : StateAndHistory) (moved : List Standing) (budget entries : ℕ) → Settles kinds net s places x t moved → end_after x budget entries ≡ None → list_any is_busy moved ≡ true
   busy_follows s places Busy t moved budget entries h e = ap (list_any is_busy) h.2 ∙ h.0
   busy_follows s places (Over end) t moved budget entries h e = cc
   busy_follows s places Enlarged t moved budget entries h e =
@@ -101,15 +101,15 @@ module _ (kinds : Family) (net : Network) where
       parked_ended a f = cc
 
   -- and with one that isn't the budget's none is
-  idle_follows : (s : Story) (places : List Standing) (x : Settled) (t : Story) (moved : List Standing) (budget entries : ℕ) (cause : End) → Settles kinds net s places x t moved → end_after x budget entries ≡ Some cause → cause ≢ Budget → list_any is_busy moved ≡ false
+  idle_follows : (s : StateAndHistory) (places : List Standing) (x : Settled) (t : StateAndHistory) (moved : List Standing) (budget entries : ℕ) (cause : End) → Settles kinds net s places x t moved → end_after x budget entries ≡ Some cause → cause ≢ Budget → list_any is_busy moved ≡ false
   idle_follows s places Busy t moved budget entries cause h e not = absurd (not (spent _ cause e))
   idle_follows s places (Over end) t moved budget entries cause h e not = ap (list_any is_busy) h.2 ∙ h.0
   idle_follows s places Enlarged t moved budget entries cause h e not = absurd (not (spent _ cause e))
 
   -- done with 1 to 3 entries where the process could go on, parked with 0 or 2 where it couldn't
   tells :
-      (M : State) (E : List Entry) (room : ℕ) (places : List Standing) (end : Option End) (commits : ℕ) (m : Story) (mid : List Standing) (t : Story) (moved : List Standing) (p : ℕ) (a : Answer) (r : Reaction) (x : Settled)
-      → p < length places → Reacts kinds net (story M E room) places p a r m mid → Settles kinds net m mid x t moved → TellsEnabled kinds (scheduler net M E places end commits) p (outcome_of r x)
+      (M : State) (E : List Entry) (room : ℕ) (places : List Standing) (end : Option End) (commits : ℕ) (m : StateAndHistory) (mid : List Standing) (t : StateAndHistory) (moved : List Standing) (p : ℕ) (a : Answer) (r : Reaction) (x : Settled)
+      → p < length places → Reacts kinds net (state_and_history M E room) places p a r m mid → Settles kinds net m mid x t moved → TellsEnabled kinds (machine_view net M E places end commits) p (outcome_of r x)
   tells M E room places end commits m mid t moved p a Waits Busy within h g = (h.0, inl refl)
   tells M E room places end commits m mid t moved p a Waits (Over stop) within h g = (h.0, inl refl)
   tells M E room places end commits m mid t moved p a Waits Enlarged within h g = (h.0, inr refl)
@@ -118,10 +118,10 @@ module _ (kinds : Family) (net : Network) where
   tells M E room places end commits m mid t moved p a Acts Enlarged within h g = ((enabled_can_do kinds net M p).1 (h.0, (m.state, h.1.does)), omega arith, omega arith)
   tells M E room places end commits m mid t moved p a HandsOn Busy within h g = ((enabled_can_do kinds net M p).1 (h.deed, (h.between.state, h.first.does)), omega arith, omega arith)
   tells M E room places end commits m mid t moved p a HandsOn (Over stop) within h g = ((enabled_can_do kinds net M p).1 (h.deed, (h.between.state, h.first.does)), omega arith, omega arith)
-  tells M E room places end commits m mid t moved p a HandsOn Enlarged within h g = absurd (true_false _ (handed_busy kinds net (story M E room) places p m mid within h) g.0)
+  tells M E room places end commits m mid t moved p a HandsOn Enlarged within h g = absurd (true_false _ (handed_busy kinds net (state_and_history M E room) places p m mid within h) g.0)
 
 -- an outcome's number is at most 3
-few_entries : (kinds : Family) (s : Scheduler) (p : ℕ) (o : Outcome) → TellsEnabled kinds s p o → number o ≤ 3
+few_entries : (kinds : Family) (s : MachineView) (p : ℕ) (o : Outcome) → TellsEnabled kinds s p o → number o ≤ 3
 few_entries kinds s p (Done n) h = h.2
 few_entries kinds s p (Parks n) h = ⊎_elim (λ e. omega arith) (λ e. omega arith) h.1
 few_entries kinds s p LaidBack h = omega arith
@@ -129,7 +129,7 @@ few_entries kinds s p LaidBack h = omega arith
 module _ (kinds : Family) (admits : Card → List ℕ → Option Token → Type 0) where
   -- who is neither ready nor out wants what it answered
   idle_wants :
-      (net : Network) (M : State) (places : List Standing) (p : ℕ) (x : Standing) → Keeps kinds admits net None M places → place places p ≡ x → is_busy x ≡ false
+      (net : Network) (M : State) (places : List Standing) (p : ℕ) (x : Standing) → StandingsFit kinds admits net None M places → place places p ≡ x → is_busy x ≡ false
       → wants kinds net M p ≡ parked_answer x
   idle_wants net M places p Ready k e idle = cc
   idle_wants net M places p Out k e idle = cc
@@ -143,7 +143,7 @@ module _ (kinds : Family) (admits : Card → List ℕ → Option Token → Type 
       (parts.0, parts.1, holds F parts.0 parts.1)
 
   pub sound_faithful :
-      (signature : Card → Option Signature) (s : Scheduler) (room : ℕ) (bodies : List (Option Card)) → IsValid signature s.network → StaysWithin signature kinds → AlwaysSorted signature admits kinds
+      (signature : Card → Option Signature) (s : MachineView) (room : ℕ) (bodies : List (Option Card)) → IsValid signature s.network → StaysWithin signature kinds → StaysWellTyped signature admits kinds
       → IsSound kinds admits s room bodies → IsFaithful kinds admits s
   sound_faithful signature s room bodies valid within well_typed h =
       let most = in_within s.places in
@@ -152,7 +152,7 @@ module _ (kinds : Family) (admits : Card → List ℕ → Option Token → Type 
       record {
         run = h.run;
         within = at_each_moment s.network s.history s.state IsWithin h.run (within s.network valid);
-        well_typed = at_each_moment s.network s.history s.state (IsSorted admits s.network) h.run (well_typed s.network valid);
+        well_typed = at_each_moment s.network s.history s.state (IsWellTyped admits s.network) h.run (well_typed s.network valid);
         bound = end_holds kinds s.network s.state s.history s.end h.few h.ends;
         none_held_back = enabled_busy kinds admits s.network s.state s.places h.keeps;
         wanted = λ p idle. idle_wants s.network s.state s.places p _ h.keeps refl idle;
@@ -172,12 +172,12 @@ module _ (kinds : Family) (admits : Card → List ℕ → Option Token → Type 
       (λ o. get_or-set_other bodies p q (Some card) None o ∙ ⊎_elim (λ e. absurd (n (keeps q o e))) (λ ne. has q there ne) (out_or_not (place places q)))
       (cases_eq q p)
 
-  module _ (net : Network) (M : State) (E : List Entry) (places : List Standing) (end : Option End) (commits room : ℕ) (bodies : List (Option Card)) (h : IsSound kinds admits (scheduler net M E places end commits) room bodies) where
+  module _ (net : Network) (M : State) (E : List Entry) (places : List Standing) (end : Option End) (commits room : ℕ) (bodies : List (Option Card)) (h : IsSound kinds admits (machine_view net M E places end commits) room bodies) where
     -- a process that is ready or out is live
     busy_live : (p : ℕ) (x : Standing) → place places p ≡ x → x ≢ Ended → status M p ≢ Halted
     busy_live p x e n f = n (sym e ∙ h.keeps.done p f)
 
-    pub sound_taken : (p : ℕ) → end ≡ None → place places p ≡ Ready → IsSound kinds admits (scheduler net M E (set places p Out) end commits) room (set bodies p None)
+    pub sound_taken : (p : ℕ) → end ≡ None → place places p ≡ Ready → IsSound kinds admits (machine_view net M E (set places p Out) end commits) room (set bodies p None)
     sound_taken p none ready =
         let within : p < length places = place_within places p (λ e. ready_not_ended (sym ready ∙ e)) in
         let now : place (set places p Out) p ≡ Out = place_set_same places p Out within in
@@ -212,7 +212,7 @@ module _ (kinds : Family) (admits : Card → List ℕ → Option Token → Type 
       out_bodies : i.process < length bodies
       out_bodies = let a = out_within in let b = h.many_bodies in let c = h.keeps.standing in omega arith
 
-      pub sound_back : end ≢ None → IsSound kinds admits (scheduler net M E (set places i.process Ready) end (commits + 1)) room (set bodies i.process (Some i.card))
+      pub sound_back : end ≢ None → IsSound kinds admits (machine_view net M E (set places i.process Ready) end (commits + 1)) room (set bodies i.process (Some i.card))
       sound_back over =
           let now : place (set places i.process Ready) i.process ≡ Ready = place_set_same places i.process Ready out_within in
           let count = in_moved places i.process Ready out_within in
@@ -236,16 +236,16 @@ module _ (kinds : Family) (admits : Card → List ℕ → Option Token → Type 
       pub out_wants : wants kinds net M i.process ≡ Some (answer_to kinds i)
       out_wants = ap (λ s. answered kinds net i.process s) out.live ∙ ap (λ (c : Card). Some (kinds.answer c i.local i.last)) out.card
 
-      module _ (none : end ≡ None) (o : Outcome) (N : State) (F : List Entry) (moved : List Standing) (stop : Option End) (left : ℕ) (w : Works kinds net (story M E room) places i.process (answer_to kinds i) o (story N F left) moved stop) where
-        goes : GoesOn kinds net (story M E room) (story N F left) (number o)
-        goes = works_goes kinds net (story M E room) places i.process (answer_to kinds i) o (story N F left) moved stop w
+      module _ (none : end ≡ None) (o : Outcome) (N : State) (F : List Entry) (moved : List Standing) (stop : Option End) (left : ℕ) (w : Works kinds net (state_and_history M E room) places i.process (answer_to kinds i) o (state_and_history N F left) moved stop) where
+        goes : GoesOn kinds net (state_and_history M E room) (state_and_history N F left) (number o)
+        goes = works_goes kinds net (state_and_history M E room) places i.process (answer_to kinds i) o (state_and_history N F left) moved stop w
 
         -- the machine before and after
-        abbrev old : Scheduler
-        old = scheduler net M E places end commits
+        abbrev old : MachineView
+        old = machine_view net M E places end commits
 
-        abbrev new : Scheduler
-        new = scheduler net N F moved stop (commits + 1)
+        abbrev new : MachineView
+        new = machine_view net N F moved stop (commits + 1)
 
         pub worked_appends : Appends kinds old new (number o)
         worked_appends = record { entries = goes.entries; history = goes.history; run = goes.run; count = goes.count }
@@ -253,25 +253,25 @@ module _ (kinds : Family) (admits : Card → List ℕ → Option Token → Type 
         pub worked_tells : TellsEnabled kinds old i.process o
         worked_tells =
             subst (λ x. TellsEnabled kinds old i.process x) (sym w.outcome_is)
-            (tells kinds net M E room places end commits w.between w.places_between (story N F left) moved i.process (answer_to kinds i) w.reaction w.settled out_within w.reacts w.settles)
+            (tells kinds net M E room places end commits w.between w.places_between (state_and_history N F left) moved i.process (answer_to kinds i) w.reaction w.settled out_within w.reacts w.settles)
 
         pub worked_back : place moved i.process ≢ Out
-        worked_back = works_back kinds net (story M E room) places i.process (answer_to kinds i) o (story N F left) moved stop w out_within
+        worked_back = works_back kinds net (state_and_history M E room) places i.process (answer_to kinds i) o (state_and_history N F left) moved stop w out_within
 
         pub worked_others : (q : ℕ) → q ≢ i.process → (place moved q ≡ Out) ↔ (place places q ≡ Out)
-        worked_others q ne = works_others kinds net (story M E room) places i.process (answer_to kinds i) o (story N F left) moved stop w q out_within ne
+        worked_others q ne = works_others kinds net (state_and_history M E room) places i.process (answer_to kinds i) o (state_and_history N F left) moved stop w q out_within ne
 
-        works_on : Works kinds net (story M E (net.budget + 2)) places i.process (answer_to kinds i) o (story N F (net.budget + 2)) moved stop → WorksOn kinds old i o new
+        works_on : Works kinds net (state_and_history M E (net.budget + 2)) places i.process (answer_to kinds i) o (state_and_history N F (net.budget + 2)) moved stop → WorksOn kinds old i o new
         works_on v = record {
           before = none;
           network = refl;
           commits = refl;
           works = v;
-          grows = λ not. grows_exactly kinds net v.between v.places_between v.settled (story N F (net.budget + 2)) moved net.budget (length F) v.settles (λ e. not (v.end_is ∙ e));
+          grows = λ not. grows_exactly kinds net v.between v.places_between v.settled (state_and_history N F (net.budget + 2)) moved net.budget (length F) v.settles (λ e. not (v.end_is ∙ e));
         }
 
         pub worked_commits : Commits kinds old i o new
-        worked_commits = by_outcome o w.outcome_is (works_on (subst (λ r. Works kinds net (story M E (net.budget + 2)) places i.process (answer_to kinds i) o (story N F r) moved stop) (goes.room ∙ h.room_is) (subst (λ r. Works kinds net (story M E r) places i.process (answer_to kinds i) o (story N F left) moved stop) h.room_is w)))
+        worked_commits = by_outcome o w.outcome_is (works_on (subst (λ r. Works kinds net (state_and_history M E (net.budget + 2)) places i.process (answer_to kinds i) o (state_and_history N F r) moved stop) (goes.room ∙ h.room_is) (subst (λ r. Works kinds net (state_and_history M E r) places i.process (answer_to kinds i) o (state_and_history N F left) moved stop) h.room_is w)))
           where
             not_laid : (r : Reaction) (x : Settled) → LaidBack ≡ outcome_of r x → ⊥
             not_laid Waits x e = cc
@@ -283,13 +283,13 @@ module _ (kinds : Family) (admits : Card → List ℕ → Option Token → Type 
             by_outcome (Parks n) e x = x
             by_outcome LaidBack e x = absurd (not_laid w.reaction w.settled e)
 
-        pub sound_worked : Keeps kinds admits net None N moved → IsSound kinds admits new left (set bodies i.process (Some i.card))
+        pub sound_worked : StandingsFit kinds admits net None N moved → IsSound kinds admits new left (set bodies i.process (Some i.card))
         sound_worked k =
             let before : length E < net.budget = subst (λ e. EndIs kinds net M E e) none h.ends in
             let longer : length F ≡ length E + number o = ap length goes.history ∙ length-append E goes.entries ∙ ap (λ n. length E + n) goes.count in
             let most = few_entries kinds old i.process o worked_tells in
             let asked = h.asked none in
-            let count = works_count kinds net (story M E room) places i.process (answer_to kinds i) o (story N F left) moved stop w out_within out.out in
+            let count = works_count kinds net (state_and_history M E room) places i.process (answer_to kinds i) o (state_and_history N F left) moved stop w out_within out.out in
             let number : number o ≡ acted_entries w.reaction + settled_entries w.settled = ap number w.outcome_is ∙ sym (number_is kinds net w.reaction w.settled) in
             let waiting = waiting_in moved in
             record {
@@ -297,11 +297,11 @@ module _ (kinds : Family) (admits : Card → List ℕ → Option Token → Type 
               keeps = k;
               room_is = goes.room ∙ h.room_is;
               many_bodies = length-set bodies i.process (Some i.card) ∙ h.many_bodies;
-              has_bodies = bodies_back net places moved bodies i.process i.card out_bodies out.card h.has_bodies (works_out kinds net (story M E room) places i.process (answer_to kinds i) o (story N F left) moved stop w);
+              has_bodies = bodies_back net places moved bodies i.process i.card out_bodies out.card h.has_bodies (works_out kinds net (state_and_history M E room) places i.process (answer_to kinds i) o (state_and_history N F left) moved stop w);
               few = omega arith;
-              ends = subst (λ e. EndIs kinds net N F e) (sym w.end_is) (end_follows kinds net w.between w.places_between w.settled (story N F left) moved w.settles);
-              busy = λ e. busy_follows kinds net w.between w.places_between w.settled (story N F left) moved net.budget (length F) w.settles (sym w.end_is ∙ e);
-              idle = λ cause e not. idle_follows kinds net w.between w.places_between w.settled (story N F left) moved net.budget (length F) cause w.settles (sym w.end_is ∙ e) not;
+              ends = subst (λ e. EndIs kinds net N F e) (sym w.end_is) (end_follows kinds net w.between w.places_between w.settled (state_and_history N F left) moved w.settles);
+              busy = λ e. busy_follows kinds net w.between w.places_between w.settled (state_and_history N F left) moved net.budget (length F) w.settles (sym w.end_is ∙ e);
+              idle = λ cause e not. idle_follows kinds net w.between w.places_between w.settled (state_and_history N F left) moved net.budget (length F) cause w.settles (sym w.end_is ∙ e) not;
               asked = λ e. omega arith;
               laid = omega arith;
             }

@@ -5,16 +5,16 @@ use Rattle.kpn_model.specs.declared.history.Entry.{Entry}
 use Rattle.kpn_model.specs.declared.history.End.{End}
 use Rattle.kpn_model.specs.declared.history.End.TheVariants.{Terminated, Deadlock, Ceiling, Budget, Memory}
 use Rattle.kpn_model.specs.Network.{Family}
-use Rattle.kpn_model.specs.Machine.{Run, IsEnabled, IsOver}
+use Rattle.kpn_model.specs.Semantics.{Run, IsEnabled, IsOver}
 use Rattle.kpn_body.specs.Input.{Input, answer_to}
 use Rattle.kpn_state.specs.declared.standing.Standing.TheVariants.{Ready}
-use Rattle.kpn_steps.specs.declared.settle.Settled.TheVariants.{Enlarged}
-use Rattle.kpn_steps.specs.declared.outcome.Outcome.{Outcome}
-use Rattle.kpn_steps.specs.declared.outcome.Outcome.TheVariants.{Done, Parked, LaidBack}
+use Rattle.kpn_commit.specs.declared.settle.Settled.TheVariants.{Enlarged}
+use Rattle.kpn_commit.specs.declared.outcome.Outcome.{Outcome}
+use Rattle.kpn_commit.specs.declared.outcome.Outcome.TheVariants.{Done, Parked, LaidBack}
 use Rattle.kpn_state.specs.Standings.{is_busy}
-use Rattle.kpn_steps.specs.Settling.{CanGrow}
-use Rattle.kpn_steps.specs.Works.{Works}
-use Rattle.kpn_machine.specs.Scheduler.{Scheduler, story_of}
+use Rattle.kpn_commit.specs.Settling.{CanGrow}
+use Rattle.kpn_commit.specs.Works.{Works}
+use Rattle.kpn_machine.specs.MachineView.{MachineView, state_and_history_of}
 
 abbrev pub number : Outcome → ℕ
 number (Done n) = n
@@ -22,14 +22,14 @@ number (Parked n) = n
 number LaidBack = 0
 
 -- the history goes on by entries that lead from the old state to the new one, this many
-pub record Appends (kinds : Family) (s t : Scheduler) (n : ℕ) : Type 0 where
+pub record Appends (kinds : Family) (s t : MachineView) (n : ℕ) : Type 0 where
   pub entries : List Entry
   pub history : t.history ≡ s.history ++ entries
   pub run : Run kinds s.network s.state entries t.state
   pub count : length entries ≡ n
 
 -- the history goes on as a run, in the same network, and no fewer answers were taken
-pub record GoesOn (kinds : Family) (s t : Scheduler) : Type 0 where
+pub record GoesOn (kinds : Family) (s t : MachineView) : Type 0 where
   pub network : t.network ≡ s.network
   pub commits : s.commits ≤ t.commits
   pub entries : List Entry
@@ -38,22 +38,22 @@ pub record GoesOn (kinds : Family) (s t : Scheduler) : Type 0 where
 
 -- the answer was worked on, in a machine whose run goes on; a growth follows the deeds exactly where
 -- no process is then ready or out and one is due, unless its memory is refused
-pub record WorksOn (kinds : Family) (s : Scheduler) (i : Input) (o : Outcome) (t : Scheduler) : Type 0 where
+pub record WorksOn (kinds : Family) (s : MachineView) (i : Input) (o : Outcome) (t : MachineView) : Type 0 where
   pub before : s.end ≡ None
   pub network : t.network ≡ s.network
   pub commits : t.commits ≡ s.commits + 1
-  pub works : Works kinds s.network (story_of s) s.places i.process (answer_to kinds i) o (story_of t) t.places t.end
+  pub works : Works kinds s.network (state_and_history_of s) s.places i.process (answer_to kinds i) o (state_and_history_of t) t.places t.end
   pub grows : t.end ≢ Some Memory → (works.settled ≡ Enlarged) ↔ ((list_any is_busy works.places_between ≡ false) × CanGrow kinds s.network works.between.state)
 
 -- an end stood, and the process is ready again; or the answer was worked on
-abbrev pub Commits : Family → Scheduler → Input → Outcome → Scheduler → Type 0
+abbrev pub Commits : Family → MachineView → Input → Outcome → MachineView → Type 0
 Commits kinds s i LaidBack t = (s.end ≢ None) × (t ≡ record s { places = set s.places i.process Ready; commits = s.commits + 1 })
 Commits kinds s i (Done n) t = WorksOn kinds s i (Done n) t
 Commits kinds s i (Parked n) t = WorksOn kinds s i (Parked n) t
 
 -- done exactly where the process could go on, with 1 to 3 entries; parked exactly where it could
 -- not, with none or with a growth and a put
-abbrev pub TellsEnabled : Family → Scheduler → ℕ → Outcome → Type 0
+abbrev pub TellsEnabled : Family → MachineView → ℕ → Outcome → Type 0
 TellsEnabled kinds s p (Done n) = IsEnabled kinds s.network s.state p × (1 ≤ n) × (n ≤ 3)
 TellsEnabled kinds s p (Parked n) = (IsEnabled kinds s.network s.state p → ⊥) × ((n ≡ 0) ⊎ (n ≡ 2))
 TellsEnabled kinds s p LaidBack = s.end ≢ None
@@ -69,7 +69,7 @@ IsCause Memory = ⊥
 -- the end of a run that went on until now: a cause exactly where no process is ready or out and the
 -- run is over for it; want of memory only where a growth is due; else the budget exactly where it is
 -- spent; else none
-pub record EndsAs (kinds : Family) (t : Scheduler) : Type 0 where
+pub record EndsAs (kinds : Family) (t : MachineView) : Type 0 where
   pub over : (cause : End) → IsCause cause → (t.end ≡ Some cause) ↔ ((list_any is_busy t.places ≡ false) × IsOver kinds t.network t.state cause)
   pub memory : t.end ≡ Some Memory → (list_any is_busy t.places ≡ false) × CanGrow kinds t.network t.state
   pub budget : t.end ≡ Some Budget → t.network.budget ≤ length t.history

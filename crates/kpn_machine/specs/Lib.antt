@@ -1,4 +1,4 @@
 pub mod Opening
-pub mod Scheduler
+pub mod MachineView
 pub mod Commits
 pub mod OpenFaults

@@ -1,6 +1,6 @@
 //! What a machine leaves behind.
 ghost use Rattle.std.specs.Prelude.{◌≡◌};
-ghost use Rattle.kpn_machine.specs.Scheduler.{scheduler, IsFaithful};
+ghost use Rattle.kpn_machine.specs.MachineView.{machine_view, IsFaithful};
 
 use kpn_net::{End, Entry, Kinds, Net};
 use kpn_state::{Roster, Standing, Store};
@@ -21,13 +21,13 @@ pub struct Chronicle<K: Kinds> {
 }
 
 impl<K: Kinds> Model for Chronicle<K> {
-    ghost use Rattle.kpn_machine.specs.Scheduler.{Scheduler, scheduler, IsFaithful};
+    ghost use Rattle.kpn_machine.specs.MachineView.{MachineView, machine_view, IsFaithful};
 
-    ghost Value = { Scheduler };
+    ghost Value = { MachineView };
 
-    ghost view = { λ m. scheduler m.net m.store.state m.store.history m.places m.end m.commits };
+    ghost view = { λ m. machine_view m.net m.store.state m.store.history m.places m.end m.commits };
 
-    ghost invariant = { λ m. IsFaithful K.family K.admits (scheduler m.net m.store.state m.store.history m.places m.end m.commits) };
+    ghost invariant = { λ m. IsFaithful K.family K.admits (machine_view m.net m.store.state m.store.history m.places m.end m.commits) };
 }
 
 impl<K: Kinds> Chronicle<K> {
@@ -38,8 +38,8 @@ impl<K: Kinds> Chronicle<K> {
         ended: Option<End>,
         commits: u64,
     ) -> Self
-        requires faithful { IsFaithful K.family K.admits (scheduler net store.state store.history places ended commits) }
-        ensures { result ≡ scheduler net store.state store.history places ended commits }
+        requires faithful { IsFaithful K.family K.admits (machine_view net store.state store.history places ended commits) }
+        ensures { result ≡ machine_view net store.state store.history places ended commits }
     {
         Chronicle {
             net,

@@ -1,13 +1,13 @@
 //! The machine.
 ghost use Rattle.std.specs.Prelude.{count_by, ◌≡◌, ◌≢◌, ℕ, ◌<◌, ◌+◌, ◌↔◌, [], replicate, length, get_or, set, map, option_map, Some, None, IfSome, IfNone, IfErr, IfOk, OnOk, IsTrue, IsSome};
 ghost use Rattle.kpn_model.specs.Network.{card_of};
-ghost use Rattle.kpn_model.specs.Machine.{status, start};
+ghost use Rattle.kpn_model.specs.Semantics.{status, start};
 ghost use Rattle.kpn_machine.specs.Opening.{cards_of, IsRefused};
 ghost use Rattle.kpn_model.specs.declared.history.Status.TheVariants.{Done, Live};
-ghost use Rattle.kpn_model.specs.Valid.{IsSorted};
+ghost use Rattle.kpn_model.specs.Valid.{IsWellTyped};
 ghost use Rattle.kpn_state.specs.declared.standing.Standing.TheVariants.{Out, Ready as ReadyV};
-ghost use Rattle.kpn_state.specs.Standings.{place, is_out, is_ready, Keeps};
-ghost use Rattle.kpn_machine.specs.Scheduler.{scheduler, IsOut, IsOutAt, TakesOut, IsFaithful, IsFresh};
+ghost use Rattle.kpn_state.specs.Standings.{place, is_out, is_ready, StandingsFit};
+ghost use Rattle.kpn_machine.specs.MachineView.{machine_view, IsOut, IsOutAt, TakesOut, IsFaithful, IsFresh};
 ghost use Rattle.kpn_machine.specs.Commits.{Commits, Appends, EndsAs, GoesOn, TellsEnabled, number};
 ghost use Rattle.kpn_laws.specs.RoomOfRun.{TakesLeastRoom};
 
@@ -15,12 +15,12 @@ use crate::chronicle::Chronicle;
 use crate::opening::{OpenFault, Start, misfit, prepare, seat_all};
 use crate::same::{same_card, same_last, same_local};
 use kpn_body::{Body, Finished, Task};
-use kpn_laws::{least_room_of, sorted_runs, valid_runs};
+use kpn_laws::{least_room_of, typed_runs, valid_runs};
 use kpn_net::{End, Entry, Net, Status};
 use kpn_state::standing::all_ready;
 use kpn_state::{Roster, Standing, Store};
-use kpn_steps::Outcome;
-use kpn_steps::work::work;
+use kpn_commit::Outcome;
+use kpn_commit::work::work;
 use std::alloc::Global;
 use std::marker::Model;
 
@@ -40,13 +40,13 @@ pub struct Machine<B: Body> {
 impl<B: Body> Model for Machine<B> {
     ghost use Rattle.std.specs.Prelude.{map, option_map};
     ghost use Rattle.std.specs.Vec.{vec_capacity};
-    ghost use Rattle.kpn_machine.specs.Scheduler.{Scheduler, scheduler, IsSound, HasRoom};
+    ghost use Rattle.kpn_machine.specs.MachineView.{MachineView, machine_view, IsSound, HasRoom};
 
-    ghost Value = { Scheduler };
+    ghost Value = { MachineView };
 
-    ghost view = { λ m. scheduler m.net m.store.state m.store.history m.places m.end m.commits };
+    ghost view = { λ m. machine_view m.net m.store.state m.store.history m.places m.end m.commits };
 
-    ghost invariant = { λ m. IsSound B.Kinds.family B.Kinds.admits (scheduler m.net m.store.state m.store.history m.places m.end m.commits) m.store.room (map (option_map B.card) m.bodies.items) × HasRoom m.net m.spare.items (vec_capacity m.spare) };
+    ghost invariant = { λ m. IsSound B.Kinds.family B.Kinds.admits (machine_view m.net m.store.state m.store.history m.places m.end m.commits) m.store.room (map (option_map B.card) m.bodies.items) × HasRoom m.net m.spare.items (vec_capacity m.spare) };
 }
 
 /// What a machine was to be opened with, handed back, and why it was not.
@@ -73,7 +73,7 @@ impl<B: Body> Machine<B> {
         net: Net<B::Kinds>,
         mut bodies: Vec<B>,
     ) -> Result<Machine<B>, OpenRefused<B>>
-        ensures opened { IfOk result (λ m. m ≡ scheduler net (start B.Kinds.family net) [] (replicate (length net.processes) ReadyV) None 0) }
+        ensures opened { IfOk result (λ m. m ≡ machine_view net (start B.Kinds.family net) [] (replicate (length net.processes) ReadyV) None 0) }
         ensures fresh { IfOk result IsFresh }
         ensures cards { OnOk result (map B.card bodies.items ≡ cards_of net.processes) }
         ensures net_back { IfErr result (λ refused. refused.net ≡ net) }
@@ -115,7 +115,7 @@ impl<B: Body> Machine<B> {
     {
         self.net.processes();
         valid_runs();
-        sorted_runs::<B::Kinds>();
+        typed_runs::<B::Kinds>();
         self.end
     }
 
@@ -198,7 +198,7 @@ fn take_out<B: Body>(
     requires process { process < length store.now.state.processes }
     requires bodies { process < length bodies.old.items }
     requires live { status store.now.state process ≢ Done }
-    requires sorted { IsSorted B.Kinds.admits net.now store.now.state }
+    requires sorted { IsWellTyped B.Kinds.admits net.now store.now.state }
     requires has_body { get_or (map (option_map B.card) bodies.old.items) process None ≡ Some (card_of net.now process) }
     ensures process { result.process ≡ process }
     ensures card { card_of net.now process ≡ result.card }
@@ -221,7 +221,7 @@ fn is_out<B: Body>(
     places: &[Standing],
     finished: &Finished<B>,
 ) -> bool
-    requires keeps { Keeps B.Kinds.family B.Kinds.admits net.now None store.now.state places.now }
+    requires keeps { StandingsFit B.Kinds.family B.Kinds.admits net.now None store.now.state places.now }
     ensures { IsTrue result ↔ IsOutAt net.now store.now.state places.now finished.now }
 {
     let process = finished.process();

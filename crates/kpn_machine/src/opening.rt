@@ -2,9 +2,9 @@
 ghost use Rattle.std.specs.Prelude.{◌≡◌, ℕ, ◌<◌, ◌+◌, length, [], All, Some, None, IsSome, IfOk, OnOk, IfSome, IfNone, map, option_map, replicate};
 ghost use Rattle.std.specs.Vec.{vec_capacity};
 ghost use Rattle.kpn_model.specs.Network.{card_of};
-ghost use Rattle.kpn_model.specs.Machine.{start};
+ghost use Rattle.kpn_model.specs.Semantics.{start};
 ghost use Rattle.kpn_state.specs.declared.standing.Standing.TheVariants.{Ready};
-ghost use Rattle.kpn_state.specs.Story.{story};
+ghost use Rattle.kpn_state.specs.StateAndHistory.{state_and_history};
 ghost use Rattle.kpn_machine.specs.OpenFaults.{number_of};
 ghost use Rattle.kpn_machine.specs.Opening.{starting, filled, cards_of, IsRefused, AreSeated};
 
@@ -97,7 +97,7 @@ fn start_rings<K: Kinds>(alloc: Global, net: &Net<K>) -> Result<Vec<Ring>, Alloc
 
 /// The start of a network, with room for its budget and two entries more.
 fn start_store<K: Kinds>(alloc: Global, net: &Net<K>) -> Result<Store, AllocError>
-    ensures store { IfOk result (λ s. s ≡ story (start K.family net.now) [] (net.now.budget + 2)) }
+    ensures store { IfOk result (λ s. s ≡ state_and_history (start K.family net.now) [] (net.now.budget + 2)) }
     ensures admitted { OnOk result ((p : ℕ) → p < length net.now.processes → K.admits (card_of net.now p) (K.family.start (card_of net.now p)) None) }
 {
     net.processes();
@@ -130,7 +130,7 @@ pub(crate) struct Start<B: Body> {
 
 /// The start of a network.
 pub(crate) fn prepare<B: Body>(alloc: Global, net: &Net<B::Kinds>) -> Result<Start<B>, AllocError>
-    ensures store { IfOk result (λ r. r.store ≡ story (start B.Kinds.family net.now) [] (net.now.budget + 2)) }
+    ensures store { IfOk result (λ r. r.store ≡ state_and_history (start B.Kinds.family net.now) [] (net.now.budget + 2)) }
     ensures places { IfOk result (λ r. r.places ≡ replicate (length net.now.processes) Ready) }
     ensures slots { IfOk result (λ r. length r.slots.items ≡ length net.now.processes) }
     ensures admitted { OnOk result ((p : ℕ) → p < length net.now.processes → B.Kinds.admits (card_of net.now p) (B.Kinds.family.start (card_of net.now p)) None) }

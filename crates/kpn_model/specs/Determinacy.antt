@@ -4,15 +4,15 @@ use Rattle.kpn_model.specs.declared.history.Entry.{Entry}
 use Rattle.kpn_model.specs.declared.history.End.{End}
 use Rattle.kpn_model.specs.Network.{Family, Network, resized}
 use Rattle.kpn_model.specs.declared.history.End.TheVariants.{Terminated, Deadlock}
-use Rattle.kpn_model.specs.Machine.{State, start, wants, Run, IsOver}
+use Rattle.kpn_model.specs.Semantics.{State, start, wants, Run, IsOver}
 use Rattle.kpn_model.specs.History.{deeds, stream, place_of, digest}
 
-abbrev pub IsFrontOf : {X : Type 0} → List X → List X → Type 0
-IsFrontOf {X} xs ys = (rest : List X) × (xs ++ rest ≡ ys)
+abbrev pub IsPrefixOf : {X : Type 0} → List X → List X → Type 0
+IsPrefixOf {X} xs ys = (rest : List X) × (xs ++ rest ≡ ys)
 
 -- one of the two begins with the other
-abbrev pub AreInLine : {X : Type 0} → List X → List X → Type 0
-AreInLine xs ys = IsFrontOf xs ys ⊎ IsFrontOf ys xs
+abbrev pub ArePrefixComparable : {X : Type 0} → List X → List X → Type 0
+ArePrefixComparable xs ys = IsPrefixOf xs ys ⊎ IsPrefixOf ys xs
 
 module _ (kinds : Family) where
   -- E leads from the start of the network to M
@@ -56,12 +56,12 @@ OneOutcome kinds =
     → HaveSameOutcome kinds net (resized net sizes) E F M N
 
 -- of the deeds of each process in two histories, and of each channel's streams, one begins with the other
-pub record AreAllInLine (net other : Network) (E F : List Entry) : Type 0 where
-  pub deeds : (p : ℕ) → AreInLine (deeds E p) (deeds F p)
-  pub streams : (c : ℕ) → AreInLine (stream net E c) (stream other F c)
+pub record AreAllPrefixComparable (net other : Network) (E F : List Entry) : Type 0 where
+  pub deeds : (p : ℕ) → ArePrefixComparable (deeds E p) (deeds F p)
+  pub streams : (c : ℕ) → ArePrefixComparable (stream net E c) (stream other F c)
 
 -- so it is in any two runs, whatever the starting capacities
-abbrev pub AllInLine : Family → Type 0
-AllInLine kinds =
+abbrev pub AllPrefixComparable : Family → Type 0
+AllPrefixComparable kinds =
     (net : Network) (sizes : ℕ → ℕ) (E F : List Entry) (M N : State)
-    → IsRun kinds net E M → IsRun kinds (resized net sizes) F N → AreAllInLine net (resized net sizes) E F
+    → IsRun kinds net E M → IsRun kinds (resized net sizes) F N → AreAllPrefixComparable net (resized net sizes) E F

@@ -13,7 +13,7 @@ use Rattle.kpn_model.specs.declared.history.End.{End}
 use Rattle.kpn_model.specs.declared.history.Place.{Place}
 use Rattle.kpn_model.specs.declared.history.Place.TheVariants.{Stopped as Ended, Reads, Writes}
 use Rattle.kpn_model.specs.Network.{Family, Network, channel_of, in_of, out_of}
-use Rattle.kpn_model.specs.Machine.{State, wants}
+use Rattle.kpn_model.specs.Semantics.{State, wants}
 
 -- the deeds of p, in order
 abbrev pub deeds : List Entry → ℕ → List Deed

@@ -1,6 +1,6 @@
 pub mod Network
 pub mod Lawful
-pub mod Machine
+pub mod Semantics
 pub mod History
 pub mod Determinacy
 pub mod Moments

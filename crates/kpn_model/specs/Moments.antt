@@ -5,7 +5,7 @@ use Rattle.kpn_model.specs.declared.history.Entry.{Entry}
 use Rattle.kpn_model.specs.declared.history.End.{End}
 use Rattle.kpn_model.specs.declared.history.End.TheVariants.{Budget, Memory}
 use Rattle.kpn_model.specs.Network.{Family, Network, channel_of}
-use Rattle.kpn_model.specs.Machine.{State, tokens, capacity, IsEnabled, Does, IsArtificial, IsChosen, Run, IsOver, start}
+use Rattle.kpn_model.specs.Semantics.{State, tokens, capacity, IsEnabled, Does, IsArtificial, IsChosen, Run, IsOver, start}
 use Rattle.kpn_model.specs.History.{stream, taken, growths, grown}
 use Rattle.kpn_model.specs.Determinacy.{IsRun, IsFinal}
 

@@ -11,9 +11,9 @@ use Rattle.kpn_model.specs.declared.kinds.Card.{Card}
 use Rattle.kpn_model.specs.declared.kinds.Answer.{Answer}
 use Rattle.kpn_model.specs.Network.{Family, Network}
 use Rattle.kpn_body.specs.Input.{Input, answer_to}
-use Rattle.kpn_steps.specs.declared.outcome.Outcome.{Outcome}
-use Rattle.kpn_steps.specs.declared.outcome.Outcome.TheVariants.{Done, Parked, LaidBack}
-use Rattle.kpn_machine.specs.Scheduler.{Scheduler, TakesOut}
+use Rattle.kpn_commit.specs.declared.outcome.Outcome.{Outcome}
+use Rattle.kpn_commit.specs.declared.outcome.Outcome.TheVariants.{Done, Parked, LaidBack}
+use Rattle.kpn_machine.specs.MachineView.{MachineView, TakesOut}
 use Rattle.kpn_machine.specs.Commits.{Commits, Appends, number}
 use Rattle.kpn_monitor.specs.Names.{Shares, Holding}
 use Rattle.kpn_monitor.specs.Kept.{WasCommitted}
@@ -62,16 +62,16 @@ no_item [] none = refl
 no_item (x ∷ xs) none = absurd (omega (arith, none))
 
 -- one task more went out
-pub takes_more : (s : Scheduler) (tasks : List Input) (m : Scheduler) (i : Input) (t : Scheduler) → TakesOutAll s tasks m → TakesOut m i t → TakesOutAll s (tasks ++ i ∷ []) t
-takes_more s [] m i t all one = (t, subst (λ (x : Scheduler). TakesOut x i t) all one, refl)
+pub takes_more : (s : MachineView) (tasks : List Input) (m : MachineView) (i : Input) (t : MachineView) → TakesOutAll s tasks m → TakesOut m i t → TakesOutAll s (tasks ++ i ∷ []) t
+takes_more s [] m i t all one = (t, subst (λ (x : MachineView). TakesOut x i t) all one, refl)
 takes_more s (j ∷ tasks) m i t all one = (all.0, all.1, takes_more all.0 tasks m i t all.2 one)
 
 -- one answer more was taken
-pub commits_more : (kinds : Family) (s : Scheduler) (tasks : List Input) (outcomes : List Outcome) (m : Scheduler) (i : Input) (left : List Input) (o : Outcome) (t : Scheduler) → CommitsAll kinds s tasks outcomes m (i ∷ left) → Commits kinds m i o t → Appends kinds m t (number o)
+pub commits_more : (kinds : Family) (s : MachineView) (tasks : List Input) (outcomes : List Outcome) (m : MachineView) (i : Input) (left : List Input) (o : Outcome) (t : MachineView) → CommitsAll kinds s tasks outcomes m (i ∷ left) → Commits kinds m i o t → Appends kinds m t (number o)
     → CommitsAll kinds s tasks (outcomes ++ o ∷ []) t left
 commits_more kinds s [] [] m i left o t all one more = absurd (let e = all.1 in cc)
 commits_more kinds s (j ∷ tasks) [] m i left o t all one more =
-    subst (λ (l : List Input). CommitsAll kinds s l (o ∷ []) t left) all.1 (subst (λ (x : Scheduler). CommitsAll kinds x (i ∷ left) (o ∷ []) t left) all.0 (t, one, more, (refl, refl)))
+    subst (λ (l : List Input). CommitsAll kinds s l (o ∷ []) t left) all.1 (subst (λ (x : MachineView). CommitsAll kinds x (i ∷ left) (o ∷ []) t left) all.0 (t, one, more, (refl, refl)))
 commits_more kinds s [] (p ∷ outcomes) m i left o t all one more = absurd all
 commits_more kinds s (j ∷ tasks) (p ∷ outcomes) m i left o t all one more = (all.0, all.1, all.2, commits_more kinds all.0 tasks outcomes m i left o t all.3 one more)
 
@@ -83,7 +83,7 @@ committed_more kinds admits net [] (p ∷ outcomes) i left o all one = absurd al
 committed_more kinds admits net (j ∷ tasks) (p ∷ outcomes) i left o all one = (all.0, committed_more kinds admits net tasks outcomes i left o all.1 one)
 
 -- a hand gave its first task, and noted what came of it
-pub gave_machine : (kinds : Family) (s : Scheduler) (tasks : List Input) (before between after : Holding) (m t : Scheduler) (i : Input) (o : Outcome)
+pub gave_machine : (kinds : Family) (s : MachineView) (tasks : List Input) (before between after : Holding) (m t : MachineView) (i : Input) (o : Outcome)
     → before.tasks ≡ i ∷ between.tasks → between.outcomes ≡ before.outcomes → after ≡ record between { outcomes = between.outcomes ++ o ∷ [] }
     → CommitsAll kinds s tasks before.outcomes m before.tasks → Commits kinds m i o t → Appends kinds m t (number o) → CommitsAll kinds s tasks after.outcomes t after.tasks
 gave_machine kinds s tasks before between after m t i o first same noted all one more =
@@ -110,7 +110,7 @@ gave_many before between after i o first same noted =
     )
 
 -- a hand was dealt a task more
-pub dealt_out : (s : Scheduler) (before after : Holding) (m : Scheduler) (i : Input) (t : Scheduler) → after ≡ record before { tasks = before.tasks ++ i ∷ [] } → TakesOut m i t → TakesOutAll s before.tasks m → TakesOutAll s after.tasks t
+pub dealt_out : (s : MachineView) (before after : Holding) (m : MachineView) (i : Input) (t : MachineView) → after ≡ record before { tasks = before.tasks ++ i ∷ [] } → TakesOut m i t → TakesOutAll s before.tasks m → TakesOutAll s after.tasks t
 dealt_out s before after m i t is one all = subst (λ (h : Holding). TakesOutAll s h.tasks t) (sym is) (takes_more s before.tasks m i t all one)
 
 one_at : {X : Type 0} (P : X → Type 0) (y : X) → P y → (k : ℕ) (d : X) → k < 1 → P (slice_index_or (y ∷ []) k d)
@@ -124,20 +124,20 @@ pub all_more : {X : Type 0} (P : X → Type 0) (xs ys : List X) (y : X) → ys �
 all_more P xs ys y is all p = rw is (All-append P xs (y ∷ []) all (one_at P y p))
 
 -- the history went on by so many entries; where an end stood, by none, and the end stays
-pub record WentOn (s t : Scheduler) (n : ℕ) : Type 0 where
+pub record WentOn (s t : MachineView) (n : ℕ) : Type 0 where
   pub history : IsPrefix s.history t.history
   pub count : length t.history ≡ length s.history + n
   pub ended : s.end ≢ None → (t.history ≡ s.history) × (t.end ≡ s.end)
 
-went_nowhere : (s : Scheduler) → WentOn s s 0
+went_nowhere : (s : MachineView) → WentOn s s 0
 went_nowhere s = record { history = prefix_self s.history; count = omega arith; ended = λ stands. (refl, refl) }
 
-went_on_once : (kinds : Family) (s : Scheduler) (i : Input) (o : Outcome) (t : Scheduler) → Commits kinds s i o t → Appends kinds s t (number o) → WentOn s t (number o)
+went_on_once : (kinds : Family) (s : MachineView) (i : Input) (o : Outcome) (t : MachineView) → Commits kinds s i o t → Appends kinds s t (number o) → WentOn s t (number o)
 went_on_once kinds s i (Done n) t one more = record { history = (more.entries, sym more.history); count = omega (arith, ap length more.history, length-append s.history more.entries, more.count); ended = λ stands. absurd (stands one.before) }
 went_on_once kinds s i (Parked n) t one more = record { history = (more.entries, sym more.history); count = omega (arith, ap length more.history, length-append s.history more.entries, more.count); ended = λ stands. absurd (stands one.before) }
-went_on_once kinds s i LaidBack t one more = record { history = (more.entries, sym more.history); count = omega (arith, ap length more.history, length-append s.history more.entries, more.count); ended = λ stands. (ap (λ (x : Scheduler). x.history) one.1, ap (λ (x : Scheduler). x.end) one.1) }
+went_on_once kinds s i LaidBack t one more = record { history = (more.entries, sym more.history); count = omega (arith, ap length more.history, length-append s.history more.entries, more.count); ended = λ stands. (ap (λ (x : MachineView). x.history) one.1, ap (λ (x : MachineView). x.end) one.1) }
 
-went_on_again : (s m t : Scheduler) (a b : ℕ) → WentOn s m a → WentOn m t b → WentOn s t (a + b)
+went_on_again : (s m t : MachineView) (a b : ℕ) → WentOn s m a → WentOn m t b → WentOn s t (a + b)
 went_on_again s m t a b one more = record {
   history = prefix_trans s.history m.history t.history one.history more.history;
   count = omega (arith, one.count, more.count);
@@ -148,14 +148,14 @@ went_on_again s m t a b one more = record {
 }
 
 -- where answers were taken, the history went on by as many entries as they appended
-went_on : (kinds : Family) (s : Scheduler) (tasks : List Input) (outcomes : List Outcome) (t : Scheduler) (left : List Input) → CommitsAll kinds s tasks outcomes t left → WentOn s t (sum_by number outcomes)
-went_on kinds s tasks [] t left all = subst (λ (x : Scheduler). WentOn s x 0) (sym all.0) (went_nowhere s)
+went_on : (kinds : Family) (s : MachineView) (tasks : List Input) (outcomes : List Outcome) (t : MachineView) (left : List Input) → CommitsAll kinds s tasks outcomes t left → WentOn s t (sum_by number outcomes)
+went_on kinds s tasks [] t left all = subst (λ (x : MachineView). WentOn s x 0) (sym all.0) (went_nowhere s)
 went_on kinds s [] (o ∷ outcomes) t left all = absurd all
 went_on kinds s (i ∷ tasks) (o ∷ outcomes) t left all =
     subst (λ n. WentOn s t n) (sym (sum_by-cons number o outcomes)) (went_on_again s all.0 t (number o) (sum_by number outcomes) (went_on_once kinds s i o all.0 all.1 all.2) (went_on kinds all.0 tasks outcomes t left all.3))
 
 -- also where one was refused
-pub gave : (kinds : Family) (s : Scheduler) (tasks : List Input) (outcomes : List Outcome) (t : Scheduler) (left : List Input) (refused : Option Input)
+pub gave : (kinds : Family) (s : MachineView) (tasks : List Input) (outcomes : List Outcome) (t : MachineView) (left : List Input) (refused : Option Input)
     → MatchOption refused (CommitsAll kinds s tasks outcomes t left) (λ i. CommitsAll kinds s tasks outcomes t (i ∷ left)) → WentOn s t (sum_by number outcomes)
 gave kinds s tasks outcomes t left None all = went_on kinds s tasks outcomes t left all
 gave kinds s tasks outcomes t left (Some i) all = went_on kinds s tasks outcomes t (i ∷ left) all

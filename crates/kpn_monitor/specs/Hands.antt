@@ -5,8 +5,8 @@ use Rattle.kpn_model.specs.declared.kinds.Card.{Card}
 use Rattle.kpn_model.specs.declared.kinds.Answer.{Answer}
 use Rattle.kpn_model.specs.Network.{Family, Network}
 use Rattle.kpn_body.specs.Input.{Input, answer_to}
-use Rattle.kpn_steps.specs.declared.outcome.Outcome.{Outcome}
-use Rattle.kpn_machine.specs.Scheduler.{Scheduler, TakesOut}
+use Rattle.kpn_commit.specs.declared.outcome.Outcome.{Outcome}
+use Rattle.kpn_machine.specs.MachineView.{MachineView, TakesOut}
 use Rattle.kpn_machine.specs.Commits.{Commits, Appends, number}
 use Rattle.kpn_monitor.specs.Kept.{WasCommitted}
 
@@ -17,16 +17,16 @@ AreAnswers kinds [] (a ∷ answers) = ⊥
 AreAnswers kinds (i ∷ tasks) (a ∷ answers) = (a ≡ answer_to kinds i) × AreAnswers kinds tasks answers
 
 -- these tasks go out, one after the other
-abbrev pub TakesOutAll : Scheduler → List Input → Scheduler → Type 0
+abbrev pub TakesOutAll : MachineView → List Input → MachineView → Type 0
 TakesOutAll s [] t = t ≡ s
-TakesOutAll s (i ∷ tasks) t = (m : Scheduler) × TakesOut s i m × TakesOutAll m tasks t
+TakesOutAll s (i ∷ tasks) t = (m : MachineView) × TakesOut s i m × TakesOutAll m tasks t
 
 -- the answers to the first of the tasks are taken, one after the other, each with the outcome at its
 -- place and with its number of entries; these tasks are left
-abbrev pub CommitsAll : Family → Scheduler → List Input → List Outcome → Scheduler → List Input → Type 0
+abbrev pub CommitsAll : Family → MachineView → List Input → List Outcome → MachineView → List Input → Type 0
 CommitsAll kinds s tasks [] t left = (t ≡ s) × (left ≡ tasks)
 CommitsAll kinds s [] (o ∷ outcomes) t left = ⊥
-CommitsAll kinds s (i ∷ tasks) (o ∷ outcomes) t left = (m : Scheduler) × Commits kinds s i o m × Appends kinds s m (number o) × CommitsAll kinds m tasks outcomes t left
+CommitsAll kinds s (i ∷ tasks) (o ∷ outcomes) t left = (m : MachineView) × Commits kinds s i o m × Appends kinds s m (number o) × CommitsAll kinds m tasks outcomes t left
 
 -- the answers to the first of the tasks were committed, each with the outcome at its place; these
 -- tasks are left

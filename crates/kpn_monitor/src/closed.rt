@@ -5,7 +5,7 @@ ghost use Rattle.kpn_watch.specs.declared.progress.Phase.TheVariants.{Running};
 ghost use Rattle.kpn_watch.specs.Phases.{phase_of};
 ghost use Rattle.kpn_watch.specs.Shown.{shows};
 ghost use Rattle.kpn_monitor.specs.Kept.{IsShown};
-ghost use Rattle.kpn_machine.specs.Scheduler.{IsFaithful};
+ghost use Rattle.kpn_machine.specs.MachineView.{IsFaithful};
 
 use crate::monitor::Monitor;
 use crate::naming::EntryLedger;

@@ -2,7 +2,7 @@
 ghost use Rattle.std.specs.Prelude.{◌≡◌, ◌+◌, ◌≤◌, [], ◌∷◌, length, MatchOption};
 ghost use Rattle.kpn_monitor.specs.Kept.{WasCommitted};
 ghost use Rattle.kpn_monitor.specs.Hands.{CommitsAll, WereCommitted};
-ghost use Rattle.kpn_machine.specs.Scheduler.{IsOut};
+ghost use Rattle.kpn_machine.specs.MachineView.{IsOut};
 ghost use Rattle.kpn_machine.specs.Commits.{Commits, Appends, number};
 
 use crate::hand::Hand;

@@ -6,14 +6,14 @@
 ghost use Rattle.std.specs.Prelude.{◌≡◌, ◌+◌, ◌<◌, ◌≤◌, ◌↔◌, [], ◌∷◌, ◌++◌, true, false, length, Some, IfNone, Ok, IfSome, IfOk, IfErr, IsErr, OnOk, OnErr, IsSome, MatchOption, MatchResult};
 ghost use Rattle.std.specs.List.{All, sum_by};
 ghost use Rattle.kpn_model.specs.declared.history.End.{End as EndV};
-ghost use Rattle.kpn_model.specs.Machine.{State};
+ghost use Rattle.kpn_model.specs.Semantics.{State};
 ghost use Rattle.kpn_model.specs.Determinacy.{IsRun};
 ghost use Rattle.kpn_watch.specs.declared.progress.Phase.TheVariants.{Running};
 ghost use Rattle.kpn_watch.specs.Phases.{phase_of};
 ghost use Rattle.kpn_monitor.specs.Kept.{IsShown, HasEnded, WasCommitted, WasTaken, FoundNothing};
 ghost use Rattle.kpn_monitor.specs.Hands.{TakesOutAll, CommitsAll, WereCommitted};
 ghost use Rattle.kpn_body.specs.Input.{Input};
-ghost use Rattle.kpn_machine.specs.Scheduler.{Scheduler, EndHolds, IsFaithful, IsFresh, TakesOut};
+ghost use Rattle.kpn_machine.specs.MachineView.{MachineView, EndHolds, IsFaithful, IsFresh, TakesOut};
 ghost use Rattle.kpn_machine.specs.Commits.{Commits, Appends, number};
 
 use crate::giving::{give_all, give_one};
@@ -220,7 +220,7 @@ impl<B: Body, E: EntryLedger, O: Ledger> Guarded<B, E, O> {
     ) -> Result<Next, Stranger<B>>
         requires board { board.now ≡ E.board }
         requires called { hand.old.called ≡ length hand.old.tasks }
-        ensures machine { IfOk result (λ _. (m : Scheduler) × CommitsAll B.Kinds.family self.old.machine hand.old.tasks hand.new.outcomes m [] × TakesOutAll m hand.new.tasks self.new.machine) }
+        ensures machine { IfOk result (λ _. (m : MachineView) × CommitsAll B.Kinds.family self.old.machine hand.old.tasks hand.new.outcomes m [] × TakesOutAll m hand.new.tasks self.new.machine) }
         ensures committed { OnOk result (WereCommitted B.Kinds.family B.Kinds.admits E.net hand.old.tasks hand.new.outcomes []) }
         ensures stranger { IfErr result (λ s. WereCommitted B.Kinds.family B.Kinds.admits E.net hand.old.tasks hand.new.outcomes (s.finished ∷ hand.new.tasks) × CommitsAll B.Kinds.family self.old.machine hand.old.tasks hand.new.outcomes self.new.machine (s.finished ∷ hand.new.tasks)) }
         ensures kept { OnErr result ((seat.new.overs ≡ seat.old.overs) × (hand.new.called ≡ length hand.new.tasks)) }
@@ -242,7 +242,7 @@ impl<B: Body, E: EntryLedger, O: Ledger> Guarded<B, E, O> {
     fn deal_more(&mut self, hand: &mut Hand<B>, wanted: usize)
         requires one { length hand.old.tasks ≡ 1 }
         requires room { wanted ≤ 16 }
-        ensures out { (s : Scheduler) → TakesOutAll s hand.old.tasks self.old.machine → TakesOutAll s hand.new.tasks self.new.machine }
+        ensures out { (s : MachineView) → TakesOutAll s hand.old.tasks self.old.machine → TakesOutAll s hand.new.tasks self.new.machine }
         ensures taken { All (WasTaken B.Kinds.family B.Kinds.admits E.net) hand.old.tasks → All (WasTaken B.Kinds.family B.Kinds.admits E.net) hand.new.tasks }
         ensures some { 0 < length hand.new.tasks }
         ensures rest { (hand.new.called ≡ hand.old.called) × (hand.new.outcomes ≡ hand.old.outcomes) }

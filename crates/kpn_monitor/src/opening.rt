@@ -1,7 +1,7 @@
 //! A machine that is to be shared.
 ghost use Rattle.std.specs.Prelude.{◌≡◌, [], MatchResult};
 ghost use Rattle.kpn_watch.specs.declared.progress.Phase.TheVariants.{Running};
-ghost use Rattle.kpn_machine.specs.Scheduler.{IsFresh};
+ghost use Rattle.kpn_machine.specs.MachineView.{IsFresh};
 
 use kpn_body::Body;
 use kpn_machine::Machine;
@@ -24,7 +24,7 @@ pub struct Opening<B: Body> {
 impl<B: Body> Model for Opening<B> {
     ghost use Rattle.std.specs.Prelude.{◌≡◌, []};
     ghost use Rattle.kpn_watch.specs.declared.progress.Phase.TheVariants.{Running};
-    ghost use Rattle.kpn_machine.specs.Scheduler.{IsFresh};
+    ghost use Rattle.kpn_machine.specs.MachineView.{IsFresh};
     ghost use Rattle.kpn_monitor.specs.Names.{Unopened};
 
     ghost Value = { Unopened };

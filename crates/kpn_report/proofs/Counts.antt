@@ -7,7 +7,7 @@ use Rattle.kpn_model.specs.declared.history.Entry.{Entry}
 use Rattle.kpn_model.specs.declared.history.End.{End}
 use Rattle.kpn_model.specs.declared.history.End.TheVariants.{Terminated, Deadlock, Ceiling, Budget, Memory}
 use Rattle.kpn_model.specs.Network.{Family, Network, channel_of}
-use Rattle.kpn_model.specs.Machine.{State}
+use Rattle.kpn_model.specs.Semantics.{State}
 use Rattle.kpn_model.specs.declared.history.Place.{Place}
 use Rattle.kpn_model.specs.History.{digest, stream, put_on, taken, growths, grown}
 use Rattle.kpn_report.specs.declared.account.Account.{Account}

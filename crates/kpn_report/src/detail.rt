@@ -2,7 +2,7 @@
 ghost use Rattle.std.specs.Prelude.{◌≡◌, ◌<◌, [], ℕ, true, drop, get_or, length, map, IfOk};
 ghost use Rattle.kpn_model.specs.declared.history.End.{End as EndV};
 ghost use Rattle.kpn_model.specs.Network.{Family};
-ghost use Rattle.kpn_model.specs.Machine.{State, wants};
+ghost use Rattle.kpn_model.specs.Semantics.{State, wants};
 ghost use Rattle.kpn_model.specs.History.{each_process, place_of, digest};
 ghost use Rattle.kpn_report.specs.Digested.{digest_with, has_detail, IsReport};
 ghost use Rattle.kpn_report.specs.Tally.{account_at};

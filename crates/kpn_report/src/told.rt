@@ -1,7 +1,7 @@
 //! The text of a report, from a history.
 ghost use Rattle.std.specs.Prelude.{◌≡◌, ◌++◌, ◌<◌, ◌+◌, ◌^◌, [], ℕ, true, OnOk, IfOk, length, slice_index_or, string_bytes};
 ghost use Rattle.kpn_model.specs.Network.{Family};
-ghost use Rattle.kpn_model.specs.Machine.{State, wants};
+ghost use Rattle.kpn_model.specs.Semantics.{State, wants};
 ghost use Rattle.kpn_model.specs.History.{stream, each_process, each_channel, place_of, digest};
 ghost use Rattle.kpn_model.specs.declared.history.End.TheVariants.{Terminated};
 ghost use Rattle.kpn_report.specs.Tally.{account_at};

@@ -6,9 +6,9 @@ use Rattle.kpn_model.specs.declared.kinds.Card.{Card}
 use Rattle.kpn_model.specs.declared.history.End.{End}
 use Rattle.kpn_model.specs.declared.history.Entry.{Entry}
 use Rattle.kpn_model.specs.Network.{Family, Network}
-use Rattle.kpn_model.specs.Machine.{State}
+use Rattle.kpn_model.specs.Semantics.{State}
 use Rattle.kpn_model.specs.Moments.{IsBound}
-use Rattle.kpn_machine.specs.Scheduler.{IsFaithful, EndHolds}
+use Rattle.kpn_machine.specs.MachineView.{IsFaithful, EndHolds}
 use Rattle.kpn_run.specs.Runs.{FinishedRun, IsFinish}
 
 bound_of : (kinds : Family) (net : Network) (E : List Entry) (M : State) (o : Option End) (e : End) → o ≡ Some e → EndHolds kinds net E M o → IsBound kinds net E M e

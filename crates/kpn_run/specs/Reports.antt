@@ -3,7 +3,7 @@ use Rattle.std.specs.Prelude.{◌≡◌, ℕ, true, List, length, Option, Some}
 use Rattle.kpn_model.specs.declared.history.End.{End}
 use Rattle.kpn_model.specs.declared.history.Entry.{Entry}
 use Rattle.kpn_model.specs.Network.{Family, Network, resized}
-use Rattle.kpn_model.specs.Machine.{State, wants}
+use Rattle.kpn_model.specs.Semantics.{State, wants}
 use Rattle.kpn_model.specs.History.{deeds, stream, place_of, each_process, each_channel, digest}
 use Rattle.kpn_model.specs.Determinacy.{IsFinal, IsNatural}
 use Rattle.kpn_report.specs.declared.detail.Detail.{Detail}

@@ -4,15 +4,15 @@ use Rattle.kpn_model.specs.declared.history.End.{End}
 use Rattle.kpn_model.specs.declared.history.End.TheVariants.{Budget}
 use Rattle.kpn_model.specs.declared.history.Entry.{Entry}
 use Rattle.kpn_model.specs.Network.{Family, Network, resized}
-use Rattle.kpn_model.specs.Machine.{State}
-use Rattle.kpn_model.specs.Determinacy.{IsRun, IsFinal, AreAllInLine}
+use Rattle.kpn_model.specs.Semantics.{State}
+use Rattle.kpn_model.specs.Determinacy.{IsRun, IsFinal, AreAllPrefixComparable}
 use Rattle.kpn_model.specs.Moments.{IsBound, IsWithin}
-use Rattle.kpn_machine.specs.Scheduler.{Scheduler}
+use Rattle.kpn_machine.specs.MachineView.{MachineView}
 use Rattle.kpn_monitor.specs.Names.{Shares}
 
 -- what contracts see of a run that is over: the machine that was closed, the receipts, and the end
 pub record FinishedRun : Type 0 where
-  pub machine : Scheduler
+  pub machine : MachineView
   pub receipts : ℕ
   pub cause : End
 
@@ -35,7 +35,7 @@ SparesBudget kinds net cause = (F : List Entry) (N : State) (b : End) → IsFina
 -- this history and any run of the network, from any starting capacities, have deeds and streams of
 -- which one begins with the other
 abbrev pub IsInLine : Family → Network → List Entry → Type 0
-IsInLine kinds net history = (sizes : ℕ → ℕ) (F : List Entry) (N : State) → IsRun kinds (resized net sizes) F N → AreAllInLine net (resized net sizes) history F
+IsInLine kinds net history = (sizes : ℕ → ℕ) (F : List Entry) (N : State) → IsRun kinds (resized net sizes) F N → AreAllPrefixComparable net (resized net sizes) history F
 
 -- what contracts see of a worker's slot: its seat, and whether an answer of the worker was refused
 pub record AtSlot : Type 0 where

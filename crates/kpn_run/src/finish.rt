@@ -1,6 +1,6 @@
 //! A run that is over.
 ghost use Rattle.std.specs.Prelude.{◌≡◌, Some, IsNone, length, MatchOption};
-ghost use Rattle.kpn_machine.specs.Scheduler.{IsFaithful};
+ghost use Rattle.kpn_machine.specs.MachineView.{IsFaithful};
 ghost use Rattle.kpn_run.specs.Runs.{IsFinish};
 
 use kpn_machine::{Chronicle, Standing};

@@ -1,3 +1,3 @@
-pub mod Story
+pub mod StateAndHistory
 pub mod Standings
 pub mod Rosters

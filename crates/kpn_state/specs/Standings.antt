@@ -7,8 +7,8 @@ use Rattle.kpn_model.specs.declared.history.Deed.{Deed}
 use Rattle.kpn_model.specs.declared.history.Deed.TheVariants.{Took, Put, Stopped}
 use Rattle.kpn_model.specs.declared.history.Status.TheVariants.{Done}
 use Rattle.kpn_model.specs.Network.{Family, Network, channel_of}
-use Rattle.kpn_model.specs.Machine.{State, status, capacity, wants, IsPossible}
-use Rattle.kpn_model.specs.Valid.{IsSorted}
+use Rattle.kpn_model.specs.Semantics.{State, status, capacity, wants, IsPossible}
+use Rattle.kpn_model.specs.Valid.{IsWellTyped}
 use Rattle.kpn_state.specs.declared.standing.Standing.{Standing}
 use Rattle.kpn_state.specs.declared.standing.Standing.TheVariants.{Ready, Out, Parked, Stopped as Ended}
 
@@ -68,11 +68,11 @@ HasChannel net Stopped = Unit {0}
 
 -- the state is one of the network, with tokens of their sorts; each process stands where its status
 -- says; each parked process wants what it answered and, but for the spared one, can't do it
-pub record Keeps (kinds : Family) (admits : Card → List ℕ → Option Token → Type 0) (net : Network) (spared : Option ℕ) (M : State) (places : List Standing) : Type 0 where
+pub record StandingsFit (kinds : Family) (admits : Card → List ℕ → Option Token → Type 0) (net : Network) (spared : Option ℕ) (M : State) (places : List Standing) : Type 0 where
   pub processes : length M.processes ≡ length net.processes
   pub channels : length M.channels ≡ length net.channels
   pub standing : length places ≡ length net.processes
-  pub sorted : IsSorted admits net M
+  pub sorted : IsWellTyped admits net M
   pub smallest : (c : ℕ) → c < length net.channels → 1 ≤ capacity M c
   pub greatest : (c : ℕ) → capacity M c ≤ net.ceiling
   pub stopped : (p : ℕ) → place places p ≡ Ended → status M p ≡ Done

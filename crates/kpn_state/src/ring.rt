@@ -1,6 +1,6 @@
 //! A channel as a ring of tokens.
 ghost use Rattle.std.specs.Prelude.{◌≡◌, ◌<◌, ◌≤◌, ◌++◌, ◌∷◌, ◌^◌, [], IfOk, OnOk, OnErr, length, drop};
-ghost use Rattle.kpn_state.specs.Story.{held};
+ghost use Rattle.kpn_state.specs.StateAndHistory.{held};
 
 use circular_buffer::HeapCircularBuffer;
 use kpn_net::Token;
@@ -18,8 +18,8 @@ pub struct Ring {
 
 impl Model for Ring {
     ghost use Rattle.std.specs.Prelude.{◌≤◌, length};
-    ghost use Rattle.kpn_model.specs.Machine.{Held};
-    ghost use Rattle.kpn_state.specs.Story.{held};
+    ghost use Rattle.kpn_model.specs.Semantics.{Held};
+    ghost use Rattle.kpn_state.specs.StateAndHistory.{held};
 
     ghost Value = { Held };
 

@@ -1,11 +1,11 @@
 //! Processes, channels and the history, changed one entry at a time.
 ghost use Rattle.std.specs.Prelude.{◌≡◌, ◌<◌, ◌≤◌, ◌++◌, ◌∷◌, [], length, drop, Some, None, OnOk, OnErr};
 ghost use Rattle.std.specs.Vec.{vec_capacity};
-ghost use Rattle.kpn_model.specs.Machine.{status, tokens, capacity, with_status, with_channel};
+ghost use Rattle.kpn_model.specs.Semantics.{status, tokens, capacity, with_status, with_channel};
 ghost use Rattle.kpn_model.specs.declared.history.Status.TheVariants.{Live, Done};
 ghost use Rattle.kpn_model.specs.declared.history.Entry.TheVariants.{Did, Grew};
 ghost use Rattle.kpn_model.specs.declared.history.Deed.TheVariants.{Took, Put, Stopped};
-ghost use Rattle.kpn_state.specs.Story.{state, story, more};
+ghost use Rattle.kpn_state.specs.StateAndHistory.{state, state_and_history, more};
 
 use crate::ring::Ring;
 use kpn_net::{Deed, Entry, Local, Status, Token};
@@ -24,11 +24,11 @@ pub struct Store {
 impl Model for Store {
     ghost use Rattle.std.specs.Prelude.{◌≤◌};
     ghost use Rattle.std.specs.Vec.{vec_capacity};
-    ghost use Rattle.kpn_state.specs.Story.{Story, story, state};
+    ghost use Rattle.kpn_state.specs.StateAndHistory.{StateAndHistory, state_and_history, state};
 
-    ghost Value = { Story };
+    ghost Value = { StateAndHistory };
 
-    ghost view = { λ s. story (state s.statuses.items s.rings.items) s.history.items s.room };
+    ghost view = { λ s. state_and_history (state s.statuses.items s.rings.items) s.history.items s.room };
 
     ghost invariant = { λ s. s.room ≤ vec_capacity s.history };
 }
@@ -37,7 +37,7 @@ impl Store {
     /// These processes and channels, with this history and room for so many entries.
     pub fn new(statuses: Vec<Status>, rings: Vec<Ring>, history: Vec<Entry>, room: usize) -> Self
         requires { room ≤ vec_capacity history }
-        ensures { result ≡ story (state statuses.items rings.items) history.items room }
+        ensures { result ≡ state_and_history (state statuses.items rings.items) history.items room }
     {
         Store {
             statuses,

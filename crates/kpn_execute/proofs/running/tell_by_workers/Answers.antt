@@ -2,13 +2,13 @@
 use Rattle.std.proofs.Common.{inl, inr, refl, ap, ◌∙◌, Err}
 use Rattle.kpn_net.specs.declared.fault.NetFault.TheVariants.{Memory}
 use Rattle.kpn_front.specs.Lines.{lost_line, refused_line}
-use Rattle.kpn_machine.specs.Scheduler.{Scheduler}
+use Rattle.kpn_machine.specs.MachineView.{MachineView}
 use Rattle.kpn_execute.proofs.Telling.{not_refused}
 use Rattle.kpn_execute.proofs.running.tell_by_workers.Goals as goal
 
 pub returns-in-Ok : goal.returns-in-Ok
 returns-in-Ok g c =
-    let same = ap (λ (s : Scheduler). s.network) c.chronicle.ensures ∙ c.in-Ok.ensures.finish.network in
+    let same = ap (λ (s : MachineView). s.network) c.chronicle.ensures ∙ c.in-Ok.ensures.finish.network in
     let t = c.say_told.ensures in
     record { status = t.status; text = t.text; told = inr (rw same at t.told); written = t.written; room = t.room }
 

@@ -2,17 +2,17 @@
 use Rattle.std.proofs.Common.{◌∙◌, ap, subst, sym}
 use Rattle.kpn_model.specs.Network.{Network}
 use Rattle.kpn_machine.specs.Opening.{cards_of}
-use Rattle.kpn_machine.specs.Scheduler.{Scheduler}
+use Rattle.kpn_machine.specs.MachineView.{MachineView}
 use Rattle.kpn_run.specs.Runs.{IsFinish, StaysWithin, SparesBudget, IsInLine}
 use Rattle.kpn_run.proofs.executor.run.Goals as goal
 
 pub returns-in-Ok-run_machine-clause-finish : goal.returns-in-Ok-run_machine-clause-finish
 returns-in-Ok-run_machine-clause-finish g c =
-    subst (λ (n : Network). IsFinish g.B.Kinds.Kinds.family n c.in-Ok-run_machine.finish) (ap (λ (m : Scheduler). m.network) c.in-Ok.ensures.opened) c.in-Ok-run_machine.ensures.finish
+    subst (λ (n : Network). IsFinish g.B.Kinds.Kinds.family n c.in-Ok-run_machine.finish) (ap (λ (m : MachineView). m.network) c.in-Ok.ensures.opened) c.in-Ok-run_machine.ensures.finish
 
 pub returns-in-Ok-run_machine-clause-within : goal.returns-in-Ok-run_machine-clause-within
 returns-in-Ok-run_machine-clause-within g c =
-    subst (λ (n : Network). StaysWithin g.B.Kinds.Kinds.family n c.in-Ok-run_machine.finish.machine.history) (ap (λ (m : Scheduler). m.network) c.in-Ok.ensures.opened)
+    subst (λ (n : Network). StaysWithin g.B.Kinds.Kinds.family n c.in-Ok-run_machine.finish.machine.history) (ap (λ (m : MachineView). m.network) c.in-Ok.ensures.opened)
     c.in-Ok-run_machine.ensures.within
 
 pub returns-in-Err-run_machine-clause-workers : goal.returns-in-Err-run_machine-clause-workers
@@ -25,16 +25,16 @@ pub returns-in-Err-run_machine-clause-memory : goal.returns-in-Err-run_machine-c
 returns-in-Err-run_machine-clause-memory g c = λ n bs is.
     let back = c.in-Err-run_machine.ensures.memory n bs is in
     let opened = c.in-Ok.ensures.opened in
-    (back.0 ∙ ap (λ (m : Scheduler). m.network) opened, back.1 ∙ ap (λ (m : Scheduler). cards_of m.network.processes) opened ∙ sym c.in-Ok.ensures.cards, c.in-Ok.ensures.cards)
+    (back.0 ∙ ap (λ (m : MachineView). m.network) opened, back.1 ∙ ap (λ (m : MachineView). cards_of m.network.processes) opened ∙ sym c.in-Ok.ensures.cards, c.in-Ok.ensures.cards)
 
 pub returns-in-Ok-run_machine-clause-budget : goal.returns-in-Ok-run_machine-clause-budget
 returns-in-Ok-run_machine-clause-budget g c =
-    subst (λ (n : Network). SparesBudget g.B.Kinds.Kinds.family n c.in-Ok-run_machine.finish.cause) (ap (λ (m : Scheduler). m.network) c.in-Ok.ensures.opened)
+    subst (λ (n : Network). SparesBudget g.B.Kinds.Kinds.family n c.in-Ok-run_machine.finish.cause) (ap (λ (m : MachineView). m.network) c.in-Ok.ensures.opened)
     c.in-Ok-run_machine.ensures.budget
 
 pub returns-in-Ok-run_machine-clause-in_line : goal.returns-in-Ok-run_machine-clause-in_line
 returns-in-Ok-run_machine-clause-in_line g c =
-    subst (λ (n : Network). IsInLine g.B.Kinds.Kinds.family n c.in-Ok-run_machine.finish.machine.history) (ap (λ (m : Scheduler). m.network) c.in-Ok.ensures.opened)
+    subst (λ (n : Network). IsInLine g.B.Kinds.Kinds.family n c.in-Ok-run_machine.finish.machine.history) (ap (λ (m : MachineView). m.network) c.in-Ok.ensures.opened)
     c.in-Ok-run_machine.ensures.in_line
 
 pub returns-in-Err-run_machine-clause-lost : goal.returns-in-Err-run_machine-clause-lost

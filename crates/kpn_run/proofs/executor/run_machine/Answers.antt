@@ -2,34 +2,34 @@
 use Rattle.std.proofs.Common.{◌∙◌, ap, subst}
 use Rattle.kpn_model.specs.Network.{Network}
 use Rattle.kpn_machine.specs.Opening.{cards_of}
-use Rattle.kpn_machine.specs.Scheduler.{Scheduler}
+use Rattle.kpn_machine.specs.MachineView.{MachineView}
 use Rattle.kpn_run.specs.Runs.{IsFinish, StaysWithin, SparesBudget, IsInLine}
 use Rattle.kpn_run.proofs.executor.run_machine.Goals as goal
 
 pub returns-in-Ok-run_named-clause-finish : goal.returns-in-Ok-run_named-clause-finish
 returns-in-Ok-run_named-clause-finish g c =
-    subst (λ (n : Network). IsFinish g.B.Kinds.Kinds.family n c.in-Ok-run_named.finish) (ap (λ (m : Scheduler). m.network) c.in-Ok.ensures.0) c.in-Ok-run_named.ensures.finish
+    subst (λ (n : Network). IsFinish g.B.Kinds.Kinds.family n c.in-Ok-run_named.finish) (ap (λ (m : MachineView). m.network) c.in-Ok.ensures.0) c.in-Ok-run_named.ensures.finish
 
 pub returns-in-Ok-run_named-clause-within : goal.returns-in-Ok-run_named-clause-within
 returns-in-Ok-run_named-clause-within g c =
     let finish = c.in-Ok-run_named.finish in
     subst (λ (n : Network). StaysWithin g.B.Kinds.Kinds.family n finish.machine.history)
-    (c.in-Ok-run_named.ensures.finish.network ∙ ap (λ (m : Scheduler). m.network) c.in-Ok.ensures.0) c.told_by_laws.ensures.within
+    (c.in-Ok-run_named.ensures.finish.network ∙ ap (λ (m : MachineView). m.network) c.in-Ok.ensures.0) c.told_by_laws.ensures.within
 
 pub returns-in-Err-run_named-clause-memory : goal.returns-in-Err-run_named-clause-memory
 returns-in-Err-run_named-clause-memory g c = λ n bs is.
     let back = c.in-Err-run_named.ensures.memory n bs is in
     let same = c.in-Ok.ensures.0 in
-    (back.0 ∙ ap (λ (m : Scheduler). m.network) same, back.1 ∙ ap (λ (m : Scheduler). cards_of m.network.processes) same)
+    (back.0 ∙ ap (λ (m : MachineView). m.network) same, back.1 ∙ ap (λ (m : MachineView). cards_of m.network.processes) same)
 
 pub returns-in-Ok-run_named-clause-budget : goal.returns-in-Ok-run_named-clause-budget
 returns-in-Ok-run_named-clause-budget g c =
     let finish = c.in-Ok-run_named.finish in
     subst (λ (n : Network). SparesBudget g.B.Kinds.Kinds.family n finish.cause)
-    (c.in-Ok-run_named.ensures.finish.network ∙ ap (λ (m : Scheduler). m.network) c.in-Ok.ensures.0) c.told_by_laws.ensures.budget
+    (c.in-Ok-run_named.ensures.finish.network ∙ ap (λ (m : MachineView). m.network) c.in-Ok.ensures.0) c.told_by_laws.ensures.budget
 
 pub returns-in-Ok-run_named-clause-in_line : goal.returns-in-Ok-run_named-clause-in_line
 returns-in-Ok-run_named-clause-in_line g c =
     let finish = c.in-Ok-run_named.finish in
     subst (λ (n : Network). IsInLine g.B.Kinds.Kinds.family n finish.machine.history)
-    (c.in-Ok-run_named.ensures.finish.network ∙ ap (λ (m : Scheduler). m.network) c.in-Ok.ensures.0) c.told_by_laws.ensures.in_line
+    (c.in-Ok-run_named.ensures.finish.network ∙ ap (λ (m : MachineView). m.network) c.in-Ok.ensures.0) c.told_by_laws.ensures.in_line

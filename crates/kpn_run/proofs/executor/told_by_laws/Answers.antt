@@ -1,7 +1,7 @@
 -- Each front of the history is a run of a valid network.
 use Rattle.std.proofs.Common.{sym, subst}
 use Rattle.kpn_model.specs.Network.{Network}
-use Rattle.kpn_model.specs.Machine.{start}
+use Rattle.kpn_model.specs.Semantics.{start}
 use Rattle.kpn_model.specs.Determinacy.{IsRun}
 use Rattle.kpn_model.specs.Valid.{IsValid}
 use Rattle.kpn_run.proofs.executor.told_by_laws.Goals as goal

@@ -1,7 +1,7 @@
 -- A commit keeps what the machine keeps, and does what is said.
 use Rattle.std.proofs.Common.{[], append-nil, sym, ◌∙◌, arith, refl}
 use Rattle.std.proofs.lemmas.List.{map-set}
-use Rattle.kpn_machine.specs.Scheduler.{IsOutAt}
+use Rattle.kpn_machine.specs.MachineView.{IsOutAt}
 use Rattle.kpn_state.proofs.Placed.{place_set_same}
 use Rattle.kpn_machine.proofs.Ends.{commits_end}
 use Rattle.kpn_machine.proofs.Sound.{sound_back, sound_worked, worked_appends, worked_tells, worked_back, worked_others, worked_commits, commits_fit, out_within, none_of, some_of, ready_not_out}

@@ -6,7 +6,7 @@ use Rattle.std.proofs.lemmas.Option.{same_Some}
 use Rattle.kpn_model.specs.declared.parts.Process.{Process}
 use Rattle.kpn_model.specs.Network.{no_process}
 use Rattle.kpn_machine.specs.Opening.{cards_of}
-use Rattle.kpn_machine.specs.Scheduler.{Scheduler}
+use Rattle.kpn_machine.specs.MachineView.{MachineView}
 use Rattle.std.proofs.Common.{Some, true}
 use Rattle.std.specs.List.{list_all}
 use Rattle.kpn_model.specs.declared.kinds.Card.{Card}
@@ -33,7 +33,7 @@ pub unreachable-requires : goal.unreachable-requires
 unreachable-requires g c =
     let f = g.B.Body.card in
     let i = c.loop-p.invariant in
-    let same : length c.self.inside.net.processes ≡ length c.args.self.network.processes = ap (λ (x : Scheduler). length x.network.processes) c.self.view_is in
+    let same : length c.self.inside.net.processes ≡ length c.args.self.network.processes = ap (λ (x : MachineView). length x.network.processes) c.self.view_is in
     let within : c.loop-p.p < length c.loop-p.bodies.items = omega (arith, c.loop-p-test.true, c.processes-p-end.ensures.count, i.slots) in
     let here = slot_at f c.loop-p.bodies.items c.loop-p.p c.index_mut.result.now within c.index_mut.ensures.value in
     let kept = i.kept c.loop-p.p (omega arith) (omega (arith, i.slots)) in
@@ -44,7 +44,7 @@ pub loop-p-preserved : goal.loop-p-preserved
 loop-p-preserved g c =
     let f = g.B.Body.card in
     let i = c.loop-p.invariant in
-    let same : length c.self.inside.net.processes ≡ length c.args.self.network.processes = ap (λ (x : Scheduler). length x.network.processes) c.self.view_is in
+    let same : length c.self.inside.net.processes ≡ length c.args.self.network.processes = ap (λ (x : MachineView). length x.network.processes) c.self.view_is in
     let within : c.loop-p.p < length c.loop-p.bodies.items = omega (arith, c.loop-p-test.true, c.processes-p-end.ensures.count, i.slots) in
     let here = slot_at f c.loop-p.bodies.items c.loop-p.p c.index_mut.result.now within c.index_mut.ensures.value in
     let kept = i.kept c.loop-p.p (omega arith) (omega (arith, i.slots)) in
@@ -64,5 +64,5 @@ returns-clause-bodies g c =
     let many = length-map c.loop-p.spare.items g.B.Body.card in
     let all = length-map c.args.self.network.processes (λ (p : Process). p.card) in
     let long = i.many in
-    let same : length c.self.inside.net.processes ≡ length c.args.self.network.processes = ap (λ (x : Scheduler). length x.network.processes) c.self.view_is in
+    let same : length c.self.inside.net.processes ≡ length c.args.self.network.processes = ap (λ (x : MachineView). length x.network.processes) c.self.view_is in
     same_lists _ _ (omega (arith, c.loop-p-test.false, c.loop-p.auto.p-end, c.processes-p-end.ensures.count)) (λ q below. i.back q (omega arith))

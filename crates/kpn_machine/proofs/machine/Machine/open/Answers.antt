@@ -2,7 +2,7 @@
 use Rattle.std.proofs.Common.{◌≡◌, length, map, ap, ◌∙◌, arith, rules}
 use Rattle.std.proofs.lemmas.List.{length-map}
 use Rattle.kpn_model.specs.declared.parts.Process.{Process}
-use Rattle.kpn_model.specs.Machine.{start}
+use Rattle.kpn_model.specs.Semantics.{start}
 use Rattle.kpn_machine.specs.Opening.{cards_of}
 use Rattle.kpn_machine.proofs.Opened.{sound_opened}
 use Rattle.kpn_machine.proofs.Fresh.{opened_fresh}

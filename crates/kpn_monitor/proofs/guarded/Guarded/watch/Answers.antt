@@ -1,9 +1,9 @@
 -- What is published is the history that the lock keeps.
 use Rattle.std.proofs.Common.{subst}
 use Rattle.std.specs.Prelude.{IfOk}
-use Rattle.kpn_model.specs.Machine.{State}
+use Rattle.kpn_model.specs.Semantics.{State}
 use Rattle.kpn_model.specs.Determinacy.{IsRun}
-use Rattle.kpn_machine.specs.Scheduler.{EndHolds}
+use Rattle.kpn_machine.specs.MachineView.{EndHolds}
 use Rattle.kpn_monitor.specs.Names.{Held}
 use Rattle.kpn_monitor.proofs.Showing.{ok_with, shown_run}
 use Rattle.kpn_monitor.proofs.guarded.Guarded.watch.Goals as goal

@@ -6,7 +6,7 @@ use Rattle.kpn_watch.specs.declared.progress.Phase.TheVariants.{Running}
 use Rattle.kpn_watch.specs.declared.rule.Seen.{Seen}
 use Rattle.kpn_watch.specs.Boards.{Published}
 use Rattle.kpn_watch.specs.Rule.{GoesOn, IsKept, Publishes}
-use Rattle.kpn_watch.proofs.Keeps.{publishes_at}
+use Rattle.kpn_watch.proofs.BoardKeeps.{publishes_at}
 use Rattle.kpn_watch.proofs.Words.{growths_le}
 use Rattle.kpn_watch.proofs.board.Board.publish_as.Goals as goal
 

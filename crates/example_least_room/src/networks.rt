@@ -1,0 +1,105 @@
+//! Parks's case, made without a text.
+ghost use Rattle.std.specs.Prelude.{◌≡◌, IfOk};
+ghost use Rattle.kpn_laws.specs.WorkedRoom.{longer_parks_case as the_case};
+ghost use Rattle.example_least_room.specs.CaseSketch.{process_sketch, channel_sketch, case_processes, case_channels, case_sketch};
+
+use kpn_net::{ChannelSketch, Listed, Net, NetFault, ProcessSketch, Sketch, Sort, Text};
+use kpn_standard::Standard;
+use std::alloc::{AllocError, Global};
+
+/// Parks's case (Parks 1995) with a counter of five: a counter is copied to both inputs of a weave, which
+/// takes three tokens of the one and then three of the other, into a sink of eight. Each channel
+/// begins with one place, and grows by one.
+///
+/// The error is want of memory.
+pub fn longer_parks_case(alloc: Global) -> Result<Net<Standard>, AllocError>
+    ensures { IfOk result (λ net. net ≡ the_case) }
+{
+    let sketch = sketch(alloc)?;
+    match Net::check(alloc, &sketch) {
+        Ok(net) => Ok(net),
+        Err(NetFault::Memory) => Err(AllocError),
+        Err(_) => unreachable!(),
+    }
+}
+
+/// Its description.
+fn sketch(alloc: Global) -> Result<Sketch, AllocError>
+    ensures { IfOk result (λ sketch. sketch ≡ case_sketch) }
+{
+    Ok(Sketch {
+        version: 1,
+        budget: 10000,
+        step: 1,
+        processes: processes(alloc)?,
+        channels: channels(alloc)?,
+    })
+}
+
+fn processes(alloc: Global) -> Result<Listed<ProcessSketch>, AllocError>
+    ensures { IfOk result (λ processes. processes ≡ case_processes) }
+{
+    let mut processes = Listed::new(Vec::new(alloc));
+    processes.push(process(alloc, "src", "count", vec![in alloc; 1, 5]?)?)?;
+    processes.push(process(alloc, "cp", "copy", Vec::new(alloc))?)?;
+    processes.push(process(alloc, "wv", "weave", vec![in alloc; 3, 3]?)?)?;
+    processes.push(process(alloc, "snk", "sink", vec![in alloc; 8]?)?)?;
+    Ok(processes)
+}
+
+fn channels(alloc: Global) -> Result<Listed<ChannelSketch>, AllocError>
+    ensures { IfOk result (λ channels. channels ≡ case_channels) }
+{
+    let mut channels = Listed::new(Vec::new(alloc));
+    channels.push(channel(alloc, "c0", "src", 0, "cp", 0)?)?;
+    channels.push(channel(alloc, "c1", "cp", 0, "wv", 0)?)?;
+    channels.push(channel(alloc, "c2", "cp", 1, "wv", 1)?)?;
+    channels.push(channel(alloc, "c3", "wv", 0, "snk", 0)?)?;
+    Ok(channels)
+}
+
+/// A process of a name and a kind, with these arguments.
+fn process(
+    alloc: Global,
+    name: &str,
+    kind: &str,
+    args: Vec<i64>,
+) -> Result<ProcessSketch, AllocError>
+    ensures { IfOk result (λ p. p ≡ process_sketch name.now kind.now args.items) }
+{
+    Ok(ProcessSketch {
+        name: text(alloc, name)?,
+        kind: text(alloc, kind)?,
+        args: Listed::new(args),
+    })
+}
+
+/// A channel of words with one place, from an output of a process to an input of another.
+fn channel(
+    alloc: Global,
+    name: &str,
+    from: &str,
+    out: i64,
+    to: &str,
+    input: i64,
+) -> Result<ChannelSketch, AllocError>
+    ensures { IfOk result (λ c. c ≡ channel_sketch name.now from.now out to.now input) }
+{
+    Ok(ChannelSketch {
+        name: text(alloc, name)?,
+        from: text(alloc, from)?,
+        to: text(alloc, to)?,
+        out,
+        input,
+        sort: Sort::Words,
+        capacity: 1,
+        tokens: Listed::new(Vec::new(alloc)),
+    })
+}
+
+/// A text of these characters.
+fn text(alloc: Global, characters: &str) -> Result<Text, AllocError>
+    ensures { IfOk result (λ text. text ≡ characters.now) }
+{
+    Ok(Text::new(String::from_str(alloc, characters)?))
+}

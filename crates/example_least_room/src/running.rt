@@ -1,0 +1,48 @@
+//! A run of Parks's case, and how much room it takes.
+ghost use Rattle.std.specs.Prelude.{◌≡◌, ◌≢◌, ℕ, ◌<◌, ◌≤◌, Some, IsSome, count_by, length};
+ghost use Rattle.kpn_model.specs.declared.history.End.TheVariants.{Budget, Ceiling};
+ghost use Rattle.kpn_model.specs.Semantics.{capacity};
+ghost use Rattle.kpn_model.specs.History.{growths};
+ghost use Rattle.kpn_model.specs.Standard.{standard};
+ghost use Rattle.kpn_state.specs.Standings.{is_out};
+ghost use Rattle.kpn_laws.specs.WorkedRoom.{longer_parks_case};
+ghost use Rattle.example_least_room.specs.Growth.{is_growth};
+
+use kpn_body::Body;
+use kpn_laws::worked_room;
+use kpn_machine::Machine;
+use kpn_net::Entry;
+
+/// Runs Parks's case with a counter of five to its end in the calling thread, where no process is out,
+/// and tells how often a channel grew.
+///
+/// Two places a channel suffice for it, in a run of 46 entries. So, by what `finish_alone` ensures, no
+/// channel ever has three; there are at most eight growths, two for each of the four channels, and 54
+/// entries; and neither the ceiling nor the budget ends the run. What ends it is that all have stopped,
+/// that none can go on, or that memory for a growth was refused.
+pub fn finish<B: Body>(machine: &mut Machine<B>) -> usize
+    requires standard { B.Kinds.family ≡ standard }
+    requires network { machine.old.network ≡ longer_parks_case }
+    requires none_out { count_by is_out machine.old.places ≡ 0 }
+    ensures end { IsSome machine.new.end }
+    ensures never_three { (c : ℕ) → capacity machine.new.state c < 3 }
+    ensures growths { result ≡ length (growths machine.new.history) }
+    ensures few_growths { result ≤ 8 }
+    ensures few_entries { length machine.new.history ≤ 54 }
+    ensures no_ceiling { machine.new.end ≢ Some Ceiling }
+    ensures no_budget { machine.new.end ≢ Some Budget }
+{
+    worked_room();
+    machine.finish_alone();
+    count_growths(machine.history())
+}
+
+/// How many entries of a history are growths.
+fn count_growths(history: &[Entry]) -> usize
+    ensures { result ≡ count_by is_growth history.now }
+{
+    history
+        .iter()
+        .filter(|entry| matches!(entry, Entry::Grew { .. }))
+        .count()
+}

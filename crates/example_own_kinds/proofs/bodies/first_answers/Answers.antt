@@ -1,0 +1,12 @@
+use Rattle.std.proofs.Common.{ap, Some, None, sym, ◌∙◌, ◌≤◌, length, arith}
+use Rattle.kpn_model.specs.Standard.{standard}
+use Rattle.example_own_kinds.proofs.Cards.{one_more, of_all}
+use Rattle.example_own_kinds.proofs.bodies.first_answers.Goals as goal
+
+pub loop-process-preserved : goal.loop-process-preserved
+loop-process-preserved c = one_more (λ b. b.card) _ _ _ _ c.new-in-loop-process.result c.loop-process.invariant c.in_ok-push.ensures.items (c.signed_card-card.ensures.is ∙ ap (λ x. Some x) (sym c.new-in-loop-process.ensures))
+
+pub returns : goal.returns
+returns c =
+    let long : length c.args.net.now.processes ≤ c.loop-process.process = omega arith in
+    rw (← of_all (λ b. b.card) (λ p. p.card) (λ card. standard.answer card (standard.start card) None) c.loop-process.bodies.items c.args.net.now.processes c.loop-process.process c.loop-process.invariant long) c.each_first_answer.ensures

@@ -1,0 +1,125 @@
+//! A family of a caller's own: one kind, `flip`, which reads a flag and writes the other, for ever.
+ghost use Rattle.std.specs.Prelude.{◌≡◌, IsSome, IfOk, option_map};
+ghost use Rattle.kpn_body.specs.Calls.{IsCallable, Answers, answers_prop};
+ghost use Rattle.example_own_kinds.specs.Flip.{number_named, ports, HasLine, answer, flips, flip};
+
+use crate::asked::answer_of;
+use kpn_body::{Body, Call};
+use kpn_net::{Act, Answer, Card, Kinds, Local, Signature, Sort, Token};
+use std::alloc::{AllocError, Global};
+
+/// The family whose one kind is `flip`, of number 0, with no argument, an input and an output of
+/// flags.
+pub struct Flips;
+
+impl Kinds for Flips {
+    ghost named = { number_named };
+
+    ghost signature_of = { ports };
+
+    ghost family = { flips };
+
+    ghost admits = { λ card. HasLine };
+
+    fn named(name: &str) -> Option<(u16, usize)> {
+        match name {
+            "flip" => Some((0, 0)),
+            _ => None,
+        }
+    }
+
+    fn signature(card: &Card) -> Option<Signature> {
+        let flags = [Some(Sort::Flags), None, None];
+        match card {
+            Card {
+                kind: 0,
+                args: [0, 0, 0],
+            } => Some(Signature {
+                ins: flags,
+                outs: flags,
+            }),
+            _ => None,
+        }
+    }
+
+    fn start(_card: &Card) -> Local {
+        [0; 4]
+    }
+
+    fn lawful() {}
+}
+
+/// What stands in a line of the table, by the token of the read just done.
+pub(crate) fn line_of(last: Option<Token>) -> Answer
+    ensures { result ≡ answer last }
+{
+    match last {
+        Some(Token::Flag(flag)) => Answer {
+            next: [0, 0, 0, 0],
+            act: Act::Write(0, Token::Flag(!flag)),
+        },
+        _ => Answer {
+            next: [1, 0, 0, 0],
+            act: Act::Read(0),
+        },
+    }
+}
+
+/// A card of the family, and a closure that answers as the card says.
+#[derive(Drop)]
+pub struct FlipBody {
+    card: Card,
+    call: Call,
+    ghost signed: { IsSome (ports card) },
+    ghost callable: { IsCallable HasLine (pre call) },
+    ghost answers: { Answers HasLine (post call) (flips.answer card) } by { answers_prop _ _ _ },
+}
+
+impl FlipBody {
+    /// A body of a card that has a signature: `call` may be called on each line of the table, and
+    /// its answer is then the line's.
+    pub fn new(card: Card, call: Call) -> Self
+        requires signed { IsSome (ports card) }
+        requires callable { IsCallable HasLine (pre call) }
+        requires answers { Answers HasLine (post call) (flips.answer card) }
+        ensures { result.card ≡ card }
+    {
+        FlipBody { card, call }
+    }
+}
+
+impl Body for FlipBody {
+    type Kinds = Flips;
+
+    ghost card = { λ body. body.card };
+
+    fn card(&self) -> Card {
+        self.card
+    }
+
+    fn answer(&self, local: Local, last: Option<Token>) -> Answer {
+        (self.call)(local, last)
+    }
+}
+
+/// What a flip answers before it has read, or where it has just read a flag.
+pub fn flip_answer(alloc: Global, read: Option<bool>) -> Result<Answer, AllocError>
+    ensures { IfOk result (λ a. a ≡ answer (option_map Token.Flag read)) }
+{
+    let call: Call = Box::new(
+        alloc,
+        move |local: Local, last: Option<Token>| -> Answer
+            requires { HasLine local last }
+            ensures { result ≡ flips.answer flip local last }
+        { line_of(last) },
+    )?;
+    let card = Card {
+        kind: 0,
+        args: [0, 0, 0],
+    };
+    let body = FlipBody::new(card, call);
+    Ok(match read {
+        None => answer_of(body, [0, 0, 0, 0], None),
+        Some(flag) => answer_of(body, [1, 0, 0, 0], Some(Token::Flag(flag))),
+    })
+}

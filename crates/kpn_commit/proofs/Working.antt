@@ -1,0 +1,48 @@
+-- What the work of a commit appends and leaves.
+use Rattle.std.proofs.Common.{◌≡◌, ◌≢◌, List, [], ◌∷◌, length, length-append, refl, sym, ap, ◌∙◌, arith, ℕ, ◌+◌, ◌<◌, ◌≤◌, Bool, true, false, Some, subst}
+use Rattle.std.specs.List.{list_any}
+use Rattle.kpn_model.specs.declared.kinds.Answer.{Answer}
+use Rattle.kpn_model.specs.declared.history.Deed.{Deed}
+use Rattle.kpn_model.specs.declared.history.Deed.TheVariants.{Took, Put, Stopped}
+use Rattle.kpn_model.specs.declared.history.Entry.{Entry}
+use Rattle.kpn_model.specs.declared.history.Entry.TheVariants.{Did}
+use Rattle.kpn_model.specs.Network.{Network, Family}
+use Rattle.kpn_model.specs.Semantics.{State}
+use Rattle.kpn_state.specs.StateAndHistory.{StateAndHistory, more}
+use Rattle.kpn_state.specs.declared.standing.Standing.{Standing}
+use Rattle.kpn_state.specs.declared.standing.Standing.TheVariants.{Ready}
+use Rattle.kpn_commit.specs.declared.react.Reaction.{Reaction}
+use Rattle.kpn_commit.specs.declared.react.Reaction.TheVariants.{Waits, Acts, HandsOn}
+use Rattle.kpn_state.specs.Standings.{place, is_busy, place_after, partner}
+use Rattle.kpn_commit.specs.Reactions.{Handed, Reacts}
+use Rattle.kpn_state.proofs.Placed.{place_set_same, place_set_other, acted_not_parked, busy_at}
+
+-- one more entry makes the history longer by one
+pub longer : (s t : StateAndHistory) (M : State) (e : Entry) → t ≡ more s M e → (length t.history ≡ length s.history + 1) × (t.room ≡ s.room)
+longer s t M e is = (ap (λ (x : StateAndHistory). length x.history) is ∙ length-append s.history (e ∷ []), ap (λ (x : StateAndHistory). x.room) is)
+
+-- a deed with a process at the other end leaves its own ready
+partner_ready : (net : Network) (d : Deed) (q : ℕ) → partner net d ≡ Some q → place_after d ≡ Ready
+partner_ready net (Took c t) q e = refl
+partner_ready net (Put c t) q e = refl
+partner_ready net Stopped q e = cc
+
+module _ (kinds : Family) (net : Network) where
+  -- the process that handed on is ready
+  pub handed_busy : (s : StateAndHistory) (places : List Standing) (p : ℕ) (t : StateAndHistory) (moved : List Standing) → p < length places → Handed kinds net s places p t moved → list_any is_busy moved ≡ true
+  handed_busy s places p t moved within h =
+      let here : place h.places_between p ≡ place_after h.deed = ap (λ (l : List Standing). place l p) h.first.moves ∙ place_set_same places p (place_after h.deed) within in
+      let other : p ≢ h.other = λ e. acted_not_parked h.deed h.wanted (sym here ∙ ap (λ x. place h.places_between x) e ∙ h.parked) in
+      let still : place moved p ≡ Ready = ap (λ (l : List Standing). place l p) h.second.moves ∙ place_set_other h.places_between h.other p (place_after h.handed) other ∙ here ∙ partner_ready net h.deed h.other h.at_other_end in
+      busy_at moved p (ap is_busy still)
+
+  -- where none is ready or out after a reaction, it appended at most one entry
+  pub reaction_room :
+      (s : StateAndHistory) (places : List Standing) (p : ℕ) (a : Answer) (r : Reaction) (t : StateAndHistory) (moved : List Standing)
+      → p < length places → length s.history + 3 ≤ s.room → Reacts kinds net s places p a r t moved → list_any is_busy moved ≡ false → length t.history + 2 ≤ t.room
+  reaction_room s places p a Waits t moved within room h idle = subst (λ (x : StateAndHistory). length x.history + 2 ≤ x.room) (sym h.1) (omega arith)
+  reaction_room s places p a Acts t moved within room h idle = let l = longer s t t.state (Did p h.0) h.1.entry in omega (arith, l.0, l.1)
+  reaction_room s places p a HandsOn t moved within room h idle = absurd (true_false _ (handed_busy s places p t moved within h) idle)
+    where
+      true_false : (b : Bool) → b ≡ true → b ≡ false → ⊥
+      true_false b x y = cc

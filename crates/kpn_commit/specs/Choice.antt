@@ -1,0 +1,36 @@
+-- The channels to which parked processes wait to write, and the smallest of them.
+use Rattle.std.specs.Prelude.{◌≡◌, ℕ, ◌<◌, ◌≤◌, ◌⊎◌, List, Option, Some, None}
+use Rattle.kpn_model.specs.declared.kinds.Act.{Act}
+use Rattle.kpn_model.specs.declared.kinds.Act.TheVariants.{Read, Write, Stop}
+use Rattle.kpn_model.specs.Network.{Network, out_of}
+use Rattle.kpn_model.specs.Semantics.{State, capacity}
+use Rattle.kpn_state.specs.declared.standing.Standing.{Standing}
+use Rattle.kpn_state.specs.declared.standing.Standing.TheVariants.{Ready, Out, Parked, Stopped as Ended}
+use Rattle.kpn_state.specs.Standings.{place}
+
+-- the channel to which p's act writes
+abbrev pub written_by : Network → ℕ → Act → Option ℕ
+written_by net p (Read k) = None
+written_by net p (Write k t) = out_of net p k
+written_by net p Stop = None
+
+abbrev pub awaited_by : Network → ℕ → Standing → Option ℕ
+awaited_by net p Ready = None
+awaited_by net p Out = None
+awaited_by net p (Parked a) = written_by net p a.act
+awaited_by net p Ended = None
+
+-- the channel to which p, which is parked, waits to write
+abbrev pub awaited : Network → List Standing → ℕ → Option ℕ
+awaited net places p = awaited_by net p (place places p)
+
+-- c has less capacity than d, or the same and no greater number
+abbrev pub IsNoLater : State → ℕ → ℕ → Type 0
+IsNoLater M c d = (capacity M c < capacity M d) ⊎ ((capacity M c ≡ capacity M d) × (c ≤ d))
+
+-- of the first processes none waits to write; or this one does, to the smallest such channel, and of
+-- equal ones to the one of least number
+abbrev pub IsSmallest : Network → State → List Standing → ℕ → Option (ℕ × ℕ) → Type 0
+IsSmallest net M places count None = (q : ℕ) → q < count → awaited net places q ≡ None
+IsSmallest net M places count (Some best) =
+    (awaited net places best.1 ≡ Some best.0) × ((q d : ℕ) → q < count → awaited net places q ≡ Some d → IsNoLater M best.0 d)

@@ -1,0 +1,141 @@
+//! Doing what a process wants, where it can be done.
+ghost use Rattle.std.specs.Prelude.{◌≡◌, ◌≢◌, ◌<◌, length, set, Some, IfSome, IfNone, IsSome};
+ghost use Rattle.kpn_model.specs.Network.{card_of};
+ghost use Rattle.kpn_model.specs.Lawful.{NamesPort, LeadsOn, read_by};
+ghost use Rattle.kpn_model.specs.Semantics.{wants, IsPossible, IsDeed, after_deed};
+ghost use Rattle.kpn_model.specs.declared.history.Entry.TheVariants.{Did};
+ghost use Rattle.kpn_state.specs.StateAndHistory.{more};
+ghost use Rattle.kpn_state.specs.declared.standing.Standing.TheVariants.{Ready};
+ghost use Rattle.kpn_state.specs.Standings.{StandingsFit, place, place_after, partner, HasChannel};
+
+use kpn_net::{Act, Answer, Card, Deed, Kinds, Local, Net, Status, Token};
+use kpn_state::standing::place_after;
+use kpn_state::{Roster, Store};
+
+/// Reads, where the channel holds a token.
+#[inline(always)]
+fn read<K: Kinds>(
+    net: &Net<K>,
+    store: &mut Store,
+    process: usize,
+    port: u8,
+    next: Local,
+) -> Option<Deed>
+    requires process { process < length store.old.state.processes }
+    requires channels { length store.old.state.channels ≡ length net.now.channels }
+    requires room { length store.old.history < store.old.room }
+    ensures is_deed { IfSome result (IsDeed K.family net.now store.old.state process (Act.Read port)) }
+    ensures entry { IfSome result (λ deed. store.new ≡ more store.old (after_deed K.family net.now store.old.state process next deed) (Did process deed)) }
+    ensures cannot { IfNone result (IsPossible K.family net.now store.old.state process (Act.Read port) → ⊥) }
+    ensures same { IfNone result (store.new ≡ store.old) }
+{
+    let channel = net.in_of(process, usize::from(port))?;
+    let (tokens, _) = store.filling(channel);
+    if tokens == 0 {
+        return None;
+    }
+    let token = store.take(process, channel, next);
+    Some(Deed::Took { channel, token })
+}
+
+/// Writes, where the channel holds fewer tokens than it may.
+#[inline(always)]
+fn write<K: Kinds>(
+    net: &Net<K>,
+    store: &mut Store,
+    process: usize,
+    port: u8,
+    token: Token,
+    next: Local,
+) -> Option<Deed>
+    requires process { process < length store.old.state.processes }
+    requires channels { length store.old.state.channels ≡ length net.now.channels }
+    requires room { length store.old.history < store.old.room }
+    ensures is_deed { IfSome result (IsDeed K.family net.now store.old.state process (Act.Write port token)) }
+    ensures entry { IfSome result (λ deed. store.new ≡ more store.old (after_deed K.family net.now store.old.state process next deed) (Did process deed)) }
+    ensures cannot { IfNone result (IsPossible K.family net.now store.old.state process (Act.Write port token) → ⊥) }
+    ensures same { IfNone result (store.new ≡ store.old) }
+{
+    let channel = net.out_of(process, usize::from(port))?;
+    let (tokens, capacity) = store.filling(channel);
+    if tokens >= capacity {
+        return None;
+    }
+    store.put(process, channel, next, token);
+    Some(Deed::Put { channel, token })
+}
+
+/// Does what a process answered, where it can be done.
+#[inline(always)]
+fn perform<K: Kinds>(
+    net: &Net<K>,
+    store: &mut Store,
+    process: usize,
+    answer: Answer,
+) -> Option<Deed>
+    requires process { process < length store.old.state.processes }
+    requires channels { length store.old.state.channels ≡ length net.now.channels }
+    requires room { length store.old.history < store.old.room }
+    ensures is_deed { IfSome result (IsDeed K.family net.now store.old.state process answer.act) }
+    ensures entry { IfSome result (λ deed. store.new ≡ more store.old (after_deed K.family net.now store.old.state process answer.next deed) (Did process deed)) }
+    ensures cannot { IfNone result (IsPossible K.family net.now store.old.state process answer.act → ⊥) }
+    ensures same { IfNone result (store.new ≡ store.old) }
+{
+    match answer.act {
+        Act::Stop => {
+            store.stop(process);
+            Some(Deed::Stopped)
+        }
+        Act::Read(port) => read(net, store, process, port, answer.next),
+        Act::Write(port, token) => write(net, store, process, port, token, answer.next),
+    }
+}
+
+/// The laws of the family at one answer, and the deed that it led to.
+fn obey<K: Kinds>(card: Card, local: Local, last: Option<Token>, deed: Deed)
+    requires signed { IsSome (K.signature_of card) }
+    requires admitted { K.admits card local last }
+    ensures names { NamesPort K.signature_of card (K.family.answer card local last).act }
+    ensures leads { LeadsOn K.signature_of K.admits card (K.family.answer card local last) (read_by deed) }
+{
+    let token = match deed {
+        Deed::Took { token, .. } => token,
+        _ => Token::Flag(false),
+    };
+    K::names_port(card, local, last);
+    K::leads_on(card, local, last, token);
+}
+
+/// Does what a process answered, where it can be done, and moves the process on.
+#[inline(always)]
+pub fn advance<K: Kinds>(
+    net: &Net<K>,
+    store: &mut Store,
+    places: &mut Roster,
+    process: usize,
+    answer: Answer,
+) -> Option<Deed>
+    requires keeps { StandingsFit K.family K.admits net.now (Some process) store.old.state places.old }
+    requires process { process < length places.old }
+    requires idle { place places.old process ≢ Ready }
+    requires wants { wants K.family net.now store.old.state process ≡ Some answer }
+    requires room { length store.old.history < store.old.room }
+    ensures is_deed { IfSome result (IsDeed K.family net.now store.old.state process answer.act) }
+    ensures entry { IfSome result (λ deed. store.new ≡ more store.old (after_deed K.family net.now store.old.state process answer.next deed) (Did process deed)) }
+    ensures place { IfSome result (λ deed. places.new ≡ set places.old process (place_after deed)) }
+    ensures channel { IfSome result (HasChannel net.now) }
+    ensures keeps { IfSome result (λ deed. StandingsFit K.family K.admits net.now (partner net.now deed) store.new.state places.new) }
+    ensures cannot { IfNone result (IsPossible K.family net.now store.old.state process answer.act → ⊥) }
+    ensures same { IfNone result (store.new ≡ store.old) }
+    ensures same_places { IfNone result (places.new ≡ places.old) }
+{
+    net.processes();
+    let card = net.card(process);
+    let Status::Live { local, last } = store.status(process) else {
+        unreachable!()
+    };
+    let deed = perform(net, store, process, answer)?;
+    obey::<K>(card, local, last, deed);
+    places.update(process, place_after(deed));
+    Some(deed)
+}

@@ -1,0 +1,55 @@
+//! What follows an answer: a deed or a wait, and the deed of the parked process that it enables.
+ghost use Rattle.std.specs.Prelude.{◌≡◌, ◌≢◌, ◌<◌, ◌≤◌, ◌+◌, length, Some, None};
+ghost use Rattle.kpn_model.specs.Semantics.{wants, status};
+ghost use Rattle.kpn_model.specs.declared.history.Status.TheVariants.{Done};
+ghost use Rattle.kpn_state.specs.Standings.{StandingsFit, place};
+ghost use Rattle.kpn_state.specs.declared.standing.Standing.TheVariants.{Out};
+ghost use Rattle.kpn_commit.specs.Reactions.{Reacts};
+
+use crate::act::advance;
+use kpn_net::{Answer, Kinds, Net};
+use kpn_state::standing::{parked, partner};
+use kpn_state::{Roster, Standing, Store};
+
+/// What a process's answer led to: it could not be done and waits; it was done; or it was done, and
+/// then the parked process at the other end of the channel did what it had answered.
+#[derive(Clone, Copy, Debug, PartialEq, Eq)]
+pub enum Reaction {
+    Waits,
+    Acts,
+    HandsOn,
+}
+
+/// Does the answer of a process that is out or parks it with it, and does the deed of the parked
+/// process that it enables.
+#[inline(always)]
+pub fn react<K: Kinds>(
+    net: &Net<K>,
+    store: &mut Store,
+    places: &mut Roster,
+    process: usize,
+    answer: Answer,
+) -> Reaction
+    requires keeps { StandingsFit K.family K.admits net.now None store.old.state places.old }
+    requires process { process < length places.old }
+    requires out { place places.old process ≡ Out }
+    requires wants { wants K.family net.now store.old.state process ≡ Some answer }
+    requires room { length store.old.history + 2 ≤ store.old.room }
+    ensures reacts { Reacts K.family net.now store.old places.old process answer result store.new places.new }
+    ensures keeps { StandingsFit K.family K.admits net.now None store.new.state places.new }
+{
+    let Some(deed) = advance(net, store, places, process, answer) else {
+        places.update(process, Standing::Parked(answer));
+        return Reaction::Waits;
+    };
+    let Some(other) = partner(net, deed) else {
+        return Reaction::Acts;
+    };
+    let Some(wanted) = parked(places.as_slice(), other) else {
+        return Reaction::Acts;
+    };
+    match advance(net, store, places, other, wanted) {
+        Some(_) => Reaction::HandsOn,
+        None => Reaction::Acts,
+    }
+}

@@ -1,0 +1,83 @@
+//! What follows where no process is ready or out.
+ghost use Rattle.std.specs.Prelude.{◌≡◌, ◌<◌, ◌≤◌, ◌+◌, min, length, None, false};
+ghost use Rattle.std.specs.List.{list_any};
+ghost use Rattle.kpn_state.specs.Standings.{StandingsFit, is_busy};
+ghost use Rattle.kpn_commit.specs.Settling.{Settles};
+
+use crate::act::advance;
+use crate::choose::choose;
+use kpn_net::{End, Kinds, Net};
+use kpn_state::standing::parked;
+use kpn_state::{Roster, Store};
+
+/// What was found: some process is ready or out; or none is, and the run ended, or a channel grew
+/// and its writer's token was put.
+#[derive(Clone, Copy, Debug, PartialEq, Eq)]
+pub enum Settled {
+    Busy,
+    Ended(End),
+    Enlarged,
+}
+
+/// The capacity after a growth.
+fn enlarged(capacity: usize, step: usize, ceiling: usize) -> usize
+    requires { capacity < ceiling }
+    ensures { result ≡ min (capacity + step) ceiling }
+{
+    if step < ceiling - capacity {
+        capacity + step
+    } else {
+        ceiling
+    }
+}
+
+/// Ends the run or lets the chosen channel grow and its writer put its token. Where the growth is
+/// refused memory, the run ends.
+#[cold]
+#[inline(never)]
+fn settle_idle<K: Kinds>(net: &Net<K>, store: &mut Store, places: &mut Roster) -> Settled
+    requires keeps { StandingsFit K.family K.admits net.now None store.old.state places.old }
+    requires idle { list_any is_busy places.old ≡ false }
+    requires room { length store.old.history + 2 ≤ store.old.room }
+    ensures settles { Settles K.family net.now store.old places.old result store.new places.new }
+    ensures keeps { StandingsFit K.family K.admits net.now None store.new.state places.new }
+{
+    net.processes();
+    if places.all_stopped() {
+        return Settled::Ended(End::Terminated);
+    }
+    let Some((channel, writer)) = choose(net, store, places.as_slice()) else {
+        return Settled::Ended(End::Deadlock);
+    };
+    let (_, capacity) = store.filling(channel);
+    if capacity >= net.ceiling() {
+        return Settled::Ended(End::Ceiling);
+    }
+    let Some(answer) = parked(places.as_slice(), writer) else {
+        unreachable!()
+    };
+    let to = enlarged(capacity, net.step(), net.ceiling());
+    let Ok(()) = store.grow(channel, to) else {
+        return Settled::Ended(End::Memory);
+    };
+    let Some(_) = advance(net, store, places, writer, answer) else {
+        unreachable!()
+    };
+    Settled::Enlarged
+}
+
+/// Where no process is ready or out, ends the run or lets the chosen channel grow and its writer put
+/// its token. Where the growth is refused memory, the run ends.
+#[inline(always)]
+pub fn settle<K: Kinds>(net: &Net<K>, store: &mut Store, places: &mut Roster) -> Settled
+    requires keeps { StandingsFit K.family K.admits net.now None store.old.state places.old }
+    requires room { list_any is_busy places.old ≡ false → length store.old.history + 2 ≤ store.old.room }
+    ensures settles { Settles K.family net.now store.old places.old result store.new places.new }
+    ensures keeps { StandingsFit K.family K.admits net.now None store.new.state places.new }
+{
+    if places.any_busy() {
+        Settled::Busy
+    } else {
+        settle_idle(net, store, places)
+    }
+}

@@ -1,0 +1,74 @@
+//! The work of a commit.
+ghost use Rattle.std.specs.Prelude.{◌≡◌, ◌<◌, ◌≤◌, ◌+◌, length, Some, None};
+ghost use Rattle.kpn_model.specs.Semantics.{wants};
+ghost use Rattle.kpn_state.specs.declared.standing.Standing.TheVariants.{Out};
+ghost use Rattle.kpn_state.specs.Standings.{StandingsFit, place};
+ghost use Rattle.kpn_commit.specs.Works.{Works, outcome_of, end_after, settled_entries};
+
+use crate::outcome::Outcome;
+use crate::react::{Reaction, react};
+use crate::settle::{Settled, settle};
+use kpn_net::{Answer, End, Kinds, Net};
+use kpn_state::{Roster, Store};
+
+/// How many entries were appended where no process was ready or out.
+fn settled_entries(settled: Settled) -> usize
+    ensures value { result ≡ settled_entries settled }
+    ensures few { result ≤ 2 }
+{
+    match settled {
+        Settled::Enlarged => 2,
+        Settled::Busy | Settled::Ended(_) => 0,
+    }
+}
+
+/// The outcome, with the number of all entries.
+fn outcome_of(reaction: Reaction, settled: Settled) -> Outcome
+    ensures { result ≡ outcome_of reaction settled }
+{
+    let entries = settled_entries(settled);
+    match reaction {
+        Reaction::Waits => Outcome::Parked(entries),
+        Reaction::Acts => Outcome::Done(1 + entries),
+        Reaction::HandsOn => Outcome::Done(2 + entries),
+    }
+}
+
+/// How the run ends, by a cause that was found or by its budget.
+fn end_after(settled: Settled, budget: u64, entries: u64) -> Option<End>
+    ensures { result ≡ end_after settled budget entries }
+{
+    match settled {
+        Settled::Ended(end) => Some(end),
+        Settled::Busy | Settled::Enlarged => {
+            if budget <= entries {
+                Some(End::Budget)
+            } else {
+                None
+            }
+        }
+    }
+}
+
+/// Takes the answer of a process that is out, where no end stands: the outcome, and the end.
+#[inline(always)]
+pub fn work<K: Kinds>(
+    net: &Net<K>,
+    store: &mut Store,
+    places: &mut Roster,
+    process: usize,
+    answer: Answer,
+) -> (Outcome, Option<End>)
+    requires keeps { StandingsFit K.family K.admits net.now None store.old.state places.old }
+    requires process { process < length places.old }
+    requires out { place places.old process ≡ Out }
+    requires wants { wants K.family net.now store.old.state process ≡ Some answer }
+    requires room { length store.old.history + 3 ≤ store.old.room }
+    ensures works { Works K.family net.now store.old places.old process answer result.0 store.new places.new result.1 }
+    ensures keeps { StandingsFit K.family K.admits net.now None store.new.state places.new }
+{
+    let reaction = react(net, store, places, process, answer);
+    let settled = settle(net, store, places);
+    let end = end_after(settled, net.budget(), store.history().len() as u64);
+    (outcome_of(reaction, settled), end)
+}

@@ -1,0 +1,129 @@
+-- What contracts see of a machine.
+use Rattle.std.specs.Prelude.{◌≡◌, ◌≢◌, ℕ, ◌+◌, ◌<◌, ◌≤◌, true, false, List, [], Option, Some, None, length, get_or, set}
+use Rattle.std.specs.List.{list_any, list_all, sum_by}
+use Rattle.kpn_model.specs.declared.token.Token.{Token}
+use Rattle.kpn_model.specs.declared.kinds.Card.{Card}
+use Rattle.kpn_model.specs.declared.history.Status.TheVariants.{Live}
+use Rattle.kpn_model.specs.declared.history.Entry.{Entry}
+use Rattle.kpn_model.specs.declared.history.End.{End}
+use Rattle.kpn_model.specs.declared.history.End.TheVariants.{Terminated, Deadlock, Ceiling, Budget, Memory}
+use Rattle.kpn_model.specs.Network.{Family, Network, card_of}
+use Rattle.kpn_model.specs.Semantics.{State, status, wants, IsEnabled}
+use Rattle.kpn_model.specs.Determinacy.{IsRun}
+use Rattle.kpn_model.specs.Moments.{IsWithin, AtEachMoment, IsBound}
+use Rattle.kpn_model.specs.Valid.{IsWellTyped}
+use Rattle.kpn_body.specs.Input.{Input}
+use Rattle.kpn_state.specs.StateAndHistory.{StateAndHistory, state_and_history}
+use Rattle.kpn_state.specs.declared.standing.Standing.{Standing}
+use Rattle.kpn_state.specs.declared.standing.Standing.TheVariants.{Ready, Out, Parked, Stopped as Ended}
+use Rattle.kpn_state.specs.Standings.{place, is_busy, is_ready, parked_answer, StandingsFit}
+use Rattle.kpn_commit.specs.Settling.{EndsBy}
+
+-- the network, its state, the entries that led to it, where each process stands, how the run ended,
+-- and how many answers were taken
+pub record MachineView : Type 0 where
+  pub network : Network
+  pub state : State
+  pub history : List Entry
+  pub places : List Standing
+  pub end : Option End
+  pub commits : ℕ
+
+abbrev pub machine_view : Network → State → List Entry → List Standing → Option End → ℕ → MachineView
+machine_view net M E places end commits = record { network = net; state = M; history = E; places = places; end = end; commits = commits }
+
+-- its state and history, with room for two entries more than the budget
+abbrev pub state_and_history_of : MachineView → StateAndHistory
+state_and_history_of s = state_and_history s.state s.history (s.network.budget + 2)
+
+-- the process of the input is out, with its card, local state and last token
+pub record IsOutAt (net : Network) (M : State) (places : List Standing) (i : Input) : Type 0 where
+  pub out : place places i.process ≡ Out
+  pub card : card_of net i.process ≡ i.card
+  pub live : status M i.process ≡ Live i.local i.last
+
+abbrev pub IsOut : MachineView → Input → Type 0
+IsOut s i = IsOutAt s.network s.state s.places i
+
+-- a ready process goes out, asked with what it has
+pub record TakesOut (s : MachineView) (i : Input) (t : MachineView) : Type 0 where
+  pub ready : place s.places i.process ≡ Ready
+  pub card : card_of s.network i.process ≡ i.card
+  pub live : status s.state i.process ≡ Live i.local i.last
+  pub after : t ≡ record s { places = set s.places i.process Out }
+
+-- each process that is not out has a body of its card
+abbrev pub HasBodies : Network → List Standing → List (Option Card) → Type 0
+HasBodies net places bodies = (p : ℕ) → p < length net.processes → place places p ≢ Out → get_or bodies p None ≡ Some (card_of net p)
+
+-- the emptied vector of the bodies has room for them all
+pub record HasRoom {X : Type 0} (net : Network) (spare : List X) (room : ℕ) : Type 0 where
+  pub emptied : spare ≡ []
+  pub enough : length net.processes ≤ room
+
+-- how the end is bound: before one, the budget is not spent
+abbrev pub EndIs : Family → Network → State → List Entry → Option End → Type 0
+EndIs kinds net M E None = length E < net.budget
+EndIs kinds net M E (Some Terminated) = EndsBy kinds net M Terminated
+EndIs kinds net M E (Some Deadlock) = EndsBy kinds net M Deadlock
+EndIs kinds net M E (Some Ceiling) = EndsBy kinds net M Ceiling
+EndIs kinds net M E (Some Budget) = net.budget ≤ length E
+EndIs kinds net M E (Some Memory) = EndsBy kinds net M Memory
+
+-- 1 for a process that is parked
+abbrev pub waits : Standing → ℕ
+waits Ready = 0
+waits Out = 0
+waits (Parked a) = 1
+waits Ended = 0
+
+-- 1 for a process that is not out
+abbrev pub stays_in : Standing → ℕ
+stays_in Ready = 1
+stays_in Out = 0
+stays_in (Parked a) = 1
+stays_in Ended = 1
+
+-- the history is a run to the state, and all else fits; answers are taken at most once for each entry
+-- and each process that waits, and where an end stands for each that is not out
+pub record IsSound (kinds : Family) (admits : Card → List ℕ → Option Token → Type 0) (s : MachineView) (room : ℕ) (bodies : List (Option Card)) : Type 0 where
+  pub run : IsRun kinds s.network s.history s.state
+  pub keeps : StandingsFit kinds admits s.network None s.state s.places
+  pub room_is : room ≡ s.network.budget + 2
+  pub many_bodies : length bodies ≡ length s.network.processes
+  pub has_bodies : HasBodies s.network s.places bodies
+  pub few : length s.history ≤ s.network.budget + 2
+  pub ends : EndIs kinds s.network s.state s.history s.end
+  pub busy : s.end ≡ None → list_any is_busy s.places ≡ true
+  pub idle : (end : End) → s.end ≡ Some end → end ≢ Budget → list_any is_busy s.places ≡ false
+  pub asked : s.end ≡ None → s.commits ≤ length s.history + sum_by waits s.places
+  pub laid : s.commits ≤ length s.history + sum_by stays_in s.places
+
+abbrev pub EndHolds : Family → Network → List Entry → State → Option End → Type 0
+EndHolds kinds net E M None = Unit {0}
+EndHolds kinds net E M (Some end) = IsBound kinds net E M end
+
+-- what holds of each machine at each time: its history is a run from the start to its state, which at
+-- each moment has no channel above its capacity and is well-typed; an end that stands is bound; who
+-- can go on is ready or out, and who is neither wants what it answered; while no end stands some
+-- process is ready or out, and none is where one stands that isn't the budget's; there are at most
+-- two entries more than the budget, and at most as many answers were taken as there are entries and
+-- processes
+pub record IsFaithful (kinds : Family) (admits : Card → List ℕ → Option Token → Type 0) (s : MachineView) : Type 0 where
+  pub run : IsRun kinds s.network s.history s.state
+  pub within : AtEachMoment kinds s.network s.history IsWithin
+  pub well_typed : AtEachMoment kinds s.network s.history (IsWellTyped admits s.network)
+  pub bound : EndHolds kinds s.network s.history s.state s.end
+  pub none_held_back : (p : ℕ) → IsEnabled kinds s.network s.state p → is_busy (place s.places p) ≡ true
+  pub wanted : (p : ℕ) → is_busy (place s.places p) ≡ false → wants kinds s.network s.state p ≡ parked_answer (place s.places p)
+  pub some_busy : s.end ≡ None → list_any is_busy s.places ≡ true
+  pub none_busy : (end : End) → s.end ≡ Some end → end ≢ Budget → list_any is_busy s.places ≡ false
+  pub few_entries : length s.history ≤ s.network.budget + 2
+  pub few_commits : s.commits ≤ length s.history + length s.network.processes
+
+-- as it was opened: no entry, no commit, no end, and every process ready
+pub record IsFresh (s : MachineView) : Type 0 where
+  pub no_entry : s.history ≡ []
+  pub no_commit : s.commits ≡ 0
+  pub no_end : s.end ≡ None
+  pub all_ready : list_all is_ready s.places ≡ true

@@ -1,5 +1,0 @@
-use Rattle.std.proofs.Common.{◌≡◌, map, None}
-use Rattle.kpn_own_kinds.proofs.bodies.each_first_answer.Given as goal
-
-abbrev pub invariant-loop-body : goal.invariant-loop-body
-invariant-loop-body g l = l.answers.items ≡ map (λ b. g.B.Kinds.Kinds.family.answer (g.B.Body.card b) (g.B.Kinds.Kinds.family.start (g.B.Body.card b)) None) l.yielded

@@ -1,0 +1,25 @@
+-- A state with the history that led to it.
+use Rattle.std.specs.Prelude.{ℕ, List, [], ◌∷◌, ◌++◌}
+use Rattle.kpn_model.specs.declared.token.Token.{Token}
+use Rattle.kpn_model.specs.declared.history.Entry.{Entry}
+use Rattle.kpn_model.specs.declared.history.Status.{Status}
+use Rattle.kpn_model.specs.Semantics.{State, Held}
+
+abbrev pub state : List Status → List Held → State
+state statuses channels = record { processes = statuses; channels = channels }
+
+abbrev pub held : List Token → ℕ → Held
+held tokens capacity = record { tokens = tokens; capacity = capacity }
+
+-- a state, the entries that led to it, and how many entries there may be
+pub record StateAndHistory : Type 0 where
+  pub state : State
+  pub history : List Entry
+  pub room : ℕ
+
+abbrev pub state_and_history : State → List Entry → ℕ → StateAndHistory
+state_and_history M E room = record { state = M; history = E; room = room }
+
+-- one more entry, and the state after it
+abbrev pub more : StateAndHistory → State → Entry → StateAndHistory
+more s M e = state_and_history M (s.history ++ e ∷ []) s.room

@@ -1,6 +1,0 @@
--- Without the range of a card the law of ports fails.
-use Rattle.kpn_witnesses.proofs.ParksCase.{no_law_of_any_card}
-use Rattle.kpn_witnesses.proofs.premises.standard_kinds_are_lawful.Goals as goal
-
-pub returns-clause-any_card : goal.returns-clause-any_card
-returns-clause-any_card c = no_law_of_any_card
