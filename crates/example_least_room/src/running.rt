@@ -23,7 +23,7 @@ use kpn_net::Entry;
 pub fn finish<B: Body>(machine: &mut Machine<B>) -> usize
     requires standard { B.Kinds.family ≡ standard }
     requires network { machine.old.network ≡ longer_parks_case }
-    requires none_out { count_by is_out machine.old.places ≡ 0 }
+    requires none_out { count_by is_out machine.old.standings ≡ 0 }
     ensures end { IsSome machine.new.end }
     ensures never_three { (c : ℕ) → capacity machine.new.state c < 3 }
     ensures growths { result ≡ length (growths machine.new.history) }

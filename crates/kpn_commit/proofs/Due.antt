@@ -27,8 +27,8 @@ module _ (kinds : Family) (net : Network) where
   due_memory M Memory h can = refl
 
   pub grows_exactly :
-      (s : StateAndHistory) (places : List Standing) (x : Settled) (t : StateAndHistory) (moved : List Standing) (budget entries : ℕ) → Settles kinds net s places x t moved → end_after x budget entries ≢ Some Memory
-      → (x ≡ Enlarged) ↔ ((list_any is_busy places ≡ false) × CanGrow kinds net s.state)
-  grows_exactly s places Busy t moved budget entries h not = (λ e. cc, λ due. absurd (true_false _ h.0 due.0))
-  grows_exactly s places (Over end) t moved budget entries h not = (λ e. cc, λ due. absurd (not (ap (λ (x : End). Some x) (due_memory s.state end h.3 due.1))))
-  grows_exactly s places Enlarged t moved budget entries h not = (λ _. (h.0, record { channel = h.1.channel; to = h.1.to; next = h.1.grown; grows = h.1.grows }), λ _. refl)
+      (s : StateAndHistory) (standings : List Standing) (x : Settled) (t : StateAndHistory) (moved : List Standing) (budget entries : ℕ) → Settles kinds net s standings x t moved → end_after x budget entries ≢ Some Memory
+      → (x ≡ Enlarged) ↔ ((list_any is_busy standings ≡ false) × CanGrow kinds net s.state)
+  grows_exactly s standings Busy t moved budget entries h not = (λ e. cc, λ due. absurd (true_false _ h.0 due.0))
+  grows_exactly s standings (Over end) t moved budget entries h not = (λ e. cc, λ due. absurd (not (ap (λ (x : End). Some x) (due_memory s.state end h.3 due.1))))
+  grows_exactly s standings Enlarged t moved budget entries h not = (λ _. (h.0, record { channel = h.1.channel; to = h.1.to; next = h.1.grown; grows = h.1.grows }), λ _. refl)

@@ -16,7 +16,7 @@ use Rattle.kpn_laws.proofs.States.{out_of-writer}
 use Rattle.kpn_state.specs.StateAndHistory.{StateAndHistory, more}
 use Rattle.kpn_state.specs.declared.standing.Standing.{Standing}
 use Rattle.kpn_state.specs.declared.standing.Standing.TheVariants.{Parked}
-use Rattle.kpn_state.specs.Standings.{place, is_busy, place_after, partner, StandingsFit}
+use Rattle.kpn_state.specs.Standings.{standing, is_busy, place_after, partner, StandingsFit}
 use Rattle.kpn_commit.specs.Choice.{written_by, awaited_by, awaited, IsSmallest}
 use Rattle.kpn_commit.specs.Settling.{GrowsAndPuts}
 use Rattle.kpn_state.proofs.Placed.{place_within, parked_not_ended}
@@ -31,7 +31,7 @@ deed_put kinds net M p c (Read k) d e is = cc
 deed_put kinds net M p c Stop d e is = cc
 deed_put kinds net M p c x d e is = absurd is
 
-module _ (kinds : Family) (admits : Card → List ℕ → Option Token → Type 0) (net : Network) (s : StateAndHistory) (places : List Standing) (k : StandingsFit kinds admits net None s.state places) (c w : ℕ) (a : Answer) (to : ℕ) (waits : awaited net places w ≡ Some c) (parked : place places w ≡ Parked a) (within : c < length s.state.channels) where
+module _ (kinds : Family) (admits : Card → List ℕ → Option Token → Type 0) (net : Network) (s : StateAndHistory) (standings : List Standing) (k : StandingsFit kinds admits net None s.state standings) (c w : ℕ) (a : Answer) (to : ℕ) (waits : awaited net standings w ≡ Some c) (parked : standing standings w ≡ Parked a) (within : c < length s.state.channels) where
   -- the state after the growth
   abbrev after_growth : State
   after_growth = with_channel s.state c (tokens s.state c) to
@@ -47,14 +47,14 @@ module _ (kinds : Family) (admits : Card → List ℕ → Option Token → Type 
   -- the channel holds a token
   holds : 1 ≤ length (tokens s.state c)
   holds =
-      let full = (awaits_blocked kinds admits net s.state places k w c waits).full in
+      let full = (awaits_blocked kinds admits net s.state standings k w c waits).full in
       let x = writing net w c a.act writes in
       let some = k.smallest c (out_of-writer net w x.0 c x.3).0 in
       omega arith
 
   -- after the growth none but the writer may go on
-  pub keeps_enlarged : (s1 : StateAndHistory) → s1 ≡ more s after_growth (Grew c to) → capacity s.state c ≤ to → to ≤ net.ceiling → StandingsFit kinds admits net (Some w) s1.state places
-  keeps_enlarged s1 first more few = subst (λ (x : StateAndHistory). StandingsFit kinds admits net (Some w) x.state places) (sym first) (keeps_grown kinds admits net s.state c to within places w k is_writer more few)
+  pub keeps_enlarged : (s1 : StateAndHistory) → s1 ≡ more s after_growth (Grew c to) → capacity s.state c ≤ to → to ≤ net.ceiling → StandingsFit kinds admits net (Some w) s1.state standings
+  keeps_enlarged s1 first more few = subst (λ (x : StateAndHistory). StandingsFit kinds admits net (Some w) x.state standings) (sym first) (keeps_grown kinds admits net s.state c to within standings w k is_writer more few)
 
   -- and the writer can
   pub put_possible : (s1 : StateAndHistory) → s1 ≡ more s after_growth (Grew c to) → length (tokens s.state c) < to → IsPossible kinds net s1.state w a.act
@@ -65,23 +65,23 @@ module _ (kinds : Family) (admits : Card → List ℕ → Option Token → Type 
 
   -- after the put no parked process can go on
   pub keeps_after_put :
-      (s1 : StateAndHistory) (d : Deed) (t : StateAndHistory) (moved : List Standing) → s1 ≡ more s after_growth (Grew c to) → IsDeed kinds net s1.state w a.act d → t ≡ more s1 (after_deed kinds net s1.state w a.next d) (Did w d) → moved ≡ set places w (place_after d)
+      (s1 : StateAndHistory) (d : Deed) (t : StateAndHistory) (moved : List Standing) → s1 ≡ more s after_growth (Grew c to) → IsDeed kinds net s1.state w a.act d → t ≡ more s1 (after_deed kinds net s1.state w a.next d) (Did w d) → moved ≡ set standings w (place_after d)
       → StandingsFit kinds admits net (partner net d) t.state moved → StandingsFit kinds admits net None t.state moved
   keeps_after_put s1 d t moved first is entry moves kept =
       let put = deed_put kinds net s1.state w c a.act d writes is in
-      let there : w < length places = place_within places w (λ e. parked_not_ended a (sym parked ∙ e)) in
+      let there : w < length standings = place_within standings w (λ e. parked_not_ended a (sym parked ∙ e)) in
       let now : t.state ≡ after_deed kinds net after_growth w a.next (Put c put.0) = ap (λ (x : StateAndHistory). x.state) entry ∙ ap (λ (x : StateAndHistory). after_deed kinds net x.state w a.next d) first ∙ ap (λ (x : Deed). after_deed kinds net after_growth w a.next x) put.1 in
       let by_put : StandingsFit kinds admits net (partner net (Put c put.0)) (after_deed kinds net after_growth w a.next (Put c put.0)) moved = subst (λ (x : Deed). StandingsFit kinds admits net (partner net x) (after_deed kinds net after_growth w a.next (Put c put.0)) moved) put.1 (subst (λ (M : State). StandingsFit kinds admits net (partner net d) M moved) now kept) in
       subst (λ (M : State). StandingsFit kinds admits net None M moved) (sym now)
-      (keeps_put kinds admits net s.state c to within places w a.next put.0 moved k is_writer holds there (moves ∙ ap (λ (x : Deed). set places w (place_after x)) put.1) by_put)
+      (keeps_put kinds admits net s.state c to within standings w a.next put.0 moved k is_writer holds there (moves ∙ ap (λ (x : Deed). set standings w (place_after x)) put.1) by_put)
 
-  module _ (idle : list_any is_busy places ≡ false) (best : IsSmallest net s.state places (length places) (Some (c, w))) (below : capacity s.state c < net.ceiling) (to_is : to ≡ min (capacity s.state c + net.step) net.ceiling) where
+  module _ (idle : list_any is_busy standings ≡ false) (best : IsSmallest net s.state standings (length standings) (Some (c, w))) (below : capacity s.state c < net.ceiling) (to_is : to ≡ min (capacity s.state c + net.step) net.ceiling) where
     -- the growth is the definition's
     pub growth : Grows kinds net s.state c to after_growth
     growth =
         record {
-          artificial = smallest_artificial kinds admits net s.state places k idle c w best;
-          chosen = smallest_chosen kinds admits net s.state places k idle c w best;
+          artificial = smallest_artificial kinds admits net s.state standings k idle c w best;
+          chosen = smallest_chosen kinds admits net s.state standings k idle c w best;
           below = below;
           to_is = to_is;
           leaves = refl;
@@ -89,8 +89,8 @@ module _ (kinds : Family) (admits : Card → List ℕ → Option Token → Type 
 
     -- and so is the put
     pub grows_and_puts :
-        (s1 : StateAndHistory) (d : Deed) (t : StateAndHistory) (moved : List Standing) → s1 ≡ more s after_growth (Grew c to) → IsDeed kinds net s1.state w a.act d → t ≡ more s1 (after_deed kinds net s1.state w a.next d) (Did w d) → moved ≡ set places w (place_after d)
-        → GrowsAndPuts kinds net s places t moved
+        (s1 : StateAndHistory) (d : Deed) (t : StateAndHistory) (moved : List Standing) → s1 ≡ more s after_growth (Grew c to) → IsDeed kinds net s1.state w a.act d → t ≡ more s1 (after_deed kinds net s1.state w a.next d) (Did w d) → moved ≡ set standings w (place_after d)
+        → GrowsAndPuts kinds net s standings t moved
     grows_and_puts s1 d t moved first is entry moves =
         let put = deed_put kinds net s1.state w c a.act d writes is in
         let s2 = more s after_growth (Grew c to) in
@@ -106,5 +106,5 @@ module _ (kinds : Family) (admits : Card → List ℕ → Option Token → Type 
           wanted = a;
           parked = parked;
           token = put.0;
-          puts = acted kinds net s2 places w a (Put c put.0) t moved (k.wanted w a parked) is_put entry_put (moves ∙ ap (λ (x : Deed). set places w (place_after x)) put.1);
+          puts = acted kinds net s2 standings w a (Put c put.0) t moved (k.wanted w a parked) is_put entry_put (moves ∙ ap (λ (x : Deed). set standings w (place_after x)) put.1);
         }

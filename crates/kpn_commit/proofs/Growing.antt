@@ -15,7 +15,7 @@ use Rattle.kpn_laws.proofs.States.{out_of-writer, tokens_set_same, tokens_set_ot
 use Rattle.kpn_laws.proofs.Steps.{capacity_after}
 use Rattle.kpn_state.specs.declared.standing.Standing.{Standing}
 use Rattle.kpn_state.specs.declared.standing.Standing.TheVariants.{Parked}
-use Rattle.kpn_state.specs.Standings.{place, place_after, partner, StandingsFit}
+use Rattle.kpn_state.specs.Standings.{standing, place_after, partner, StandingsFit}
 use Rattle.kpn_state.proofs.Placed.{place_set_same, place_set_other, acted_not_parked}
 use Rattle.kpn_commit.proofs.Keeping.{keeps_all}
 
@@ -45,9 +45,9 @@ module _ (kinds : Family) (admits : Card → List ℕ → Option Token → Type 
 
   -- after the growth none but the channel's writer may go on
   pub keeps_grown :
-      (places : List Standing) (w : ℕ) → StandingsFit kinds admits net None M places → (channel_of net c).writer ≡ w → capacity M c ≤ to → to ≤ net.ceiling
-      → StandingsFit kinds admits net (Some w) grown places
-  keeps_grown places w k writer more few =
+      (standings : List Standing) (w : ℕ) → StandingsFit kinds admits net None M standings → (channel_of net c).writer ≡ w → capacity M c ≤ to → to ≤ net.ceiling
+      → StandingsFit kinds admits net (Some w) grown standings
+  keeps_grown standings w k writer more few =
       record {
         processes = k.processes;
         channels = length-set M.channels c _ ∙ k.channels;
@@ -100,12 +100,12 @@ module _ (kinds : Family) (admits : Card → List ℕ → Option Token → Type 
 
   -- after the growth and the put no parked process can go on
   pub keeps_put :
-      (places : List Standing) (w : ℕ) (next : List ℕ) (t : Token) (moved : List Standing) → StandingsFit kinds admits net None M places → (channel_of net c).writer ≡ w → 1 ≤ length (tokens M c)
-      → w < length places → moved ≡ set places w (place_after (Put c t))
+      (standings : List Standing) (w : ℕ) (next : List ℕ) (t : Token) (moved : List Standing) → StandingsFit kinds admits net None M standings → (channel_of net c).writer ≡ w → 1 ≤ length (tokens M c)
+      → w < length standings → moved ≡ set standings w (place_after (Put c t))
       → StandingsFit kinds admits net (partner net (Put c t)) (after_deed kinds net grown w next (Put c t)) moved → StandingsFit kinds admits net None (after_deed kinds net grown w next (Put c t)) moved
-  keeps_put places w next t moved k writer some there is kept =
+  keeps_put standings w next t moved k writer some there is kept =
       keeps_all kinds admits net (after_deed kinds net grown w next (Put c t)) moved (partner net (Put c t)) kept
       (λ q a s at can.
-      let here : place (set places w (place_after (Put c t))) q ≡ Parked a = ap (λ (l : List Standing). place l q) (sym is) ∙ at in
-      let other : q ≢ w = λ e. acted_not_parked (Put c t) a (sym (place_set_same places w (place_after (Put c t)) there) ∙ ap (λ y. place (set places w (place_after (Put c t))) y) (sym e) ∙ here) in
-      k.blocked q a (λ f. no_process q f) (sym (place_set_other places w q (place_after (Put c t)) other) ∙ here) (possible_unput w next t q a.act writer other some can))
+      let here : standing (set standings w (place_after (Put c t))) q ≡ Parked a = ap (λ (l : List Standing). standing l q) (sym is) ∙ at in
+      let other : q ≢ w = λ e. acted_not_parked (Put c t) a (sym (place_set_same standings w (place_after (Put c t)) there) ∙ ap (λ y. standing (set standings w (place_after (Put c t))) y) (sym e) ∙ here) in
+      k.blocked q a (λ f. no_process q f) (sym (place_set_other standings w q (place_after (Put c t)) other) ∙ here) (possible_unput w next t q a.act writer other some can))

@@ -14,7 +14,7 @@ use Rattle.kpn_model.specs.Semantics.{State, status, tokens, capacity, wants, Is
 use Rattle.kpn_laws.proofs.Steps.{live_within, done_wants_none}
 use Rattle.kpn_state.specs.declared.standing.Standing.{Standing}
 use Rattle.kpn_state.specs.declared.standing.Standing.TheVariants.{Ready, Out, Parked, Stopped as Ended}
-use Rattle.kpn_state.specs.Standings.{place, is_busy, has_stopped, StandingsFit}
+use Rattle.kpn_state.specs.Standings.{standing, is_busy, has_stopped, StandingsFit}
 use Rattle.kpn_commit.specs.Choice.{written_by, awaited_by, awaited, IsSmallest}
 use Rattle.kpn_state.proofs.Placed.{idle_at, stopped_at, one_live}
 
@@ -34,42 +34,42 @@ writing net p c (Read k) e = cc
 writing net p c (Write k t) e = (k, t, refl, e)
 writing net p c Stop e = cc
 
-module _ (kinds : Family) (admits : Card → List ℕ → Option Token → Type 0) (net : Network) (M : State) (places : List Standing) (k : StandingsFit kinds admits net None M places) where
+module _ (kinds : Family) (admits : Card → List ℕ → Option Token → Type 0) (net : Network) (M : State) (standings : List Standing) (k : StandingsFit kinds admits net None M standings) where
   -- a process that wants something and is neither ready nor out is parked with it
-  pub wants_parked : (p : ℕ) (a : Answer) → is_busy (place places p) ≡ false → wants kinds net M p ≡ Some a → place places p ≡ Parked a
-  wants_parked p a idle w = by_place (place places p) refl idle
+  pub wants_parked : (p : ℕ) (a : Answer) → is_busy (standing standings p) ≡ false → wants kinds net M p ≡ Some a → standing standings p ≡ Parked a
+  wants_parked p a idle w = by_place (standing standings p) refl idle
     where
-      by_place : (x : Standing) → place places p ≡ x → is_busy x ≡ false → place places p ≡ Parked a
+      by_place : (x : Standing) → standing standings p ≡ x → is_busy x ≡ false → standing standings p ≡ Parked a
       by_place Ready e h = cc
       by_place Out e h = cc
       by_place (Parked b) e h = let same : b ≡ a = same_Some _ _ (sym (k.wanted p b e) ∙ w) in e ∙ ap (λ (x : Answer). Parked x) same
       by_place Ended e h = absurd (done_wants_none kinds net p (status M p) a (k.stopped p e) w)
 
   -- a process that can go on is ready or out
-  pub enabled_busy : (p : ℕ) → IsEnabled kinds net M p → is_busy (place places p) ≡ true
-  enabled_busy p e = by_test (is_busy (place places p)) refl
+  pub enabled_busy : (p : ℕ) → IsEnabled kinds net M p → is_busy (standing standings p) ≡ true
+  enabled_busy p e = by_test (is_busy (standing standings p)) refl
     where
-      by_test : (b : Bool) → is_busy (place places p) ≡ b → is_busy (place places p) ≡ true
+      by_test : (b : Bool) → is_busy (standing standings p) ≡ b → is_busy (standing standings p) ≡ true
       by_test true h = h
       by_test false h = absurd (k.blocked p e.answer (λ f. none_some p f) (wants_parked p e.answer h e.wanted) e.possible)
 
-  module _ (idle : list_any is_busy places ≡ false) where
+  module _ (idle : list_any is_busy standings ≡ false) where
     -- no process can go on
     pub idle_quiet : IsQuiet kinds net M
-    idle_quiet p e = true_false _ (enabled_busy p e) (idle_at places p idle)
+    idle_quiet p e = true_false _ (enabled_busy p e) (idle_at standings p idle)
       where
         true_false : (b : Bool) → b ≡ true → b ≡ false → ⊥
         true_false b x y = cc
 
     -- a blocked writer awaits its channel
-    pub blocked_awaits : (p c : ℕ) → IsBlocked kinds net M p c → awaited net places p ≡ Some c
+    pub blocked_awaits : (p c : ℕ) → IsBlocked kinds net M p c → awaited net standings p ≡ Some c
     blocked_awaits p c b =
-        ap (λ x. awaited_by net p x) (wants_parked p b.answer (idle_at places p idle) b.wanted) ∙ ap (λ x. written_by net p x) b.act ∙ b.at
+        ap (λ x. awaited_by net p x) (wants_parked p b.answer (idle_at standings p idle) b.wanted) ∙ ap (λ x. written_by net p x) b.act ∙ b.at
 
   -- who awaits a channel is a blocked writer
-  pub awaits_blocked : (p c : ℕ) → awaited net places p ≡ Some c → IsBlocked kinds net M p c
+  pub awaits_blocked : (p c : ℕ) → awaited net standings p ≡ Some c → IsBlocked kinds net M p c
   awaits_blocked p c e =
-      let at = awaiting net p c (place places p) e in
+      let at = awaiting net p c (standing standings p) e in
       let act = writing net p c at.0.act at.2 in
       let cant = k.blocked p at.0 (λ f. none_some p f) at.1 in
       record {
@@ -83,7 +83,7 @@ module _ (kinds : Family) (admits : Card → List ℕ → Option Token → Type 
       }
 
   -- it is there
-  pub awaits_within : (p c : ℕ) → awaited net places p ≡ Some c → p < length places
+  pub awaits_within : (p c : ℕ) → awaited net standings p ≡ Some c → p < length standings
   awaits_within p c e =
       let b = awaits_blocked p c e in
       let within = live_within kinds net M p b.answer b.wanted in
@@ -91,9 +91,9 @@ module _ (kinds : Family) (admits : Card → List ℕ → Option Token → Type 
       let standing = k.standing in
       omega arith
 
-  module _ (idle : list_any is_busy places ≡ false) where
+  module _ (idle : list_any is_busy standings ≡ false) where
     -- the smallest awaited channel is the chosen one
-    pub smallest_chosen : (c w : ℕ) → IsSmallest net M places (length places) (Some (c, w)) → IsChosen kinds net M c
+    pub smallest_chosen : (c w : ℕ) → IsSmallest net M standings (length standings) (Some (c, w)) → IsChosen kinds net M c
     smallest_chosen c w best =
         record {
           writer = w;
@@ -107,19 +107,19 @@ module _ (kinds : Family) (admits : Card → List ℕ → Option Token → Type 
         }
 
     -- and a channel has to grow
-    pub smallest_artificial : (c w : ℕ) → IsSmallest net M places (length places) (Some (c, w)) → IsArtificial kinds net M
+    pub smallest_artificial : (c w : ℕ) → IsSmallest net M standings (length standings) (Some (c, w)) → IsArtificial kinds net M
     smallest_artificial c w best = record { quiet = idle_quiet idle; writer = w; channel = c; blocked = awaits_blocked w c best.0 }
 
     -- where none waits to write, none is blocked on a write
-    pub none_blocked : IsSmallest net M places (length places) None → (p c : ℕ) → IsBlocked kinds net M p c → ⊥
+    pub none_blocked : IsSmallest net M standings (length standings) None → (p c : ℕ) → IsBlocked kinds net M p c → ⊥
     none_blocked none p c b =
         let waits = blocked_awaits idle p c b in
         none_some c (sym (none p (awaits_within p c waits)) ∙ waits)
 
   -- where not all have stopped, some process is live
-  pub some_live : list_all has_stopped places ≡ false → (p : ℕ) × (status M p ≢ Done)
-  some_live h = let one = one_live places h in (one.0, λ e. one.1 (k.done one.0 e))
+  pub some_live : list_all has_stopped standings ≡ false → (p : ℕ) × (status M p ≢ Done)
+  some_live h = let one = one_live standings h in (one.0, λ e. one.1 (k.done one.0 e))
 
   -- where all have, none is
-  pub all_done : list_all has_stopped places ≡ true → (p : ℕ) → status M p ≡ Done
-  all_done h p = k.stopped p (stopped_at places p h)
+  pub all_done : list_all has_stopped standings ≡ true → (p : ℕ) → status M p ≡ Done
+  all_done h p = k.stopped p (stopped_at standings p h)

@@ -16,7 +16,7 @@ use Rattle.kpn_laws.proofs.WellTypedDeeds.{sorted_deed}
 use Rattle.kpn_laws.proofs.Steps.{after, processes_after, channels_after, live_within, status_after_same, status_after_other, capacity_after}
 use Rattle.kpn_state.specs.declared.standing.Standing.{Standing}
 use Rattle.kpn_state.specs.declared.standing.Standing.TheVariants.{Parked, Stopped as Ended}
-use Rattle.kpn_state.specs.Standings.{place, place_after, partner, StandingsFit}
+use Rattle.kpn_state.specs.Standings.{standing, place_after, partner, StandingsFit}
 use Rattle.kpn_state.proofs.Placed.{place_set_same, place_set_other, acted_not_parked}
 use Rattle.kpn_commit.proofs.Deeds.{possible_before, partner_back}
 
@@ -39,99 +39,99 @@ some_same p q e = cc
 
 module _ (kinds : Family) (admits : Card → List ℕ → Option Token → Type 0) (net : Network) where
   -- who may be spared, though none need be
-  pub keeps_sparing : (M : State) (places : List Standing) (p : ℕ) → StandingsFit kinds admits net None M places → StandingsFit kinds admits net (Some p) M places
-  keeps_sparing M places p k =
+  pub keeps_sparing : (M : State) (standings : List Standing) (p : ℕ) → StandingsFit kinds admits net None M standings → StandingsFit kinds admits net (Some p) M standings
+  keeps_sparing M standings p k =
       record { processes = k.processes; channels = k.channels; standing = k.standing; sorted = k.sorted; smallest = k.smallest; greatest = k.greatest; stopped = k.stopped; done = k.done; wanted = k.wanted; blocked = λ q a ne e. k.blocked q a (λ f. none_some q f) e }
 
   -- where the spared process is not parked, or can't go on either, none was spared
   pub keeps_all :
-      (M : State) (places : List Standing) (spared : Option ℕ) → StandingsFit kinds admits net spared M places
-      → ((q : ℕ) (a : Answer) → spared ≡ Some q → place places q ≡ Parked a → IsPossible kinds net M q a.act → ⊥) → StandingsFit kinds admits net None M places
-  keeps_all M places None k h = k
-  keeps_all M places (Some p) k h =
+      (M : State) (standings : List Standing) (spared : Option ℕ) → StandingsFit kinds admits net spared M standings
+      → ((q : ℕ) (a : Answer) → spared ≡ Some q → standing standings q ≡ Parked a → IsPossible kinds net M q a.act → ⊥) → StandingsFit kinds admits net None M standings
+  keeps_all M standings None k h = k
+  keeps_all M standings (Some p) k h =
       record { processes = k.processes; channels = k.channels; standing = k.standing; sorted = k.sorted; smallest = k.smallest; greatest = k.greatest; stopped = k.stopped; done = k.done; wanted = k.wanted; blocked = λ q a ne e. ⊎_elim (λ (x : q ≡ p). h q a (ap Some (sym x)) e) (λ y. k.blocked q a (λ f. y (sym (some_same p q f))) e) (cases_eq q p) }
 
   -- a live process may be moved, where what it is parked with is wanted and can't be done
   pub keeps_moved :
-      (M : State) (places : List Standing) (p : ℕ) (x : Standing) → StandingsFit kinds admits net None M places → p < length places → x ≢ Ended → status M p ≢ Done
-      → ((a : Answer) → x ≡ Parked a → (wants kinds net M p ≡ Some a) × (IsPossible kinds net M p a.act → ⊥)) → StandingsFit kinds admits net None M (set places p x)
-  keeps_moved M places p x k within moves live h =
+      (M : State) (standings : List Standing) (p : ℕ) (x : Standing) → StandingsFit kinds admits net None M standings → p < length standings → x ≢ Ended → status M p ≢ Done
+      → ((a : Answer) → x ≡ Parked a → (wants kinds net M p ≡ Some a) × (IsPossible kinds net M p a.act → ⊥)) → StandingsFit kinds admits net None M (set standings p x)
+  keeps_moved M standings p x k within moves live h =
       record {
         processes = k.processes;
         channels = k.channels;
-        standing = length-set places p x ∙ k.standing;
+        standing = length-set standings p x ∙ k.standing;
         sorted = k.sorted;
         smallest = k.smallest;
         greatest = k.greatest;
         stopped = λ q e. ⊎_elim
-            (λ (s : q ≡ p). absurd (moves (sym (place_set_same places p x within) ∙ ap (λ y. place (set places p x) y) (sym s) ∙ e)))
-            (λ o. k.stopped q (sym (place_set_other places p q x o) ∙ e))
+            (λ (s : q ≡ p). absurd (moves (sym (place_set_same standings p x within) ∙ ap (λ y. standing (set standings p x) y) (sym s) ∙ e)))
+            (λ o. k.stopped q (sym (place_set_other standings p q x o) ∙ e))
             (cases_eq q p);
         done = λ q e. ⊎_elim
             (λ (s : q ≡ p). absurd (live (ap (λ y. status M y) (sym s) ∙ e)))
-            (λ o. place_set_other places p q x o ∙ k.done q e)
+            (λ o. place_set_other standings p q x o ∙ k.done q e)
             (cases_eq q p);
         wanted = λ q a e. ⊎_elim
-            (λ (s : q ≡ p). ap (λ y. wants kinds net M y) s ∙ (h a (sym (place_set_same places p x within) ∙ ap (λ y. place (set places p x) y) (sym s) ∙ e)).0)
-            (λ o. k.wanted q a (sym (place_set_other places p q x o) ∙ e))
+            (λ (s : q ≡ p). ap (λ y. wants kinds net M y) s ∙ (h a (sym (place_set_same standings p x within) ∙ ap (λ y. standing (set standings p x) y) (sym s) ∙ e)).0)
+            (λ o. k.wanted q a (sym (place_set_other standings p q x o) ∙ e))
             (cases_eq q p);
         blocked = λ q a ne e. ⊎_elim
-            (λ (s : q ≡ p). subst (λ y. IsPossible kinds net M y a.act → ⊥) (sym s) (h a (sym (place_set_same places p x within) ∙ ap (λ y. place (set places p x) y) (sym s) ∙ e)).1)
-            (λ o. k.blocked q a ne (sym (place_set_other places p q x o) ∙ e))
+            (λ (s : q ≡ p). subst (λ y. IsPossible kinds net M y a.act → ⊥) (sym s) (h a (sym (place_set_same standings p x within) ∙ ap (λ y. standing (set standings p x) y) (sym s) ∙ e)).1)
+            (λ o. k.blocked q a ne (sym (place_set_other standings p q x o) ∙ e))
             (cases_eq q p);
       }
 
   module _ (signature : Card → Option Signature) (valid : IsValid signature net) where
     -- a deed moves its process on, and may enable the process at the other end of its channel alone
     pub keeps_deed :
-        (M : State) (places : List Standing) (p : ℕ) (a : Answer) (d : Deed) → StandingsFit kinds admits net (Some p) M places → p < length places
+        (M : State) (standings : List Standing) (p : ℕ) (a : Answer) (d : Deed) → StandingsFit kinds admits net (Some p) M standings → p < length standings
         → wants kinds net M p ≡ Some a → IsDeed kinds net M p a.act d → NamesPort signature (card_of net p) a.act → LeadsOn signature admits (card_of net p) a (read_by d)
-        → StandingsFit kinds admits net (partner net d) (after_deed kinds net M p a.next d) (set places p (place_after d))
-    keeps_deed M places p a d k within w is names leads =
+        → StandingsFit kinds admits net (partner net d) (after_deed kinds net M p a.next d) (set standings p (place_after d))
+    keeps_deed M standings p a d k within w is names leads =
         let N = after_deed kinds net M p a.next d in
-        let ps = set places p (place_after d) in
-        let here : place ps p ≡ place_after d = place_set_same places p (place_after d) within in
+        let ps = set standings p (place_after d) in
+        let here : standing ps p ≡ place_after d = place_set_same standings p (place_after d) within in
         let doer : status N p ≡ after (Some a) d = status_after_same kinds net M p a d (live_within kinds net M p a w) in
         record {
           processes = processes_after kinds net M p a.next d ∙ k.processes;
           channels = channels_after kinds net M p a.next d ∙ k.channels;
-          standing = length-set places p (place_after d) ∙ k.standing;
+          standing = length-set standings p (place_after d) ∙ k.standing;
           sorted = sorted_deed signature admits kinds net valid M k.sorted p a w names d is leads k.channels;
           smallest = λ c h. subst (λ n. 1 ≤ n) (sym (capacity_after kinds net M p c a.next d)) (k.smallest c h);
           greatest = λ c. subst (λ n. n ≤ net.ceiling) (sym (capacity_after kinds net M p c a.next d)) (k.greatest c);
           stopped = λ q e. ⊎_elim
-              (λ (s : q ≡ p). ap (λ y. status N y) s ∙ doer ∙ ended_after a d (sym here ∙ ap (λ y. place ps y) (sym s) ∙ e))
-              (λ o. status_after_other kinds net M p q a.next d o ∙ k.stopped q (sym (place_set_other places p q (place_after d) o) ∙ e))
+              (λ (s : q ≡ p). ap (λ y. status N y) s ∙ doer ∙ ended_after a d (sym here ∙ ap (λ y. standing ps y) (sym s) ∙ e))
+              (λ o. status_after_other kinds net M p q a.next d o ∙ k.stopped q (sym (place_set_other standings p q (place_after d) o) ∙ e))
               (cases_eq q p);
           done = λ q e. ⊎_elim
-              (λ (s : q ≡ p). ap (λ y. place ps y) s ∙ here ∙ after_ended a d (sym doer ∙ ap (λ y. status N y) (sym s) ∙ e))
-              (λ o. place_set_other places p q (place_after d) o ∙ k.done q (sym (status_after_other kinds net M p q a.next d o) ∙ e))
+              (λ (s : q ≡ p). ap (λ y. standing ps y) s ∙ here ∙ after_ended a d (sym doer ∙ ap (λ y. status N y) (sym s) ∙ e))
+              (λ o. place_set_other standings p q (place_after d) o ∙ k.done q (sym (status_after_other kinds net M p q a.next d o) ∙ e))
               (cases_eq q p);
           wanted = λ q b e. ⊎_elim
-              (λ (s : q ≡ p). absurd (acted_not_parked d b (sym here ∙ ap (λ y. place ps y) (sym s) ∙ e)))
-              (λ o. ap (λ s. answered kinds net q s) (status_after_other kinds net M p q a.next d o) ∙ k.wanted q b (sym (place_set_other places p q (place_after d) o) ∙ e))
+              (λ (s : q ≡ p). absurd (acted_not_parked d b (sym here ∙ ap (λ y. standing ps y) (sym s) ∙ e)))
+              (λ o. ap (λ s. answered kinds net q s) (status_after_other kinds net M p q a.next d o) ∙ k.wanted q b (sym (place_set_other standings p q (place_after d) o) ∙ e))
               (cases_eq q p);
           blocked = λ q b ne e can. ⊎_elim
-              (λ (s : q ≡ p). acted_not_parked d b (sym here ∙ ap (λ y. place ps y) (sym s) ∙ e))
-              (λ o. k.blocked q b (λ f. o (sym (some_same p q f))) (sym (place_set_other places p q (place_after d) o) ∙ e) (possible_before kinds net M p a d q b.act is o ne can))
+              (λ (s : q ≡ p). acted_not_parked d b (sym here ∙ ap (λ y. standing ps y) (sym s) ∙ e))
+              (λ o. k.blocked q b (λ f. o (sym (some_same p q f))) (sym (place_set_other standings p q (place_after d) o) ∙ e) (possible_before kinds net M p a d q b.act is o ne can))
               (cases_eq q p);
         }
 
   -- after a deed and the deed that it enabled no parked process can go on
   pub keeps_handed :
-      (M : State) (places : List Standing) (p : ℕ) (a : Answer) (d : Deed) (q : ℕ) (b : Answer) (e : Deed) (N : State) (after_both : List Standing)
-      → StandingsFit kinds admits net (Some p) M places → p < length places → IsDeed kinds net M p a.act d
-      → place (set places p (place_after d)) q ≡ Parked b → IsDeed kinds net (after_deed kinds net M p a.next d) q b.act e
-      → after_both ≡ set (set places p (place_after d)) q (place_after e)
+      (M : State) (standings : List Standing) (p : ℕ) (a : Answer) (d : Deed) (q : ℕ) (b : Answer) (e : Deed) (N : State) (after_both : List Standing)
+      → StandingsFit kinds admits net (Some p) M standings → p < length standings → IsDeed kinds net M p a.act d
+      → standing (set standings p (place_after d)) q ≡ Parked b → IsDeed kinds net (after_deed kinds net M p a.next d) q b.act e
+      → after_both ≡ set (set standings p (place_after d)) q (place_after e)
       → StandingsFit kinds admits net (partner net e) N after_both → StandingsFit kinds admits net None N after_both
-  keeps_handed M places p a d q b e N both k within is parked ie moved kept =
-      let here : place (set places p (place_after d)) p ≡ place_after d = place_set_same places p (place_after d) within in
-      let other : q ≢ p = λ s. acted_not_parked d b (sym here ∙ ap (λ y. place (set places p (place_after d)) y) (sym s) ∙ parked) in
-      let before : place places q ≡ Parked b = sym (place_set_other places p q (place_after d) other) ∙ parked in
+  keeps_handed M standings p a d q b e N both k within is parked ie moved kept =
+      let here : standing (set standings p (place_after d)) p ≡ place_after d = place_set_same standings p (place_after d) within in
+      let other : q ≢ p = λ s. acted_not_parked d b (sym here ∙ ap (λ y. standing (set standings p (place_after d)) y) (sym s) ∙ parked) in
+      let before : standing standings q ≡ Parked b = sym (place_set_other standings p q (place_after d) other) ∙ parked in
       let cant = k.blocked q b (λ f. other (sym (some_same p q f))) before in
       keeps_all N both (partner net e) kept (λ r x s at can.
       let same : r ≡ p = partner_back kinds net M p a d q b.act e r is other cant ie s in
       acted_not_parked d x
-      (sym here ∙ ap (λ y. place (set places p (place_after d)) y) (sym same)
-      ∙ sym (place_set_other (set places p (place_after d)) q r (place_after e) (λ f. other (sym f ∙ same)))
-      ∙ ap (λ (l : List Standing). place l r) (sym moved) ∙ at))
+      (sym here ∙ ap (λ y. standing (set standings p (place_after d)) y) (sym same)
+      ∙ sym (place_set_other (set standings p (place_after d)) q r (place_after e) (λ f. other (sym f ∙ same)))
+      ∙ ap (λ (l : List Standing). standing l r) (sym moved) ∙ at))

@@ -11,7 +11,7 @@ use Rattle.kpn_model.specs.Semantics.{State, wants, IsEnabled, IsPossible, IsDee
 use Rattle.kpn_state.specs.StateAndHistory.{StateAndHistory, more}
 use Rattle.kpn_state.specs.declared.standing.Standing.{Standing}
 use Rattle.kpn_state.specs.declared.standing.Standing.TheVariants.{Parked}
-use Rattle.kpn_state.specs.Standings.{place, place_after, partner, StandingsFit}
+use Rattle.kpn_state.specs.Standings.{standing, place_after, partner, StandingsFit}
 use Rattle.kpn_commit.specs.Reactions.{Acted, Handed}
 
 module _ (kinds : Family) (net : Network) where
@@ -23,10 +23,10 @@ module _ (kinds : Family) (net : Network) where
 
   -- a deed of what a process wants is one of its own
   pub acted :
-      (s : StateAndHistory) (places : List Standing) (p : ℕ) (a : Answer) (d : Deed) (t : StateAndHistory) (moved : List Standing)
-      → wants kinds net s.state p ≡ Some a → IsDeed kinds net s.state p a.act d → t ≡ more s (after_deed kinds net s.state p a.next d) (Did p d) → moved ≡ set places p (place_after d)
-      → Acted kinds net s places p d t moved
-  acted s places p a d t moved w is entry moves =
+      (s : StateAndHistory) (standings : List Standing) (p : ℕ) (a : Answer) (d : Deed) (t : StateAndHistory) (moved : List Standing)
+      → wants kinds net s.state p ≡ Some a → IsDeed kinds net s.state p a.act d → t ≡ more s (after_deed kinds net s.state p a.next d) (Did p d) → moved ≡ set standings p (place_after d)
+      → Acted kinds net s standings p d t moved
+  acted s standings p a d t moved w is entry moves =
       let leaves : t.state ≡ after_deed kinds net s.state p a.next d = ap (λ (x : StateAndHistory). x.state) entry in
       record {
         does = record { answer = a; wanted = w; is_deed = is; leaves = leaves };
@@ -36,11 +36,11 @@ module _ (kinds : Family) (net : Network) where
 
   -- a deed, and then the deed of the parked process at the other end of its channel
   pub handed :
-      (admits : Card → List ℕ → Option Token → Type 0) (s : StateAndHistory) (places : List Standing) (p : ℕ) (a : Answer) (d : Deed) (m : StateAndHistory) (between : List Standing) (q : ℕ) (b : Answer) (e : Deed) (t : StateAndHistory) (moved : List Standing)
-      → Acted kinds net s places p d m between → partner net d ≡ Some q → place between q ≡ Parked b → StandingsFit kinds admits net (partner net d) m.state between
+      (admits : Card → List ℕ → Option Token → Type 0) (s : StateAndHistory) (standings : List Standing) (p : ℕ) (a : Answer) (d : Deed) (m : StateAndHistory) (between : List Standing) (q : ℕ) (b : Answer) (e : Deed) (t : StateAndHistory) (moved : List Standing)
+      → Acted kinds net s standings p d m between → partner net d ≡ Some q → standing between q ≡ Parked b → StandingsFit kinds admits net (partner net d) m.state between
       → IsDeed kinds net m.state q b.act e → t ≡ more m (after_deed kinds net m.state q b.next e) (Did q e) → moved ≡ set between q (place_after e)
-      → Handed kinds net s places p t moved
-  handed admits s places p a d m between q b e t moved first at parked k is entry moves =
+      → Handed kinds net s standings p t moved
+  handed admits s standings p a d m between q b e t moved first at parked k is entry moves =
       record {
         deed = d;
         between = m;

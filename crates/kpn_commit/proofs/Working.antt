@@ -13,7 +13,7 @@ use Rattle.kpn_state.specs.declared.standing.Standing.{Standing}
 use Rattle.kpn_state.specs.declared.standing.Standing.TheVariants.{Ready}
 use Rattle.kpn_commit.specs.declared.react.Reaction.{Reaction}
 use Rattle.kpn_commit.specs.declared.react.Reaction.TheVariants.{Waits, Acts, HandsOn}
-use Rattle.kpn_state.specs.Standings.{place, is_busy, place_after, partner}
+use Rattle.kpn_state.specs.Standings.{standing, is_busy, place_after, partner}
 use Rattle.kpn_commit.specs.Reactions.{Handed, Reacts}
 use Rattle.kpn_state.proofs.Placed.{place_set_same, place_set_other, acted_not_parked, busy_at}
 
@@ -29,20 +29,20 @@ partner_ready net Stopped q e = cc
 
 module _ (kinds : Family) (net : Network) where
   -- the process that handed on is ready
-  pub handed_busy : (s : StateAndHistory) (places : List Standing) (p : ℕ) (t : StateAndHistory) (moved : List Standing) → p < length places → Handed kinds net s places p t moved → list_any is_busy moved ≡ true
-  handed_busy s places p t moved within h =
-      let here : place h.places_between p ≡ place_after h.deed = ap (λ (l : List Standing). place l p) h.first.moves ∙ place_set_same places p (place_after h.deed) within in
-      let other : p ≢ h.other = λ e. acted_not_parked h.deed h.wanted (sym here ∙ ap (λ x. place h.places_between x) e ∙ h.parked) in
-      let still : place moved p ≡ Ready = ap (λ (l : List Standing). place l p) h.second.moves ∙ place_set_other h.places_between h.other p (place_after h.handed) other ∙ here ∙ partner_ready net h.deed h.other h.at_other_end in
+  pub handed_busy : (s : StateAndHistory) (standings : List Standing) (p : ℕ) (t : StateAndHistory) (moved : List Standing) → p < length standings → Handed kinds net s standings p t moved → list_any is_busy moved ≡ true
+  handed_busy s standings p t moved within h =
+      let here : standing h.places_between p ≡ place_after h.deed = ap (λ (l : List Standing). standing l p) h.first.moves ∙ place_set_same standings p (place_after h.deed) within in
+      let other : p ≢ h.other = λ e. acted_not_parked h.deed h.wanted (sym here ∙ ap (λ x. standing h.places_between x) e ∙ h.parked) in
+      let still : standing moved p ≡ Ready = ap (λ (l : List Standing). standing l p) h.second.moves ∙ place_set_other h.places_between h.other p (place_after h.handed) other ∙ here ∙ partner_ready net h.deed h.other h.at_other_end in
       busy_at moved p (ap is_busy still)
 
   -- where none is ready or out after a reaction, it appended at most one entry
   pub reaction_room :
-      (s : StateAndHistory) (places : List Standing) (p : ℕ) (a : Answer) (r : Reaction) (t : StateAndHistory) (moved : List Standing)
-      → p < length places → length s.history + 3 ≤ s.room → Reacts kinds net s places p a r t moved → list_any is_busy moved ≡ false → length t.history + 2 ≤ t.room
-  reaction_room s places p a Waits t moved within room h idle = subst (λ (x : StateAndHistory). length x.history + 2 ≤ x.room) (sym h.1) (omega arith)
-  reaction_room s places p a Acts t moved within room h idle = let l = longer s t t.state (Did p h.0) h.1.entry in omega (arith, l.0, l.1)
-  reaction_room s places p a HandsOn t moved within room h idle = absurd (true_false _ (handed_busy s places p t moved within h) idle)
+      (s : StateAndHistory) (standings : List Standing) (p : ℕ) (a : Answer) (r : Reaction) (t : StateAndHistory) (moved : List Standing)
+      → p < length standings → length s.history + 3 ≤ s.room → Reacts kinds net s standings p a r t moved → list_any is_busy moved ≡ false → length t.history + 2 ≤ t.room
+  reaction_room s standings p a Waits t moved within room h idle = subst (λ (x : StateAndHistory). length x.history + 2 ≤ x.room) (sym h.1) (omega arith)
+  reaction_room s standings p a Acts t moved within room h idle = let l = longer s t t.state (Did p h.0) h.1.entry in omega (arith, l.0, l.1)
+  reaction_room s standings p a HandsOn t moved within room h idle = absurd (true_false _ (handed_busy s standings p t moved within h) idle)
     where
       true_false : (b : Bool) → b ≡ true → b ≡ false → ⊥
       true_false b x y = cc

@@ -6,7 +6,7 @@ use Rattle.kpn_model.specs.Network.{Network, out_of}
 use Rattle.kpn_model.specs.Semantics.{State, capacity}
 use Rattle.kpn_state.specs.declared.standing.Standing.{Standing}
 use Rattle.kpn_state.specs.declared.standing.Standing.TheVariants.{Ready, Out, Parked, Stopped as Ended}
-use Rattle.kpn_state.specs.Standings.{place}
+use Rattle.kpn_state.specs.Standings.{standing}
 
 -- the channel to which p's act writes
 abbrev pub written_by : Network → ℕ → Act → Option ℕ
@@ -22,7 +22,7 @@ awaited_by net p Ended = None
 
 -- the channel to which p, which is parked, waits to write
 abbrev pub awaited : Network → List Standing → ℕ → Option ℕ
-awaited net places p = awaited_by net p (place places p)
+awaited net standings p = awaited_by net p (standing standings p)
 
 -- c has less capacity than d, or the same and no greater number
 abbrev pub IsNoLater : State → ℕ → ℕ → Type 0
@@ -31,6 +31,6 @@ IsNoLater M c d = (capacity M c < capacity M d) ⊎ ((capacity M c ≡ capacity 
 -- of the first processes none waits to write; or this one does, to the smallest such channel, and of
 -- equal ones to the one of least number
 abbrev pub IsSmallest : Network → State → List Standing → ℕ → Option (ℕ × ℕ) → Type 0
-IsSmallest net M places count None = (q : ℕ) → q < count → awaited net places q ≡ None
-IsSmallest net M places count (Some best) =
-    (awaited net places best.1 ≡ Some best.0) × ((q d : ℕ) → q < count → awaited net places q ≡ Some d → IsNoLater M best.0 d)
+IsSmallest net M standings count None = (q : ℕ) → q < count → awaited net standings q ≡ None
+IsSmallest net M standings count (Some best) =
+    (awaited net standings best.1 ≡ Some best.0) × ((q d : ℕ) → q < count → awaited net standings q ≡ Some d → IsNoLater M best.0 d)

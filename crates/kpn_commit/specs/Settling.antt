@@ -14,7 +14,7 @@ use Rattle.kpn_state.specs.declared.standing.Standing.{Standing}
 use Rattle.kpn_state.specs.declared.standing.Standing.TheVariants.{Parked}
 use Rattle.kpn_commit.specs.declared.settle.Settled.{Settled}
 use Rattle.kpn_commit.specs.declared.settle.Settled.TheVariants.{Busy, Ended, Enlarged}
-use Rattle.kpn_state.specs.Standings.{place, is_busy}
+use Rattle.kpn_state.specs.Standings.{standing, is_busy}
 use Rattle.kpn_commit.specs.Reactions.{Acted}
 
 -- a growth is due
@@ -33,19 +33,19 @@ EndsBy kinds net M Budget = ⊥
 EndsBy kinds net M Memory = CanGrow kinds net M
 
 -- a channel grows, and its writer's put follows
-pub record GrowsAndPuts (kinds : Family) (net : Network) (s : StateAndHistory) (places : List Standing) (t : StateAndHistory) (moved : List Standing) : Type 0 where
+pub record GrowsAndPuts (kinds : Family) (net : Network) (s : StateAndHistory) (standings : List Standing) (t : StateAndHistory) (moved : List Standing) : Type 0 where
   pub channel : ℕ
   pub to : ℕ
   pub grown : State
   pub grows : Grows kinds net s.state channel to grown
   pub writer : ℕ
   pub wanted : Answer
-  pub parked : place places writer ≡ Parked wanted
+  pub parked : standing standings writer ≡ Parked wanted
   pub token : Token
-  pub puts : Acted kinds net (more s grown (Grew channel to)) places writer (Put channel token) t moved
+  pub puts : Acted kinds net (more s grown (Grew channel to)) standings writer (Put channel token) t moved
 
 -- some process is ready or out; or none is, and the run ends or the chosen channel grows
 abbrev pub Settles : Family → Network → StateAndHistory → List Standing → Settled → StateAndHistory → List Standing → Type 0
-Settles kinds net s places Busy t moved = (list_any is_busy places ≡ true) × (t ≡ s) × (moved ≡ places)
-Settles kinds net s places (Ended end) t moved = (list_any is_busy places ≡ false) × (t ≡ s) × (moved ≡ places) × EndsBy kinds net s.state end
-Settles kinds net s places Enlarged t moved = (list_any is_busy places ≡ false) × GrowsAndPuts kinds net s places t moved
+Settles kinds net s standings Busy t moved = (list_any is_busy standings ≡ true) × (t ≡ s) × (moved ≡ standings)
+Settles kinds net s standings (Ended end) t moved = (list_any is_busy standings ≡ false) × (t ≡ s) × (moved ≡ standings) × EndsBy kinds net s.state end
+Settles kinds net s standings Enlarged t moved = (list_any is_busy standings ≡ false) × GrowsAndPuts kinds net s standings t moved

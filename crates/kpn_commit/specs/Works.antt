@@ -37,11 +37,11 @@ end_after Busy budget entries = if nat_le budget entries then Some Budget else N
 end_after (Ended end) budget entries = Some end
 end_after Enlarged budget entries = if nat_le budget entries then Some Budget else None
 
-pub record Works (kinds : Family) (net : Network) (s : StateAndHistory) (places : List Standing) (p : ℕ) (a : Answer) (outcome : Outcome) (t : StateAndHistory) (moved : List Standing) (end : Option End) : Type 0 where
+pub record Works (kinds : Family) (net : Network) (s : StateAndHistory) (standings : List Standing) (p : ℕ) (a : Answer) (outcome : Outcome) (t : StateAndHistory) (moved : List Standing) (end : Option End) : Type 0 where
   pub reaction : Reaction
   pub between : StateAndHistory
   pub places_between : List Standing
-  pub reacts : Reacts kinds net s places p a reaction between places_between
+  pub reacts : Reacts kinds net s standings p a reaction between places_between
   pub settled : Settled
   pub settles : Settles kinds net between places_between settled t moved
   pub outcome_is : outcome ≡ outcome_of reaction settled

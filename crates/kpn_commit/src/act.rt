@@ -6,7 +6,7 @@ ghost use Rattle.kpn_model.specs.Semantics.{wants, IsPossible, IsDeed, after_dee
 ghost use Rattle.kpn_model.specs.declared.history.Entry.TheVariants.{Did};
 ghost use Rattle.kpn_state.specs.StateAndHistory.{more};
 ghost use Rattle.kpn_state.specs.declared.standing.Standing.TheVariants.{Ready};
-ghost use Rattle.kpn_state.specs.Standings.{StandingsFit, place, place_after, partner, HasChannel};
+ghost use Rattle.kpn_state.specs.Standings.{StandingsFit, standing, place_after, partner, HasChannel};
 
 use kpn_net::{Act, Answer, Card, Deed, Kinds, Local, Net, Status, Token};
 use kpn_state::standing::place_after;
@@ -111,23 +111,23 @@ fn obey<K: Kinds>(card: Card, local: Local, last: Option<Token>, deed: Deed)
 pub fn advance<K: Kinds>(
     net: &Net<K>,
     store: &mut Store,
-    places: &mut Roster,
+    standings: &mut Roster,
     process: usize,
     answer: Answer,
 ) -> Option<Deed>
-    requires keeps { StandingsFit K.family K.admits net.now (Some process) store.old.state places.old }
-    requires process { process < length places.old }
-    requires idle { place places.old process ≢ Ready }
+    requires keeps { StandingsFit K.family K.admits net.now (Some process) store.old.state standings.old }
+    requires process { process < length standings.old }
+    requires idle { standing standings.old process ≢ Ready }
     requires wants { wants K.family net.now store.old.state process ≡ Some answer }
     requires room { length store.old.history < store.old.room }
     ensures is_deed { IfSome result (IsDeed K.family net.now store.old.state process answer.act) }
     ensures entry { IfSome result (λ deed. store.new ≡ more store.old (after_deed K.family net.now store.old.state process answer.next deed) (Did process deed)) }
-    ensures place { IfSome result (λ deed. places.new ≡ set places.old process (place_after deed)) }
+    ensures standing { IfSome result (λ deed. standings.new ≡ set standings.old process (place_after deed)) }
     ensures channel { IfSome result (HasChannel net.now) }
-    ensures keeps { IfSome result (λ deed. StandingsFit K.family K.admits net.now (partner net.now deed) store.new.state places.new) }
+    ensures keeps { IfSome result (λ deed. StandingsFit K.family K.admits net.now (partner net.now deed) store.new.state standings.new) }
     ensures cannot { IfNone result (IsPossible K.family net.now store.old.state process answer.act → ⊥) }
     ensures same { IfNone result (store.new ≡ store.old) }
-    ensures same_places { IfNone result (places.new ≡ places.old) }
+    ensures same_places { IfNone result (standings.new ≡ standings.old) }
 {
     net.processes();
     let card = net.card(process);
@@ -136,6 +136,6 @@ pub fn advance<K: Kinds>(
     };
     let deed = perform(net, store, process, answer)?;
     obey::<K>(card, local, last, deed);
-    places.update(process, place_after(deed));
+    standings.update(process, place_after(deed));
     Some(deed)
 }

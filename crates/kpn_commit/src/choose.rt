@@ -7,11 +7,11 @@ use kpn_state::standing::parked;
 use kpn_state::{Standing, Store};
 
 /// The channel to which a parked process waits to write.
-fn awaited<K: Kinds>(net: &Net<K>, places: &[Standing], process: usize) -> Option<usize>
-    ensures is { result ≡ awaited net.now places.now process }
+fn awaited<K: Kinds>(net: &Net<K>, standings: &[Standing], process: usize) -> Option<usize>
+    ensures is { result ≡ awaited net.now standings.now process }
     ensures channel { IfSome result (λ c. c < length net.now.channels) }
 {
-    match parked(places, process)?.act {
+    match parked(standings, process)?.act {
         Act::Write(port, _) => net.out_of(process, usize::from(port)),
         Act::Read(_) | Act::Stop => None,
     }
@@ -31,14 +31,14 @@ fn is_before(store: &Store, channel: usize, other: usize) -> bool
 
 /// The smallest channel to which a parked process waits to write, of equal ones the one of least
 /// number, and that process (Parks 1995: the smallest full channel grows).
-pub fn choose<K: Kinds>(net: &Net<K>, store: &Store, places: &[Standing]) -> Option<(usize, usize)>
+pub fn choose<K: Kinds>(net: &Net<K>, store: &Store, standings: &[Standing]) -> Option<(usize, usize)>
     requires { length store.now.state.channels ≡ length net.now.channels }
-    ensures smallest { IsSmallest net.now store.now.state places.now (length places.now) result }
+    ensures smallest { IsSmallest net.now store.now.state standings.now (length standings.now) result }
     ensures channel { IfSome result (λ b. b.0 < length net.now.channels) }
 {
     let mut best: Option<(usize, usize)> = None;
-    for process in 0..places.len() {
-        if let Some(channel) = awaited(net, places, process) {
+    for process in 0..standings.len() {
+        if let Some(channel) = awaited(net, standings, process) {
             let is_better = match best {
                 None => true,
                 Some((other, _)) => is_before(store, channel, other),

@@ -2,7 +2,7 @@
 ghost use Rattle.std.specs.Prelude.{◌≡◌, ◌≢◌, ◌<◌, ◌≤◌, ◌+◌, length, Some, None};
 ghost use Rattle.kpn_model.specs.Semantics.{wants, status};
 ghost use Rattle.kpn_model.specs.declared.history.Status.TheVariants.{Done};
-ghost use Rattle.kpn_state.specs.Standings.{StandingsFit, place};
+ghost use Rattle.kpn_state.specs.Standings.{StandingsFit, standing};
 ghost use Rattle.kpn_state.specs.declared.standing.Standing.TheVariants.{Out};
 ghost use Rattle.kpn_commit.specs.Reactions.{Reacts};
 
@@ -26,29 +26,29 @@ pub enum Reaction {
 pub fn react<K: Kinds>(
     net: &Net<K>,
     store: &mut Store,
-    places: &mut Roster,
+    standings: &mut Roster,
     process: usize,
     answer: Answer,
 ) -> Reaction
-    requires keeps { StandingsFit K.family K.admits net.now None store.old.state places.old }
-    requires process { process < length places.old }
-    requires out { place places.old process ≡ Out }
+    requires keeps { StandingsFit K.family K.admits net.now None store.old.state standings.old }
+    requires process { process < length standings.old }
+    requires out { standing standings.old process ≡ Out }
     requires wants { wants K.family net.now store.old.state process ≡ Some answer }
     requires room { length store.old.history + 2 ≤ store.old.room }
-    ensures reacts { Reacts K.family net.now store.old places.old process answer result store.new places.new }
-    ensures keeps { StandingsFit K.family K.admits net.now None store.new.state places.new }
+    ensures reacts { Reacts K.family net.now store.old standings.old process answer result store.new standings.new }
+    ensures keeps { StandingsFit K.family K.admits net.now None store.new.state standings.new }
 {
-    let Some(deed) = advance(net, store, places, process, answer) else {
-        places.update(process, Standing::Parked(answer));
+    let Some(deed) = advance(net, store, standings, process, answer) else {
+        standings.update(process, Standing::Parked(answer));
         return Reaction::Waits;
     };
     let Some(other) = partner(net, deed) else {
         return Reaction::Acts;
     };
-    let Some(wanted) = parked(places.as_slice(), other) else {
+    let Some(wanted) = parked(standings.as_slice(), other) else {
         return Reaction::Acts;
     };
-    match advance(net, store, places, other, wanted) {
+    match advance(net, store, standings, other, wanted) {
         Some(_) => Reaction::HandsOn,
         None => Reaction::Acts,
     }

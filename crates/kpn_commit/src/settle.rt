@@ -35,32 +35,32 @@ fn enlarged(capacity: usize, step: usize, ceiling: usize) -> usize
 /// refused memory, the run ends.
 #[cold]
 #[inline(never)]
-fn settle_idle<K: Kinds>(net: &Net<K>, store: &mut Store, places: &mut Roster) -> Settled
-    requires keeps { StandingsFit K.family K.admits net.now None store.old.state places.old }
-    requires idle { list_any is_busy places.old ≡ false }
+fn settle_idle<K: Kinds>(net: &Net<K>, store: &mut Store, standings: &mut Roster) -> Settled
+    requires keeps { StandingsFit K.family K.admits net.now None store.old.state standings.old }
+    requires idle { list_any is_busy standings.old ≡ false }
     requires room { length store.old.history + 2 ≤ store.old.room }
-    ensures settles { Settles K.family net.now store.old places.old result store.new places.new }
-    ensures keeps { StandingsFit K.family K.admits net.now None store.new.state places.new }
+    ensures settles { Settles K.family net.now store.old standings.old result store.new standings.new }
+    ensures keeps { StandingsFit K.family K.admits net.now None store.new.state standings.new }
 {
     net.processes();
-    if places.all_stopped() {
+    if standings.all_stopped() {
         return Settled::Ended(End::Terminated);
     }
-    let Some((channel, writer)) = choose(net, store, places.as_slice()) else {
+    let Some((channel, writer)) = choose(net, store, standings.as_slice()) else {
         return Settled::Ended(End::Deadlock);
     };
     let (_, capacity) = store.filling(channel);
     if capacity >= net.ceiling() {
         return Settled::Ended(End::Ceiling);
     }
-    let Some(answer) = parked(places.as_slice(), writer) else {
+    let Some(answer) = parked(standings.as_slice(), writer) else {
         unreachable!()
     };
     let to = enlarged(capacity, net.step(), net.ceiling());
     let Ok(()) = store.grow(channel, to) else {
         return Settled::Ended(End::Memory);
     };
-    let Some(_) = advance(net, store, places, writer, answer) else {
+    let Some(_) = advance(net, store, standings, writer, answer) else {
         unreachable!()
     };
     Settled::Enlarged
@@ -69,15 +69,15 @@ fn settle_idle<K: Kinds>(net: &Net<K>, store: &mut Store, places: &mut Roster) -
 /// Where no process is ready or out, ends the run or lets the chosen channel grow and its writer put
 /// its token. Where the growth is refused memory, the run ends.
 #[inline(always)]
-pub fn settle<K: Kinds>(net: &Net<K>, store: &mut Store, places: &mut Roster) -> Settled
-    requires keeps { StandingsFit K.family K.admits net.now None store.old.state places.old }
-    requires room { list_any is_busy places.old ≡ false → length store.old.history + 2 ≤ store.old.room }
-    ensures settles { Settles K.family net.now store.old places.old result store.new places.new }
-    ensures keeps { StandingsFit K.family K.admits net.now None store.new.state places.new }
+pub fn settle<K: Kinds>(net: &Net<K>, store: &mut Store, standings: &mut Roster) -> Settled
+    requires keeps { StandingsFit K.family K.admits net.now None store.old.state standings.old }
+    requires room { list_any is_busy standings.old ≡ false → length store.old.history + 2 ≤ store.old.room }
+    ensures settles { Settles K.family net.now store.old standings.old result store.new standings.new }
+    ensures keeps { StandingsFit K.family K.admits net.now None store.new.state standings.new }
 {
-    if places.any_busy() {
+    if standings.any_busy() {
         Settled::Busy
     } else {
-        settle_idle(net, store, places)
+        settle_idle(net, store, standings)
     }
 }

@@ -2,7 +2,7 @@
 ghost use Rattle.std.specs.Prelude.{◌≡◌, ◌<◌, ◌≤◌, ◌+◌, length, Some, None};
 ghost use Rattle.kpn_model.specs.Semantics.{wants};
 ghost use Rattle.kpn_state.specs.declared.standing.Standing.TheVariants.{Out};
-ghost use Rattle.kpn_state.specs.Standings.{StandingsFit, place};
+ghost use Rattle.kpn_state.specs.Standings.{StandingsFit, standing};
 ghost use Rattle.kpn_commit.specs.Works.{Works, outcome_of, end_after, settled_entries};
 
 use crate::outcome::Outcome;
@@ -55,20 +55,20 @@ fn end_after(settled: Settled, budget: u64, entries: u64) -> Option<End>
 pub fn work<K: Kinds>(
     net: &Net<K>,
     store: &mut Store,
-    places: &mut Roster,
+    standings: &mut Roster,
     process: usize,
     answer: Answer,
 ) -> (Outcome, Option<End>)
-    requires keeps { StandingsFit K.family K.admits net.now None store.old.state places.old }
-    requires process { process < length places.old }
-    requires out { place places.old process ≡ Out }
+    requires keeps { StandingsFit K.family K.admits net.now None store.old.state standings.old }
+    requires process { process < length standings.old }
+    requires out { standing standings.old process ≡ Out }
     requires wants { wants K.family net.now store.old.state process ≡ Some answer }
     requires room { length store.old.history + 3 ≤ store.old.room }
-    ensures works { Works K.family net.now store.old places.old process answer result.0 store.new places.new result.1 }
-    ensures keeps { StandingsFit K.family K.admits net.now None store.new.state places.new }
+    ensures works { Works K.family net.now store.old standings.old process answer result.0 store.new standings.new result.1 }
+    ensures keeps { StandingsFit K.family K.admits net.now None store.new.state standings.new }
 {
-    let reaction = react(net, store, places, process, answer);
-    let settled = settle(net, store, places);
+    let reaction = react(net, store, standings, process, answer);
+    let settled = settle(net, store, standings);
     let end = end_after(settled, net.budget(), store.history().len() as u64);
     (outcome_of(reaction, settled), end)
 }

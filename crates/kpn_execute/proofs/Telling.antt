@@ -14,7 +14,7 @@ use Rattle.kpn_model.specs.History.{Digest, digest, each_process, place_of}
 use Rattle.kpn_model.specs.Determinacy.{IsFinal, OneDigest}
 use Rattle.kpn_model.specs.Moments.{IsBound}
 use Rattle.kpn_state.specs.declared.standing.Standing.TheVariants.{Ready}
-use Rattle.kpn_state.specs.Standings.{place, is_out, parked_answer}
+use Rattle.kpn_state.specs.Standings.{standing, is_out, parked_answer}
 use Rattle.kpn_model.specs.declared.parts.Process.{Process}
 use Rattle.kpn_machine.specs.MachineView.{MachineView, EndHolds, IsFaithful}
 use Rattle.kpn_machine.specs.declared.opening.OpenFault.{OpenFault}
@@ -50,7 +50,7 @@ bound_by kinds admits s cause faithful ended = subst (EndHolds kinds s.network s
 -- a run that ended is told by the text of its history
 pub run_told :
     (kinds : Family) (admits : Card → List ℕ → Option Token → Type 0) (s : MachineView) (cause : End) (places : List Place) (channel : Option ℕ) (status : ℕ) (bytes : List ℕ) → IsFaithful kinds admits s → TakesLeastRoom kinds s.network s.history s.state → s.end ≡ Some cause
-    → places ≡ each_process s.network (λ p. place_of s.network p (parked_answer (place s.places p))) → OneDigest kinds
+    → places ≡ each_process s.network (λ p. place_of s.network p (parked_answer (standing s.standings p))) → OneDigest kinds
     → ((has_detail cause ≡ true → places ≡ each_process s.network (λ p. place_of s.network p (wants kinds s.network s.state p))) → bytes ≡ text kinds s.network cause s.history s.state channel)
     → status ≡ status_of cause → TellsRun kinds s.network channel status bytes
 run_told kinds admits s cause places channel status bytes faithful room ended places_are one report status_is =

@@ -21,7 +21,7 @@ use Rattle.kpn_machine.specs.MachineView.{MachineView, state_and_history_of}
 use Rattle.kpn_machine.specs.Commits.{IsCause, EndsAs, WorksOn, Commits}
 use Rattle.kpn_commit.specs.declared.outcome.Outcome.TheVariants.{Done, Parked as Parks, LaidBack}
 use Rattle.kpn_state.proofs.Placed.{place_set_same, place_within, busy_at}
-use Rattle.kpn_state.specs.Standings.{place}
+use Rattle.kpn_state.specs.Standings.{standing}
 
 true_false : (b : Bool) → b ≡ true → b ≡ false → ⊥
 true_false b x y = cc
@@ -64,25 +64,25 @@ module _ (kinds : Family) (net : Network) where
   found_memory M end e h = subst (λ x. EndsBy kinds net M x) e h
 
   -- after a growth its writer is ready
-  grown_busy : (s : StateAndHistory) (places : List Standing) (t : StateAndHistory) (moved : List Standing) → GrowsAndPuts kinds net s places t moved → list_any is_busy moved ≡ true
-  grown_busy s places t moved g =
-      let within = place_within places g.writer (λ f. parked_ended (sym g.parked ∙ f)) in
-      busy_at moved g.writer (ap is_busy (ap (λ (l : List Standing). place l g.writer) g.puts.moves ∙ place_set_same places g.writer Ready within))
+  grown_busy : (s : StateAndHistory) (standings : List Standing) (t : StateAndHistory) (moved : List Standing) → GrowsAndPuts kinds net s standings t moved → list_any is_busy moved ≡ true
+  grown_busy s standings t moved g =
+      let within = place_within standings g.writer (λ f. parked_ended (sym g.parked ∙ f)) in
+      busy_at moved g.writer (ap is_busy (ap (λ (l : List Standing). standing l g.writer) g.puts.moves ∙ place_set_same standings g.writer Ready within))
     where
       parked_ended : Parked g.wanted ≡ Ended → ⊥
       parked_ended e = cc
 
-  module _ (s : StateAndHistory) (places : List Standing) (t : StateAndHistory) (moved : List Standing) (budget entries : ℕ) where
-    ends_over : (x : Settled) → Settles kinds net s places x t moved → (cause : End) → IsCause cause → (end_after x budget entries ≡ Some cause) ↔ ((list_any is_busy moved ≡ false) × IsOver kinds net t.state cause)
+  module _ (s : StateAndHistory) (standings : List Standing) (t : StateAndHistory) (moved : List Standing) (budget entries : ℕ) where
+    ends_over : (x : Settled) → Settles kinds net s standings x t moved → (cause : End) → IsCause cause → (end_after x budget entries ≡ Some cause) ↔ ((list_any is_busy moved ≡ false) × IsOver kinds net t.state cause)
     ends_over Busy h cause c = (λ e. absurd (budget_no_cause _ cause c e), λ o. absurd (true_false _ h.0 (ap (list_any is_busy) (sym h.2) ∙ o.0)))
     ends_over (Over end) h cause c = (
       λ e. let same = same_end end cause e in
           (ap (list_any is_busy) h.2 ∙ h.0, subst (λ (y : StateAndHistory). IsOver kinds net y.state cause) (sym h.1) (found_over s.state cause c (subst (λ x. EndsBy kinds net s.state x) same h.3))),
       λ o. over_found s.state end cause c h.3 (subst (λ (y : StateAndHistory). IsOver kinds net y.state cause) h.1 o.1),
     )
-    ends_over Enlarged h cause c = (λ e. absurd (budget_no_cause _ cause c e), λ o. absurd (true_false _ (grown_busy s places t moved h.1) o.0))
+    ends_over Enlarged h cause c = (λ e. absurd (budget_no_cause _ cause c e), λ o. absurd (true_false _ (grown_busy s standings t moved h.1) o.0))
 
-    ends_memory : (x : Settled) → Settles kinds net s places x t moved → end_after x budget entries ≡ Some Memory → (list_any is_busy moved ≡ false) × CanGrow kinds net t.state
+    ends_memory : (x : Settled) → Settles kinds net s standings x t moved → end_after x budget entries ≡ Some Memory → (list_any is_busy moved ≡ false) × CanGrow kinds net t.state
     ends_memory Busy h e = absurd (budget_no_memory _ e)
     ends_memory (Over end) h e = (ap (list_any is_busy) h.2 ∙ h.0, subst (λ (y : StateAndHistory). CanGrow kinds net y.state) (sym h.1) (found_memory s.state end (same_end end Memory e) h.3))
     ends_memory Enlarged h e = absurd (budget_no_memory _ e)
@@ -95,7 +95,7 @@ module _ (kinds : Family) (net : Network) where
     by_none true h e = cc
     by_none false h e = grind (arith, common_steps)
 
-    ends_budget : (x : Settled) → Settles kinds net s places x t moved → end_after x budget entries ≡ Some Budget → budget ≤ entries
+    ends_budget : (x : Settled) → Settles kinds net s standings x t moved → end_after x budget entries ≡ Some Budget → budget ≤ entries
     ends_budget Busy h e = by_budget _ refl e
     ends_budget (Over end) h e = absurd (subst (λ x. EndsBy kinds net s.state x) (same_end end Budget e) h.3)
     ends_budget Enlarged h e = by_budget _ refl e
@@ -115,11 +115,11 @@ module _ (kinds : Family) where
       subst (λ (net : Network). EndsAs kinds (record t { network = net })) (sym h.network)
       (record {
         over = λ cause c.
-            let e = ends_over kinds n w.between w.places_between (state_and_history_of t) t.places n.budget (length t.history) w.settled w.settles cause c in
+            let e = ends_over kinds n w.between w.places_between (state_and_history_of t) t.standings n.budget (length t.history) w.settled w.settles cause c in
             (λ x. e.0 (sym is ∙ x), λ x. is ∙ e.1 x);
-        memory = λ x. ends_memory kinds n w.between w.places_between (state_and_history_of t) t.places n.budget (length t.history) w.settled w.settles (sym is ∙ x);
-        budget = λ x. ends_budget kinds n w.between w.places_between (state_and_history_of t) t.places n.budget (length t.history) w.settled w.settles (sym is ∙ x);
-        none = λ x. ends_none kinds n w.between w.places_between (state_and_history_of t) t.places n.budget (length t.history) w.settled (sym is ∙ x);
+        memory = λ x. ends_memory kinds n w.between w.places_between (state_and_history_of t) t.standings n.budget (length t.history) w.settled w.settles (sym is ∙ x);
+        budget = λ x. ends_budget kinds n w.between w.places_between (state_and_history_of t) t.standings n.budget (length t.history) w.settled w.settles (sym is ∙ x);
+        none = λ x. ends_none kinds n w.between w.places_between (state_and_history_of t) t.standings n.budget (length t.history) w.settled (sym is ∙ x);
       })
 
   -- where no end stood, a commit was worked on

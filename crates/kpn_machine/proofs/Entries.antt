@@ -58,18 +58,18 @@ module _ (kinds : Family) (net : Network) where
 
   -- a reaction's entries
   pub reaction_goes :
-      (s : StateAndHistory) (places : List Standing) (p : ℕ) (a : Answer) (r : Reaction) (t : StateAndHistory) (moved : List Standing) → Reacts kinds net s places p a r t moved → GoesOn s t (acted_entries r)
-  reaction_goes s places p a Waits t moved h = goes_none s t h.1
-  reaction_goes s places p a Acts t moved h = goes_one s t (Did p h.0) h.1.does h.1.entry
-  reaction_goes s places p a HandsOn t moved h =
+      (s : StateAndHistory) (standings : List Standing) (p : ℕ) (a : Answer) (r : Reaction) (t : StateAndHistory) (moved : List Standing) → Reacts kinds net s standings p a r t moved → GoesOn s t (acted_entries r)
+  reaction_goes s standings p a Waits t moved h = goes_none s t h.1
+  reaction_goes s standings p a Acts t moved h = goes_one s t (Did p h.0) h.1.does h.1.entry
+  reaction_goes s standings p a HandsOn t moved h =
       goes_both s h.between t 1 1 (goes_one s h.between (Did p h.deed) h.first.does h.first.entry) (goes_one h.between t (Did h.other h.handed) h.second.does h.second.entry)
 
   -- what follows it
   pub settled_goes :
-      (s : StateAndHistory) (places : List Standing) (x : Settled) (t : StateAndHistory) (moved : List Standing) → Settles kinds net s places x t moved → GoesOn s t (settled_entries x)
-  settled_goes s places Busy t moved h = goes_none s t h.1
-  settled_goes s places (Over end) t moved h = goes_none s t h.1
-  settled_goes s places Enlarged t moved h =
+      (s : StateAndHistory) (standings : List Standing) (x : Settled) (t : StateAndHistory) (moved : List Standing) → Settles kinds net s standings x t moved → GoesOn s t (settled_entries x)
+  settled_goes s standings Busy t moved h = goes_none s t h.1
+  settled_goes s standings (Over end) t moved h = goes_none s t h.1
+  settled_goes s standings Enlarged t moved h =
       let g = h.1 in
       let first = more s g.grown (Grew g.channel g.to) in
       goes_both s first t 1 1 (goes_one s first (Grew g.channel g.to) g.grows refl) (goes_one first t (Did g.writer (Put g.channel g.token)) g.puts.does g.puts.entry)
@@ -82,8 +82,8 @@ module _ (kinds : Family) (net : Network) where
 
   -- a commit's entries
   pub works_goes :
-      (s : StateAndHistory) (places : List Standing) (p : ℕ) (a : Answer) (o : Outcome) (t : StateAndHistory) (moved : List Standing) (end : Option End)
-      → Works kinds net s places p a o t moved end → GoesOn s t (number o)
-  works_goes s places p a o t moved end w =
+      (s : StateAndHistory) (standings : List Standing) (p : ℕ) (a : Answer) (o : Outcome) (t : StateAndHistory) (moved : List Standing) (end : Option End)
+      → Works kinds net s standings p a o t moved end → GoesOn s t (number o)
+  works_goes s standings p a o t moved end w =
       subst (λ n. GoesOn s t n) (number_is w.reaction w.settled ∙ ap number (sym w.outcome_is))
-      (goes_both s w.between t (acted_entries w.reaction) (settled_entries w.settled) (reaction_goes s places p a w.reaction w.between w.places_between w.reacts) (settled_goes w.between w.places_between w.settled t moved w.settles))
+      (goes_both s w.between t (acted_entries w.reaction) (settled_entries w.settled) (reaction_goes s standings p a w.reaction w.between w.places_between w.reacts) (settled_goes w.between w.places_between w.settled t moved w.settles))

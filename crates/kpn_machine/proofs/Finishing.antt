@@ -11,7 +11,7 @@ use Rattle.kpn_state.specs.declared.standing.Standing.{Standing}
 use Rattle.kpn_state.specs.declared.standing.Standing.TheVariants.{Ready, Out, Parked, Stopped as Ended}
 use Rattle.kpn_commit.specs.declared.outcome.Outcome.{Outcome}
 use Rattle.kpn_commit.specs.declared.outcome.Outcome.TheVariants.{Done, Parked as Parks, LaidBack}
-use Rattle.kpn_state.specs.Standings.{place, is_busy, is_out}
+use Rattle.kpn_state.specs.Standings.{standing, is_busy, is_out}
 use Rattle.kpn_machine.specs.MachineView.{MachineView, TakesOut}
 use Rattle.kpn_machine.specs.Commits.{Commits, Appends, GoesOn, number}
 use Rattle.kpn_state.proofs.Placed.{place_set_other}
@@ -36,16 +36,16 @@ ended_not_out : Ended ≢ Out
 ended_not_out e = cc
 
 -- where none is counted out, none is out
-pub none_is_out : (places : List Standing) → count_by is_out places ≡ 0 → (p : ℕ) → place places p ≢ Out
-none_is_out places h p e =
+pub none_is_out : (standings : List Standing) → count_by is_out standings ≡ 0 → (p : ℕ) → standing standings p ≢ Out
+none_is_out standings h p e =
     ⊎_elim
-    (λ within. let one = out_counts (place places p) e in let most = get_or-le-sum_by weight places p Ended within in omega arith)
-    (λ past. ended_not_out (sym (get_or_past places p Ended past) ∙ e)) (cases_lt p (length places))
+    (λ within. let one = out_counts (standing standings p) e in let most = get_or-le-sum_by weight standings p Ended within in omega arith)
+    (λ past. ended_not_out (sym (get_or_past standings p Ended past) ∙ e)) (cases_lt p (length standings))
 
 -- and the other way round
-pub none_counted : (places : List Standing) → ((p : ℕ) → place places p ≢ Out) → count_by is_out places ≡ 0
-none_counted places h =
-    let all = sum_by-le weight 0 places (λ i d within. others_count _ (λ e. h i (same_default places i d within ∙ e))) in omega arith
+pub none_counted : (standings : List Standing) → ((p : ℕ) → standing standings p ≢ Out) → count_by is_out standings ≡ 0
+none_counted standings h =
+    let all = sum_by-le weight 0 standings (λ i d within. others_count _ (λ e. h i (same_default standings i d within ∙ e))) in omega arith
   where
     same_default : (xs : List Standing) (i : ℕ) (d : Standing) → i < length xs → get_or xs i Ended ≡ get_or xs i d
     same_default [] i d l = absurd (omega arith)
@@ -58,13 +58,13 @@ idle Out r o = absurd (o refl)
 idle (Parked a) r o = refl
 idle Ended r o = refl
 
-all_idle : (places : List Standing) → ((p : ℕ) → is_busy (place places p) ≡ false) → list_any is_busy places ≡ false
+all_idle : (standings : List Standing) → ((p : ℕ) → is_busy (standing standings p) ≡ false) → list_any is_busy standings ≡ false
 all_idle [] h = refl
 all_idle (x ∷ xs) h = rw (h 0) (all_idle xs (λ p. h (suc p)))
 
 -- some process is ready where one is ready or out and none is out
-pub some_ready : (places : List Standing) → list_any is_busy places ≡ true → ((p : ℕ) → place places p ≢ Out) → ((p : ℕ) → place places p ≢ Ready) → ⊥
-some_ready places busy out ready = true_false _ busy (all_idle places (λ p. idle (place places p) (ready p) (out p)))
+pub some_ready : (standings : List Standing) → list_any is_busy standings ≡ true → ((p : ℕ) → standing standings p ≢ Out) → ((p : ℕ) → standing standings p ≢ Ready) → ⊥
+some_ready standings busy out ready = true_false _ busy (all_idle standings (λ p. idle (standing standings p) (ready p) (out p)))
   where
     true_false : (b : Bool) → b ≡ true → b ≡ false → ⊥
     true_false b x y = cc
@@ -104,11 +104,11 @@ module _ (kinds : Family) where
 
     -- and leaves nobody out
     pub round_none_out :
-        ((p : ℕ) → place s.places p ≢ Out) → place t.places i.process ≢ Out → ((p : ℕ) → p ≢ i.process → (place t.places p ≡ Out) ↔ (place mid.places p ≡ Out)) → (p : ℕ) → place t.places p ≢ Out
+        ((p : ℕ) → standing s.standings p ≢ Out) → standing t.standings i.process ≢ Out → ((p : ℕ) → p ≢ i.process → (standing t.standings p ≡ Out) ↔ (standing mid.standings p ≡ Out)) → (p : ℕ) → standing t.standings p ≢ Out
     round_none_out none back others p e =
-        let places = ap (λ (x : MachineView). x.places) taken.after in
-        ⊎_elim (λ (x : p ≡ i.process). back (ap (λ y. place t.places y) (sym x) ∙ e))
-        (λ ne. none p (sym (place_set_other s.places i.process p Out ne) ∙ ap (λ (l : List Standing). place l p) (sym places) ∙ (others p ne).0 e)) (cases_eq p i.process)
+        let standings = ap (λ (x : MachineView). x.standings) taken.after in
+        ⊎_elim (λ (x : p ≡ i.process). back (ap (λ y. standing t.standings y) (sym x) ∙ e))
+        (λ ne. none p (sym (place_set_other s.standings i.process p Out ne) ∙ ap (λ (l : List Standing). standing l p) (sym standings) ∙ (others p ne).0 e)) (cases_eq p i.process)
 
     pub round_network : t.network ≡ s.network
     round_network = commits_network mid i o t commits ∙ ap (λ (x : MachineView). x.network) taken.after

@@ -14,27 +14,27 @@ use Rattle.kpn_model.specs.Semantics.{nothing_held, start}
 use Rattle.kpn_model.specs.Valid.{IsValid}
 use Rattle.kpn_laws.proofs.WellTypedDeeds.{sorted_start}
 use Rattle.kpn_state.specs.declared.standing.Standing.TheVariants.{Ready, Parked, Stopped as Ended}
-use Rattle.kpn_state.specs.Standings.{place, is_busy, StandingsFit}
+use Rattle.kpn_state.specs.Standings.{standing, is_busy, StandingsFit}
 use Rattle.kpn_machine.specs.Opening.{cards_of, AreSeated}
 use Rattle.kpn_machine.specs.MachineView.{machine_view, IsSound}
 use Rattle.kpn_state.proofs.Placed.{busy_at}
 use Rattle.kpn_machine.proofs.Seats.{card_at}
 
 -- each process is ready
-ready_at : (n p : ℕ) → p < n → place (replicate n Ready) p ≡ Ready
+ready_at : (n p : ℕ) → p < n → standing (replicate n Ready) p ≡ Ready
 ready_at zero p h = absurd (omega arith)
 ready_at (suc n) zero h = refl
 ready_at (suc n) (suc p) h = ready_at n p (omega arith)
 
 -- and none else is there
-ended_past : (n p : ℕ) → n ≤ p → place (replicate n Ready) p ≡ Ended
+ended_past : (n p : ℕ) → n ≤ p → standing (replicate n Ready) p ≡ Ended
 ended_past n p h = let many = length-replicate n Ready in get_or_past (replicate n Ready) p Ended (omega arith)
 
 ready_ended : Ready ≡ Ended → ⊥
 ready_ended e = cc
 
 -- none is parked
-never_parked : (n p : ℕ) (a : Answer) → place (replicate n Ready) p ≡ Parked a → ⊥
+never_parked : (n p : ℕ) (a : Answer) → standing (replicate n Ready) p ≡ Parked a → ⊥
 never_parked n p a e = ⊎_elim (λ within. ready_parked (sym (ready_at n p within) ∙ e)) (λ past. ended_parked (sym (ended_past n p past) ∙ e)) (cases_lt p n)
   where
     ready_parked : Ready ≡ Parked a → ⊥

@@ -30,7 +30,7 @@ use Rattle.kpn_commit.specs.declared.settle.Settled.{Settled}
 use Rattle.kpn_commit.specs.declared.settle.Settled.TheVariants.{Busy, Ended as Over, Enlarged}
 use Rattle.kpn_commit.specs.declared.outcome.Outcome.{Outcome}
 use Rattle.kpn_commit.specs.declared.outcome.Outcome.TheVariants.{Done, Parked as Parks, LaidBack}
-use Rattle.kpn_state.specs.Standings.{place, is_busy, parked_answer, StandingsFit}
+use Rattle.kpn_state.specs.Standings.{standing, is_busy, parked_answer, StandingsFit}
 use Rattle.kpn_commit.specs.Reactions.{Reacts}
 use Rattle.kpn_commit.specs.Settling.{EndsBy, Settles}
 use Rattle.kpn_commit.specs.Works.{Works, acted_entries, settled_entries, outcome_of, end_after}
@@ -83,42 +83,42 @@ module _ (kinds : Family) (net : Network) where
   by_cause M E Memory h = h
 
   -- the end that follows is bound
-  end_follows : (s : StateAndHistory) (places : List Standing) (x : Settled) (t : StateAndHistory) (moved : List Standing) → Settles kinds net s places x t moved → EndIs kinds net t.state t.history (end_after x net.budget (length t.history))
-  end_follows s places Busy t moved h = by_budget t.state t.history _ refl
-  end_follows s places (Over end) t moved h = by_cause t.state t.history end (subst (λ (y : StateAndHistory). EndsBy kinds net y.state end) (sym h.1) h.3)
-  end_follows s places Enlarged t moved h = by_budget t.state t.history _ refl
+  end_follows : (s : StateAndHistory) (standings : List Standing) (x : Settled) (t : StateAndHistory) (moved : List Standing) → Settles kinds net s standings x t moved → EndIs kinds net t.state t.history (end_after x net.budget (length t.history))
+  end_follows s standings Busy t moved h = by_budget t.state t.history _ refl
+  end_follows s standings (Over end) t moved h = by_cause t.state t.history end (subst (λ (y : StateAndHistory). EndsBy kinds net y.state end) (sym h.1) h.3)
+  end_follows s standings Enlarged t moved h = by_budget t.state t.history _ refl
 
   -- and without one some process is ready or out
-  busy_follows : (s : StateAndHistory) (places : List Standing) (x : Settled) (t : StateAndHistory) (moved : List Standing) (budget entries : ℕ) → Settles kinds net s places x t moved → end_after x budget entries ≡ None → list_any is_busy moved ≡ true
-  busy_follows s places Busy t moved budget entries h e = ap (list_any is_busy) h.2 ∙ h.0
-  busy_follows s places (Over end) t moved budget entries h e = cc
-  busy_follows s places Enlarged t moved budget entries h e =
+  busy_follows : (s : StateAndHistory) (standings : List Standing) (x : Settled) (t : StateAndHistory) (moved : List Standing) (budget entries : ℕ) → Settles kinds net s standings x t moved → end_after x budget entries ≡ None → list_any is_busy moved ≡ true
+  busy_follows s standings Busy t moved budget entries h e = ap (list_any is_busy) h.2 ∙ h.0
+  busy_follows s standings (Over end) t moved budget entries h e = cc
+  busy_follows s standings Enlarged t moved budget entries h e =
       let g = h.1 in
-      let within : g.writer < length places = place_within places g.writer (λ f. parked_ended g.wanted (sym g.parked ∙ f)) in
-      busy_at moved g.writer (ap is_busy (ap (λ (l : List Standing). place l g.writer) g.puts.moves ∙ place_set_same places g.writer Ready within))
+      let within : g.writer < length standings = place_within standings g.writer (λ f. parked_ended g.wanted (sym g.parked ∙ f)) in
+      busy_at moved g.writer (ap is_busy (ap (λ (l : List Standing). standing l g.writer) g.puts.moves ∙ place_set_same standings g.writer Ready within))
     where
       parked_ended : (a : Answer) → Parked a ≡ Ended → ⊥
       parked_ended a f = cc
 
   -- and with one that isn't the budget's none is
-  idle_follows : (s : StateAndHistory) (places : List Standing) (x : Settled) (t : StateAndHistory) (moved : List Standing) (budget entries : ℕ) (cause : End) → Settles kinds net s places x t moved → end_after x budget entries ≡ Some cause → cause ≢ Budget → list_any is_busy moved ≡ false
-  idle_follows s places Busy t moved budget entries cause h e not = absurd (not (spent _ cause e))
-  idle_follows s places (Over end) t moved budget entries cause h e not = ap (list_any is_busy) h.2 ∙ h.0
-  idle_follows s places Enlarged t moved budget entries cause h e not = absurd (not (spent _ cause e))
+  idle_follows : (s : StateAndHistory) (standings : List Standing) (x : Settled) (t : StateAndHistory) (moved : List Standing) (budget entries : ℕ) (cause : End) → Settles kinds net s standings x t moved → end_after x budget entries ≡ Some cause → cause ≢ Budget → list_any is_busy moved ≡ false
+  idle_follows s standings Busy t moved budget entries cause h e not = absurd (not (spent _ cause e))
+  idle_follows s standings (Over end) t moved budget entries cause h e not = ap (list_any is_busy) h.2 ∙ h.0
+  idle_follows s standings Enlarged t moved budget entries cause h e not = absurd (not (spent _ cause e))
 
   -- done with 1 to 3 entries where the process could go on, parked with 0 or 2 where it couldn't
   tells :
-      (M : State) (E : List Entry) (room : ℕ) (places : List Standing) (end : Option End) (commits : ℕ) (m : StateAndHistory) (mid : List Standing) (t : StateAndHistory) (moved : List Standing) (p : ℕ) (a : Answer) (r : Reaction) (x : Settled)
-      → p < length places → Reacts kinds net (state_and_history M E room) places p a r m mid → Settles kinds net m mid x t moved → TellsEnabled kinds (machine_view net M E places end commits) p (outcome_of r x)
-  tells M E room places end commits m mid t moved p a Waits Busy within h g = (h.0, inl refl)
-  tells M E room places end commits m mid t moved p a Waits (Over stop) within h g = (h.0, inl refl)
-  tells M E room places end commits m mid t moved p a Waits Enlarged within h g = (h.0, inr refl)
-  tells M E room places end commits m mid t moved p a Acts Busy within h g = ((enabled_can_do kinds net M p).1 (h.0, (m.state, h.1.does)), omega arith, omega arith)
-  tells M E room places end commits m mid t moved p a Acts (Over stop) within h g = ((enabled_can_do kinds net M p).1 (h.0, (m.state, h.1.does)), omega arith, omega arith)
-  tells M E room places end commits m mid t moved p a Acts Enlarged within h g = ((enabled_can_do kinds net M p).1 (h.0, (m.state, h.1.does)), omega arith, omega arith)
-  tells M E room places end commits m mid t moved p a HandsOn Busy within h g = ((enabled_can_do kinds net M p).1 (h.deed, (h.between.state, h.first.does)), omega arith, omega arith)
-  tells M E room places end commits m mid t moved p a HandsOn (Over stop) within h g = ((enabled_can_do kinds net M p).1 (h.deed, (h.between.state, h.first.does)), omega arith, omega arith)
-  tells M E room places end commits m mid t moved p a HandsOn Enlarged within h g = absurd (true_false _ (handed_busy kinds net (state_and_history M E room) places p m mid within h) g.0)
+      (M : State) (E : List Entry) (room : ℕ) (standings : List Standing) (end : Option End) (commits : ℕ) (m : StateAndHistory) (mid : List Standing) (t : StateAndHistory) (moved : List Standing) (p : ℕ) (a : Answer) (r : Reaction) (x : Settled)
+      → p < length standings → Reacts kinds net (state_and_history M E room) standings p a r m mid → Settles kinds net m mid x t moved → TellsEnabled kinds (machine_view net M E standings end commits) p (outcome_of r x)
+  tells M E room standings end commits m mid t moved p a Waits Busy within h g = (h.0, inl refl)
+  tells M E room standings end commits m mid t moved p a Waits (Over stop) within h g = (h.0, inl refl)
+  tells M E room standings end commits m mid t moved p a Waits Enlarged within h g = (h.0, inr refl)
+  tells M E room standings end commits m mid t moved p a Acts Busy within h g = ((enabled_can_do kinds net M p).1 (h.0, (m.state, h.1.does)), omega arith, omega arith)
+  tells M E room standings end commits m mid t moved p a Acts (Over stop) within h g = ((enabled_can_do kinds net M p).1 (h.0, (m.state, h.1.does)), omega arith, omega arith)
+  tells M E room standings end commits m mid t moved p a Acts Enlarged within h g = ((enabled_can_do kinds net M p).1 (h.0, (m.state, h.1.does)), omega arith, omega arith)
+  tells M E room standings end commits m mid t moved p a HandsOn Busy within h g = ((enabled_can_do kinds net M p).1 (h.deed, (h.between.state, h.first.does)), omega arith, omega arith)
+  tells M E room standings end commits m mid t moved p a HandsOn (Over stop) within h g = ((enabled_can_do kinds net M p).1 (h.deed, (h.between.state, h.first.does)), omega arith, omega arith)
+  tells M E room standings end commits m mid t moved p a HandsOn Enlarged within h g = absurd (true_false _ (handed_busy kinds net (state_and_history M E room) standings p m mid within h) g.0)
 
 -- an outcome's number is at most 3
 few_entries : (kinds : Family) (s : MachineView) (p : ℕ) (o : Outcome) → TellsEnabled kinds s p o → number o ≤ 3
@@ -129,12 +129,12 @@ few_entries kinds s p LaidBack h = omega arith
 module _ (kinds : Family) (admits : Card → List ℕ → Option Token → Type 0) where
   -- who is neither ready nor out wants what it answered
   idle_wants :
-      (net : Network) (M : State) (places : List Standing) (p : ℕ) (x : Standing) → StandingsFit kinds admits net None M places → place places p ≡ x → is_busy x ≡ false
+      (net : Network) (M : State) (standings : List Standing) (p : ℕ) (x : Standing) → StandingsFit kinds admits net None M standings → standing standings p ≡ x → is_busy x ≡ false
       → wants kinds net M p ≡ parked_answer x
-  idle_wants net M places p Ready k e idle = cc
-  idle_wants net M places p Out k e idle = cc
-  idle_wants net M places p (Parked a) k e idle = k.wanted p a e
-  idle_wants net M places p Ended k e idle = ap (answered kinds net p) (k.stopped p e)
+  idle_wants net M standings p Ready k e idle = cc
+  idle_wants net M standings p Out k e idle = cc
+  idle_wants net M standings p (Parked a) k e idle = k.wanted p a e
+  idle_wants net M standings p Ended k e idle = ap (answered kinds net p) (k.stopped p e)
 
   -- what holds of every state that a run leads to holds at each moment of a run
   at_each_moment : (net : Network) (E : List Entry) (M : State) (P : State → Type 0) → IsRun kinds net E M → ((F : List Entry) (N : State) → IsRun kinds net F N → P N) → AtEachMoment kinds net E P
@@ -146,7 +146,7 @@ module _ (kinds : Family) (admits : Card → List ℕ → Option Token → Type 
       (signature : Card → Option Signature) (s : MachineView) (room : ℕ) (bodies : List (Option Card)) → IsValid signature s.network → StaysWithin signature kinds → StaysWellTyped signature admits kinds
       → IsSound kinds admits s room bodies → IsFaithful kinds admits s
   sound_faithful signature s room bodies valid within well_typed h =
-      let most = in_within s.places in
+      let most = in_within s.standings in
       let many = h.keeps.standing in
       let laid = h.laid in
       record {
@@ -154,8 +154,8 @@ module _ (kinds : Family) (admits : Card → List ℕ → Option Token → Type 
         within = at_each_moment s.network s.history s.state IsWithin h.run (within s.network valid);
         well_typed = at_each_moment s.network s.history s.state (IsWellTyped admits s.network) h.run (well_typed s.network valid);
         bound = end_holds kinds s.network s.state s.history s.end h.few h.ends;
-        none_held_back = enabled_busy kinds admits s.network s.state s.places h.keeps;
-        wanted = λ p idle. idle_wants s.network s.state s.places p _ h.keeps refl idle;
+        none_held_back = enabled_busy kinds admits s.network s.state s.standings h.keeps;
+        wanted = λ p idle. idle_wants s.network s.state s.standings p _ h.keeps refl idle;
         some_busy = h.busy;
         none_busy = h.idle;
         few_entries = h.few;
@@ -164,38 +164,38 @@ module _ (kinds : Family) (admits : Card → List ℕ → Option Token → Type 
 
   -- a body that comes back stands with the others
   bodies_back :
-      (net : Network) (places moved : List Standing) (bodies : List (Option Card)) (p : ℕ) (card : Card) → p < length bodies → card_of net p ≡ card → HasBodies net places bodies
-      → ((q : ℕ) → q ≢ p → place places q ≡ Out → place moved q ≡ Out) → HasBodies net moved (set bodies p (Some card))
-  bodies_back net places moved bodies p card within is has keeps q there n =
+      (net : Network) (standings moved : List Standing) (bodies : List (Option Card)) (p : ℕ) (card : Card) → p < length bodies → card_of net p ≡ card → HasBodies net standings bodies
+      → ((q : ℕ) → q ≢ p → standing standings q ≡ Out → standing moved q ≡ Out) → HasBodies net moved (set bodies p (Some card))
+  bodies_back net standings moved bodies p card within is has keeps q there n =
       ⊎_elim
       (λ (s : q ≡ p). ap (λ x. get_or (set bodies p (Some card)) x None) s ∙ get_or-set_same bodies p (Some card) None within ∙ ap (λ (x : Card). Some x) (sym is) ∙ ap (λ x. Some (card_of net x)) (sym s))
-      (λ o. get_or-set_other bodies p q (Some card) None o ∙ ⊎_elim (λ e. absurd (n (keeps q o e))) (λ ne. has q there ne) (out_or_not (place places q)))
+      (λ o. get_or-set_other bodies p q (Some card) None o ∙ ⊎_elim (λ e. absurd (n (keeps q o e))) (λ ne. has q there ne) (out_or_not (standing standings q)))
       (cases_eq q p)
 
-  module _ (net : Network) (M : State) (E : List Entry) (places : List Standing) (end : Option End) (commits room : ℕ) (bodies : List (Option Card)) (h : IsSound kinds admits (machine_view net M E places end commits) room bodies) where
+  module _ (net : Network) (M : State) (E : List Entry) (standings : List Standing) (end : Option End) (commits room : ℕ) (bodies : List (Option Card)) (h : IsSound kinds admits (machine_view net M E standings end commits) room bodies) where
     -- a process that is ready or out is live
-    busy_live : (p : ℕ) (x : Standing) → place places p ≡ x → x ≢ Ended → status M p ≢ Halted
+    busy_live : (p : ℕ) (x : Standing) → standing standings p ≡ x → x ≢ Ended → status M p ≢ Halted
     busy_live p x e n f = n (sym e ∙ h.keeps.done p f)
 
-    pub sound_taken : (p : ℕ) → end ≡ None → place places p ≡ Ready → IsSound kinds admits (machine_view net M E (set places p Out) end commits) room (set bodies p None)
+    pub sound_taken : (p : ℕ) → end ≡ None → standing standings p ≡ Ready → IsSound kinds admits (machine_view net M E (set standings p Out) end commits) room (set bodies p None)
     sound_taken p none ready =
-        let within : p < length places = place_within places p (λ e. ready_not_ended (sym ready ∙ e)) in
-        let now : place (set places p Out) p ≡ Out = place_set_same places p Out within in
-        let count = waits_moved places p Out within in
-        let was : waits (place places p) ≡ 0 = ap waits ready in
+        let within : p < length standings = place_within standings p (λ e. ready_not_ended (sym ready ∙ e)) in
+        let now : standing (set standings p Out) p ≡ Out = place_set_same standings p Out within in
+        let count = waits_moved standings p Out within in
+        let was : waits (standing standings p) ≡ 0 = ap waits ready in
         let asked = h.asked none in
-        let most = waiting_in (set places p Out) in
+        let most = waiting_in (set standings p Out) in
         record {
           run = h.run;
-          keeps = keeps_moved kinds admits net M places p Out h.keeps within out_not_ended (busy_live p Ready ready ready_not_ended) (λ a e. absurd (out_not_parked a e));
+          keeps = keeps_moved kinds admits net M standings p Out h.keeps within out_not_ended (busy_live p Ready ready ready_not_ended) (λ a e. absurd (out_not_parked a e));
           room_is = h.room_is;
           many_bodies = length-set bodies p None ∙ h.many_bodies;
-          has_bodies = λ q there n. ⊎_elim (λ (s : q ≡ p). absurd (n (ap (λ x. place (set places p Out) x) s ∙ now)))
-              (λ o. get_or-set_other bodies p q None None o ∙ h.has_bodies q there (λ e. n (place_set_other places p q Out o ∙ e)))
+          has_bodies = λ q there n. ⊎_elim (λ (s : q ≡ p). absurd (n (ap (λ x. standing (set standings p Out) x) s ∙ now)))
+              (λ o. get_or-set_other bodies p q None None o ∙ h.has_bodies q there (λ e. n (place_set_other standings p q Out o ∙ e)))
               (cases_eq q p);
           few = h.few;
           ends = h.ends;
-          busy = λ e. busy_at (set places p Out) p (ap is_busy now);
+          busy = λ e. busy_at (set standings p Out) p (ap is_busy now);
           idle = λ stop e not. absurd (none_some stop (sym none ∙ e));
           asked = λ e. omega arith;
           laid = omega arith;
@@ -203,31 +203,31 @@ module _ (kinds : Family) (admits : Card → List ℕ → Option Token → Type 
 
     -- there are at most as many commits as entries and processes
     pub commits_fit : commits ≤ length E + length net.processes
-    commits_fit = let a = in_within places in let b = h.keeps.standing in let c = h.laid in omega arith
+    commits_fit = let a = in_within standings in let b = h.keeps.standing in let c = h.laid in omega arith
 
-    module _ (i : Input) (out : IsOutAt net M places i) where
-      pub out_within : i.process < length places
-      out_within = place_within places i.process (λ e. out_not_ended (sym out.out ∙ e))
+    module _ (i : Input) (out : IsOutAt net M standings i) where
+      pub out_within : i.process < length standings
+      out_within = place_within standings i.process (λ e. out_not_ended (sym out.out ∙ e))
 
       out_bodies : i.process < length bodies
       out_bodies = let a = out_within in let b = h.many_bodies in let c = h.keeps.standing in omega arith
 
-      pub sound_back : end ≢ None → IsSound kinds admits (machine_view net M E (set places i.process Ready) end (commits + 1)) room (set bodies i.process (Some i.card))
+      pub sound_back : end ≢ None → IsSound kinds admits (machine_view net M E (set standings i.process Ready) end (commits + 1)) room (set bodies i.process (Some i.card))
       sound_back over =
-          let now : place (set places i.process Ready) i.process ≡ Ready = place_set_same places i.process Ready out_within in
-          let count = in_moved places i.process Ready out_within in
-          let was : stays_in (place places i.process) ≡ 0 = ap stays_in out.out in
+          let now : standing (set standings i.process Ready) i.process ≡ Ready = place_set_same standings i.process Ready out_within in
+          let count = in_moved standings i.process Ready out_within in
+          let was : stays_in (standing standings i.process) ≡ 0 = ap stays_in out.out in
           let laid = h.laid in
           record {
             run = h.run;
-            keeps = keeps_moved kinds admits net M places i.process Ready h.keeps out_within ready_not_ended (busy_live i.process Out out.out out_not_ended) (λ a e. absurd (ready_not_parked a e));
+            keeps = keeps_moved kinds admits net M standings i.process Ready h.keeps out_within ready_not_ended (busy_live i.process Out out.out out_not_ended) (λ a e. absurd (ready_not_parked a e));
             room_is = h.room_is;
             many_bodies = length-set bodies i.process (Some i.card) ∙ h.many_bodies;
-            has_bodies = bodies_back net places (set places i.process Ready) bodies i.process i.card out_bodies out.card h.has_bodies (λ q o e. place_set_other places i.process q Ready o ∙ e);
+            has_bodies = bodies_back net standings (set standings i.process Ready) bodies i.process i.card out_bodies out.card h.has_bodies (λ q o e. place_set_other standings i.process q Ready o ∙ e);
             few = h.few;
             ends = h.ends;
-            busy = λ e. busy_at (set places i.process Ready) i.process (ap is_busy now);
-            idle = λ stop e not. absurd (true_false _ (busy_at places i.process (ap is_busy out.out)) (h.idle stop e not));
+            busy = λ e. busy_at (set standings i.process Ready) i.process (ap is_busy now);
+            idle = λ stop e not. absurd (true_false _ (busy_at standings i.process (ap is_busy out.out)) (h.idle stop e not));
             asked = λ e. absurd (over e);
             laid = omega arith;
           }
@@ -236,13 +236,13 @@ module _ (kinds : Family) (admits : Card → List ℕ → Option Token → Type 
       pub out_wants : wants kinds net M i.process ≡ Some (answer_to kinds i)
       out_wants = ap (λ s. answered kinds net i.process s) out.live ∙ ap (λ (c : Card). Some (kinds.answer c i.local i.last)) out.card
 
-      module _ (none : end ≡ None) (o : Outcome) (N : State) (F : List Entry) (moved : List Standing) (stop : Option End) (left : ℕ) (w : Works kinds net (state_and_history M E room) places i.process (answer_to kinds i) o (state_and_history N F left) moved stop) where
+      module _ (none : end ≡ None) (o : Outcome) (N : State) (F : List Entry) (moved : List Standing) (stop : Option End) (left : ℕ) (w : Works kinds net (state_and_history M E room) standings i.process (answer_to kinds i) o (state_and_history N F left) moved stop) where
         goes : GoesOn kinds net (state_and_history M E room) (state_and_history N F left) (number o)
-        goes = works_goes kinds net (state_and_history M E room) places i.process (answer_to kinds i) o (state_and_history N F left) moved stop w
+        goes = works_goes kinds net (state_and_history M E room) standings i.process (answer_to kinds i) o (state_and_history N F left) moved stop w
 
         -- the machine before and after
         abbrev old : MachineView
-        old = machine_view net M E places end commits
+        old = machine_view net M E standings end commits
 
         abbrev new : MachineView
         new = machine_view net N F moved stop (commits + 1)
@@ -253,15 +253,15 @@ module _ (kinds : Family) (admits : Card → List ℕ → Option Token → Type 
         pub worked_tells : TellsEnabled kinds old i.process o
         worked_tells =
             subst (λ x. TellsEnabled kinds old i.process x) (sym w.outcome_is)
-            (tells kinds net M E room places end commits w.between w.places_between (state_and_history N F left) moved i.process (answer_to kinds i) w.reaction w.settled out_within w.reacts w.settles)
+            (tells kinds net M E room standings end commits w.between w.places_between (state_and_history N F left) moved i.process (answer_to kinds i) w.reaction w.settled out_within w.reacts w.settles)
 
-        pub worked_back : place moved i.process ≢ Out
-        worked_back = works_back kinds net (state_and_history M E room) places i.process (answer_to kinds i) o (state_and_history N F left) moved stop w out_within
+        pub worked_back : standing moved i.process ≢ Out
+        worked_back = works_back kinds net (state_and_history M E room) standings i.process (answer_to kinds i) o (state_and_history N F left) moved stop w out_within
 
-        pub worked_others : (q : ℕ) → q ≢ i.process → (place moved q ≡ Out) ↔ (place places q ≡ Out)
-        worked_others q ne = works_others kinds net (state_and_history M E room) places i.process (answer_to kinds i) o (state_and_history N F left) moved stop w q out_within ne
+        pub worked_others : (q : ℕ) → q ≢ i.process → (standing moved q ≡ Out) ↔ (standing standings q ≡ Out)
+        worked_others q ne = works_others kinds net (state_and_history M E room) standings i.process (answer_to kinds i) o (state_and_history N F left) moved stop w q out_within ne
 
-        works_on : Works kinds net (state_and_history M E (net.budget + 2)) places i.process (answer_to kinds i) o (state_and_history N F (net.budget + 2)) moved stop → WorksOn kinds old i o new
+        works_on : Works kinds net (state_and_history M E (net.budget + 2)) standings i.process (answer_to kinds i) o (state_and_history N F (net.budget + 2)) moved stop → WorksOn kinds old i o new
         works_on v = record {
           before = none;
           network = refl;
@@ -271,7 +271,7 @@ module _ (kinds : Family) (admits : Card → List ℕ → Option Token → Type 
         }
 
         pub worked_commits : Commits kinds old i o new
-        worked_commits = by_outcome o w.outcome_is (works_on (subst (λ r. Works kinds net (state_and_history M E (net.budget + 2)) places i.process (answer_to kinds i) o (state_and_history N F r) moved stop) (goes.room ∙ h.room_is) (subst (λ r. Works kinds net (state_and_history M E r) places i.process (answer_to kinds i) o (state_and_history N F left) moved stop) h.room_is w)))
+        worked_commits = by_outcome o w.outcome_is (works_on (subst (λ r. Works kinds net (state_and_history M E (net.budget + 2)) standings i.process (answer_to kinds i) o (state_and_history N F r) moved stop) (goes.room ∙ h.room_is) (subst (λ r. Works kinds net (state_and_history M E r) standings i.process (answer_to kinds i) o (state_and_history N F left) moved stop) h.room_is w)))
           where
             not_laid : (r : Reaction) (x : Settled) → LaidBack ≡ outcome_of r x → ⊥
             not_laid Waits x e = cc
@@ -289,7 +289,7 @@ module _ (kinds : Family) (admits : Card → List ℕ → Option Token → Type 
             let longer : length F ≡ length E + number o = ap length goes.history ∙ length-append E goes.entries ∙ ap (λ n. length E + n) goes.count in
             let most = few_entries kinds old i.process o worked_tells in
             let asked = h.asked none in
-            let count = works_count kinds net (state_and_history M E room) places i.process (answer_to kinds i) o (state_and_history N F left) moved stop w out_within out.out in
+            let count = works_count kinds net (state_and_history M E room) standings i.process (answer_to kinds i) o (state_and_history N F left) moved stop w out_within out.out in
             let number : number o ≡ acted_entries w.reaction + settled_entries w.settled = ap number w.outcome_is ∙ sym (number_is kinds net w.reaction w.settled) in
             let waiting = waiting_in moved in
             record {
@@ -297,7 +297,7 @@ module _ (kinds : Family) (admits : Card → List ℕ → Option Token → Type 
               keeps = k;
               room_is = goes.room ∙ h.room_is;
               many_bodies = length-set bodies i.process (Some i.card) ∙ h.many_bodies;
-              has_bodies = bodies_back net places moved bodies i.process i.card out_bodies out.card h.has_bodies (works_out kinds net (state_and_history M E room) places i.process (answer_to kinds i) o (state_and_history N F left) moved stop w);
+              has_bodies = bodies_back net standings moved bodies i.process i.card out_bodies out.card h.has_bodies (works_out kinds net (state_and_history M E room) standings i.process (answer_to kinds i) o (state_and_history N F left) moved stop w);
               few = omega arith;
               ends = subst (λ e. EndIs kinds net N F e) (sym w.end_is) (end_follows kinds net w.between w.places_between w.settled (state_and_history N F left) moved w.settles);
               busy = λ e. busy_follows kinds net w.between w.places_between w.settled (state_and_history N F left) moved net.budget (length F) w.settles (sym w.end_is ∙ e);

@@ -42,12 +42,12 @@ pub record WorksOn (kinds : Family) (s : MachineView) (i : Input) (o : Outcome) 
   pub before : s.end ≡ None
   pub network : t.network ≡ s.network
   pub commits : t.commits ≡ s.commits + 1
-  pub works : Works kinds s.network (state_and_history_of s) s.places i.process (answer_to kinds i) o (state_and_history_of t) t.places t.end
+  pub works : Works kinds s.network (state_and_history_of s) s.standings i.process (answer_to kinds i) o (state_and_history_of t) t.standings t.end
   pub grows : t.end ≢ Some Memory → (works.settled ≡ Enlarged) ↔ ((list_any is_busy works.places_between ≡ false) × CanGrow kinds s.network works.between.state)
 
 -- an end stood, and the process is ready again; or the answer was worked on
 abbrev pub Commits : Family → MachineView → Input → Outcome → MachineView → Type 0
-Commits kinds s i LaidBack t = (s.end ≢ None) × (t ≡ record s { places = set s.places i.process Ready; commits = s.commits + 1 })
+Commits kinds s i LaidBack t = (s.end ≢ None) × (t ≡ record s { standings = set s.standings i.process Ready; commits = s.commits + 1 })
 Commits kinds s i (Done n) t = WorksOn kinds s i (Done n) t
 Commits kinds s i (Parked n) t = WorksOn kinds s i (Parked n) t
 
@@ -70,7 +70,7 @@ IsCause Memory = ⊥
 -- run is over for it; want of memory only where a growth is due; else the budget exactly where it is
 -- spent; else none
 pub record EndsAs (kinds : Family) (t : MachineView) : Type 0 where
-  pub over : (cause : End) → IsCause cause → (t.end ≡ Some cause) ↔ ((list_any is_busy t.places ≡ false) × IsOver kinds t.network t.state cause)
-  pub memory : t.end ≡ Some Memory → (list_any is_busy t.places ≡ false) × CanGrow kinds t.network t.state
+  pub over : (cause : End) → IsCause cause → (t.end ≡ Some cause) ↔ ((list_any is_busy t.standings ≡ false) × IsOver kinds t.network t.state cause)
+  pub memory : t.end ≡ Some Memory → (list_any is_busy t.standings ≡ false) × CanGrow kinds t.network t.state
   pub budget : t.end ≡ Some Budget → t.network.budget ≤ length t.history
   pub none : t.end ≡ None → length t.history < t.network.budget

@@ -16,7 +16,7 @@ use Rattle.kpn_body.specs.Input.{Input}
 use Rattle.kpn_state.specs.StateAndHistory.{StateAndHistory, state_and_history}
 use Rattle.kpn_state.specs.declared.standing.Standing.{Standing}
 use Rattle.kpn_state.specs.declared.standing.Standing.TheVariants.{Ready, Out, Parked, Stopped as Ended}
-use Rattle.kpn_state.specs.Standings.{place, is_busy, is_ready, parked_answer, StandingsFit}
+use Rattle.kpn_state.specs.Standings.{standing, is_busy, is_ready, parked_answer, StandingsFit}
 use Rattle.kpn_commit.specs.Settling.{EndsBy}
 
 -- the network, its state, the entries that led to it, where each process stands, how the run ended,
@@ -25,36 +25,36 @@ pub record MachineView : Type 0 where
   pub network : Network
   pub state : State
   pub history : List Entry
-  pub places : List Standing
+  pub standings : List Standing
   pub end : Option End
   pub commits : ℕ
 
 abbrev pub machine_view : Network → State → List Entry → List Standing → Option End → ℕ → MachineView
-machine_view net M E places end commits = record { network = net; state = M; history = E; places = places; end = end; commits = commits }
+machine_view net M E standings end commits = record { network = net; state = M; history = E; standings = standings; end = end; commits = commits }
 
 -- its state and history, with room for two entries more than the budget
 abbrev pub state_and_history_of : MachineView → StateAndHistory
 state_and_history_of s = state_and_history s.state s.history (s.network.budget + 2)
 
 -- the process of the input is out, with its card, local state and last token
-pub record IsOutAt (net : Network) (M : State) (places : List Standing) (i : Input) : Type 0 where
-  pub out : place places i.process ≡ Out
+pub record IsOutAt (net : Network) (M : State) (standings : List Standing) (i : Input) : Type 0 where
+  pub out : standing standings i.process ≡ Out
   pub card : card_of net i.process ≡ i.card
   pub live : status M i.process ≡ Live i.local i.last
 
 abbrev pub IsOut : MachineView → Input → Type 0
-IsOut s i = IsOutAt s.network s.state s.places i
+IsOut s i = IsOutAt s.network s.state s.standings i
 
 -- a ready process goes out, asked with what it has
 pub record TakesOut (s : MachineView) (i : Input) (t : MachineView) : Type 0 where
-  pub ready : place s.places i.process ≡ Ready
+  pub ready : standing s.standings i.process ≡ Ready
   pub card : card_of s.network i.process ≡ i.card
   pub live : status s.state i.process ≡ Live i.local i.last
-  pub after : t ≡ record s { places = set s.places i.process Out }
+  pub after : t ≡ record s { standings = set s.standings i.process Out }
 
 -- each process that is not out has a body of its card
 abbrev pub HasBodies : Network → List Standing → List (Option Card) → Type 0
-HasBodies net places bodies = (p : ℕ) → p < length net.processes → place places p ≢ Out → get_or bodies p None ≡ Some (card_of net p)
+HasBodies net standings bodies = (p : ℕ) → p < length net.processes → standing standings p ≢ Out → get_or bodies p None ≡ Some (card_of net p)
 
 -- the emptied vector of the bodies has room for them all
 pub record HasRoom {X : Type 0} (net : Network) (spare : List X) (room : ℕ) : Type 0 where
@@ -88,16 +88,16 @@ stays_in Ended = 1
 -- and each process that waits, and where an end stands for each that is not out
 pub record IsSound (kinds : Family) (admits : Card → List ℕ → Option Token → Type 0) (s : MachineView) (room : ℕ) (bodies : List (Option Card)) : Type 0 where
   pub run : IsRun kinds s.network s.history s.state
-  pub keeps : StandingsFit kinds admits s.network None s.state s.places
+  pub keeps : StandingsFit kinds admits s.network None s.state s.standings
   pub room_is : room ≡ s.network.budget + 2
   pub many_bodies : length bodies ≡ length s.network.processes
-  pub has_bodies : HasBodies s.network s.places bodies
+  pub has_bodies : HasBodies s.network s.standings bodies
   pub few : length s.history ≤ s.network.budget + 2
   pub ends : EndIs kinds s.network s.state s.history s.end
-  pub busy : s.end ≡ None → list_any is_busy s.places ≡ true
-  pub idle : (end : End) → s.end ≡ Some end → end ≢ Budget → list_any is_busy s.places ≡ false
-  pub asked : s.end ≡ None → s.commits ≤ length s.history + sum_by waits s.places
-  pub laid : s.commits ≤ length s.history + sum_by stays_in s.places
+  pub busy : s.end ≡ None → list_any is_busy s.standings ≡ true
+  pub idle : (end : End) → s.end ≡ Some end → end ≢ Budget → list_any is_busy s.standings ≡ false
+  pub asked : s.end ≡ None → s.commits ≤ length s.history + sum_by waits s.standings
+  pub laid : s.commits ≤ length s.history + sum_by stays_in s.standings
 
 abbrev pub EndHolds : Family → Network → List Entry → State → Option End → Type 0
 EndHolds kinds net E M None = Unit {0}
@@ -114,10 +114,10 @@ pub record IsFaithful (kinds : Family) (admits : Card → List ℕ → Option To
   pub within : AtEachMoment kinds s.network s.history IsWithin
   pub well_typed : AtEachMoment kinds s.network s.history (IsWellTyped admits s.network)
   pub bound : EndHolds kinds s.network s.history s.state s.end
-  pub none_held_back : (p : ℕ) → IsEnabled kinds s.network s.state p → is_busy (place s.places p) ≡ true
-  pub wanted : (p : ℕ) → is_busy (place s.places p) ≡ false → wants kinds s.network s.state p ≡ parked_answer (place s.places p)
-  pub some_busy : s.end ≡ None → list_any is_busy s.places ≡ true
-  pub none_busy : (end : End) → s.end ≡ Some end → end ≢ Budget → list_any is_busy s.places ≡ false
+  pub none_held_back : (p : ℕ) → IsEnabled kinds s.network s.state p → is_busy (standing s.standings p) ≡ true
+  pub wanted : (p : ℕ) → is_busy (standing s.standings p) ≡ false → wants kinds s.network s.state p ≡ parked_answer (standing s.standings p)
+  pub some_busy : s.end ≡ None → list_any is_busy s.standings ≡ true
+  pub none_busy : (end : End) → s.end ≡ Some end → end ≢ Budget → list_any is_busy s.standings ≡ false
   pub few_entries : length s.history ≤ s.network.budget + 2
   pub few_commits : s.commits ≤ length s.history + length s.network.processes
 
@@ -126,4 +126,4 @@ pub record IsFresh (s : MachineView) : Type 0 where
   pub no_entry : s.history ≡ []
   pub no_commit : s.commits ≡ 0
   pub no_end : s.end ≡ None
-  pub all_ready : list_all is_ready s.places ≡ true
+  pub all_ready : list_all is_ready s.standings ≡ true

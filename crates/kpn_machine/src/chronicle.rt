@@ -15,7 +15,7 @@ use std::marker::Model;
 pub struct Chronicle<K: Kinds> {
     net: Net<K>,
     store: Store,
-    places: Roster,
+    standings: Roster,
     end: Option<End>,
     commits: u64,
 }
@@ -25,26 +25,26 @@ impl<K: Kinds> Model for Chronicle<K> {
 
     ghost Value = { MachineView };
 
-    ghost view = { λ m. machine_view m.net m.store.state m.store.history m.places m.end m.commits };
+    ghost view = { λ m. machine_view m.net m.store.state m.store.history m.standings m.end m.commits };
 
-    ghost invariant = { λ m. IsFaithful K.family K.admits (machine_view m.net m.store.state m.store.history m.places m.end m.commits) };
+    ghost invariant = { λ m. IsFaithful K.family K.admits (machine_view m.net m.store.state m.store.history m.standings m.end m.commits) };
 }
 
 impl<K: Kinds> Chronicle<K> {
     pub(crate) fn new(
         net: Net<K>,
         store: Store,
-        places: Roster,
+        standings: Roster,
         ended: Option<End>,
         commits: u64,
     ) -> Self
-        requires faithful { IsFaithful K.family K.admits (machine_view net store.state store.history places ended commits) }
-        ensures { result ≡ machine_view net store.state store.history places ended commits }
+        requires faithful { IsFaithful K.family K.admits (machine_view net store.state store.history standings ended commits) }
+        ensures { result ≡ machine_view net store.state store.history standings ended commits }
     {
         Chronicle {
             net,
             store,
-            places,
+            standings,
             end: ended,
             commits,
         }
@@ -66,9 +66,9 @@ impl<K: Kinds> Chronicle<K> {
 
     /// Where each process stands, in order.
     pub fn standings(&self) -> &[Standing]
-        ensures { result.now ≡ self.now.places }
+        ensures { result.now ≡ self.now.standings }
     {
-        self.places.as_slice()
+        self.standings.as_slice()
     }
 
     /// How the run ended, where it did.

@@ -6,7 +6,7 @@ ghost use Rattle.kpn_machine.specs.Opening.{cards_of, IsRefused};
 ghost use Rattle.kpn_model.specs.declared.history.Status.TheVariants.{Done, Live};
 ghost use Rattle.kpn_model.specs.Valid.{IsWellTyped};
 ghost use Rattle.kpn_state.specs.declared.standing.Standing.TheVariants.{Out, Ready as ReadyV};
-ghost use Rattle.kpn_state.specs.Standings.{place, is_out, is_ready, StandingsFit};
+ghost use Rattle.kpn_state.specs.Standings.{standing, is_out, is_ready, StandingsFit};
 ghost use Rattle.kpn_machine.specs.MachineView.{machine_view, IsOut, IsOutAt, TakesOut, IsFaithful, IsFresh};
 ghost use Rattle.kpn_machine.specs.Commits.{Commits, Appends, EndsAs, GoesOn, TellsEnabled, number};
 ghost use Rattle.kpn_laws.specs.RoomOfRun.{TakesLeastRoom};
@@ -30,7 +30,7 @@ use std::marker::Model;
 pub struct Machine<B: Body> {
     net: Net<B::Kinds>,
     store: Store,
-    places: Roster,
+    standings: Roster,
     bodies: Vec<Option<B>>,
     spare: Vec<B>,
     end: Option<End>,
@@ -44,9 +44,9 @@ impl<B: Body> Model for Machine<B> {
 
     ghost Value = { MachineView };
 
-    ghost view = { λ m. machine_view m.net m.store.state m.store.history m.places m.end m.commits };
+    ghost view = { λ m. machine_view m.net m.store.state m.store.history m.standings m.end m.commits };
 
-    ghost invariant = { λ m. IsSound B.Kinds.family B.Kinds.admits (machine_view m.net m.store.state m.store.history m.places m.end m.commits) m.store.room (map (option_map B.card) m.bodies.items) × HasRoom m.net m.spare.items (vec_capacity m.spare) };
+    ghost invariant = { λ m. IsSound B.Kinds.family B.Kinds.admits (machine_view m.net m.store.state m.store.history m.standings m.end m.commits) m.store.room (map (option_map B.card) m.bodies.items) × HasRoom m.net m.spare.items (vec_capacity m.spare) };
 }
 
 /// What a machine was to be opened with, handed back, and why it was not.
@@ -93,14 +93,14 @@ impl<B: Body> Machine<B> {
         net.processes();
         let Start {
             store,
-            places,
+            standings,
             mut slots,
         } = start;
         seat_all(&mut bodies, &mut slots);
         Ok(Machine {
             net,
             store,
-            places,
+            standings,
             bodies: slots,
             spare: bodies,
             end: None,
@@ -135,23 +135,23 @@ impl<B: Body> Machine<B> {
 
     /// Where each process stands, in order.
     pub fn standings(&self) -> &[Standing]
-        ensures { result.now ≡ self.now.places }
+        ensures { result.now ≡ self.now.standings }
     {
-        self.places.as_slice()
+        self.standings.as_slice()
     }
 
     /// How many processes are ready.
     pub fn ready(&self) -> usize
-        ensures { result ≡ count_by is_ready self.now.places }
+        ensures { result ≡ count_by is_ready self.now.standings }
     {
-        self.places.ready()
+        self.standings.ready()
     }
 
     /// How many processes are out.
     pub fn out(&self) -> usize
-        ensures { result ≡ count_by is_out self.now.places }
+        ensures { result ≡ count_by is_out self.now.standings }
     {
-        self.places.out()
+        self.standings.out()
     }
 
     /// Whether the machine is as it was opened: no entry, no commit, no end, and every process ready.
@@ -161,7 +161,7 @@ impl<B: Body> Machine<B> {
         self.store.history().is_empty()
             && self.commits == 0
             && self.end.is_none()
-            && all_ready(self.places.as_slice())
+            && all_ready(self.standings.as_slice())
     }
 
     /// How many answers were taken.
@@ -177,13 +177,13 @@ impl<B: Body> Machine<B> {
     #[inline(always)]
     pub fn take(&mut self) -> Option<Task<B>>
         ensures some { IfSome result (λ task. (self.old.end ≡ None) × TakesOut self.old task self.new) }
-        ensures none { IfNone result (self.old.end ≡ None → (p : ℕ) → place self.old.places p ≢ ReadyV) }
+        ensures none { IfNone result (self.old.end ≡ None → (p : ℕ) → standing self.old.standings p ≢ ReadyV) }
         ensures same { IfNone result (self.new ≡ self.old) }
     {
         if self.end.is_some() {
             return None;
         }
-        let process = self.places.send_out()?;
+        let process = self.standings.send_out()?;
         Some(take_out(&self.net, &self.store, &mut self.bodies, process))
     }
 }
@@ -218,17 +218,17 @@ fn take_out<B: Body>(
 fn is_out<B: Body>(
     net: &Net<B::Kinds>,
     store: &Store,
-    places: &[Standing],
+    standings: &[Standing],
     finished: &Finished<B>,
 ) -> bool
-    requires keeps { StandingsFit B.Kinds.family B.Kinds.admits net.now None store.now.state places.now }
-    ensures { IsTrue result ↔ IsOutAt net.now store.now.state places.now finished.now }
+    requires keeps { StandingsFit B.Kinds.family B.Kinds.admits net.now None store.now.state standings.now }
+    ensures { IsTrue result ↔ IsOutAt net.now store.now.state standings.now finished.now }
 {
     let process = finished.process();
-    if process >= places.len() {
+    if process >= standings.len() {
         return false;
     }
-    match places[process] {
+    match standings[process] {
         Standing::Out => {}
         Standing::Ready | Standing::Parked(_) | Standing::Stopped => return false,
     }
@@ -249,7 +249,7 @@ impl<B: Body> Machine<B> {
     pub fn has_asked(&self, finished: &Finished<B>) -> bool
         ensures { IsTrue result ↔ IsOut self.now finished.now }
     {
-        is_out(&self.net, &self.store, self.places.as_slice(), finished)
+        is_out(&self.net, &self.store, self.standings.as_slice(), finished)
     }
 
     /// Takes the answer of a process that is out.
@@ -269,8 +269,8 @@ impl<B: Body> Machine<B> {
         ensures appends { IfOk result (λ outcome. Appends B.Kinds.family self.old self.new (number outcome)) }
         ensures tells { IfOk result (TellsEnabled B.Kinds.family self.old finished.process) }
         ensures ends { OnOk result (self.old.end ≡ None → EndsAs B.Kinds.family self.new) }
-        ensures back { OnOk result (place self.new.places finished.process ≢ Out) }
-        ensures others { OnOk result ((p : ℕ) → p ≢ finished.process → (place self.new.places p ≡ Out) ↔ (place self.old.places p ≡ Out)) }
+        ensures back { OnOk result (standing self.new.standings finished.process ≢ Out) }
+        ensures others { OnOk result ((p : ℕ) → p ≢ finished.process → (standing self.new.standings p ≡ Out) ↔ (standing self.old.standings p ≡ Out)) }
     {
         if !self.has_asked(&finished) {
             return Err(Stranger { finished });
@@ -287,8 +287,8 @@ impl<B: Body> Machine<B> {
         ensures appends { Appends B.Kinds.family self.old self.new (number result) }
         ensures tells { TellsEnabled B.Kinds.family self.old finished.process result }
         ensures ends { self.old.end ≡ None → EndsAs B.Kinds.family self.new }
-        ensures back { place self.new.places finished.process ≢ Out }
-        ensures others { (p : ℕ) → p ≢ finished.process → (place self.new.places p ≡ Out) ↔ (place self.old.places p ≡ Out) }
+        ensures back { standing self.new.standings finished.process ≢ Out }
+        ensures others { (p : ℕ) → p ≢ finished.process → (standing self.new.standings p ≡ Out) ↔ (standing self.old.standings p ≡ Out) }
     {
         self.net.processes();
         let process = finished.process();
@@ -296,13 +296,13 @@ impl<B: Body> Machine<B> {
         self.bodies[process] = Some(finished.into_body());
         self.commits += 1;
         if self.end.is_some() {
-            self.places.update(process, Standing::Ready);
+            self.standings.update(process, Standing::Ready);
             return Outcome::LaidBack;
         }
         let (outcome, end) = work(
             &self.net,
             &mut self.store,
-            &mut self.places,
+            &mut self.standings,
             process,
             answer,
         );
@@ -322,7 +322,7 @@ impl<B: Body> Machine<B> {
         let Machine {
             net,
             store: _,
-            places: _,
+            standings: _,
             mut bodies,
             mut spare,
             end: _,
@@ -347,13 +347,13 @@ impl<B: Body> Machine<B> {
         let Machine {
             net,
             store,
-            places,
+            standings,
             bodies: _,
             spare: _,
             end,
             commits,
         } = self;
-        Chronicle::new(net, store, places, end, commits)
+        Chronicle::new(net, store, standings, end, commits)
     }
 }
 
@@ -361,7 +361,7 @@ impl<B: Body> Machine<B> {
     /// Runs to an end in the calling thread, where no process is out. Whatever number of places a channel
     /// suffices for the network, the run takes no more (Parks 1995).
     pub fn finish_alone(&mut self)
-        requires { count_by is_out self.old.places ≡ 0 }
+        requires { count_by is_out self.old.standings ≡ 0 }
         ensures goes { GoesOn B.Kinds.family self.old self.new }
         ensures end { IsSome self.new.end }
         ensures faithful { IsFaithful B.Kinds.family B.Kinds.admits self.new }

@@ -124,20 +124,20 @@ fn empty_slots<B: Body>(alloc: Global, count: usize) -> Result<Vec<Option<B>>, A
 #[derive(Drop)]
 pub(crate) struct Start<B: Body> {
     pub(crate) store: Store,
-    pub(crate) places: Roster,
+    pub(crate) standings: Roster,
     pub(crate) slots: Vec<Option<B>>,
 }
 
 /// The start of a network.
 pub(crate) fn prepare<B: Body>(alloc: Global, net: &Net<B::Kinds>) -> Result<Start<B>, AllocError>
     ensures store { IfOk result (λ r. r.store ≡ state_and_history (start B.Kinds.family net.now) [] (net.now.budget + 2)) }
-    ensures places { IfOk result (λ r. r.places ≡ replicate (length net.now.processes) Ready) }
+    ensures standings { IfOk result (λ r. r.standings ≡ replicate (length net.now.processes) Ready) }
     ensures slots { IfOk result (λ r. length r.slots.items ≡ length net.now.processes) }
     ensures admitted { OnOk result ((p : ℕ) → p < length net.now.processes → B.Kinds.admits (card_of net.now p) (B.Kinds.family.start (card_of net.now p)) None) }
 {
     Ok(Start {
         store: start_store(alloc, net)?,
-        places: Roster::new(alloc, net.processes())?,
+        standings: Roster::new(alloc, net.processes())?,
         slots: empty_slots(alloc, net.processes())?,
     })
 }

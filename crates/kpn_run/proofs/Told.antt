@@ -14,7 +14,7 @@ use Rattle.kpn_model.specs.History.{Digest, each_process, each_channel, place_of
 use Rattle.kpn_model.specs.Determinacy.{IsFinal, IsNatural, OneDigest, OneOutcome}
 use Rattle.kpn_model.specs.Moments.{IsBound}
 use Rattle.kpn_laws.proofs.Views.{put_on-append}
-use Rattle.kpn_state.specs.Standings.{place, parked_answer}
+use Rattle.kpn_state.specs.Standings.{standing, parked_answer}
 use Rattle.kpn_state.proofs.Placed.{idle_at}
 use Rattle.kpn_machine.specs.MachineView.{MachineView, IsFaithful}
 use Rattle.kpn_report.specs.declared.detail.Detail.{Detail}
@@ -32,15 +32,15 @@ not_budget Memory has e = cc
 -- where a run came to its own end, what the parked processes answered is what all want
 pub at_rest :
     (kinds : Family) (admits : Card → List ℕ → Option Token → Type 0) (s : MachineView) (cause : End) → IsFaithful kinds admits s → s.end ≡ Some cause → has_detail cause ≡ true
-    → each_process s.network (λ p. place_of s.network p (parked_answer (place s.places p))) ≡ each_process s.network (λ p. place_of s.network p (wants kinds s.network s.state p))
+    → each_process s.network (λ p. place_of s.network p (parked_answer (standing s.standings p))) ≡ each_process s.network (λ p. place_of s.network p (wants kinds s.network s.state p))
 at_rest kinds admits s cause faithful ended has =
-    let same : (λ (p : ℕ). place_of s.network p (parked_answer (place s.places p))) ≡ (λ (p : ℕ). place_of s.network p (wants kinds s.network s.state p)) = fun_ext (λ p. ap (place_of s.network p) (sym (faithful.wanted p (idle_at s.places p (faithful.none_busy cause ended (not_budget cause has)))))) in
+    let same : (λ (p : ℕ). place_of s.network p (parked_answer (standing s.standings p))) ≡ (λ (p : ℕ). place_of s.network p (wants kinds s.network s.state p)) = fun_ext (λ p. ap (place_of s.network p) (sym (faithful.wanted p (idle_at s.places p (faithful.none_busy cause ended (not_budget cause has)))))) in
     ap (each_process s.network) same
 
 -- the report of a run, of which it is known where it left each process
 pub own_report :
     (kinds : Family) (admits : Card → List ℕ → Option Token → Type 0) (s : MachineView) (cause : End) (places : List Place) (detail : Option Detail) → IsFaithful kinds admits s → s.end ≡ Some cause
-    → places ≡ each_process s.network (λ p. place_of s.network p (parked_answer (place s.places p)))
+    → places ≡ each_process s.network (λ p. place_of s.network p (parked_answer (standing s.standings p)))
     → ((has_detail cause ≡ true → places ≡ each_process s.network (λ p. place_of s.network p (wants kinds s.network s.state p))) → IsReport kinds s.network cause s.history s.state detail)
     → IsReport kinds s.network cause s.history s.state detail
 own_report kinds admits s cause places detail faithful ended are report = report (λ has. are ∙ at_rest kinds admits s cause faithful ended has)

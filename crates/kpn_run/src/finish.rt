@@ -68,7 +68,7 @@ impl<K: Kinds> Finish<K> {
 
     /// Where each process stands, in order.
     pub fn standings(&self) -> &[Standing]
-        ensures { result.now ≡ self.now.machine.places }
+        ensures { result.now ≡ self.now.machine.standings }
     {
         self.chronicle.standings()
     }

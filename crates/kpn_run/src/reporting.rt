@@ -6,7 +6,7 @@ ghost use Rattle.kpn_run.specs.Reports.{IsEveryRuns, IsOutcome};
 
 use crate::finish::Finish;
 use kpn_laws::determinacy_of;
-use kpn_machine::places_of;
+use kpn_report::places_of;
 use kpn_net::{Deed, Entry, Kinds, Net, Token};
 use kpn_report::{Report, report_of};
 use std::alloc::{AllocError, Global};

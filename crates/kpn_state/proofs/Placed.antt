@@ -8,23 +8,23 @@ use Rattle.kpn_model.specs.declared.history.Deed.{Deed}
 use Rattle.kpn_model.specs.declared.history.Deed.TheVariants.{Took, Put, Stopped}
 use Rattle.kpn_state.specs.declared.standing.Standing.{Standing}
 use Rattle.kpn_state.specs.declared.standing.Standing.TheVariants.{Ready, Out, Parked, Stopped as Ended}
-use Rattle.kpn_state.specs.Standings.{place, is_busy, is_ready, has_stopped, place_after}
+use Rattle.kpn_state.specs.Standings.{standing, is_busy, is_ready, has_stopped, place_after}
 
 -- a process that is moved stands where it was moved to
-pub place_set_same : (places : List Standing) (p : ℕ) (x : Standing) → p < length places → place (set places p x) p ≡ x
-place_set_same places p x h = get_or-set_same places p x Ended h
+pub place_set_same : (standings : List Standing) (p : ℕ) (x : Standing) → p < length standings → standing (set standings p x) p ≡ x
+place_set_same standings p x h = get_or-set_same standings p x Ended h
 
 -- and each other where it stood
-pub place_set_other : (places : List Standing) (p q : ℕ) (x : Standing) → q ≢ p → place (set places p x) q ≡ place places q
-place_set_other places p q x h = get_or-set_other places p q x Ended h
+pub place_set_other : (standings : List Standing) (p q : ℕ) (x : Standing) → q ≢ p → standing (set standings p x) q ≡ standing standings q
+place_set_other standings p q x h = get_or-set_other standings p q x Ended h
 
 -- a process that has not stopped is there
-pub place_within : (places : List Standing) (p : ℕ) → place places p ≢ Ended → p < length places
-place_within places p h = ⊎_elim (λ within. within) (λ past. absurd (h (get_or_past places p Ended past))) (cases_lt p (length places))
+pub place_within : (standings : List Standing) (p : ℕ) → standing standings p ≢ Ended → p < length standings
+place_within standings p h = ⊎_elim (λ within. within) (λ past. absurd (h (get_or_past standings p Ended past))) (cases_lt p (length standings))
 
 -- a process that is not there isn't ready
-pub none_past : (places : List Standing) (p : ℕ) (x : Standing) → x ≢ Ended → ((q : ℕ) → q < length places → place places q ≢ x) → place places p ≢ x
-none_past places p x other h e = h p (place_within places p (λ f. other (sym e ∙ f))) e
+pub none_past : (standings : List Standing) (p : ℕ) (x : Standing) → x ≢ Ended → ((q : ℕ) → q < length standings → standing standings q ≢ x) → standing standings p ≢ x
+none_past standings p x other h e = h p (place_within standings p (λ f. other (sym e ∙ f))) e
 
 pub ready_not_ended : Ready ≢ Ended
 ready_not_ended e = cc
@@ -68,24 +68,24 @@ and_right true b e = e
 and_right false b e = cc
 
 -- where none is busy, this one isn't
-pub idle_at : (places : List Standing) (p : ℕ) → list_any is_busy places ≡ false → is_busy (place places p) ≡ false
+pub idle_at : (standings : List Standing) (p : ℕ) → list_any is_busy standings ≡ false → is_busy (standing standings p) ≡ false
 idle_at [] p h = refl
 idle_at (x ∷ xs) zero h = or_left (is_busy x) _ h
 idle_at (x ∷ xs) (suc p) h = idle_at xs p (or_right (is_busy x) _ h)
 
 -- where one is busy, some is
-pub busy_at : (places : List Standing) (p : ℕ) → is_busy (place places p) ≡ true → list_any is_busy places ≡ true
-busy_at places p h = by_cases _ refl
+pub busy_at : (standings : List Standing) (p : ℕ) → is_busy (standing standings p) ≡ true → list_any is_busy standings ≡ true
+busy_at standings p h = by_cases _ refl
   where
-    by_cases : (b : Bool) → list_any is_busy places ≡ b → list_any is_busy places ≡ true
+    by_cases : (b : Bool) → list_any is_busy standings ≡ b → list_any is_busy standings ≡ true
     by_cases true e = e
-    by_cases false e = absurd (true_false _ h (idle_at places p e))
+    by_cases false e = absurd (true_false _ h (idle_at standings p e))
       where
         true_false : (b : Bool) → b ≡ true → b ≡ false → ⊥
         true_false b e f = cc
 
 -- where all have stopped, this one has
-pub stopped_at : (places : List Standing) (p : ℕ) → list_all has_stopped places ≡ true → place places p ≡ Ended
+pub stopped_at : (standings : List Standing) (p : ℕ) → list_all has_stopped standings ≡ true → standing standings p ≡ Ended
 stopped_at [] p h = refl
 stopped_at (x ∷ xs) zero h = ended x (and_left (has_stopped x) _ h)
   where
@@ -97,7 +97,7 @@ stopped_at (x ∷ xs) zero h = ended x (and_left (has_stopped x) _ h)
 stopped_at (x ∷ xs) (suc p) h = stopped_at xs p (and_right (has_stopped x) _ h)
 
 -- where all are ready, this one isn't out
-pub ready_not_out_at : (places : List Standing) (p : ℕ) → list_all is_ready places ≡ true → place places p ≢ Out
+pub ready_not_out_at : (standings : List Standing) (p : ℕ) → list_all is_ready standings ≡ true → standing standings p ≢ Out
 ready_not_out_at [] p h e = cc
 ready_not_out_at (x ∷ xs) zero h e = not_out x (and_left (is_ready x) _ h) e
   where
@@ -109,7 +109,7 @@ ready_not_out_at (x ∷ xs) zero h e = not_out x (and_left (is_ready x) _ h) e
 ready_not_out_at (x ∷ xs) (suc p) h e = ready_not_out_at xs p (and_right (is_ready x) _ h) e
 
 -- where not all have stopped, some has not
-pub one_live : (places : List Standing) → list_all has_stopped places ≡ false → (p : ℕ) × (place places p ≢ Ended)
+pub one_live : (standings : List Standing) → list_all has_stopped standings ≡ false → (p : ℕ) × (standing standings p ≢ Ended)
 one_live [] h = cc
 one_live (Ready ∷ xs) h = (zero, λ e. cc)
 one_live (Out ∷ xs) h = (zero, λ e. cc)

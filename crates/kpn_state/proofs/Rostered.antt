@@ -6,7 +6,7 @@ use Rattle.std.proofs.lemmas.List.Sums.{sum_by-cons, sum_by_push, sum_by-set, co
 use Rattle.std.specs.Prelude.{nat_eq, nat_lt}
 use Rattle.kpn_state.specs.declared.standing.Standing.{Standing}
 use Rattle.kpn_state.specs.declared.standing.Standing.TheVariants.{Ready, Out, Parked, Stopped as Ended}
-use Rattle.kpn_state.specs.Standings.{place, is_busy, is_ready, is_out, has_stopped}
+use Rattle.kpn_state.specs.Standings.{standing, is_busy, is_ready, is_out, has_stopped}
 use Rattle.kpn_state.specs.Rosters.{times, Agrees, queue_after}
 use Rattle.kpn_state.proofs.Placed.{place_set_same, place_set_other, place_within, ready_not_ended}
 
@@ -43,11 +43,11 @@ none_there : (p q : ℕ) → p ≢ q → one_if (nat_eq p q) ≡ 0
 none_there p q n = ap one_if (ne_eqb p q n)
 
 -- who passes is counted
-counted : (f : Standing → Bool) (places : List Standing) (p : ℕ) (x : Standing) → p < length places → count_by f (set places p x) + weight f (place places p) ≡ count_by f places + weight f x
-counted f places p x within = sum_by-set (weight f) places p x Ended within
+counted : (f : Standing → Bool) (standings : List Standing) (p : ℕ) (x : Standing) → p < length standings → count_by f (set standings p x) + weight f (standing standings p) ≡ count_by f standings + weight f x
+counted f standings p x within = sum_by-set (weight f) standings p x Ended within
 
 -- some process is ready or out where one is counted
-pub busy_counted : (places : List Standing) → list_any is_busy places ≡ nat_lt 0 (count_by is_ready places + count_by is_out places)
+pub busy_counted : (standings : List Standing) → list_any is_busy standings ≡ nat_lt 0 (count_by is_ready standings + count_by is_out standings)
 busy_counted [] = refl
 busy_counted (Ready ∷ xs) =
     let r = sum_by-cons (weight is_ready) Ready xs in
@@ -74,7 +74,7 @@ eq_suc a b = by_test (nat_eq a b) refl
     by_test false e = e ∙ sym (ne_eqb (suc a) (suc b) (λ s. eqb-false a b e (omega arith)))
 
 -- all have stopped where as many are counted
-pub stopped_counted : (places : List Standing) → list_all has_stopped places ≡ nat_eq (count_by has_stopped places) (length places)
+pub stopped_counted : (standings : List Standing) → list_all has_stopped standings ≡ nat_eq (count_by has_stopped standings) (length standings)
 stopped_counted [] = refl
 stopped_counted (Ended ∷ xs) =
     let c = sum_by-cons (weight has_stopped) Ended xs in
@@ -94,19 +94,19 @@ stopped_counted (Parked a ∷ xs) =
     sym (ne_eqb (count_by has_stopped (Parked a ∷ xs)) (suc (length xs)) (λ e. omega arith))
 
 -- one process more, which is ready
-place_last : (places : List Standing) (p : ℕ) (x : Standing) → p ≡ length places → place (places ++ x ∷ []) p ≡ x
+place_last : (standings : List Standing) (p : ℕ) (x : Standing) → p ≡ length standings → standing (standings ++ x ∷ []) p ≡ x
 place_last [] zero x e = refl
 place_last [] (suc p) x e = absurd (omega arith)
 place_last (y ∷ ys) zero x e = absurd (omega arith)
 place_last (y ∷ ys) (suc p) x e = place_last ys p x (omega arith)
 
-place_before : (places : List Standing) (p : ℕ) (x : Standing) → p ≢ length places → place (places ++ x ∷ []) p ≡ place places p
+place_before : (standings : List Standing) (p : ℕ) (x : Standing) → p ≢ length standings → standing (standings ++ x ∷ []) p ≡ standing standings p
 place_before [] zero x n = absurd (n refl)
 place_before [] (suc p) x n = refl
 place_before (y ∷ ys) zero x n = refl
 place_before (y ∷ ys) (suc p) x n = place_before ys p x (λ e. n (omega arith))
 
-place_past : (places : List Standing) (p : ℕ) → p ≡ length places → place places p ≡ Ended
+place_past : (standings : List Standing) (p : ℕ) → p ≡ length standings → standing standings p ≡ Ended
 place_past [] p e = refl
 place_past (y ∷ ys) zero e = absurd (omega arith)
 place_past (y ∷ ys) (suc p) e = place_past ys p (omega arith)
@@ -114,85 +114,85 @@ place_past (y ∷ ys) (suc p) e = place_past ys p (omega arith)
 pub kept_none : (room : ℕ) → Agrees [] [] room 0 0
 kept_none room = record { queued = λ p. refl; ready = refl; room_for_all = omega arith; out_is = refl; stopped_is = refl }
 
-pub kept_more : (places : List Standing) (queue : List ℕ) (room out stopped : ℕ) → (n : ℕ) → n ≡ length places → Agrees places queue room out stopped → n < room → Agrees (places ++ Ready ∷ []) (queue_after queue n Ready) room out stopped
-kept_more places queue room out stopped n is k below =
+pub kept_more : (standings : List Standing) (queue : List ℕ) (room out stopped : ℕ) → (n : ℕ) → n ≡ length standings → Agrees standings queue room out stopped → n < room → Agrees (standings ++ Ready ∷ []) (queue_after queue n Ready) room out stopped
+kept_more standings queue room out stopped n is k below =
     record {
       queued = λ p. times_push queue n p ∙ ⊎_elim
           (λ (e : p ≡ n).
-          let none : times queue p ≡ 0 = k.queued p ∙ ap (weight is_ready) (place_past places p (e ∙ is)) in
+          let none : times queue p ≡ 0 = k.queued p ∙ ap (weight is_ready) (place_past standings p (e ∙ is)) in
           let one = one_here n p (sym e) in
-          let here : weight is_ready (place (places ++ Ready ∷ []) p) ≡ 1 = ap (weight is_ready) (place_last places p Ready (e ∙ is)) in
+          let here : weight is_ready (standing (standings ++ Ready ∷ []) p) ≡ 1 = ap (weight is_ready) (place_last standings p Ready (e ∙ is)) in
           omega arith)
           (λ (ne : p ≢ n).
           let other = none_there n p (λ e. ne (sym e)) in
           let before = k.queued p in
-          let same = ap (weight is_ready) (place_before places p Ready (λ e. ne (e ∙ sym is))) in
+          let same = ap (weight is_ready) (place_before standings p Ready (λ e. ne (e ∙ sym is))) in
           omega arith)
           (cases_eq p n);
-      ready = let l = length-append queue (n ∷ []) in let c = sum_by_push (weight is_ready) places Ready in let r = k.ready in omega arith;
-      room_for_all = let l = length-append places (Ready ∷ []) in omega arith;
-      out_is = let c = sum_by_push (weight is_out) places Ready in let o = k.out_is in omega arith;
-      stopped_is = let c = sum_by_push (weight has_stopped) places Ready in let o = k.stopped_is in omega arith;
+      ready = let l = length-append queue (n ∷ []) in let c = sum_by_push (weight is_ready) standings Ready in let r = k.ready in omega arith;
+      room_for_all = let l = length-append standings (Ready ∷ []) in omega arith;
+      out_is = let c = sum_by_push (weight is_out) standings Ready in let o = k.out_is in omega arith;
+      stopped_is = let c = sum_by_push (weight has_stopped) standings Ready in let o = k.stopped_is in omega arith;
     }
 
-module _ (places : List Standing) (queue : List ℕ) (room out stopped : ℕ) (k : Agrees places queue room out stopped) where
+module _ (standings : List Standing) (queue : List ℕ) (room out stopped : ℕ) (k : Agrees standings queue room out stopped) where
   -- who is out is counted
-  pub out_within : (p : ℕ) → p < length places → weight is_out (place places p) ≤ out
-  out_within p within = let o = k.out_is in let l = get_or-le-sum_by (weight is_out) places p Ended within in omega arith
+  pub out_within : (p : ℕ) → p < length standings → weight is_out (standing standings p) ≤ out
+  out_within p within = let o = k.out_is in let l = get_or-le-sum_by (weight is_out) standings p Ended within in omega arith
 
-  pub stopped_within : (p : ℕ) → p < length places → weight has_stopped (place places p) ≤ stopped
-  stopped_within p within = let o = k.stopped_is in let l = get_or-le-sum_by (weight has_stopped) places p Ended within in omega arith
+  pub stopped_within : (p : ℕ) → p < length standings → weight has_stopped (standing standings p) ≤ stopped
+  stopped_within p within = let o = k.stopped_is in let l = get_or-le-sum_by (weight has_stopped) standings p Ended within in omega arith
 
-  pub out_few : out ≤ length places
-  out_few = let o = k.out_is in let l = count_by-le-length is_out places in omega arith
+  pub out_few : out ≤ length standings
+  out_few = let o = k.out_is in let l = count_by-le-length is_out standings in omega arith
 
-  pub stopped_few : stopped ≤ length places
-  stopped_few = let o = k.stopped_is in let l = count_by-le-length has_stopped places in omega arith
+  pub stopped_few : stopped ≤ length standings
+  stopped_few = let o = k.stopped_is in let l = count_by-le-length has_stopped standings in omega arith
 
-  pub queue_few : length queue ≤ length places
-  queue_few = let r = k.ready in let l = count_by-le-length is_ready places in omega arith
+  pub queue_few : length queue ≤ length standings
+  queue_few = let r = k.ready in let l = count_by-le-length is_ready standings in omega arith
 
   -- where the queue is empty none is ready
-  pub none_queued : slice_get queue 0 ≡ None → (p : ℕ) → place places p ≢ Ready
+  pub none_queued : slice_get queue 0 ≡ None → (p : ℕ) → standing standings p ≢ Ready
   none_queued e p r = empty queue e (k.queued p ∙ ap (weight is_ready) r)
     where
       empty : (q : List ℕ) → slice_get q 0 ≡ None → times q p ≡ 1 → ⊥
       empty [] e h = omega arith
       empty (x ∷ xs) e h = cc
 
-  module _ (p : ℕ) (within : p < length places) (idle : place places p ≢ Ready) where
+  module _ (p : ℕ) (within : p < length standings) (idle : standing standings p ≢ Ready) where
     -- a process that isn't ready has a place in the queue
     pub queue_room : length queue < room
     queue_room =
-        let c = counted is_ready places p Ready within in
-        let w : weight is_ready (place places p) ≡ 0 = ap one_if (not_ready (place places p) idle) in
-        let l = count_by-le-length is_ready (set places p Ready) in
-        let s = length-set places p Ready in
+        let c = counted is_ready standings p Ready within in
+        let w : weight is_ready (standing standings p) ≡ 0 = ap one_if (not_ready (standing standings p) idle) in
+        let l = count_by-le-length is_ready (set standings p Ready) in
+        let s = length-set standings p Ready in
         let r = k.ready in
         let m = k.room_for_all in
         omega arith
 
-    queued_moved : (x : Standing) (b : Bool) → is_ready x ≡ b → (q : ℕ) → times (cond b (queue ++ p ∷ []) queue) q ≡ weight is_ready (place (set places p x) q)
+    queued_moved : (x : Standing) (b : Bool) → is_ready x ≡ b → (q : ℕ) → times (cond b (queue ++ p ∷ []) queue) q ≡ weight is_ready (standing (set standings p x) q)
     queued_moved x true r q =
         times_push queue p q ∙ ⊎_elim
         (λ (e : q ≡ p).
-        let none : times queue q ≡ 0 = k.queued q ∙ ap (λ y. weight is_ready (place places y)) e ∙ ap one_if (not_ready (place places p) idle) in
+        let none : times queue q ≡ 0 = k.queued q ∙ ap (λ y. weight is_ready (standing standings y)) e ∙ ap one_if (not_ready (standing standings p) idle) in
         let one = one_here p q (sym e) in
-        let here : weight is_ready (place (set places p x) q) ≡ 1 = ap (λ y. weight is_ready (place (set places p x) y)) e ∙ ap (weight is_ready) (place_set_same places p x within) ∙ ap one_if r in
+        let here : weight is_ready (standing (set standings p x) q) ≡ 1 = ap (λ y. weight is_ready (standing (set standings p x) y)) e ∙ ap (weight is_ready) (place_set_same standings p x within) ∙ ap one_if r in
         omega arith)
         (λ (ne : q ≢ p).
         let other = none_there p q (λ e. ne (sym e)) in
         let before = k.queued q in
-        let same = ap (weight is_ready) (place_set_other places p q x ne) in
+        let same = ap (weight is_ready) (place_set_other standings p q x ne) in
         omega arith)
         (cases_eq q p)
     queued_moved x false r q =
         ⊎_elim
         (λ (e : q ≡ p).
-        let none : times queue q ≡ 0 = k.queued q ∙ ap (λ y. weight is_ready (place places y)) e ∙ ap one_if (not_ready (place places p) idle) in
-        let here : weight is_ready (place (set places p x) q) ≡ 0 = ap (λ y. weight is_ready (place (set places p x) y)) e ∙ ap (weight is_ready) (place_set_same places p x within) ∙ ap one_if r in
+        let none : times queue q ≡ 0 = k.queued q ∙ ap (λ y. weight is_ready (standing standings y)) e ∙ ap one_if (not_ready (standing standings p) idle) in
+        let here : weight is_ready (standing (set standings p x) q) ≡ 0 = ap (λ y. weight is_ready (standing (set standings p x) y)) e ∙ ap (weight is_ready) (place_set_same standings p x within) ∙ ap one_if r in
         omega arith)
-        (λ (ne : q ≢ p). k.queued q ∙ sym (ap (weight is_ready) (place_set_other places p q x ne)))
+        (λ (ne : q ≢ p). k.queued q ∙ sym (ap (weight is_ready) (place_set_other standings p q x ne)))
         (cases_eq q p)
 
     longer : (x : Standing) (b : Bool) → is_ready x ≡ b → length (cond b (queue ++ p ∷ []) queue) ≡ length queue + weight is_ready x
@@ -201,37 +201,37 @@ module _ (places : List Standing) (queue : List ℕ) (room out stopped : ℕ) (k
 
     -- moving it keeps what is kept
     pub kept_moved :
-        (x : Standing) (out_new stopped_new : ℕ) → out_new + weight is_out (place places p) ≡ out + weight is_out x → stopped_new + weight has_stopped (place places p) ≡ stopped + weight has_stopped x
-        → Agrees (set places p x) (queue_after queue p x) room out_new stopped_new
+        (x : Standing) (out_new stopped_new : ℕ) → out_new + weight is_out (standing standings p) ≡ out + weight is_out x → stopped_new + weight has_stopped (standing standings p) ≡ stopped + weight has_stopped x
+        → Agrees (set standings p x) (queue_after queue p x) room out_new stopped_new
     kept_moved x out_new stopped_new o s = record {
       queued = queued_moved x (is_ready x) refl;
       ready =
           let l = longer x (is_ready x) refl in
-          let c = counted is_ready places p x within in
-          let w : weight is_ready (place places p) ≡ 0 = ap one_if (not_ready (place places p) idle) in
+          let c = counted is_ready standings p x within in
+          let w : weight is_ready (standing standings p) ≡ 0 = ap one_if (not_ready (standing standings p) idle) in
           let r = k.ready in
           omega arith;
-      room_for_all = let m = k.room_for_all in let l = length-set places p x in omega arith;
-      out_is = let c = counted is_out places p x within in let e = k.out_is in omega arith;
-      stopped_is = let c = counted has_stopped places p x within in let e = k.stopped_is in omega arith;
+      room_for_all = let m = k.room_for_all in let l = length-set standings p x in omega arith;
+      out_is = let c = counted is_out standings p x within in let e = k.out_is in omega arith;
+      stopped_is = let c = counted has_stopped standings p x within in let e = k.stopped_is in omega arith;
     }
 
   -- the process in front is ready, and leaves the queue as it goes out
-  pub front_ready : (p : ℕ) → slice_get queue 0 ≡ Some p → place places p ≡ Ready
-  front_ready p e = is_ready_ready _ (passes (is_ready (place places p)) refl)
+  pub front_ready : (p : ℕ) → slice_get queue 0 ≡ Some p → standing standings p ≡ Ready
+  front_ready p e = is_ready_ready _ (passes (is_ready (standing standings p)) refl)
     where
       at_least : (q : List ℕ) → slice_get q 0 ≡ Some p → 1 ≤ times q p
       at_least [] e = cc
       at_least (x ∷ xs) e = let s : x ≡ p = cc in let o = one_here x p s in let c = times_cons xs x p in omega arith
 
-      passes : (b : Bool) → is_ready (place places p) ≡ b → is_ready (place places p) ≡ true
+      passes : (b : Bool) → is_ready (standing standings p) ≡ b → is_ready (standing standings p) ≡ true
       passes true h = h
       passes false h = let n : times queue p ≡ 0 = k.queued p ∙ ap one_if h in let l = at_least queue e in absurd (omega arith)
 
-  pub front_within : (p : ℕ) → slice_get queue 0 ≡ Some p → p < length places
-  front_within p e = place_within places p (λ f. ready_not_ended (sym (front_ready p e) ∙ f))
+  pub front_within : (p : ℕ) → slice_get queue 0 ≡ Some p → p < length standings
+  front_within p e = place_within standings p (λ f. ready_not_ended (sym (front_ready p e) ∙ f))
 
-  pub kept_sent : (p : ℕ) → slice_get queue 0 ≡ Some p → Agrees (set places p Out) (drop 1 queue) room (out + 1) stopped
+  pub kept_sent : (p : ℕ) → slice_get queue 0 ≡ Some p → Agrees (set standings p Out) (drop 1 queue) room (out + 1) stopped
   kept_sent p e =
       let ready = front_ready p e in
       let within = front_within p e in
@@ -242,29 +242,29 @@ module _ (places : List Standing) (queue : List ℕ) (room out stopped : ℕ) (k
             ⊎_elim
             (λ (s : q ≡ p).
             let one = one_here p q (sym s) in
-            let was : weight is_ready (place places q) ≡ 1 = ap (λ y. weight is_ready (place places y)) s ∙ ap (weight is_ready) ready in
-            let is : weight is_ready (place (set places p Out) q) ≡ 0 = ap (λ y. weight is_ready (place (set places p Out) y)) s ∙ ap (weight is_ready) (place_set_same places p Out within) in
+            let was : weight is_ready (standing standings q) ≡ 1 = ap (λ y. weight is_ready (standing standings y)) s ∙ ap (weight is_ready) ready in
+            let is : weight is_ready (standing (set standings p Out) q) ≡ 0 = ap (λ y. weight is_ready (standing (set standings p Out) y)) s ∙ ap (weight is_ready) (place_set_same standings p Out within) in
             omega arith)
             (λ (ne : q ≢ p).
             let other = none_there p q (λ e. ne (sym e)) in
-            let same = ap (weight is_ready) (place_set_other places p q Out ne) in
+            let same = ap (weight is_ready) (place_set_other standings p q Out ne) in
             omega arith)
             (cases_eq q p);
         ready =
-            let c = counted is_ready places p Out within in
-            let w : weight is_ready (place places p) ≡ 1 = ap (weight is_ready) ready in
+            let c = counted is_ready standings p Out within in
+            let w : weight is_ready (standing standings p) ≡ 1 = ap (weight is_ready) ready in
             let l = one_less queue e in
             let r = k.ready in
             omega arith;
-        room_for_all = let m = k.room_for_all in let l = length-set places p Out in omega arith;
+        room_for_all = let m = k.room_for_all in let l = length-set standings p Out in omega arith;
         out_is =
-            let c = counted is_out places p Out within in
-            let w : weight is_out (place places p) ≡ 0 = ap (weight is_out) ready in
+            let c = counted is_out standings p Out within in
+            let w : weight is_out (standing standings p) ≡ 0 = ap (weight is_out) ready in
             let e = k.out_is in
             omega arith;
         stopped_is =
-            let c = counted has_stopped places p Out within in
-            let w : weight has_stopped (place places p) ≡ 0 = ap (weight has_stopped) ready in
+            let c = counted has_stopped standings p Out within in
+            let w : weight has_stopped (standing standings p) ≡ 0 = ap (weight has_stopped) ready in
             let e = k.stopped_is in
             omega arith;
       }

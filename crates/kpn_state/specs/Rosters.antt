@@ -1,7 +1,7 @@
 -- The queue of the ready processes and the counts beside it, and the standings that they go with.
 use Rattle.std.specs.Prelude.{◌≡◌, ℕ, ◌≤◌, List, [], ◌∷◌, ◌++◌, length, if◌then◌else◌, nat_eq, count_by}
 use Rattle.kpn_state.specs.declared.standing.Standing.{Standing}
-use Rattle.kpn_state.specs.Standings.{place, is_ready, is_out, has_stopped}
+use Rattle.kpn_state.specs.Standings.{standing, is_ready, is_out, has_stopped}
 
 -- how often p stands in a queue
 abbrev pub times : List ℕ → ℕ → ℕ
@@ -9,12 +9,12 @@ times queue p = count_by (λ q. nat_eq q p) queue
 
 -- a process is queued once where it is ready, and else not at all, and there is room for all; so many
 -- are out, and so many have stopped
-pub record Agrees (places : List Standing) (queue : List ℕ) (room out stopped : ℕ) : Type 0 where
-  pub queued : (p : ℕ) → times queue p ≡ if is_ready (place places p) then 1 else 0
-  pub ready : length queue ≡ count_by is_ready places
-  pub room_for_all : length places ≤ room
-  pub out_is : out ≡ count_by is_out places
-  pub stopped_is : stopped ≡ count_by has_stopped places
+pub record Agrees (standings : List Standing) (queue : List ℕ) (room out stopped : ℕ) : Type 0 where
+  pub queued : (p : ℕ) → times queue p ≡ if is_ready (standing standings p) then 1 else 0
+  pub ready : length queue ≡ count_by is_ready standings
+  pub room_for_all : length standings ≤ room
+  pub out_is : out ≡ count_by is_out standings
+  pub stopped_is : stopped ≡ count_by has_stopped standings
 
 -- the queue once p, which was not queued, stands so
 abbrev pub queue_after : List ℕ → ℕ → Standing → List ℕ

@@ -13,8 +13,8 @@ use Rattle.kpn_state.specs.declared.standing.Standing.{Standing}
 use Rattle.kpn_state.specs.declared.standing.Standing.TheVariants.{Ready, Out, Parked, Stopped as Ended}
 
 -- where process p stands; a process that is not there has stopped
-abbrev pub place : List Standing → ℕ → Standing
-place places p = get_or places p Ended
+abbrev pub standing : List Standing → ℕ → Standing
+standing standings p = get_or standings p Ended
 
 -- a process that is ready or out
 abbrev pub is_busy : Standing → Bool
@@ -68,14 +68,14 @@ HasChannel net Stopped = Unit {0}
 
 -- the state is one of the network, with tokens of their sorts; each process stands where its status
 -- says; each parked process wants what it answered and, but for the spared one, can't do it
-pub record StandingsFit (kinds : Family) (admits : Card → List ℕ → Option Token → Type 0) (net : Network) (spared : Option ℕ) (M : State) (places : List Standing) : Type 0 where
+pub record StandingsFit (kinds : Family) (admits : Card → List ℕ → Option Token → Type 0) (net : Network) (spared : Option ℕ) (M : State) (standings : List Standing) : Type 0 where
   pub processes : length M.processes ≡ length net.processes
   pub channels : length M.channels ≡ length net.channels
-  pub standing : length places ≡ length net.processes
+  pub standing : length standings ≡ length net.processes
   pub sorted : IsWellTyped admits net M
   pub smallest : (c : ℕ) → c < length net.channels → 1 ≤ capacity M c
   pub greatest : (c : ℕ) → capacity M c ≤ net.ceiling
-  pub stopped : (p : ℕ) → place places p ≡ Ended → status M p ≡ Done
-  pub done : (p : ℕ) → status M p ≡ Done → place places p ≡ Ended
-  pub wanted : (p : ℕ) (a : Answer) → place places p ≡ Parked a → wants kinds net M p ≡ Some a
-  pub blocked : (p : ℕ) (a : Answer) → spared ≢ Some p → place places p ≡ Parked a → IsPossible kinds net M p a.act → ⊥
+  pub stopped : (p : ℕ) → standing standings p ≡ Ended → status M p ≡ Done
+  pub done : (p : ℕ) → status M p ≡ Done → standing standings p ≡ Ended
+  pub wanted : (p : ℕ) (a : Answer) → standing standings p ≡ Parked a → wants kinds net M p ≡ Some a
+  pub blocked : (p : ℕ) (a : Answer) → spared ≢ Some p → standing standings p ≡ Parked a → IsPossible kinds net M p a.act → ⊥

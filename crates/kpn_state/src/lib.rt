@@ -2,13 +2,11 @@
 //! process stands.
 #![tactic(auto)]
 
-pub mod places;
 pub mod ring;
 pub mod roster;
 pub mod standing;
 pub mod store;
 
-pub use places::places_of;
 pub use ring::Ring;
 pub use roster::Roster;
 pub use standing::Standing;

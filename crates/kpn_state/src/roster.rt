@@ -2,7 +2,7 @@
 ghost use Rattle.std.specs.Prelude.{◌≡◌, ◌≢◌, ◌<◌, ◌≤◌, ℕ, length, set, replicate, if◌then◌else◌, count_by, IsTrue, IfOk, IfSome, IfNone};
 ghost use Rattle.std.specs.List.{list_any, list_all};
 ghost use Rattle.kpn_state.specs.declared.standing.Standing.TheVariants.{Ready, Out};
-ghost use Rattle.kpn_state.specs.Standings.{place, is_busy, is_out, is_ready, has_stopped};
+ghost use Rattle.kpn_state.specs.Standings.{standing, is_busy, is_out, is_ready, has_stopped};
 ghost use Rattle.kpn_state.specs.Rosters.{queue_after};
 
 use crate::standing::Standing;
@@ -17,7 +17,7 @@ use std::marker::Model;
 /// memory is taken by `new`.
 #[derive(Drop)]
 pub struct Roster {
-    places: Vec<Standing>,
+    standings: Vec<Standing>,
     // The two counts stand apart: side by side they are loaded and stored as one value of 16 bytes,
     // and such a load waits where one of them was stored alone just before.
     out: usize,
@@ -32,9 +32,9 @@ impl Model for Roster {
 
     ghost Value = { List StandingV };
 
-    ghost view = { λ r. r.places.items };
+    ghost view = { λ r. r.standings.items };
 
-    ghost invariant = { λ r. Agrees r.places.items r.queue.items r.queue.capacity r.out r.stopped };
+    ghost invariant = { λ r. Agrees r.standings.items r.queue.items r.queue.capacity r.out r.stopped };
 }
 
 impl Roster {
@@ -42,14 +42,14 @@ impl Roster {
     pub fn new(alloc: Global, count: usize) -> Result<Roster, AllocError>
         ensures { IfOk result (λ r. r ≡ replicate count Ready) }
     {
-        let mut places = Vec::with_capacity(alloc, count)?;
+        let mut standings = Vec::with_capacity(alloc, count)?;
         let mut queue = HeapCircularBuffer::with_capacity(alloc, count)?;
         for process in 0..count {
-            places.push(Standing::Ready)?;
+            standings.push(Standing::Ready)?;
             enqueue(&mut queue, process, &Standing::Ready);
         }
         Ok(Roster {
-            places,
+            standings,
             out: 0,
             queue,
             stopped: 0,
@@ -60,7 +60,7 @@ impl Roster {
     pub fn as_slice(&self) -> &[Standing]
         ensures value { result.now ≡ self.now }
     {
-        self.places.as_slice()
+        self.standings.as_slice()
     }
 
     /// Whether a process is ready or out.
@@ -74,7 +74,7 @@ impl Roster {
     pub fn all_stopped(&self) -> bool
         ensures { result ≡ list_all has_stopped self.now }
     {
-        self.stopped == self.places.len()
+        self.stopped == self.standings.len()
     }
 
     /// How many processes are ready.
@@ -93,30 +93,30 @@ impl Roster {
 
     /// The process that has been ready for the longest time goes out; `None` where none is ready.
     pub fn send_out(&mut self) -> Option<usize>
-        ensures some { IfSome result (λ p. place self.old p ≡ Ready) }
+        ensures some { IfSome result (λ p. standing self.old p ≡ Ready) }
         ensures within { IfSome result (λ p. p < length self.old) }
         ensures out { IfSome result (λ p. self.new ≡ set self.old p Out) }
-        ensures none { IfNone result ((p : ℕ) → place self.old p ≢ Ready) }
+        ensures none { IfNone result ((p : ℕ) → standing self.old p ≢ Ready) }
         ensures same { IfNone result (self.new ≡ self.old) }
     {
         let process = self.queue.pop_front()?;
-        self.places[process] = Standing::Out;
+        self.standings[process] = Standing::Out;
         self.out += 1;
         Some(process)
     }
 
     /// A process that was not ready stands so from now on; where it is ready, it goes to the end of
     /// the queue.
-    pub fn update(&mut self, process: usize, standing: Standing)
+    pub fn update(&mut self, process: usize, next: Standing)
         requires process { process < length self.old }
-        requires idle { place self.old process ≢ Ready }
-        ensures { self.new ≡ set self.old process standing }
+        requires idle { standing self.old process ≢ Ready }
+        ensures { self.new ≡ set self.old process next }
     {
-        let before = self.places[process];
-        self.out = self.out - out_weight(&before) + out_weight(&standing);
-        self.stopped = self.stopped - stopped_weight(&before) + stopped_weight(&standing);
-        enqueue(&mut self.queue, process, &standing);
-        self.places[process] = standing;
+        let before = self.standings[process];
+        self.out = self.out - out_weight(&before) + out_weight(&next);
+        self.stopped = self.stopped - stopped_weight(&before) + stopped_weight(&next);
+        enqueue(&mut self.queue, process, &next);
+        self.standings[process] = next;
     }
 }
 

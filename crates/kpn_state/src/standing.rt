@@ -3,7 +3,7 @@ ghost use Rattle.std.specs.Prelude.{◌≡◌, ◌≢◌, ◌<◌, length, IfSom
 ghost use Rattle.std.specs.List.{list_all};
 ghost use Rattle.kpn_model.specs.declared.kinds.Answer.{Answer as AnswerV};
 ghost use Rattle.kpn_state.specs.declared.standing.Standing.TheVariants.{Parked};
-ghost use Rattle.kpn_state.specs.Standings.{place, is_ready, parked_answer, place_after, partner, HasChannel};
+ghost use Rattle.kpn_state.specs.Standings.{standing, is_ready, parked_answer, place_after, partner, HasChannel};
 
 use kpn_net::{Answer, Deed, Kinds, Net};
 
@@ -40,21 +40,21 @@ pub fn partner<K: Kinds>(net: &Net<K>, deed: Deed) -> Option<usize>
 }
 
 /// What a process that is parked wants.
-pub fn parked(places: &[Standing], process: usize) -> Option<Answer>
-    ensures is { result ≡ parked_answer (place places.now process) }
-    ensures some { IfSome result (λ a. place places.now process ≡ Parked a) }
-    ensures within { IfSome result (λ _. process < length places.now) }
-    ensures none { IfNone result ((a : AnswerV) → place places.now process ≢ Parked a) }
+pub fn parked(standings: &[Standing], process: usize) -> Option<Answer>
+    ensures is { result ≡ parked_answer (standing standings.now process) }
+    ensures some { IfSome result (λ a. standing standings.now process ≡ Parked a) }
+    ensures within { IfSome result (λ _. process < length standings.now) }
+    ensures none { IfNone result ((a : AnswerV) → standing standings.now process ≢ Parked a) }
 {
-    match places.get(process) {
+    match standings.get(process) {
         Some(Standing::Parked(answer)) => Some(*answer),
         _ => None,
     }
 }
 
 /// Whether all processes are ready.
-pub fn all_ready(places: &[Standing]) -> bool
-    ensures { result ≡ list_all is_ready places.now }
+pub fn all_ready(standings: &[Standing]) -> bool
+    ensures { result ≡ list_all is_ready standings.now }
 {
-    places.iter().all(|place| matches!(place, Standing::Ready))
+    standings.iter().all(|standing| matches!(standing, Standing::Ready))
 }

@@ -5,6 +5,6 @@ use Rattle.kpn_commit.proofs.choose.choose.Given as goal
 
 abbrev pub invariant-loop-process : goal.invariant-loop-process
 invariant-loop-process g l = record {
-  smallest : IsSmallest l.net l.store.state l.places l.process l.best;
+  smallest : IsSmallest l.net l.store.state l.standings l.process l.best;
   channel : IfSome l.best (λ b. b.0 < length l.net.channels);
 }

@@ -9,13 +9,13 @@ use Rattle.kpn_commit.proofs.settle.settle_idle.Goals as goal
 
 pub returns-then-all_stopped-clause-settles : goal.returns-then-all_stopped-clause-settles
 returns-then-all_stopped-clause-settles g c =
-    let idle : list_any is_busy c.args.places.now ≡ false = c.requires.idle in
+    let idle : list_any is_busy c.args.standings.now ≡ false = c.requires.idle in
     let k = c.requires.keeps in
     (idle, refl, refl, (idle_quiet _ _ _ _ _ k idle, all_done _ _ _ _ _ k (sym c.all_stopped.ensures ∙ c.if-all_stopped.true)))
 
 pub returns-in_default-clause-settles : goal.returns-in_default-clause-settles
 returns-in_default-clause-settles g c =
-    let idle : list_any is_busy c.args.places.now ≡ false = c.requires.idle in
+    let idle : list_any is_busy c.args.standings.now ≡ false = c.requires.idle in
     let k = c.requires.keeps in (
       idle,
       refl,
@@ -29,7 +29,7 @@ returns-in_default-clause-settles g c =
 
 pub returns-then-capacity-ceiling-clause-settles : goal.returns-then-capacity-ceiling-clause-settles
 returns-then-capacity-ceiling-clause-settles g c =
-    let idle : list_any is_busy c.args.places.now ≡ false = c.requires.idle in
+    let idle : list_any is_busy c.args.standings.now ≡ false = c.requires.idle in
     let k = c.requires.keeps in
     let best = rw c.as_slice.ensures.value at c.in-Some.ensures.smallest in
     let most = k.greatest c.in-Some.channel in
@@ -37,7 +37,7 @@ returns-then-capacity-ceiling-clause-settles g c =
 
 pub returns-in_default-grow-clause-settles : goal.returns-in_default-grow-clause-settles
 returns-in_default-grow-clause-settles g c =
-    let idle : list_any is_busy c.args.places.now ≡ false = c.requires.idle in
+    let idle : list_any is_busy c.args.standings.now ≡ false = c.requires.idle in
     let k = c.requires.keeps in
     let best = rw c.as_slice.ensures.value at c.in-Some.ensures.smallest in
     let parked = rw c.as_slice-2.ensures.value at c.in-Some-parked.ensures.some in
@@ -50,7 +50,7 @@ returns-in_default-grow-clause-settles g c =
         channel = c.in-Some.channel;
         to = c.enlarged-to.result;
         next = _;
-        grows = growth _ _ _ c.args.store.now c.args.places.now k c.in-Some.channel c.in-Some.writer c.in-Some-parked.answer c.enlarged-to.result best.0 parked within idle best (omega arith) to_is;
+        grows = growth _ _ _ c.args.store.now c.args.standings.now k c.in-Some.channel c.in-Some.writer c.in-Some-parked.answer c.enlarged-to.result best.0 parked within idle best (omega arith) to_is;
       },
     )
 
@@ -61,20 +61,20 @@ advance-requires-clause-keeps g c κs within =
     let parked = rw c.as_slice-2.ensures.value at c.in-Some-parked.ensures.some in
     let there : c.in-Some.channel < length c.args.store.now.state.channels = omega (arith, k.channels, c.in-Some.ensures.channel) in
     let step = c.processes.ensures.valid.some_step in
-    keeps_enlarged _ _ _ c.args.store.now c.args.places.now k c.in-Some.channel c.in-Some.writer c.in-Some-parked.answer c.enlarged-to.result best.0 parked there c.grow.new.self c.in-Ok.ensures.ok
+    keeps_enlarged _ _ _ c.args.store.now c.args.standings.now k c.in-Some.channel c.in-Some.writer c.in-Some-parked.answer c.enlarged-to.result best.0 parked there c.grow.new.self c.in-Ok.ensures.ok
     (omega (arith, c.enlarged-to.ensures, c.filling-capacity.ensures.capacity)) (omega (arith, c.enlarged-to.ensures, c.ceiling-2.ensures))
 
 pub returns-clause-settles : goal.returns-clause-settles
 returns-clause-settles g c =
-    let idle : list_any is_busy c.args.places.now ≡ false = c.requires.idle in
+    let idle : list_any is_busy c.args.standings.now ≡ false = c.requires.idle in
     let k = c.requires.keeps in
     let best = rw c.as_slice.ensures.value at c.in-Some.ensures.smallest in
     let parked = rw c.as_slice-2.ensures.value at c.in-Some-parked.ensures.some in
     let there : c.in-Some.channel < length c.args.store.now.state.channels = omega (arith, k.channels, c.in-Some.ensures.channel) in
     let to_is : c.enlarged-to.result ≡ min (capacity c.args.store.now.state c.in-Some.channel + c.args.net.now.step) c.args.net.now.ceiling = rw (← c.filling-capacity.ensures.capacity, ← c.step.ensures, ← c.ceiling-2.ensures) c.enlarged-to.ensures in (
       idle,
-      grows_and_puts _ _ _ c.args.store.now c.args.places.now k c.in-Some.channel c.in-Some.writer c.in-Some-parked.answer c.enlarged-to.result best.0 parked there idle best (omega arith) to_is c.grow.new.self c.in-Some-advance.field-0 c.advance.new.store c.advance.new.places
-          c.in-Ok.ensures.ok c.in-Some-advance.ensures.is_deed c.in-Some-advance.ensures.entry c.in-Some-advance.ensures.place,
+      grows_and_puts _ _ _ c.args.store.now c.args.standings.now k c.in-Some.channel c.in-Some.writer c.in-Some-parked.answer c.enlarged-to.result best.0 parked there idle best (omega arith) to_is c.grow.new.self c.in-Some-advance.field-0 c.advance.new.store c.advance.new.standings
+          c.in-Ok.ensures.ok c.in-Some-advance.ensures.is_deed c.in-Some-advance.ensures.entry c.in-Some-advance.ensures.standing,
     )
 
 pub returns-clause-keeps : goal.returns-clause-keeps
@@ -83,5 +83,5 @@ returns-clause-keeps g c =
     let best = rw c.as_slice.ensures.value at c.in-Some.ensures.smallest in
     let parked = rw c.as_slice-2.ensures.value at c.in-Some-parked.ensures.some in
     let there : c.in-Some.channel < length c.args.store.now.state.channels = omega (arith, k.channels, c.in-Some.ensures.channel) in
-    keeps_after_put _ _ _ c.args.store.now c.args.places.now k c.in-Some.channel c.in-Some.writer c.in-Some-parked.answer c.enlarged-to.result best.0 parked there c.grow.new.self c.in-Some-advance.field-0 c.advance.new.store c.advance.new.places
-    c.in-Ok.ensures.ok c.in-Some-advance.ensures.is_deed c.in-Some-advance.ensures.entry c.in-Some-advance.ensures.place c.in-Some-advance.ensures.keeps
+    keeps_after_put _ _ _ c.args.store.now c.args.standings.now k c.in-Some.channel c.in-Some.writer c.in-Some-parked.answer c.enlarged-to.result best.0 parked there c.grow.new.self c.in-Some-advance.field-0 c.advance.new.store c.advance.new.standings
+    c.in-Ok.ensures.ok c.in-Some-advance.ensures.is_deed c.in-Some-advance.ensures.entry c.in-Some-advance.ensures.standing c.in-Some-advance.ensures.keeps

@@ -18,7 +18,7 @@ overflow_add-self g c =
 
 pub invariant_of-self : goal.invariant_of-self
 invariant_of-self g c =
-    let out : IsOutAt c.self.inside.net c.self.inside.store.state c.self.inside.places c.args.finished = rw (← c.self.view_is) at c.requires in (
+    let out : IsOutAt c.self.inside.net c.self.inside.store.state c.self.inside.standings c.args.finished = rw (← c.self.view_is) at c.requires in (
       rw (map-set, c.update.ensures, c.process-process.ensures, c.into_body.ensures)
           (sound_back g.B.Kinds.Kinds.family g.B.Kinds.Kinds.admits _ _ _ _ _ _ _ _ c.self.invariant.0 c.args.finished out (some_of _ (sym c.is_some.ensures ∙ c.if-is_some.true))),
       c.self.invariant.1,
@@ -29,57 +29,57 @@ returns-then-is_some-clause-appends g c = rw (← c.self.view_is) (record { entr
 
 pub returns-then-is_some-clause-back : goal.returns-then-is_some-clause-back
 returns-then-is_some-clause-back g c =
-    let out : IsOutAt c.self.inside.net c.self.inside.store.state c.self.inside.places c.args.finished = rw (← c.self.view_is) at c.requires in
+    let out : IsOutAt c.self.inside.net c.self.inside.store.state c.self.inside.standings c.args.finished = rw (← c.self.view_is) at c.requires in
     λ e. ready_not_out (sym (place_set_same _ _ _ (out_within g.B.Kinds.Kinds.family g.B.Kinds.Kinds.admits _ _ _ _ _ _ _ _ c.self.invariant.0 c.args.finished out)) ∙ rw (c.update.ensures, c.process-process.ensures) at e)
 
 pub invariant_of-self-2 : goal.invariant_of-self-2
 invariant_of-self-2 g c =
-    let out : IsOutAt c.self.inside.net c.self.inside.store.state c.self.inside.places c.args.finished = rw (← c.self.view_is) at c.requires in
+    let out : IsOutAt c.self.inside.net c.self.inside.store.state c.self.inside.standings c.args.finished = rw (← c.self.view_is) at c.requires in
     let none = none_of _ (sym c.is_some.ensures ∙ c.if-is_some.false) in
     let w = rw (c.process-process.ensures, c.answer-answer.ensures) at c.work-outcome.ensures.works in (
       rw (map-set, c.process-process.ensures, c.into_body.ensures)
-          (sound_worked g.B.Kinds.Kinds.family g.B.Kinds.Kinds.admits _ _ _ _ _ _ _ _ c.self.invariant.0 c.args.finished out none c.work-outcome.result.0 c.work-outcome.new.store.state c.work-outcome.new.store.history c.work-outcome.new.places c.work-outcome.result.1 c.work-outcome.new.store.room w c.work-outcome.ensures.keeps),
+          (sound_worked g.B.Kinds.Kinds.family g.B.Kinds.Kinds.admits _ _ _ _ _ _ _ _ c.self.invariant.0 c.args.finished out none c.work-outcome.result.0 c.work-outcome.new.store.state c.work-outcome.new.store.history c.work-outcome.new.standings c.work-outcome.result.1 c.work-outcome.new.store.room w c.work-outcome.ensures.keeps),
       c.self.invariant.1,
     )
 
 pub returns-clause-commits : goal.returns-clause-commits
 returns-clause-commits g c =
-    let out : IsOutAt c.self.inside.net c.self.inside.store.state c.self.inside.places c.args.finished = rw (← c.self.view_is) at c.requires in
+    let out : IsOutAt c.self.inside.net c.self.inside.store.state c.self.inside.standings c.args.finished = rw (← c.self.view_is) at c.requires in
     let none = none_of _ (sym c.is_some.ensures ∙ c.if-is_some.false) in
     let w = rw (c.process-process.ensures, c.answer-answer.ensures) at c.work-outcome.ensures.works in
     rw (← c.self.view_is)
-    (worked_commits g.B.Kinds.Kinds.family g.B.Kinds.Kinds.admits _ _ _ _ _ _ _ _ c.self.invariant.0 c.args.finished out none c.work-outcome.result.0 c.work-outcome.new.store.state c.work-outcome.new.store.history c.work-outcome.new.places c.work-outcome.result.1 c.work-outcome.new.store.room w)
+    (worked_commits g.B.Kinds.Kinds.family g.B.Kinds.Kinds.admits _ _ _ _ _ _ _ _ c.self.invariant.0 c.args.finished out none c.work-outcome.result.0 c.work-outcome.new.store.state c.work-outcome.new.store.history c.work-outcome.new.standings c.work-outcome.result.1 c.work-outcome.new.store.room w)
 
 pub returns-clause-appends : goal.returns-clause-appends
 returns-clause-appends g c =
-    let out : IsOutAt c.self.inside.net c.self.inside.store.state c.self.inside.places c.args.finished = rw (← c.self.view_is) at c.requires in
+    let out : IsOutAt c.self.inside.net c.self.inside.store.state c.self.inside.standings c.args.finished = rw (← c.self.view_is) at c.requires in
     let none = none_of _ (sym c.is_some.ensures ∙ c.if-is_some.false) in
     let w = rw (c.process-process.ensures, c.answer-answer.ensures) at c.work-outcome.ensures.works in
     rw (← c.self.view_is)
-    (worked_appends g.B.Kinds.Kinds.family g.B.Kinds.Kinds.admits _ _ _ _ _ _ _ _ c.self.invariant.0 c.args.finished out none c.work-outcome.result.0 c.work-outcome.new.store.state c.work-outcome.new.store.history c.work-outcome.new.places c.work-outcome.result.1 c.work-outcome.new.store.room w)
+    (worked_appends g.B.Kinds.Kinds.family g.B.Kinds.Kinds.admits _ _ _ _ _ _ _ _ c.self.invariant.0 c.args.finished out none c.work-outcome.result.0 c.work-outcome.new.store.state c.work-outcome.new.store.history c.work-outcome.new.standings c.work-outcome.result.1 c.work-outcome.new.store.room w)
 
 pub returns-clause-tells : goal.returns-clause-tells
 returns-clause-tells g c =
-    let out : IsOutAt c.self.inside.net c.self.inside.store.state c.self.inside.places c.args.finished = rw (← c.self.view_is) at c.requires in
+    let out : IsOutAt c.self.inside.net c.self.inside.store.state c.self.inside.standings c.args.finished = rw (← c.self.view_is) at c.requires in
     let none = none_of _ (sym c.is_some.ensures ∙ c.if-is_some.false) in
     let w = rw (c.process-process.ensures, c.answer-answer.ensures) at c.work-outcome.ensures.works in
     rw (← c.self.view_is)
-    (worked_tells g.B.Kinds.Kinds.family g.B.Kinds.Kinds.admits _ _ _ _ _ _ _ _ c.self.invariant.0 c.args.finished out none c.work-outcome.result.0 c.work-outcome.new.store.state c.work-outcome.new.store.history c.work-outcome.new.places c.work-outcome.result.1 c.work-outcome.new.store.room w)
+    (worked_tells g.B.Kinds.Kinds.family g.B.Kinds.Kinds.admits _ _ _ _ _ _ _ _ c.self.invariant.0 c.args.finished out none c.work-outcome.result.0 c.work-outcome.new.store.state c.work-outcome.new.store.history c.work-outcome.new.standings c.work-outcome.result.1 c.work-outcome.new.store.room w)
 
 pub returns-clause-back : goal.returns-clause-back
 returns-clause-back g c =
-    let out : IsOutAt c.self.inside.net c.self.inside.store.state c.self.inside.places c.args.finished = rw (← c.self.view_is) at c.requires in
+    let out : IsOutAt c.self.inside.net c.self.inside.store.state c.self.inside.standings c.args.finished = rw (← c.self.view_is) at c.requires in
     let none = none_of _ (sym c.is_some.ensures ∙ c.if-is_some.false) in
     let w = rw (c.process-process.ensures, c.answer-answer.ensures) at c.work-outcome.ensures.works in
-    worked_back g.B.Kinds.Kinds.family g.B.Kinds.Kinds.admits _ _ _ _ _ _ _ _ c.self.invariant.0 c.args.finished out none c.work-outcome.result.0 c.work-outcome.new.store.state c.work-outcome.new.store.history c.work-outcome.new.places c.work-outcome.result.1 c.work-outcome.new.store.room w
+    worked_back g.B.Kinds.Kinds.family g.B.Kinds.Kinds.admits _ _ _ _ _ _ _ _ c.self.invariant.0 c.args.finished out none c.work-outcome.result.0 c.work-outcome.new.store.state c.work-outcome.new.store.history c.work-outcome.new.standings c.work-outcome.result.1 c.work-outcome.new.store.room w
 
 pub returns-clause-others : goal.returns-clause-others
 returns-clause-others g c =
-    let out : IsOutAt c.self.inside.net c.self.inside.store.state c.self.inside.places c.args.finished = rw (← c.self.view_is) at c.requires in
+    let out : IsOutAt c.self.inside.net c.self.inside.store.state c.self.inside.standings c.args.finished = rw (← c.self.view_is) at c.requires in
     let none = none_of _ (sym c.is_some.ensures ∙ c.if-is_some.false) in
     let w = rw (c.process-process.ensures, c.answer-answer.ensures) at c.work-outcome.ensures.works in
     rw (← c.self.view_is)
-    (worked_others g.B.Kinds.Kinds.family g.B.Kinds.Kinds.admits _ _ _ _ _ _ _ _ c.self.invariant.0 c.args.finished out none c.work-outcome.result.0 c.work-outcome.new.store.state c.work-outcome.new.store.history c.work-outcome.new.places c.work-outcome.result.1 c.work-outcome.new.store.room w)
+    (worked_others g.B.Kinds.Kinds.family g.B.Kinds.Kinds.admits _ _ _ _ _ _ _ _ c.self.invariant.0 c.args.finished out none c.work-outcome.result.0 c.work-outcome.new.store.state c.work-outcome.new.store.history c.work-outcome.new.standings c.work-outcome.result.1 c.work-outcome.new.store.room w)
 
 pub returns-clause-ends : goal.returns-clause-ends
 returns-clause-ends g c = λ none. commits_end g.B.Kinds.Kinds.family c.args.self.now c.args.finished c.work-outcome.result.0 _ (returns-clause-commits g c) none

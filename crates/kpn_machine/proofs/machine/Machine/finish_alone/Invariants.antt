@@ -6,7 +6,7 @@ use Rattle.kpn_machine.proofs.machine.Machine.finish_alone.Given as goal
 
 abbrev pub invariant-loop-self : goal.invariant-loop-self
 invariant-loop-self g l = record {
-  none_out : count_by is_out l.self.places ≡ 0;
+  none_out : count_by is_out l.self.standings ≡ 0;
   goes : GoesOn g.B.Kinds.Kinds.family l.initial.self l.self;
 }
 

@@ -9,6 +9,6 @@ use Rattle.kpn_state.proofs.roster.Roster.all_stopped.Goals as goal
 pub returns : goal.returns
 returns c =
     let k = c.self.invariant in
-    let places = c.self.inside.places.items in
-    let many : c.len.result ≡ length places = omega (arith, c.len.ensures, c.self.inside.places.ok.0) in
-    rw (← c.self.view_is) (ap (λ n. nat_eq n c.len.result) k.stopped_is ∙ ap (λ n. nat_eq (count_by has_stopped places) n) many ∙ sym (stopped_counted places))
+    let standings = c.self.inside.standings.items in
+    let many : c.len.result ≡ length standings = omega (arith, c.len.ensures, c.self.inside.standings.ok.0) in
+    rw (← c.self.view_is) (ap (λ n. nat_eq n c.len.result) k.stopped_is ∙ ap (λ n. nat_eq (count_by has_stopped standings) n) many ∙ sym (stopped_counted standings))

@@ -9,7 +9,7 @@ use Rattle.kpn_state.proofs.roster.Roster.any_busy.Goals as goal
 pub returns : goal.returns
 returns c =
     let k = c.self.invariant in
-    let places = c.self.inside.places.items in
-    let ready : c.ready.result ≡ count_by is_ready places = rw (← c.self.view_is) at c.ready.ensures in
-    let both : c.ready.result + c.self.inside.out ≡ count_by is_ready places + count_by is_out places = omega (arith, ready, k.out_is) in
-    rw (← c.self.view_is) (ap (λ n. nat_lt 0 n) both ∙ sym (busy_counted places))
+    let standings = c.self.inside.standings.items in
+    let ready : c.ready.result ≡ count_by is_ready standings = rw (← c.self.view_is) at c.ready.ensures in
+    let both : c.ready.result + c.self.inside.out ≡ count_by is_ready standings + count_by is_out standings = omega (arith, ready, k.out_is) in
+    rw (← c.self.view_is) (ap (λ n. nat_lt 0 n) both ∙ sym (busy_counted standings))

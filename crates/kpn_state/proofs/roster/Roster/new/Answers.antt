@@ -8,7 +8,7 @@ use Rattle.kpn_state.proofs.roster.Roster.new.Goals as goal
 pub loop-process-preserved : goal.loop-process-preserved
 loop-process-preserved c =
     let i = c.loop-process.invariant in
-    let n : c.loop-process.process ≡ length c.loop-process.places.items = sym (ap length i.are ∙ length-replicate c.loop-process.process Ready) in
+    let n : c.loop-process.process ≡ length c.loop-process.standings.items = sym (ap length i.are ∙ length-replicate c.loop-process.process Ready) in
     record {
       are = c.in_ok-push.ensures.items ∙ ap (λ xs. xs ++ Ready ∷ []) i.are ∙ replicate_more c.loop-process.process Ready;
       room = c.enqueue.ensures.room ∙ i.room;

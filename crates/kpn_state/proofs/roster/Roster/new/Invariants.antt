@@ -5,7 +5,7 @@ use Rattle.kpn_state.proofs.roster.Roster.new.Given as goal
 
 abbrev pub invariant-loop-process : goal.invariant-loop-process
 invariant-loop-process l = record {
-  are : l.places.items ≡ replicate l.process Ready;
+  are : l.standings.items ≡ replicate l.process Ready;
   room : l.queue.capacity ≡ l.count;
-  kept : Agrees l.places.items l.queue.items l.queue.capacity 0 0;
+  kept : Agrees l.standings.items l.queue.items l.queue.capacity 0 0;
 }

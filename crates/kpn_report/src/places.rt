@@ -1,10 +1,11 @@
-//! Where a network came to rest.
+//! Where the processes of a network came to rest.
 ghost use Rattle.std.specs.Prelude.{◌≡◌, IfOk};
 ghost use Rattle.kpn_model.specs.History.{each_process, place_of};
-ghost use Rattle.kpn_state.specs.Standings.{place as standing_of, parked_answer};
+ghost use Rattle.kpn_state.specs.Standings.{standing, parked_answer};
 
-use crate::standing::{Standing, parked};
 use kpn_net::{Act, Answer, Kinds, Net, Place};
+use kpn_state::Standing;
+use kpn_state::standing::parked;
 use std::alloc::{AllocError, Global};
 
 /// The place of a process that wants this.
@@ -34,7 +35,7 @@ pub fn places_of<K: Kinds>(
     net: &Net<K>,
     standings: &[Standing],
 ) -> Result<Vec<Place>, AllocError>
-    ensures { IfOk result (λ v. v.items ≡ each_process net.now (λ p. place_of net.now p (parked_answer (standing_of standings.now p)))) }
+    ensures { IfOk result (λ v. v.items ≡ each_process net.now (λ p. place_of net.now p (parked_answer (standing standings.now p)))) }
 {
     let mut places = Vec::with_capacity(alloc, net.processes())?;
     for process in 0..net.processes() {

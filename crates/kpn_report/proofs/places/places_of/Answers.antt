@@ -2,12 +2,12 @@
 use Rattle.std.proofs.Common.{◌++◌, ◌∷◌, [], sym, ap, ◌∙◌, arith}
 use Rattle.std.proofs.lemmas.List.FromFn.{map-range_with_len_more}
 use Rattle.kpn_model.specs.History.{place_of}
-use Rattle.kpn_state.specs.Standings.{place, parked_answer}
-use Rattle.kpn_state.proofs.places.places_of.Goals as goal
+use Rattle.kpn_state.specs.Standings.{standing, parked_answer}
+use Rattle.kpn_report.proofs.places.places_of.Goals as goal
 
 pub loop-process-preserved : goal.loop-process-preserved
 loop-process-preserved g c =
     c.in_ok-push.ensures.items
     ∙ (ap (λ xs. xs ++ c.place.result ∷ []) c.loop-process.invariant
     ∙ rw (c.place.ensures, c.parked-wanted.ensures.is)
-    (sym (map-range_with_len_more (λ p. place_of c.args.net.now p (parked_answer (place c.args.standings.now p))) 0 c.loop-process.process c.loop-process.process (omega arith))))
+    (sym (map-range_with_len_more (λ p. place_of c.args.net.now p (parked_answer (standing c.args.standings.now p))) 0 c.loop-process.process c.loop-process.process (omega arith))))
