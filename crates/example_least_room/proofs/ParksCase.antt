@@ -15,17 +15,17 @@ use Rattle.kpn_model.specs.Moments.{IsBound}
 use Rattle.kpn_model.specs.Standard.{standard}
 use Rattle.kpn_laws.specs.RoomOfRun.{TakesAtMost, TakesLeastRoom}
 use Rattle.kpn_laws.specs.WorkedRoom.{longer_parks_case, TwoPlacesSuffice}
-use Rattle.example_least_room.specs.Growth.{is_growth}
+use Rattle.example_least_room.specs.Growth.{entry_grows}
 use Rattle.kpn_machine.specs.MachineView.{MachineView, EndHolds, IsFaithful}
 
 -- one more growth, or one more deed
-counted_more : (e : Entry) (E : List Entry) → length (growths (e ∷ E)) ≡ cond (is_growth e) (1 + length (growths E)) (length (growths E))
+counted_more : (e : Entry) (E : List Entry) → length (growths (e ∷ E)) ≡ cond (entry_grows e) (1 + length (growths E)) (length (growths E))
 counted_more (Did p d) E = refl
 counted_more (Grew c to) E = omega arith
 
 -- the growths are counted
-pub counted : (E : List Entry) → count_by is_growth E ≡ length (growths E)
-counted E = sym (is_count_by (λ E. length (growths E)) is_growth refl counted_more E)
+pub counted : (E : List Entry) → count_by entry_grows E ≡ length (growths E)
+counted E = sym (is_count_by (λ E. length (growths E)) entry_grows refl counted_more E)
 
 -- the law at this network
 at_the_case :

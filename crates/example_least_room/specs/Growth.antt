@@ -4,6 +4,6 @@ use Rattle.kpn_model.specs.declared.history.Entry.{Entry}
 use Rattle.kpn_model.specs.declared.history.Entry.TheVariants.{Did, Grew}
 
 -- the entry is a growth
-abbrev pub is_growth : Entry → Bool
-is_growth (Did p d) = false
-is_growth (Grew c to) = true
+abbrev pub entry_grows : Entry → Bool
+entry_grows (Did p d) = false
+entry_grows (Grew c to) = true

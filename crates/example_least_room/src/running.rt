@@ -6,7 +6,7 @@ ghost use Rattle.kpn_model.specs.History.{growths};
 ghost use Rattle.kpn_model.specs.Standard.{standard};
 ghost use Rattle.kpn_state.specs.Standings.{is_out};
 ghost use Rattle.kpn_laws.specs.WorkedRoom.{longer_parks_case};
-ghost use Rattle.example_least_room.specs.Growth.{is_growth};
+ghost use Rattle.example_least_room.specs.Growth.{entry_grows};
 
 use kpn_body::Body;
 use kpn_laws::worked_room;
@@ -39,7 +39,7 @@ pub fn finish<B: Body>(machine: &mut Machine<B>) -> usize
 
 /// How many entries of a history are growths.
 fn count_growths(history: &[Entry]) -> usize
-    ensures { result ≡ count_by is_growth history.now }
+    ensures { result ≡ count_by entry_grows history.now }
 {
     history
         .iter()

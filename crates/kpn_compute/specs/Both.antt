@@ -33,8 +33,8 @@ abbrev pub both_ports : (Card → Option Signature) → (Card → Option Signatu
 both_ports first second card = if card.kind == NO_KIND then None else (if is_first card then first else second) (own_card card)
 
 -- a name is refused whatever its arguments: no card of its kind has ports
-abbrev pub IsRefused : (Card → Option Signature) → Option (ℕ × ℕ) → Type 0
-IsRefused ports meant = IfSome meant (λ kind. (args : List ℕ) → ports (record { kind = kind.0; args = args }) ≡ None)
+abbrev pub IsNameRefused : (Card → Option Signature) → Option (ℕ × ℕ) → Type 0
+IsNameRefused ports meant = IfSome meant (λ kind. (args : List ℕ) → ports (record { kind = kind.0; args = args }) ≡ None)
 
 -- a name means this kind of one of the families: a card of its kind has the ports that the card of the
 -- own kind has there, and is that card there

@@ -1,6 +1,6 @@
 //! Two families as one.
 ghost use Rattle.std.specs.Prelude.{◌≡◌, ◌⊎◌, ◌↔◌, ◌<◌, ◌-◌, ◌^◌, true, false, None, IsSome, IfSome};
-ghost use Rattle.kpn_compute.specs.Both.{is_first, own_card, both_named, both_ports, both_family, BothAdmit, IsRefused, MeansOwn, number_in_both};
+ghost use Rattle.kpn_compute.specs.Both.{is_first, own_card, both_named, both_ports, both_family, BothAdmit, IsNameRefused, MeansOwn, number_in_both};
 
 use crate::computes::Computes;
 use kpn_net::{Answer, Card, Kinds, Local, Signature, Token};
@@ -65,7 +65,7 @@ impl<A: Kinds, B: Kinds> Kinds for Both<A, B> {
     fn named(name: &str) -> Option<(u16, usize)>
         ensures is { result ≡ both_named A.named B.named name.now }
         ensures known { IsSome result ↔ (IsSome (A.named name.now) ⊎ IsSome (B.named name.now)) }
-        ensures shared { IsSome (A.named name.now) → IsSome (B.named name.now) → IsRefused (both_ports A.signature_of B.signature_of) result }
+        ensures shared { IsSome (A.named name.now) → IsSome (B.named name.now) → IsNameRefused (both_ports A.signature_of B.signature_of) result }
         ensures first { IfSome (A.named name.now) (λ own. B.named name.now ≡ None → own.0 < 2 ^ 15 - 1 → MeansOwn true own result) }
         ensures second { IfSome (B.named name.now) (λ own. A.named name.now ≡ None → own.0 < 2 ^ 15 - 1 → MeansOwn false own result) }
     {

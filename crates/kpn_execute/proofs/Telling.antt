@@ -19,12 +19,12 @@ use Rattle.kpn_model.specs.declared.parts.Process.{Process}
 use Rattle.kpn_machine.specs.MachineView.{MachineView, EndHolds, IsFaithful}
 use Rattle.kpn_machine.specs.declared.opening.OpenFault.{OpenFault}
 use Rattle.kpn_machine.specs.declared.opening.OpenFault.TheVariants.{Bodies, Card as WrongCard, Memory as OutOfMemory}
-use Rattle.kpn_machine.specs.Opening.{cards_of, IsRefused}
+use Rattle.kpn_machine.specs.Opening.{cards_of, IsOpenFault}
 use Rattle.kpn_run.proofs.Told.{at_rest, over_of}
 use Rattle.kpn_laws.specs.RoomOfRun.{TakesLeastRoom}
 use Rattle.kpn_report.specs.Text.{end_line, digest_text, text}
 use Rattle.kpn_report.specs.Digested.{has_detail}
-use Rattle.kpn_execute.specs.Execution.{status_of, TellsRun}
+use Rattle.kpn_execute.specs.Execution.{status_of_end, TellsRun}
 
 module _ (kinds : Family) (net : Network) where
   -- the text of a run that is over, from its digest
@@ -52,7 +52,7 @@ pub run_told :
     (kinds : Family) (admits : Card → List ℕ → Option Token → Type 0) (s : MachineView) (cause : End) (places : List Place) (channel : Option ℕ) (status : ℕ) (bytes : List ℕ) → IsFaithful kinds admits s → TakesLeastRoom kinds s.network s.history s.state → s.end ≡ Some cause
     → places ≡ each_process s.network (λ p. place_of s.network p (parked_answer (standing s.standings p))) → OneDigest kinds
     → ((has_detail cause ≡ true → places ≡ each_process s.network (λ p. place_of s.network p (wants kinds s.network s.state p))) → bytes ≡ text kinds s.network cause s.history s.state channel)
-    → status ≡ status_of cause → TellsRun kinds s.network channel status bytes
+    → status ≡ status_of_end cause → TellsRun kinds s.network channel status bytes
 run_told kinds admits s cause places channel status bytes faithful room ended places_are one report status_is =
     let bound = bound_by kinds admits s cause faithful ended in
     let told = report (λ has. places_are ∙ at_rest kinds admits s cause faithful ended has) in
@@ -75,7 +75,7 @@ none_out zero = refl
 none_out (suc n) = none_out n
 
 -- no run ends with the status of a failed write
-pub status_not_failed : (cause : End) → status_of cause ≢ 7
+pub status_not_failed : (cause : End) → status_of_end cause ≢ 7
 status_not_failed Terminated e = cc
 status_not_failed Budget e = cc
 status_not_failed Memory e = cc
@@ -83,7 +83,7 @@ status_not_failed Deadlock e = cc
 status_not_failed Ceiling e = cc
 
 -- bodies that fit are refused for want of memory alone
-pub not_refused : (ps : List Process) (cards : List Card) (fault : OpenFault) → cards ≡ cards_of ps → fault ≢ OutOfMemory → IsRefused ps cards fault → ⊥
+pub not_refused : (ps : List Process) (cards : List Card) (fault : OpenFault) → cards ≡ cards_of ps → fault ≢ OutOfMemory → IsOpenFault ps cards fault → ⊥
 not_refused ps cards Bodies fits other refused = refused (ap length fits ∙ length-map ps _)
 not_refused ps cards WrongCard fits other refused = refused.1 fits
 not_refused ps cards OutOfMemory fits other refused = other refl

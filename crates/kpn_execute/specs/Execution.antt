@@ -16,29 +16,29 @@ use Rattle.kpn_report.specs.Digested.{has_detail}
 use Rattle.kpn_front.specs.Lines.{lost_line, refused_line, no_channel_line}
 
 -- the exit status of a run that ended for this cause
-abbrev pub status_of : End → ℕ
-status_of Terminated = 0
-status_of Budget = 3
-status_of Memory = 4
-status_of Deadlock = 5
-status_of Ceiling = 6
+abbrev pub status_of_end : End → ℕ
+status_of_end Terminated = 0
+status_of_end Budget = 3
+status_of_end Memory = 4
+status_of_end Deadlock = 5
+status_of_end Ceiling = 6
 
 -- the number of the channel of a name
-abbrev pub channel_named : Network → List ℕ → Option ℕ
-channel_named net name = position (λ c. bytes_eq c.name name) net.channels
+abbrev pub number_of_channel : Network → List ℕ → Option ℕ
+number_of_channel net name = position (λ c. bytes_eq c.name name) net.channels
 
 -- no channel has the name that is to be shown
 pub record TellsNoChannel (net : Network) (show : Option (List ℕ)) (status : ℕ) (text : List ℕ) : Type 0 where
   pub name : List ℕ
   pub asked : show ≡ Some name
-  pub unknown : channel_named net name ≡ None
+  pub unknown : number_of_channel net name ≡ None
   pub status_is : status ≡ 1
   pub text_is : text ≡ no_channel_line name
 
 -- this is the channel that is to be shown, if any is
-abbrev pub IsShown : Network → Option (List ℕ) → Option ℕ → Type 0
-IsShown net None channel = channel ≡ None
-IsShown net (Some name) channel = (channel ≡ channel_named net name) × (channel ≢ None)
+abbrev pub IsChannelToShow : Network → Option (List ℕ) → Option ℕ → Type 0
+IsChannelToShow net None channel = channel ≡ None
+IsChannelToShow net (Some name) channel = (channel ≡ number_of_channel net name) × (channel ≢ None)
 
 -- memory was refused, before the first deed or for the report
 pub record TellsRefused (status : ℕ) (text : List ℕ) : Type 0 where
@@ -63,7 +63,7 @@ pub record TellsRun (kinds : Family) (net : Network) (channel : Option ℕ) (sta
   pub run : IsRun kinds net history state
   pub bound : IsBound kinds net history state cause
   pub room : TakesLeastRoom kinds net history state
-  pub status_is : status ≡ status_of cause
+  pub status_is : status ≡ status_of_end cause
   pub text_is : text ≡ report_text kinds net cause history state channel
   pub settled : has_detail cause ≡ true → IsSettled kinds net channel text
 
@@ -78,7 +78,7 @@ TellsKnown kinds net workers channel status text = TellsLost workers status text
 
 -- what is told of a network that is run by so many workers, and the status
 abbrev pub Tells : Family → Network → ℕ → Option (List ℕ) → ℕ → List ℕ → Type 0
-Tells kinds net workers show status text = TellsNoChannel net show status text ⊎ ((channel : Option ℕ) × IsShown net show channel × TellsKnown kinds net workers channel status text)
+Tells kinds net workers show status text = TellsNoChannel net show status text ⊎ ((channel : Option ℕ) × IsChannelToShow net show channel × TellsKnown kinds net workers channel status text)
 
 -- the same, or that memory for the bodies was refused
 abbrev pub TellsOfBodies : Family → Network → ℕ → Option (List ℕ) → ℕ → List ℕ → Type 0

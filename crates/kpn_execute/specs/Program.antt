@@ -8,7 +8,7 @@ use Rattle.kpn_standard.specs.Names.{named}
 use Rattle.kpn_standard.specs.Signatures.{signature}
 use Rattle.kpn_front.specs.declared.words.Choice.{Choice}
 use Rattle.kpn_front.specs.declared.words.Choice.TheVariants.{Check, Run}
-use Rattle.kpn_front.specs.Lines.{checked_line, refused_line, status_of}
+use Rattle.kpn_front.specs.Lines.{checked_line, refused_line, status_of_fault}
 use Rattle.kpn_front.specs.Loading.{Loads}
 use Rattle.kpn_execute.specs.Execution.{TellsOfBodies, Writes}
 
@@ -25,7 +25,7 @@ TellsOf (Run workers show) net status text = TellsOfBodies standard net workers 
 -- what is told of a description that was loaded, or refused
 abbrev pub TellsLoaded : Choice → Result Network NetFault → ℕ → List ℕ → Type 0
 TellsLoaded choice (Ok net) status text = TellsOf choice net status text
-TellsLoaded choice (Err fault) status text = (status ≡ status_of fault) × (text ≡ refused_line fault)
+TellsLoaded choice (Err fault) status text = (status ≡ status_of_fault fault) × (text ≡ refused_line fault)
 
 -- the input is loaded, and what is told of it by the choice is written; of the input are known its
 -- bytes, where they are, and whether a read had failed before and after

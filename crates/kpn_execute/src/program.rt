@@ -1,7 +1,7 @@
 //! The program, from its words and its input to what it writes.
 ghost use Rattle.std.specs.Prelude.{◌≡◌, ◌+◌, IfOk, IfErr, OnErr, map};
 ghost use Rattle.kpn_front.specs.Choices.{HasFewWorkers, IsChoice, IsWordsFault};
-ghost use Rattle.kpn_front.specs.Loading.{TakesAtMost, longest};
+ghost use Rattle.kpn_front.specs.Loading.{ReadsAtMost, longest};
 ghost use Rattle.kpn_front.specs.declared.words.Choice.{Choice as ChoiceV};
 ghost use Rattle.kpn_execute.specs.Program.{Serves};
 
@@ -43,7 +43,7 @@ pub fn serve<'a, I: Source, O: Sink, R: Wait + Clock + Threads + Sync>(
     ensures served { IfOk result (λ served. (choice : ChoiceV) × IsChoice (map (λ w. w.now) words.entry.now) choice × Serves choice (I.remaining source.old) (I.has_failed source.old) (I.has_failed source.new) (O.takes sink.old) (O.contents sink.old) (O.contents sink.new) served.status served.fault) }
     ensures words { IfErr result (IsWordsFault (map (λ w. w.now) words.entry.now)) }
     ensures untouched { OnErr result ((source.new ≡ source.old) × (sink.new ≡ sink.old)) }
-    ensures taken { TakesAtMost (longest + 1) (I.remaining source.old) (I.remaining source.new) }
+    ensures taken { ReadsAtMost (longest + 1) (I.remaining source.old) (I.remaining source.new) }
 {
     let choice = read_words(alloc, words)?;
     Ok(serve_choice(rt, alloc, choice, source, sink))
@@ -59,7 +59,7 @@ fn serve_choice<I: Source, O: Sink, R: Wait + Clock + Threads + Sync>(
 ) -> Served
     requires workers { HasFewWorkers choice }
     ensures served { Serves choice.entry (I.remaining source.old) (I.has_failed source.old) (I.has_failed source.new) (O.takes sink.old) (O.contents sink.old) (O.contents sink.new) result.status result.fault }
-    ensures taken { TakesAtMost (longest + 1) (I.remaining source.old) (I.remaining source.new) }
+    ensures taken { ReadsAtMost (longest + 1) (I.remaining source.old) (I.remaining source.new) }
 {
     let net: Net<Standard> = match load(alloc, source) {
         Ok(net) => net,

@@ -1,7 +1,7 @@
 //! Running a network and telling of it.
 ghost use Rattle.std.specs.Prelude.{◌≡◌, ◌≢◌, ◌<◌, ◌≤◌, Some, None, IfOk, IsSome, map, option_map, string_bytes};
 ghost use Rattle.kpn_machine.specs.Opening.{cards_of};
-ghost use Rattle.kpn_execute.specs.Execution.{status_of, Executes, TellsEnded, TellsKnown, TellsRun, Writes};
+ghost use Rattle.kpn_execute.specs.Execution.{status_of_end, Executes, TellsEnded, TellsKnown, TellsRun, Writes};
 
 use kpn_body::Body;
 use kpn_front::say::{say, say_lost, say_no_channel, say_refused};
@@ -169,7 +169,7 @@ fn told_of<K: Kinds>(
 
 /// The exit status of a run that ended so.
 fn status_of(end: End) -> u8
-    ensures { result ≡ status_of end }
+    ensures { result ≡ status_of_end end }
 {
     match end {
         End::Terminated => 0,

@@ -2,7 +2,7 @@
 use Rattle.std.specs.Prelude.{ℕ, codes, decimal, List, ◌++◌, length}
 use Rattle.kpn_net.specs.declared.fault.NetFault.{NetFault}
 use Rattle.kpn_net.specs.declared.fault.NetFault.TheVariants.{Memory}
-use Rattle.kpn_net.specs.Fault.{number_of}
+use Rattle.kpn_net.specs.Fault.{number_of_fault}
 use Rattle.kpn_model.specs.Network.{Network}
 
 -- what is written of a network that is accepted
@@ -11,11 +11,11 @@ checked_line net = codes "ok " ++ (decimal (length net.processes) ++ (codes " pr
 
 -- what is written of a description that is refused
 abbrev pub refused_line : NetFault → List ℕ
-refused_line fault = codes "refused " ++ (decimal (number_of fault) ++ codes "\n")
+refused_line fault = codes "refused " ++ (decimal (number_of_fault fault) ++ codes "\n")
 
-abbrev pub status_of : NetFault → ℕ
-status_of Memory = 4
-status_of _ = 2
+abbrev pub status_of_fault : NetFault → ℕ
+status_of_fault Memory = 4
+status_of_fault _ = 2
 
 -- what is written where a worker's answer was refused
 abbrev pub lost_line : List ℕ

@@ -16,8 +16,8 @@ abbrev pub longest : ℕ
 longest = 1048576
 
 -- of the bytes that a source had left, where they are known, at most n are gone
-abbrev pub TakesAtMost : ℕ → Option (List ℕ) → Option (List ℕ) → Type 0
-TakesAtMost n old new = (bytes : List ℕ) × Consumes old new bytes × (length bytes ≤ n)
+abbrev pub ReadsAtMost : ℕ → Option (List ℕ) → Option (List ℕ) → Type 0
+ReadsAtMost n old new = (bytes : List ℕ) × Consumes old new bytes × (length bytes ≤ n)
 
 module _ (named : List ℕ → Option (ℕ × ℕ)) (signature : Card → Option Signature) (failed : Bool) (text : List ℕ) where
   -- no read failed, and the text is no longer than a description may be

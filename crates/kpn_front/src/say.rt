@@ -2,7 +2,7 @@
 ghost use Rattle.std.specs.Prelude.{◌≡◌, ◌≢◌, ◌≤◌, ◌+◌, ◌++◌, true, OnOk, IsOk, decimal, length};
 ghost use Rattle.arrayvec.specs.ArrayString.{array_string_len};
 ghost use Rattle.std.specs.Io.KnownBytes.{Appends};
-ghost use Rattle.kpn_front.specs.Lines.{checked_line, lost_line, refused_line, no_channel_line, status_of};
+ghost use Rattle.kpn_front.specs.Lines.{checked_line, lost_line, refused_line, no_channel_line, status_of_fault};
 
 use crate::streams::Sink;
 use arrayvec::ArrayString;
@@ -52,7 +52,7 @@ pub fn say_checked<K: Kinds, S: Sink>(net: &Net<K>, sink: &mut S) -> u8
 /// The answer is the exit status: 4 where memory was refused, 2 of every other fault, and 7 where the
 /// write fails. No memory is taken.
 pub fn say_refused<S: Sink>(fault: &NetFault, sink: &mut S) -> u8
-    ensures said { result ≢ 7 → (result ≡ status_of fault.now) × Appends (S.contents sink.old) (S.contents sink.new) (refused_line fault.now) }
+    ensures said { result ≢ 7 → (result ≡ status_of_fault fault.now) × Appends (S.contents sink.old) (S.contents sink.new) (refused_line fault.now) }
     ensures room { S.takes sink.old (length (refused_line fault.now)) ≡ true → result ≢ 7 }
 {
     say(sink, refused_text(fault).as_str(), status_of(fault))
@@ -93,7 +93,7 @@ fn write_no_channel<S: Sink>(name: &str, sink: &mut S) -> io::Result<()>
 }
 
 fn status_of(fault: &NetFault) -> u8
-    ensures { result ≡ status_of fault.now }
+    ensures { result ≡ status_of_fault fault.now }
 {
     match fault {
         NetFault::Memory => 4,

@@ -7,7 +7,7 @@ use Rattle.kpn_model.specs.declared.history.End.TheVariants.{Terminated, Deadloc
 use Rattle.kpn_model.specs.Network.{Network, Family, resized}
 use Rattle.kpn_model.specs.Semantics.{State, start, Run, IsOver}
 use Rattle.kpn_laws.specs.Sufficient.{EndsWithin, LastsWithin, Suffices}
-use Rattle.kpn_laws.specs.Completion.{CanGoOn, HasEnded, IsAbove, FewEntries, Completes, HasEnd, NeverEnds}
+use Rattle.kpn_laws.specs.Completion.{CanGoOn, IsAtOwnEnd, IsAbove, FewEntries, Completes, HasEnd, NeverEnds}
 use Rattle.kpn_laws.proofs.Runs.{run_push}
 use Rattle.kpn_laws.proofs.Kept.{fresh_start}
 use Rattle.kpn_laws.proofs.Causes.{over_quiet, none_blocked}
@@ -18,7 +18,7 @@ use Rattle.kpn_laws.proofs.GoingOn.{goes_on}
 
 module _ (kinds : Family) (net : Network) where
   -- a state that is over, and not for the ceiling, has ended
-  natural_end : (M : State) (a : End) → IsOver kinds net M a → (IsOver kinds net M Ceiling → ⊥) → HasEnded kinds net M
+  natural_end : (M : State) (a : End) → IsOver kinds net M a → (IsOver kinds net M Ceiling → ⊥) → IsAtOwnEnd kinds net M
   natural_end M Terminated o h = (Terminated, tt, o)
   natural_end M Deadlock o h = (Deadlock, tt, o)
   natural_end M Ceiling o h = absurd (h o)
@@ -26,7 +26,7 @@ module _ (kinds : Family) (net : Network) where
   natural_end M Memory o h = absurd o
 
   -- where b places suffice and are within the ceiling, a run can go on or has ended
-  goes_or_ended : (b : ℕ) → Suffices kinds net b → b ≤ net.ceiling → (E : List Entry) (M : State) → IsRun kinds net E M → CanGoOn kinds net M ⊎ HasEnded kinds net M
+  goes_or_ended : (b : ℕ) → Suffices kinds net b → b ≤ net.ceiling → (E : List Entry) (M : State) → IsRun kinds net E M → CanGoOn kinds net M ⊎ IsAtOwnEnd kinds net M
   goes_or_ended b s enough E M run =
       ⊎_elim inl
       (λ rest. inr (⊎_elim
@@ -36,7 +36,7 @@ module _ (kinds : Family) (net : Network) where
       (goes_on kinds net M)
 
   -- a run that has ended dominates each other, so none has more deeds
-  no_more_deeds : (n : ℕ) (b : ℕ) (E : List Entry) (M : State) → IsRun kinds net E M → HasEnded kinds net M → LastsWithin kinds net b n → n ≤ length E
+  no_more_deeds : (n : ℕ) (b : ℕ) (E : List Entry) (M : State) → IsRun kinds net E M → IsAtOwnEnd kinds net M → LastsWithin kinds net b n → n ≤ length E
   no_more_deeds n b E M run ended l =
       let S = start kinds net in
       let S' = start kinds (resized net l.sizes) in
@@ -70,7 +70,7 @@ never_ends kinds net b more enough E M run =
 module _ (kinds : Family) (net : Network) (b : ℕ) (s : EndsWithin kinds net b) (enough : b ≤ net.ceiling) (some : 0 < net.step) where
   -- a run from here to an end
   abbrev EndFrom : State → Type 0
-  EndFrom M = (F : List Entry) × ((N : State) × Run kinds net M F N × HasEnded kinds net N)
+  EndFrom M = (F : List Entry) × ((N : State) × Run kinds net M F N × IsAtOwnEnd kinds net N)
 
   -- one more entry leads to where such a run begins
   end_after : (M : State) (x : CanGoOn kinds net M) → EndFrom x.1.0 → EndFrom M
@@ -84,7 +84,7 @@ module _ (kinds : Family) (net : Network) (b : ℕ) (s : EndsWithin kinds net b)
       (λ (x : CanGoOn kinds net M).
       let l = length-append E (x.0 ∷ []) in
       end_after M x (end_within n (E ++ x.0 ∷ []) x.1.0 (run_push kinds net (start kinds net) M x.1.0 E x.0 run x.1.1) (omega arith)))
-      (λ (x : HasEnded kinds net M). ([], (M, refl, x)))
+      (λ (x : IsAtOwnEnd kinds net M). ([], (M, refl, x)))
       (completes kinds net b s enough E M run)
 
 -- so each run goes on to its end

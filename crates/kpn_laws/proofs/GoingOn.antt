@@ -9,7 +9,7 @@ use Rattle.kpn_model.specs.declared.history.End.{End}
 use Rattle.kpn_model.specs.declared.history.End.TheVariants.{Terminated, Deadlock, Ceiling}
 use Rattle.kpn_model.specs.Network.{Network, Family}
 use Rattle.kpn_model.specs.Semantics.{State, tokens, capacity, wants, with_channel, after_deed, IsBlocked, IsQuiet, IsArtificial, IsChosen, IsOver}
-use Rattle.kpn_laws.specs.Completion.{CanGoOn, IsAbove, GoesOn}
+use Rattle.kpn_laws.specs.Completion.{CanGoOn, IsAbove, CanAlwaysGoOn}
 use Rattle.kpn_laws.proofs.Steps.{live_within}
 use Rattle.kpn_laws.proofs.Schedule.{answer_deed, deed_of, full_of, all_done}
 use Rattle.kpn_laws.proofs.Replay.{deed_sound, still_answer, full_sound, full_complete, done_all, live_some}
@@ -174,5 +174,5 @@ module _ (kinds : Family) (net : Network) (M : State) where
       (find_deed (length M.processes))
 
 -- so it is in every state of every network
-pub goes_on : (kinds : Family) → GoesOn kinds
+pub goes_on : (kinds : Family) → CanAlwaysGoOn kinds
 goes_on kinds net M = goes_on_here kinds net M

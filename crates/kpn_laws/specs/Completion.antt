@@ -12,8 +12,8 @@ abbrev pub CanGoOn : Family → Network → State → Type 0
 CanGoOn kinds net M = (e : Entry) × ((N : State) × Step kinds net M e N)
 
 -- a state that is over because the run terminated or ended in a deadlock
-abbrev pub HasEnded : Family → Network → State → Type 0
-HasEnded kinds net M = (a : End) × IsNatural a × IsOver kinds net M a
+abbrev pub IsAtOwnEnd : Family → Network → State → Type 0
+IsAtOwnEnd kinds net M = (a : End) × IsNatural a × IsOver kinds net M a
 
 -- an artificial deadlock whose chosen channel is above the ceiling
 pub record IsAbove (kinds : Family) (net : Network) (M : State) : Type 0 where
@@ -23,8 +23,8 @@ pub record IsAbove (kinds : Family) (net : Network) (M : State) : Type 0 where
   pub above : net.ceiling < capacity M channel
 
 -- in every state some entry can follow, or it is over, or its chosen channel is above the ceiling
-abbrev pub GoesOn : Family → Type 0
-GoesOn kinds = (net : Network) (M : State) → CanGoOn kinds net M ⊎ (((a : End) × IsOver kinds net M a) ⊎ IsAbove kinds net M)
+abbrev pub CanAlwaysGoOn : Family → Type 0
+CanAlwaysGoOn kinds = (net : Network) (M : State) → CanGoOn kinds net M ⊎ (((a : End) × IsOver kinds net M a) ⊎ IsAbove kinds net M)
 
 module _ (kinds : Family) where
   -- where b places suffice for a run to its end, and the step is not 0, each run has at most the entries
@@ -38,13 +38,13 @@ module _ (kinds : Family) where
   abbrev pub Completes : Type 0
   Completes =
       (net : Network) (b : ℕ) → EndsWithin kinds net b → b ≤ net.ceiling → (E : List Entry) (M : State) → IsRun kinds net E M
-      → CanGoOn kinds net M ⊎ HasEnded kinds net M
+      → CanGoOn kinds net M ⊎ IsAtOwnEnd kinds net M
 
   -- so each run goes on to such an end
   abbrev pub HasEnd : Type 0
   HasEnd =
       (net : Network) (b : ℕ) → EndsWithin kinds net b → b ≤ net.ceiling → 0 < net.step → (E : List Entry) (M : State) → IsRun kinds net E M
-      → (F : List Entry) × ((N : State) × Run kinds net M F N × HasEnded kinds net N)
+      → (F : List Entry) × ((N : State) × Run kinds net M F N × IsAtOwnEnd kinds net N)
 
   -- and where b places suffice for any number of deeds, and b is within the ceiling, no run comes to an end
   abbrev pub NeverEnds : Type 0

@@ -14,8 +14,8 @@ use Rattle.kpn_laws.specs.Building.{count, sink, copy, scale, weave, words, hold
 abbrev pub process_named : List ℕ → Process → Process
 process_named name p = record p { name = name }
 
-abbrev pub channel_named : List ℕ → Channel → Channel
-channel_named name c = record c { name = name }
+abbrev pub with_name : List ℕ → Channel → Channel
+with_name name c = record c { name = name }
 
 -- Parks's case with a counter of five: where both the counter and the copy are blocked, one more place
 -- for the copy is enough, and more room for the counter is of no help
@@ -23,7 +23,7 @@ abbrev pub longer_parks_case : Network
 longer_parks_case =
     network
     (process_named (codes "src") (count 1 5) ∷ process_named (codes "cp") copy ∷ process_named (codes "wv") (weave 3 3) ∷ process_named (codes "snk") (sink 8) ∷ [])
-    (channel_named (codes "c0") (words (0, 0) (1, 0) 1) ∷ channel_named (codes "c1") (words (1, 0) (2, 0) 1) ∷ channel_named (codes "c2") (words (1, 1) (2, 1) 1) ∷ channel_named (codes "c3") (words (2, 0) (3, 0) 1) ∷ [])
+    (with_name (codes "c0") (words (0, 0) (1, 0) 1) ∷ with_name (codes "c1") (words (1, 0) (2, 0) 1) ∷ with_name (codes "c2") (words (1, 1) (2, 1) 1) ∷ with_name (codes "c3") (words (2, 0) (3, 0) 1) ∷ [])
 
 -- two places suffice for it, in a run of 46 entries
 abbrev pub TwoPlacesSuffice : Type 0

@@ -1,6 +1,6 @@
 //! What can come to its end in bounded room comes to its end.
 ghost use Rattle.kpn_model.specs.Network.{Family};
-ghost use Rattle.kpn_laws.specs.Completion.{GoesOn, FewEntries, Completes, HasEnd, NeverEnds};
+ghost use Rattle.kpn_laws.specs.Completion.{CanAlwaysGoOn, FewEntries, Completes, HasEnd, NeverEnds};
 
 use kpn_model::Kinds;
 
@@ -14,7 +14,7 @@ use kpn_model::Kinds;
 /// end. `never_ends`: where b places suffice for any number of deeds, and b is within the ceiling, each
 /// run can go on.
 pub fn completion()
-    ensures goes_on { (kinds : Family) → GoesOn kinds }
+    ensures goes_on { (kinds : Family) → CanAlwaysGoOn kinds }
     ensures few_entries { (kinds : Family) → FewEntries kinds }
     ensures completes { (kinds : Family) → Completes kinds }
     ensures has_end { (kinds : Family) → HasEnd kinds }
@@ -23,7 +23,7 @@ pub fn completion()
 
 /// The laws of completion for a family that is given as a type.
 pub fn completion_of<K: Kinds>()
-    ensures goes_on { GoesOn K.family }
+    ensures goes_on { CanAlwaysGoOn K.family }
     ensures few_entries { FewEntries K.family }
     ensures completes { Completes K.family }
     ensures has_end { HasEnd K.family }

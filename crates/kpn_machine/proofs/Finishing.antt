@@ -13,7 +13,7 @@ use Rattle.kpn_commit.specs.declared.outcome.Outcome.{Outcome}
 use Rattle.kpn_commit.specs.declared.outcome.Outcome.TheVariants.{Done, Parked as Parks, LaidBack}
 use Rattle.kpn_state.specs.Standings.{standing, is_busy, is_out}
 use Rattle.kpn_machine.specs.MachineView.{MachineView, TakesOut}
-use Rattle.kpn_machine.specs.Commits.{Commits, Appends, GoesOn, number}
+use Rattle.kpn_machine.specs.Commits.{Commits, Appends, ContinuesRun, number}
 use Rattle.kpn_state.proofs.Placed.{place_set_other}
 use Rattle.kpn_machine.proofs.Entries.{run_both}
 
@@ -88,7 +88,7 @@ module _ (kinds : Family) where
     round_commits = commits_more mid i o t commits ∙ ap (λ n. n + 1) (ap (λ (x : MachineView). x.commits) taken.after)
 
     -- one process taken and committed goes on with the run
-    pub round_goes : (first : MachineView) → GoesOn kinds first s → Appends kinds mid t (number o) → GoesOn kinds first t
+    pub round_goes : (first : MachineView) → ContinuesRun kinds first s → Appends kinds mid t (number o) → ContinuesRun kinds first t
     round_goes first goes appends =
         let same : mid.network ≡ first.network = ap (λ (x : MachineView). x.network) taken.after ∙ goes.network in
         let state : mid.state ≡ s.state = ap (λ (x : MachineView). x.state) taken.after in

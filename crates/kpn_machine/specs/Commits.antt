@@ -29,7 +29,7 @@ pub record Appends (kinds : Family) (s t : MachineView) (n : ℕ) : Type 0 where
   pub count : length entries ≡ n
 
 -- the history goes on as a run, in the same network, and no fewer answers were taken
-pub record GoesOn (kinds : Family) (s t : MachineView) : Type 0 where
+pub record ContinuesRun (kinds : Family) (s t : MachineView) : Type 0 where
   pub network : t.network ≡ s.network
   pub commits : s.commits ≤ t.commits
   pub entries : List Entry

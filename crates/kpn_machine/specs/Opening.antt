@@ -23,10 +23,10 @@ abbrev pub cards_of : List Process → List Card
 cards_of ps = map (λ p. p.card) ps
 
 -- what is wrong with the bodies of these cards; of want of memory, nothing
-abbrev pub IsRefused : List Process → List Card → OpenFault → Type 0
-IsRefused ps cards Bodies = length cards ≢ length ps
-IsRefused ps cards WrongCard = (length cards ≡ length ps) × (cards ≢ cards_of ps)
-IsRefused ps cards Memory = cards ≡ cards_of ps
+abbrev pub IsOpenFault : List Process → List Card → OpenFault → Type 0
+IsOpenFault ps cards Bodies = length cards ≢ length ps
+IsOpenFault ps cards WrongCard = (length cards ≡ length ps) × (cards ≢ cards_of ps)
+IsOpenFault ps cards Memory = cards ≡ cards_of ps
 
 -- each place has the body of its number
 abbrev pub AreSeated : List Card → List (Option Card) → Type 0

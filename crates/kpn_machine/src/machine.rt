@@ -2,13 +2,13 @@
 ghost use Rattle.std.specs.Prelude.{count_by, ◌≡◌, ◌≢◌, ℕ, ◌<◌, ◌+◌, ◌↔◌, [], replicate, length, get_or, set, map, option_map, Some, None, IfSome, IfNone, IfErr, IfOk, OnOk, IsTrue, IsSome};
 ghost use Rattle.kpn_model.specs.Network.{card_of};
 ghost use Rattle.kpn_model.specs.Semantics.{status, start};
-ghost use Rattle.kpn_machine.specs.Opening.{cards_of, IsRefused};
+ghost use Rattle.kpn_machine.specs.Opening.{cards_of, IsOpenFault};
 ghost use Rattle.kpn_model.specs.declared.history.Status.TheVariants.{Done, Live};
 ghost use Rattle.kpn_model.specs.Valid.{IsWellTyped};
 ghost use Rattle.kpn_state.specs.declared.standing.Standing.TheVariants.{Out, Ready as ReadyV};
 ghost use Rattle.kpn_state.specs.Standings.{standing, is_out, is_ready, StandingsFit};
 ghost use Rattle.kpn_machine.specs.MachineView.{machine_view, IsOut, IsOutAt, TakesOut, IsFaithful, IsFresh};
-ghost use Rattle.kpn_machine.specs.Commits.{Commits, Appends, EndsAs, GoesOn, TellsEnabled, number};
+ghost use Rattle.kpn_machine.specs.Commits.{Commits, Appends, EndsAs, ContinuesRun, TellsEnabled, number};
 ghost use Rattle.kpn_laws.specs.RoomOfRun.{TakesLeastRoom};
 
 use crate::chronicle::Chronicle;
@@ -78,7 +78,7 @@ impl<B: Body> Machine<B> {
         ensures cards { OnOk result (map B.card bodies.items ≡ cards_of net.processes) }
         ensures net_back { IfErr result (λ refused. refused.net ≡ net) }
         ensures bodies_back { IfErr result (λ refused. refused.bodies.items ≡ bodies.items) }
-        ensures fault { IfErr result (λ refused. IsRefused net.processes (map B.card bodies.items) refused.fault) }
+        ensures fault { IfErr result (λ refused. IsOpenFault net.processes (map B.card bodies.items) refused.fault) }
     {
         if let Some(fault) = misfit(&net, bodies.as_slice()) {
             return Err(OpenRefused { net, bodies, fault });
@@ -362,7 +362,7 @@ impl<B: Body> Machine<B> {
     /// suffices for the network, the run takes no more (Parks 1995).
     pub fn finish_alone(&mut self)
         requires { count_by is_out self.old.standings ≡ 0 }
-        ensures goes { GoesOn B.Kinds.family self.old self.new }
+        ensures goes { ContinuesRun B.Kinds.family self.old self.new }
         ensures end { IsSome self.new.end }
         ensures faithful { IsFaithful B.Kinds.family B.Kinds.admits self.new }
         ensures room { TakesLeastRoom B.Kinds.family self.new.network self.new.history self.new.state }

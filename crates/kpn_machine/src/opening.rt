@@ -5,8 +5,8 @@ ghost use Rattle.kpn_model.specs.Network.{card_of};
 ghost use Rattle.kpn_model.specs.Semantics.{start};
 ghost use Rattle.kpn_state.specs.declared.standing.Standing.TheVariants.{Ready};
 ghost use Rattle.kpn_state.specs.StateAndHistory.{state_and_history};
-ghost use Rattle.kpn_machine.specs.OpenFaults.{number_of};
-ghost use Rattle.kpn_machine.specs.Opening.{starting, filled, cards_of, IsRefused, AreSeated};
+ghost use Rattle.kpn_machine.specs.OpenFaults.{number_of_open_fault};
+ghost use Rattle.kpn_machine.specs.Opening.{starting, filled, cards_of, IsOpenFault, AreSeated};
 
 use crate::same::same_card;
 use kpn_body::Body;
@@ -26,7 +26,7 @@ pub enum OpenFault {
 impl OpenFault {
     /// The number of a fault, by which programs tell it: 1 to 3, in the order above.
     pub fn number(&self) -> u8
-        ensures { result ≡ number_of self.now }
+        ensures { result ≡ number_of_open_fault self.now }
     {
         match self {
             OpenFault::Bodies => 1,
@@ -52,7 +52,7 @@ pub fn cards_of<K: Kinds>(alloc: Global, net: &Net<K>) -> Result<Vec<Card>, Allo
 
 /// What is wrong with the bodies, if anything is.
 pub(crate) fn misfit<B: Body>(net: &Net<B::Kinds>, bodies: &[B]) -> Option<OpenFault>
-    ensures some { IfSome result (IsRefused net.now.processes (map B.card bodies.now)) }
+    ensures some { IfSome result (IsOpenFault net.now.processes (map B.card bodies.now)) }
     ensures none { IfNone result (map B.card bodies.now ≡ cards_of net.now.processes) }
 {
     if bodies.len() != net.processes() {

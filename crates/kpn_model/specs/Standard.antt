@@ -99,8 +99,8 @@ select args l t =
     if at l 0 == 1 then (if flag t then says 2 0 0 (Read 1) else says 2 0 0 (Read 0)) else
     says 0 0 0 (Write 0 t)
 
-abbrev pub by_number : ℕ → List ℕ → List ℕ → Token → Answer
-by_number kind args l t =
+abbrev pub answer_by_number : ℕ → List ℕ → List ℕ → Token → Answer
+answer_by_number kind args l t =
     if kind == 0 then count args l t else
     if kind == 1 then sink args l t else
     if kind == 2 then take args l t else
@@ -115,4 +115,4 @@ by_number kind args l t =
     select args l t
 
 abbrev pub standard : Family
-standard = record { start = λ card. 0 ∷ 0 ∷ 0 ∷ 0 ∷ []; answer = λ card local last. by_number card.kind card.args local (got last) }
+standard = record { start = λ card. 0 ∷ 0 ∷ 0 ∷ 0 ∷ []; answer = λ card local last. answer_by_number card.kind card.args local (got last) }

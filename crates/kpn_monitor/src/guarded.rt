@@ -67,10 +67,10 @@ pub(crate) struct Guarded<B: Body, E: EntryLedger, O: Ledger> {
 
 impl<B: Body, E: EntryLedger, O: Ledger> Model for Guarded<B, E, O> {
     ghost use Rattle.std.specs.Prelude.{◌≡◌};
-    ghost use Rattle.kpn_monitor.specs.Names.{Held};
+    ghost use Rattle.kpn_monitor.specs.Names.{UnderLock};
     ghost use Rattle.kpn_monitor.specs.Kept.{IsKept, IsShown};
 
-    ghost Value = { Held };
+    ghost Value = { UnderLock };
 
     ghost view = { λ i. record { machine = i.machine; overs = i.over_count; watchers = i.publisher.watchers } };
 

@@ -26,14 +26,14 @@ known_table known d = as_table d >>= (λ table. if has_only known table then Som
 abbrev pub sort_named : List ℕ → Option Sort
 sort_named text = if bytes_eq text (codes "words") then Some Words else if bytes_eq text (codes "flags") then Some Flags else None
 
-abbrev pub sort_of : Data → Option Sort
-sort_of d = as_str d >>= sort_named
+abbrev pub described_sort : Data → Option Sort
+described_sort d = as_str d >>= sort_named
 
 abbrev pub process_keys : List (List ℕ)
 process_keys = codes "name" ∷ codes "kind" ∷ codes "args" ∷ []
 
-abbrev pub process_of : Data → Option ProcessSketch
-process_of d =
+abbrev pub described_process : Data → Option ProcessSketch
+described_process d =
     known_table process_keys d >>= (λ table.
     required as_str (codes "name") table >>= (λ name.
     required as_str (codes "kind") table >>= (λ kind.
@@ -58,13 +58,13 @@ channel_from table =
     required as_str (codes "to") table >>= (λ to.
     optional as_integer (pos 0) (codes "out") table >>= (λ out.
     optional as_integer (pos 0) (codes "in") table >>= (λ input.
-    optional sort_of Words (codes "sort") table >>= (λ sort.
+    optional described_sort Words (codes "sort") table >>= (λ sort.
     optional as_integer (pos 1) (codes "capacity") table >>= (λ capacity.
     optional (array_of token_of) [] (codes "tokens") table >>= (λ tokens.
     Some (record { name = name; from = from; to = to; out = out; input = input; sort = sort; capacity = capacity; tokens = tokens })))))))))
 
-abbrev pub channel_of : ℤ → Data → Option ChannelSketch
-channel_of version d = known_table (channel_keys version) d >>= channel_from
+abbrev pub described_channel : ℤ → Data → Option ChannelSketch
+described_channel version d = known_table (channel_keys version) d >>= channel_from
 
 -- growths have a step from version 2 on
 abbrev pub top_keys : ℤ → List (List ℕ)
@@ -76,8 +76,8 @@ sketch_of table =
     if has_only (top_keys version) table then
     optional as_integer (pos 10000) (codes "budget") table >>= (λ budget.
     optional as_integer (pos 1) (codes "step") table >>= (λ step.
-    required (array_of process_of) (codes "process") table >>= (λ processes.
-    optional (array_of (channel_of version)) [] (codes "channel") table >>= (λ channels.
+    required (array_of described_process) (codes "process") table >>= (λ processes.
+    optional (array_of (described_channel version)) [] (codes "channel") table >>= (λ channels.
     Some (record { version = version; budget = budget; step = step; processes = processes; channels = channels })))))
     else None)
 

@@ -87,11 +87,11 @@ module _ (named : List ℕ → Option (ℕ × ℕ)) (signature : Card → Option
     signature_named name = option_and_then signature_of (find (λ p. bytes_eq p.name name) sketch.processes)
 
     -- the sorts of the two ports of a channel, where they are there
-    abbrev pub out_sort : ChannelSketch → Option Sort
-    out_sort c = option_and_then (λ s. port_sort s.outs c.out) (signature_named c.from)
+    abbrev pub sketched_out_sort : ChannelSketch → Option Sort
+    sketched_out_sort c = option_and_then (λ s. port_sort s.outs c.out) (signature_named c.from)
 
-    abbrev pub in_sort : ChannelSketch → Option Sort
-    in_sort c = option_and_then (λ s. port_sort s.ins c.input) (signature_named c.to)
+    abbrev pub sketched_in_sort : ChannelSketch → Option Sort
+    sketched_in_sort c = option_and_then (λ s. port_sort s.ins c.input) (signature_named c.to)
 
     -- the port is there, and no channel leads from it, or to it
     abbrev pub is_unused_out : List ℕ → Signature → ℤ → Bool
@@ -116,10 +116,10 @@ module _ (named : List ℕ → Option (ℕ × ℕ)) (signature : Card → Option
         || (any_pair same_process sketch.processes || any_pair same_channel sketch.channels)
     has_fault Kind = list_any has_unknown_kind sketch.processes
     has_fault Args = list_any has_wrong_args sketch.processes
-    has_fault NoEnd = list_any (λ c. is_none (out_sort c) || is_none (in_sort c)) sketch.channels
+    has_fault NoEnd = list_any (λ c. is_none (sketched_out_sort c) || is_none (sketched_in_sort c)) sketch.channels
     has_fault Twice = any_pair same_out sketch.channels || any_pair same_in sketch.channels
     has_fault Unused = list_any has_unused_port sketch.processes
-    has_fault Sorts = list_any (λ c. not (is_sort c.sort (out_sort c)) || not (is_sort c.sort (in_sort c))) sketch.channels
+    has_fault Sorts = list_any (λ c. not (is_sort c.sort (sketched_out_sort c)) || not (is_sort c.sort (sketched_in_sort c))) sketch.channels
     has_fault Capacity = list_any (λ c. is_outside (pos 1) (pos (ceiling_in sketch.version)) c.capacity) sketch.channels
     has_fault Budget = is_outside (pos 1) (pos (greatest_budget_in sketch.version)) sketch.budget
     has_fault Tokens = list_any has_wrong_tokens sketch.channels

@@ -5,7 +5,7 @@ ghost use Rattle.std.specs.Ordering.{int_eq};
 ghost use Rattle.std.specs.Str.{bytes_eq};
 ghost use Rattle.kpn_model.specs.Lawful.{CardFits};
 ghost use Rattle.kpn_model.specs.Name.{is_letter, is_name_byte, is_name};
-ghost use Rattle.kpn_net.specs.Faults.{any_pair, is_outside, same_process, same_channel, same_out, same_in, port_sort, is_sort, is_token, has_wrong_tokens, card_with, signature_of, has_unknown_kind, takes_other_count, has_wrong_args, signature_named, out_sort, in_sort, is_unused_out, is_unused_in, is_unused, has_unused_port, has_fault, first_fault};
+ghost use Rattle.kpn_net.specs.Faults.{any_pair, is_outside, same_process, same_channel, same_out, same_in, port_sort, is_sort, is_token, has_wrong_tokens, card_with, signature_of, has_unknown_kind, takes_other_count, has_wrong_args, signature_named, sketched_out_sort, sketched_in_sort, is_unused_out, is_unused_in, is_unused, has_unused_port, has_fault, first_fault};
 
 use crate::fault::NetFault;
 use kpn_model::{Card, Kinds, Signature};
@@ -203,14 +203,14 @@ fn process_named<'a>(processes: &'a [ProcessSketch], name: &str) -> Option<&'a P
 }
 
 fn out_sort<K: Kinds>(sketch: &Sketch, channel: &ChannelSketch) -> Option<Sort>
-    ensures { result ≡ out_sort K.named K.signature_of sketch.now channel.now }
+    ensures { result ≡ sketched_out_sort K.named K.signature_of sketch.now channel.now }
 {
     let signature = signature_named::<K>(sketch, channel.from.as_str())?;
     port_sort(&signature.outs, channel.out)
 }
 
 fn in_sort<K: Kinds>(sketch: &Sketch, channel: &ChannelSketch) -> Option<Sort>
-    ensures { result ≡ in_sort K.named K.signature_of sketch.now channel.now }
+    ensures { result ≡ sketched_in_sort K.named K.signature_of sketch.now channel.now }
 {
     let signature = signature_named::<K>(sketch, channel.to.as_str())?;
     port_sort(&signature.ins, channel.input)
@@ -346,7 +346,7 @@ fn has_unused_ports<K: Kinds>(sketch: &Sketch) -> bool
 }
 
 fn has_wrong_sort<K: Kinds>(sketch: &Sketch, channel: &ChannelSketch) -> bool
-    ensures { result ≡ (not (is_sort channel.now.sort (out_sort K.named K.signature_of sketch.now channel.now)) || not (is_sort channel.now.sort (in_sort K.named K.signature_of sketch.now channel.now))) }
+    ensures { result ≡ (not (is_sort channel.now.sort (sketched_out_sort K.named K.signature_of sketch.now channel.now)) || not (is_sort channel.now.sort (sketched_in_sort K.named K.signature_of sketch.now channel.now))) }
 {
     !is_sort(channel.sort, out_sort::<K>(sketch, channel))
         || !is_sort(channel.sort, in_sort::<K>(sketch, channel))

@@ -25,8 +25,8 @@ pub record IsFinish (kinds : Family) (net : Network) (f : FinishedRun) : Type 0 
   pub receipts : length f.machine.history ≡ f.receipts
 
 -- after each front of the history no channel holds more tokens than its capacity
-abbrev pub StaysWithin : Family → Network → List Entry → Type 0
-StaysWithin kinds net history = (E F : List Entry) → E ++ F ≡ history → (M : State) × IsRun kinds net E M × IsWithin M
+abbrev pub StaysWithinCapacities : Family → Network → List Entry → Type 0
+StaysWithinCapacities kinds net history = (E F : List Entry) → E ++ F ≡ history → (M : State) × IsRun kinds net E M × IsWithin M
 
 -- where some run that is over has fewer entries than the budget, the end is not the budget's
 abbrev pub SparesBudget : Family → Network → End → Type 0

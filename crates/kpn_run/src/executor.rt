@@ -2,10 +2,10 @@
 ghost use Rattle.std.specs.Prelude.{◌≡◌, ◌≢◌, ◌<◌, ◌≤◌, ◌⊎◌, ℕ, [], map, vec_capacity, Err, IfOk, OnOk};
 ghost use Rattle.kpn_model.specs.Network.{Network as NetV};
 ghost use Rattle.kpn_machine.specs.declared.opening.OpenFault.{OpenFault as OpenFaultV};
-ghost use Rattle.kpn_machine.specs.Opening.{cards_of, IsRefused};
+ghost use Rattle.kpn_machine.specs.Opening.{cards_of, IsOpenFault};
 ghost use Rattle.kpn_machine.specs.MachineView.{IsFresh};
 ghost use Rattle.kpn_laws.specs.RoomOfRun.{TakesLeastRoom};
-ghost use Rattle.kpn_run.specs.Runs.{IsFinish, IsInLine, SparesBudget, StaysWithin};
+ghost use Rattle.kpn_run.specs.Runs.{IsFinish, IsInLine, SparesBudget, StaysWithinCapacities};
 ghost use Rattle.kpn_body.specs.Input.{Input};
 
 use crate::finish::Finish;
@@ -70,14 +70,14 @@ pub fn run<B: Body, R: Wait + Clock + Threads + Sync, G: Gate>(
     gate: &G,
 ) -> Result<Finish<B::Kinds>, RunFault<B>>
     ensures finish { IfOk result (IsFinish B.Kinds.family net) }
-    ensures within { IfOk result (λ f. StaysWithin B.Kinds.family net f.machine.history) }
+    ensures within { IfOk result (λ f. StaysWithinCapacities B.Kinds.family net f.machine.history) }
     ensures budget { IfOk result (λ f. SparesBudget B.Kinds.family net f.cause) }
     ensures in_line { IfOk result (λ f. IsInLine B.Kinds.family net f.machine.history) }
     ensures room { IfOk result (λ f. TakesLeastRoom B.Kinds.family net f.machine.history f.machine.state) }
     ensures cards { OnOk result (map B.card bodies.items ≡ cards_of net.processes) }
     ensures workers { (n : NetV) (bs : _) → result ≡ Err (RunFault.Workers n bs) → (n ≡ net) × (bs ≡ bodies) × ((workers ≡ 0) ⊎ (16 < workers)) }
     ensures many { (workers ≡ 0) ⊎ (16 < workers) → result ≡ Err (RunFault.Workers net bodies) }
-    ensures open { (n : NetV) (bs : _) (fault : OpenFaultV) → result ≡ Err (RunFault.Open n bs fault) → (n ≡ net) × (bs.items ≡ bodies.items) × (fault ≢ OpenFault.Memory) × IsRefused net.processes (map B.card bodies.items) fault }
+    ensures open { (n : NetV) (bs : _) (fault : OpenFaultV) → result ≡ Err (RunFault.Open n bs fault) → (n ≡ net) × (bs.items ≡ bodies.items) × (fault ≢ OpenFault.Memory) × IsOpenFault net.processes (map B.card bodies.items) fault }
     ensures lost { (a : Input) (b : _) → result ≡ Err (RunFault.Lost a b) → (map B.card bodies.items ≡ cards_of net.processes) × (B.card b ≡ a.card) }
     ensures memory { (n : NetV) (bs : _) → result ≡ Err (RunFault.Memory n bs) → (n ≡ net) × (map B.card bs.items ≡ map B.card bodies.items) × (map B.card bodies.items ≡ cards_of net.processes) }
 {
@@ -110,7 +110,7 @@ fn run_machine<B: Body, R: Wait + Clock + Threads + Sync, G: Gate>(
     requires fresh { IsFresh machine }
     requires workers { (0 < workers) × (workers ≤ 16) }
     ensures finish { IfOk result (IsFinish B.Kinds.family machine.network) }
-    ensures within { IfOk result (λ f. StaysWithin B.Kinds.family machine.network f.machine.history) }
+    ensures within { IfOk result (λ f. StaysWithinCapacities B.Kinds.family machine.network f.machine.history) }
     ensures budget { IfOk result (λ f. SparesBudget B.Kinds.family machine.network f.cause) }
     ensures in_line { IfOk result (λ f. IsInLine B.Kinds.family machine.network f.machine.history) }
     ensures room { IfOk result (λ f. TakesLeastRoom B.Kinds.family machine.network f.machine.history f.machine.state) }
@@ -133,7 +133,7 @@ fn run_machine<B: Body, R: Wait + Clock + Threads + Sync, G: Gate>(
 
 /// What the laws say of a run that is over.
 fn told_by_laws<K: Kinds>(finish: &Finish<K>)
-    ensures within { StaysWithin K.family finish.now.machine.network finish.now.machine.history }
+    ensures within { StaysWithinCapacities K.family finish.now.machine.network finish.now.machine.history }
     ensures budget { SparesBudget K.family finish.now.machine.network finish.now.cause }
     ensures in_line { IsInLine K.family finish.now.machine.network finish.now.machine.history }
     ensures room { TakesLeastRoom K.family finish.now.machine.network finish.now.machine.history finish.now.machine.state }

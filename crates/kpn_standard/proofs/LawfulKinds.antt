@@ -4,7 +4,7 @@ use Rattle.std.proofs.lemmas.Bool.{and_parts}
 use Rattle.kpn_model.specs.declared.token.Token.{Token}
 use Rattle.kpn_model.specs.declared.kinds.Card.{Card}
 use Rattle.kpn_model.specs.Lawful.{CardFits, AreLawful}
-use Rattle.kpn_model.specs.Standard.{at, got, by_number, standard}
+use Rattle.kpn_model.specs.Standard.{at, got, answer_by_number, standard}
 use Rattle.kpn_standard.specs.Signatures.{card, signature}
 use Rattle.kpn_standard.specs.Locals.{IsLocal, LastFits, one}
 use Rattle.kpn_standard.specs.Ends.{Count, Sink, count_writes, count_stops, sink_reads_first, sink_reads_none}
@@ -43,7 +43,7 @@ no_signature kind args h signed = grind arith
 -- the answers of a kind are lawful, wherever a line of it stands
 abbrev AnswerWell : List ℕ → ℕ → Type 0
 AnswerWell args kind =
-    IsSome (signature (card kind args)) → (local : List ℕ) (last : Option Token) → IsLocal local → LastFits last → HasLine kind args local last → IsLawful (card kind args) (by_number kind args local (got last))
+    IsSome (signature (card kind args)) → (local : List ℕ) (last : Option Token) → IsLocal local → LastFits last → HasLine kind args local last → IsLawful (card kind args) (answer_by_number kind args local (got last))
 
 -- an admitted answer is lawful
 answers_lawful : (c : Card) (local : List ℕ) (last : Option Token) → AreArguments c.args → IsSome (signature c) → Admitted c local last → IsLawful c (standard.answer c local last)

@@ -44,8 +44,8 @@ abbrev pub none_used : List ℕ → Bool
 none_used args = (at args 0 == 0) && one_used args
 
 -- the ports of each kind, by its number, and the arguments that it takes
-abbrev pub by_number : ℕ → List ℕ → Option Signature
-by_number kind args =
+abbrev pub signature_by_number : ℕ → List ℕ → Option Signature
+signature_by_number kind args =
     if kind == 0 then given (two_used args && nat_lt (at args 0 + at args 1) (2 ^ 64)) no_port one_word else
     if kind == 1 then given (one_used args) one_word no_port else
     if kind == 2 then given (one_used args) one_word one_word else
@@ -61,4 +61,4 @@ by_number kind args =
     None
 
 abbrev pub signature : Card → Option Signature
-signature card = by_number card.kind card.args
+signature card = signature_by_number card.kind card.args

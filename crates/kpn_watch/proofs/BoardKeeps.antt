@@ -8,11 +8,11 @@ use Rattle.atomic_table.proofs.Lists.{at_set, at_snoc, at_longer, set_again}
 use Rattle.kpn_watch.specs.declared.rule.Seen.{Seen}
 use Rattle.kpn_watch.specs.declared.rule.View.{View}
 use Rattle.kpn_watch.specs.Shown.{word_of}
-use Rattle.kpn_watch.specs.Rule.{nothing, view_of, noted, GoesOn, IsKept, It, Looks, Publishes, Compares}
+use Rattle.kpn_watch.specs.Rule.{nothing, view_of, noted, ContinuesSeen, WordIsTrue, It, Looks, Publishes, Compares}
 use Rattle.kpn_watch.proofs.Fronts.{goes_on_self, goes_on_trans, goes_on_from_nothing}
 
 abbrev Fits : Seen → View → Type 0
-Fits published v = GoesOn v.seen published × GoesOn v.note published
+Fits published v = ContinuesSeen v.seen published × ContinuesSeen v.note published
 
 -- one seat's view becomes w, and the others' still fit
 fits_set : (views : List View) (id : ℕ) (w : View) (published : Seen) → ((by : ℕ) (v : View) → by ≢ id → get_elem? views by ≡ some v → Fits published v) → Fits published w
@@ -30,7 +30,7 @@ first_set [] id w published h same = absurd (some-ne-none h.0 (sym h.1))
 first_set (x ∷ xs) zero w published h same = (w, refl, same)
 first_set (x ∷ xs) (suc id) w published h same = h
 
-pub opens : IsKept (opening (0 ∷ []) [] (view_of nothing))
+pub opens : WordIsTrue (opening (0 ∷ []) [] (view_of nothing))
 opens = record {
   published = nothing;
   first = (view_of nothing, refl, refl);
@@ -44,10 +44,10 @@ opens = record {
     only (suc by) v at = absurd (some-ne-none v (sym at))
 
 -- the word as it is, and the seat's view as w
-same_word : (s : State (Unit {0}) View) → (kept : IsKept s) → set s.words 0 (slice_index s.words 0) ≡ word_of kept.published.entries kept.published.phase ∷ []
+same_word : (s : State (Unit {0}) View) → (kept : WordIsTrue s) → set s.words 0 (slice_index s.words 0) ≡ word_of kept.published.entries kept.published.phase ∷ []
 same_word s kept = ap (λ ws. set ws 0 (slice_index ws 0)) kept.word
 
-pub looks : (slots id : ℕ) (me : It) → Allows IsKept slots id me 0 (λ n. n) (Looks (step slots 0 0 0 none) me)
+pub looks : (slots id : ℕ) (me : It) → Allows WordIsTrue slots id me 0 (λ n. n) (Looks (step slots 0 0 0 none) me)
 looks slots id me s kept _ at _ =
     let published = kept.published in
     let w = noted (view_of published) me.0.note in
@@ -65,7 +65,7 @@ looks slots id me s kept _ at _ =
       (ap (λ ws. slice_index ws 0) kept.word, kept.short, mine.0, refl, refl),
     )
 
-pub compares : (slots : ℕ) (me : It) → Allows IsKept slots 0 me 0 (λ n. n) (Compares (step slots 0 0 0 none) me)
+pub compares : (slots : ℕ) (me : It) → Allows WordIsTrue slots 0 me 0 (λ n. n) (Compares (step slots 0 0 0 none) me)
 compares slots me s kept _ at _ =
     let published = kept.published in
     let w = view_of me.0.seen in
@@ -81,15 +81,15 @@ compares slots me s kept _ at _ =
         short = kept.short;
         seen = fits_set s.views 0 w published (λ by v _ e. kept.seen by v e) (mine.0, goes_on_from_nothing published);
       },
-      (refl, subst (GoesOn me.0.note) (sym here) mine.1),
+      (refl, subst (ContinuesSeen me.0.note) (sym here) mine.1),
     )
 
-pub publishes : (slots : ℕ) (me : It) (news : Seen) (word : ℕ) → word ≡ word_of news.entries news.phase → length news.entries < 2 ^ 22 → GoesOn me.0.seen news
-    → Allows IsKept slots 0 me 0 (λ _. word) (λ _. Publishes news (step slots 0 word 0 none) me word)
+pub publishes : (slots : ℕ) (me : It) (news : Seen) (word : ℕ) → word ≡ word_of news.entries news.phase → length news.entries < 2 ^ 22 → ContinuesSeen me.0.seen news
+    → Allows WordIsTrue slots 0 me 0 (λ _. word) (λ _. Publishes news (step slots 0 word 0 none) me word)
 publishes slots me news word is short goes_on s kept _ at _ =
     let w = noted (view_of news) me.0.note in
     let here : me.0.seen ≡ kept.published = ap (λ (v : View). v.seen) (some-injective _ _ (sym at ∙ kept.first.1)) ∙ kept.first.2 in
-    let on = subst (λ (p : Seen). GoesOn p news) here goes_on in
+    let on = subst (λ (p : Seen). ContinuesSeen p news) here goes_on in
     let still : (v : View) → Fits kept.published v → Fits news v = λ v f. (goes_on_trans v.seen kept.published news f.0 on, goes_on_trans v.note kept.published news f.1 on) in (
       w,
       keeps,
@@ -108,11 +108,11 @@ publishes slots me news word is short goes_on s kept _ at _ =
     first_again [] w old new h = absurd (some-ne-none h.0 (sym h.1))
     first_again (x ∷ xs) w old new h = (w, refl, refl)
 
-pub splits : (id : ℕ) (v : View) → Splits IsKept id v v (view_of v.seen)
+pub splits : (id : ℕ) (v : View) → Splits WordIsTrue id v v (view_of v.seen)
 splits id v s kept at =
     let mine = kept.seen id v at in
     let same : set s.views id v ≡ s.views = set_again s.views id v at in
-    let P : List View → Type 0 = λ views. IsKept (record { words = s.words; homes = s.homes; views = views ++ view_of v.seen ∷ [] }) in
+    let P : List View → Type 0 = λ views. WordIsTrue (record { words = s.words; homes = s.homes; views = views ++ view_of v.seen ∷ [] }) in
     subst
     P
     (sym same)
@@ -124,7 +124,7 @@ splits id v s kept at =
       seen = λ by u e. ⊎_elim (λ was. kept.seen by u was) (λ (new : view_of v.seen ≡ u). subst (Fits kept.published) new (mine.0, goes_on_from_nothing kept.published)) (at_snoc s.views (view_of v.seen) u by e);
     }
 
-pub joins : (v : View) (other : ℕ) (u : View) → Joins IsKept 0 v other u (noted v u.seen) (view_of nothing)
+pub joins : (v : View) (other : ℕ) (u : View) → Joins WordIsTrue 0 v other u (noted v u.seen) (view_of nothing)
 joins v other u s kept at apart there =
     let published = kept.published in
     let w = noted v u.seen in
@@ -146,13 +146,13 @@ joins v other u s kept at apart there =
     first_else (x ∷ xs) (suc id) w published apart h = h
 
 -- the steps of the first seat, by its number
-pub compares_at : (slots id : ℕ) → id ≡ 0 → (me : It) → Allows IsKept slots id me 0 (λ n. n) (Compares (step slots 0 0 0 none) me)
-compares_at slots id first me = subst (λ (k : ℕ). Allows IsKept slots k me 0 (λ n. n) (Compares (step slots 0 0 0 none) me)) (sym first) (compares slots me)
+pub compares_at : (slots id : ℕ) → id ≡ 0 → (me : It) → Allows WordIsTrue slots id me 0 (λ n. n) (Compares (step slots 0 0 0 none) me)
+compares_at slots id first me = subst (λ (k : ℕ). Allows WordIsTrue slots k me 0 (λ n. n) (Compares (step slots 0 0 0 none) me)) (sym first) (compares slots me)
 
-pub publishes_at : (slots id : ℕ) → id ≡ 0 → (me : It) (news : Seen) (word : ℕ) → word ≡ word_of news.entries news.phase → length news.entries < 2 ^ 22 → GoesOn me.0.seen news
-    → Allows IsKept slots id me 0 (λ _. word) (λ _. Publishes news (step slots 0 word 0 none) me word)
+pub publishes_at : (slots id : ℕ) → id ≡ 0 → (me : It) (news : Seen) (word : ℕ) → word ≡ word_of news.entries news.phase → length news.entries < 2 ^ 22 → ContinuesSeen me.0.seen news
+    → Allows WordIsTrue slots id me 0 (λ _. word) (λ _. Publishes news (step slots 0 word 0 none) me word)
 publishes_at slots id first me news word is short goes_on =
-    subst (λ (k : ℕ). Allows IsKept slots k me 0 (λ _. word) (λ _. Publishes news (step slots 0 word 0 none) me word)) (sym first) (publishes slots me news word is short goes_on)
+    subst (λ (k : ℕ). Allows WordIsTrue slots k me 0 (λ _. word) (λ _. Publishes news (step slots 0 word 0 none) me word)) (sym first) (publishes slots me news word is short goes_on)
 
-pub joins_at : (id : ℕ) → id ≡ 0 → (v : View) (other : ℕ) (u : View) → Joins IsKept id v other u (noted v u.seen) (view_of nothing)
-joins_at id first v other u = subst (λ (k : ℕ). Joins IsKept k v other u (noted v u.seen) (view_of nothing)) (sym first) (joins v other u)
+pub joins_at : (id : ℕ) → id ≡ 0 → (v : View) (other : ℕ) (u : View) → Joins WordIsTrue id v other u (noted v u.seen) (view_of nothing)
+joins_at id first v other u = subst (λ (k : ℕ). Joins WordIsTrue k v other u (noted v u.seen) (view_of nothing)) (sym first) (joins v other u)

@@ -19,24 +19,24 @@ abbrev pub noted : View → Seen → View
 noted v note = record { seen = v.seen; note = note }
 
 -- the one goes on from the other, and where the other had ended, it is the other
-pub record GoesOn (old new : Seen) : Type 0 where
+pub record ContinuesSeen (old new : Seen) : Type 0 where
   pub front : IsPrefix old.entries new.entries
   pub ended : old.phase ≢ Running → new ≡ old
 
 -- the first seat's view shows what is published, the word tells it, and it goes on from what any seat has seen or was handed
-pub record IsKept (s : State (Unit {0}) View) : Type 0 where
+pub record WordIsTrue (s : State (Unit {0}) View) : Type 0 where
   pub published : Seen
   pub first : (v : View) × (get_elem? s.views 0 ≡ some v) × (v.seen ≡ published)
   pub word : s.words ≡ word_of published.entries published.phase ∷ []
   pub short : length published.entries < 2 ^ 22
-  pub seen : (by : ℕ) (v : View) → get_elem? s.views by ≡ some v → GoesOn v.seen published × GoesOn v.note published
+  pub seen : (by : ℕ) (v : View) → get_elem? s.views by ≡ some v → ContinuesSeen v.seen published × ContinuesSeen v.note published
 
 abbrev pub It : Type 0
 It = Me (Unit {0}) View
 
 -- the word tells what is seen now, which goes on from what was seen
 abbrev pub Looks : Step (Unit {0}) → It → ℕ → It → Type 0
-Looks s me found now = (found ≡ word_of now.0.seen.entries now.0.seen.phase) × (length now.0.seen.entries < 2 ^ 22) × GoesOn me.0.seen now.0.seen × (now.0.note ≡ me.0.note) × (now.1 ≡ me.1)
+Looks s me found now = (found ≡ word_of now.0.seen.entries now.0.seen.phase) × (length now.0.seen.entries < 2 ^ 22) × ContinuesSeen me.0.seen now.0.seen × (now.0.note ≡ me.0.note) × (now.1 ≡ me.1)
 
 -- what the seat has seen is now this
 abbrev pub Publishes : Seen → Step (Unit {0}) → It → ℕ → It → Type 0
@@ -44,4 +44,4 @@ Publishes news s me stored now = now ≡ (record { seen = news; note = me.0.note
 
 -- what was seen goes on from the note, and the note is taken off
 abbrev pub Compares : Step (Unit {0}) → It → ℕ → It → Type 0
-Compares s me found now = (now ≡ (view_of me.0.seen, me.1)) × GoesOn me.0.note me.0.seen
+Compares s me found now = (now ≡ (view_of me.0.seen, me.1)) × ContinuesSeen me.0.note me.0.seen

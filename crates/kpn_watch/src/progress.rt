@@ -1,6 +1,6 @@
 //! How far a history has come.
 ghost use Rattle.std.specs.Prelude.{◌≡◌, ◌+◌, ◌*◌, ◌/◌, ◌%◌, ◌^◌, ◌<◌};
-ghost use Rattle.kpn_watch.specs.Phases.{number_of, phase_of};
+ghost use Rattle.kpn_watch.specs.Phases.{number_of_phase, phase_of};
 
 use kpn_model::End;
 
@@ -41,7 +41,7 @@ impl Phase {
     /// The phase's number in the published word: 0 while the run goes on, else 1 to 5 in the order of
     /// the variants.
     pub fn number(self) -> u64
-        ensures { result ≡ number_of self }
+        ensures { result ≡ number_of_phase self }
     {
         match self {
             Phase::Running => 0,
@@ -55,7 +55,7 @@ impl Phase {
 
     fn of_number(number: u64) -> Phase
         requires { number < 6 }
-        ensures { number_of result ≡ number }
+        ensures { number_of_phase result ≡ number }
     {
         match number {
             0 => Phase::Running,
@@ -73,7 +73,7 @@ impl Progress {
     pub(crate) fn to_word(self) -> u64
         requires entries { self.entries < 2 ^ 22 }
         requires growths { self.growths < 2 ^ 22 }
-        ensures { result ≡ self.entries * 2 ^ 25 + self.growths * 8 + number_of self.phase }
+        ensures { result ≡ self.entries * 2 ^ 25 + self.growths * 8 + number_of_phase self.phase }
     {
         (u64::from(self.entries) << 25) + (u64::from(self.growths) << 3) + self.phase.number()
     }
@@ -84,7 +84,7 @@ impl Progress {
         requires phase { word % 8 < 6 }
         ensures entries { result.entries ≡ word / 2 ^ 25 }
         ensures growths { result.growths ≡ word / 8 % 2 ^ 22 }
-        ensures phase { number_of result.phase ≡ word % 8 }
+        ensures phase { number_of_phase result.phase ≡ word % 8 }
     {
         Progress {
             entries: (word >> 25) as u32,

@@ -24,9 +24,9 @@ pub struct View {
 pub struct WordRule;
 
 impl TableRule<(), View, ()> for WordRule {
-    ghost use Rattle.kpn_watch.specs.Rule.{IsKept, view_of, nothing};
+    ghost use Rattle.kpn_watch.specs.Rule.{WordIsTrue, view_of, nothing};
 
-    ghost holds = { λ _. IsKept };
+    ghost holds = { λ _. WordIsTrue };
 
     ghost first = { λ _. view_of nothing };
 }

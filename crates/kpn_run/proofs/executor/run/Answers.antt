@@ -3,7 +3,7 @@ use Rattle.std.proofs.Common.{◌∙◌, ap, subst, sym}
 use Rattle.kpn_model.specs.Network.{Network}
 use Rattle.kpn_machine.specs.Opening.{cards_of}
 use Rattle.kpn_machine.specs.MachineView.{MachineView}
-use Rattle.kpn_run.specs.Runs.{IsFinish, StaysWithin, SparesBudget, IsInLine}
+use Rattle.kpn_run.specs.Runs.{IsFinish, StaysWithinCapacities, SparesBudget, IsInLine}
 use Rattle.kpn_run.proofs.executor.run.Goals as goal
 
 pub returns-in-Ok-run_machine-clause-finish : goal.returns-in-Ok-run_machine-clause-finish
@@ -12,7 +12,7 @@ returns-in-Ok-run_machine-clause-finish g c =
 
 pub returns-in-Ok-run_machine-clause-within : goal.returns-in-Ok-run_machine-clause-within
 returns-in-Ok-run_machine-clause-within g c =
-    subst (λ (n : Network). StaysWithin g.B.Kinds.Kinds.family n c.in-Ok-run_machine.finish.machine.history) (ap (λ (m : MachineView). m.network) c.in-Ok.ensures.opened)
+    subst (λ (n : Network). StaysWithinCapacities g.B.Kinds.Kinds.family n c.in-Ok-run_machine.finish.machine.history) (ap (λ (m : MachineView). m.network) c.in-Ok.ensures.opened)
     c.in-Ok-run_machine.ensures.within
 
 pub returns-in-Err-run_machine-clause-workers : goal.returns-in-Err-run_machine-clause-workers

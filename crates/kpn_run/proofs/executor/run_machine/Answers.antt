@@ -3,7 +3,7 @@ use Rattle.std.proofs.Common.{◌∙◌, ap, subst}
 use Rattle.kpn_model.specs.Network.{Network}
 use Rattle.kpn_machine.specs.Opening.{cards_of}
 use Rattle.kpn_machine.specs.MachineView.{MachineView}
-use Rattle.kpn_run.specs.Runs.{IsFinish, StaysWithin, SparesBudget, IsInLine}
+use Rattle.kpn_run.specs.Runs.{IsFinish, StaysWithinCapacities, SparesBudget, IsInLine}
 use Rattle.kpn_run.proofs.executor.run_machine.Goals as goal
 
 pub returns-in-Ok-run_named-clause-finish : goal.returns-in-Ok-run_named-clause-finish
@@ -13,7 +13,7 @@ returns-in-Ok-run_named-clause-finish g c =
 pub returns-in-Ok-run_named-clause-within : goal.returns-in-Ok-run_named-clause-within
 returns-in-Ok-run_named-clause-within g c =
     let finish = c.in-Ok-run_named.finish in
-    subst (λ (n : Network). StaysWithin g.B.Kinds.Kinds.family n finish.machine.history)
+    subst (λ (n : Network). StaysWithinCapacities g.B.Kinds.Kinds.family n finish.machine.history)
     (c.in-Ok-run_named.ensures.finish.network ∙ ap (λ (m : MachineView). m.network) c.in-Ok.ensures.0) c.told_by_laws.ensures.within
 
 pub returns-in-Err-run_named-clause-memory : goal.returns-in-Err-run_named-clause-memory

@@ -1,13 +1,13 @@
 use Rattle.std.proofs.Common.{◌≡◌, ◌+◌, ◌-◌, length}
 use Rattle.std.specs.List.{count_by}
 use Rattle.kpn_state.specs.Standings.{is_out}
-use Rattle.kpn_machine.specs.Commits.{GoesOn}
+use Rattle.kpn_machine.specs.Commits.{ContinuesRun}
 use Rattle.kpn_machine.proofs.machine.Machine.finish_alone.Given as goal
 
 abbrev pub invariant-loop-self : goal.invariant-loop-self
 invariant-loop-self g l = record {
   none_out : count_by is_out l.self.standings ≡ 0;
-  goes : GoesOn g.B.Kinds.Kinds.family l.initial.self l.self;
+  goes : ContinuesRun g.B.Kinds.Kinds.family l.initial.self l.self;
 }
 
 abbrev pub decreases-loop-self : goal.decreases-loop-self
