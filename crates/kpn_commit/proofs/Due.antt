@@ -9,7 +9,7 @@ use Rattle.kpn_laws.proofs.Causes.{over_grows_not}
 use Rattle.kpn_state.specs.StateAndHistory.{StateAndHistory}
 use Rattle.kpn_state.specs.declared.standing.Standing.{Standing}
 use Rattle.kpn_commit.specs.declared.settle.Settled.{Settled}
-use Rattle.kpn_commit.specs.declared.settle.Settled.TheVariants.{Busy, Ended as Over, Enlarged}
+use Rattle.kpn_commit.specs.declared.settle.Settled.TheVariants.{Busy, Ended, Enlarged}
 use Rattle.kpn_state.specs.Standings.{is_busy}
 use Rattle.kpn_commit.specs.Settling.{CanGrow, EndsBy, Settles}
 use Rattle.kpn_commit.specs.Works.{end_after}
@@ -30,5 +30,5 @@ module _ (kinds : Family) (net : Network) where
       (s : StateAndHistory) (standings : List Standing) (x : Settled) (t : StateAndHistory) (moved : List Standing) (budget entries : ℕ) → Settles kinds net s standings x t moved → end_after x budget entries ≢ Some Memory
       → (x ≡ Enlarged) ↔ ((list_any is_busy standings ≡ false) × CanGrow kinds net s.state)
   grows_exactly s standings Busy t moved budget entries h not = (λ e. cc, λ due. absurd (true_false _ h.0 due.0))
-  grows_exactly s standings (Over end) t moved budget entries h not = (λ e. cc, λ due. absurd (not (ap (λ (x : End). Some x) (due_memory s.state end h.3 due.1))))
+  grows_exactly s standings (Ended end) t moved budget entries h not = (λ e. cc, λ due. absurd (not (ap (λ (x : End). Some x) (due_memory s.state end h.3 due.1))))
   grows_exactly s standings Enlarged t moved budget entries h not = (λ _. (h.0, record { channel = h.1.channel; to = h.1.to; next = h.1.grown; grows = h.1.grows }), λ _. refl)

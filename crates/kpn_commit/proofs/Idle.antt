@@ -13,7 +13,7 @@ use Rattle.kpn_model.specs.Network.{Network, Family, out_of}
 use Rattle.kpn_model.specs.Semantics.{State, status, tokens, capacity, wants, IsEnabled, IsPossible, IsQuiet, IsBlocked, IsArtificial, IsChosen}
 use Rattle.kpn_laws.proofs.Steps.{live_within, done_wants_none}
 use Rattle.kpn_state.specs.declared.standing.Standing.{Standing}
-use Rattle.kpn_state.specs.declared.standing.Standing.TheVariants.{Ready, Out, Parked, Stopped as Ended}
+use Rattle.kpn_state.specs.declared.standing.Standing.TheVariants.{Ready, Out, Parked, Stopped}
 use Rattle.kpn_state.specs.Standings.{standing, is_busy, has_stopped, StandingsFit}
 use Rattle.kpn_commit.specs.Choice.{written_by, awaited_by, awaited, IsSmallest}
 use Rattle.kpn_state.proofs.Placed.{idle_at, stopped_at, one_live}
@@ -26,7 +26,7 @@ awaiting : (net : Network) (p c : ℕ) (x : Standing) → awaited_by net p x ≡
 awaiting net p c Ready e = cc
 awaiting net p c Out e = cc
 awaiting net p c (Parked a) e = (a, refl, e)
-awaiting net p c Ended e = cc
+awaiting net p c Stopped e = cc
 
 -- an act that writes to a channel
 pub writing : (net : Network) (p c : ℕ) (x : Act) → written_by net p x ≡ Some c → (k : ℕ) × (t : Token) × (x ≡ Write k t) × (out_of net p k ≡ Some c)
@@ -43,7 +43,7 @@ module _ (kinds : Family) (admits : Card → List ℕ → Option Token → Type 
       by_place Ready e h = cc
       by_place Out e h = cc
       by_place (Parked b) e h = let same : b ≡ a = same_Some _ _ (sym (k.wanted p b e) ∙ w) in e ∙ ap (λ (x : Answer). Parked x) same
-      by_place Ended e h = absurd (done_wants_none kinds net p (status M p) a (k.stopped p e) w)
+      by_place Stopped e h = absurd (done_wants_none kinds net p (status M p) a (k.stopped p e) w)
 
   -- a process that can go on is ready or out
   pub enabled_busy : (p : ℕ) → IsEnabled kinds net M p → is_busy (standing standings p) ≡ true

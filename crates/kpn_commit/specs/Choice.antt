@@ -5,7 +5,7 @@ use Rattle.kpn_model.specs.declared.kinds.Act.TheVariants.{Read, Write, Stop}
 use Rattle.kpn_model.specs.Network.{Network, out_of}
 use Rattle.kpn_model.specs.Semantics.{State, capacity}
 use Rattle.kpn_state.specs.declared.standing.Standing.{Standing}
-use Rattle.kpn_state.specs.declared.standing.Standing.TheVariants.{Ready, Out, Parked, Stopped as Ended}
+use Rattle.kpn_state.specs.declared.standing.Standing.TheVariants.{Ready, Out, Parked, Stopped}
 use Rattle.kpn_state.specs.Standings.{standing}
 
 -- the channel to which p's act writes
@@ -18,7 +18,7 @@ abbrev pub awaited_by : Network → ℕ → Standing → Option ℕ
 awaited_by net p Ready = None
 awaited_by net p Out = None
 awaited_by net p (Parked a) = written_by net p a.act
-awaited_by net p Ended = None
+awaited_by net p Stopped = None
 
 -- the channel to which p, which is parked, waits to write
 abbrev pub awaited : Network → List Standing → ℕ → Option ℕ

@@ -2,7 +2,7 @@
 use Rattle.std.specs.Prelude.{true, false, [], ◌∷◌}
 use Rattle.kpn_model.specs.declared.token.Token.TheVariants.{Flag}
 use Rattle.kpn_model.specs.declared.history.End.TheVariants.{Deadlock}
-use Rattle.kpn_model.specs.declared.history.Place.TheVariants.{Stopped as Ended, Reads}
+use Rattle.kpn_model.specs.declared.history.Place.TheVariants.{Stopped, Reads}
 use Rattle.kpn_model.specs.Network.{Network}
 use Rattle.kpn_model.specs.History.{Digest}
 use Rattle.kpn_model.specs.Standard.{standard}
@@ -19,7 +19,7 @@ abbrev pub products_wrap_digest : Digest
 products_wrap_digest =
     record {
       cause = Deadlock;
-      places = Ended ∷ Reads 0 ∷ Ended ∷ Reads 1 ∷ Ended ∷ [];
+      places = Stopped ∷ Reads 0 ∷ Stopped ∷ Reads 1 ∷ Stopped ∷ [];
       steps = 2 ∷ 2 ∷ 2 ∷ 3 ∷ 2 ∷ [];
       capacities = 1 ∷ 1 ∷ 1 ∷ 1 ∷ [];
       streams = (numbers (9223372036854775807 ∷ [])) ∷ (numbers (18446744073709551614 ∷ [])) ∷ (numbers (2 ∷ [])) ∷ (numbers (0 ∷ [])) ∷ [];
@@ -41,7 +41,7 @@ abbrev pub switched_by_flags_digest : Digest
 switched_by_flags_digest =
     record {
       cause = Deadlock;
-      places = Ended ∷ Reads 0 ∷ Reads 1 ∷ Reads 3 ∷ Ended ∷ Ended ∷ [];
+      places = Stopped ∷ Reads 0 ∷ Reads 1 ∷ Reads 3 ∷ Stopped ∷ Stopped ∷ [];
       steps = 7 ∷ 18 ∷ 12 ∷ 18 ∷ 4 ∷ 4 ∷ [];
       capacities = 1 ∷ 1 ∷ 1 ∷ 1 ∷ 1 ∷ 1 ∷ [];
       streams = (numbers (1 ∷ 2 ∷ 3 ∷ 4 ∷ 5 ∷ 6 ∷ [])) ∷ (numbers (1 ∷ 2 ∷ 3 ∷ 4 ∷ 5 ∷ 6 ∷ [])) ∷ (numbers (1 ∷ 2 ∷ 3 ∷ 4 ∷ 5 ∷ 6 ∷ [])) ∷ (Flag false ∷ Flag true ∷ Flag false ∷ Flag true ∷ Flag false ∷ Flag true ∷ []) ∷ (numbers (1 ∷ 3 ∷ 5 ∷ [])) ∷ (numbers (2 ∷ 4 ∷ 6 ∷ [])) ∷ [];
@@ -63,7 +63,7 @@ abbrev pub running_sums_digest : Digest
 running_sums_digest =
     record {
       cause = Deadlock;
-      places = Ended ∷ Reads 0 ∷ Reads 2 ∷ Ended ∷ [];
+      places = Stopped ∷ Reads 0 ∷ Reads 2 ∷ Stopped ∷ [];
       steps = 4 ∷ 9 ∷ 9 ∷ 4 ∷ [];
       capacities = 1 ∷ 1 ∷ 1 ∷ 1 ∷ [];
       streams = (numbers (1 ∷ 2 ∷ 3 ∷ [])) ∷ (numbers (0 ∷ 1 ∷ 3 ∷ 6 ∷ [])) ∷ (numbers (1 ∷ 3 ∷ 6 ∷ [])) ∷ (numbers (1 ∷ 3 ∷ 6 ∷ [])) ∷ [];
@@ -85,7 +85,7 @@ abbrev pub merged_in_order_digest : Digest
 merged_in_order_digest =
     record {
       cause = Deadlock;
-      places = Ended ∷ Ended ∷ Reads 0 ∷ Ended ∷ [];
+      places = Stopped ∷ Stopped ∷ Reads 0 ∷ Stopped ∷ [];
       steps = 4 ∷ 3 ∷ 8 ∷ 4 ∷ [];
       capacities = 1 ∷ 1 ∷ 1 ∷ [];
       streams = (numbers (1 ∷ 2 ∷ 3 ∷ [])) ∷ (numbers (2 ∷ 3 ∷ [])) ∷ (numbers (1 ∷ 2 ∷ 3 ∷ [])) ∷ [];

@@ -1,7 +1,7 @@
 -- Worked networks: how a run ends, and what is left.
 use Rattle.std.specs.Prelude.{[], ◌∷◌}
 use Rattle.kpn_model.specs.declared.history.End.TheVariants.{Terminated, Deadlock}
-use Rattle.kpn_model.specs.declared.history.Place.TheVariants.{Stopped as Ended, Reads}
+use Rattle.kpn_model.specs.declared.history.Place.TheVariants.{Stopped, Reads}
 use Rattle.kpn_model.specs.Network.{Network}
 use Rattle.kpn_model.specs.History.{Digest}
 use Rattle.kpn_model.specs.Standard.{standard}
@@ -18,7 +18,7 @@ abbrev pub counter_into_sink_digest : Digest
 counter_into_sink_digest =
     record {
       cause = Terminated;
-      places = Ended ∷ Ended ∷ [];
+      places = Stopped ∷ Stopped ∷ [];
       steps = 4 ∷ 4 ∷ [];
       capacities = 1 ∷ [];
       streams = (numbers (1 ∷ 2 ∷ 3 ∷ [])) ∷ [];
@@ -40,7 +40,7 @@ abbrev pub sink_waits_for_one_more_digest : Digest
 sink_waits_for_one_more_digest =
     record {
       cause = Deadlock;
-      places = Ended ∷ Reads 0 ∷ [];
+      places = Stopped ∷ Reads 0 ∷ [];
       steps = 4 ∷ 3 ∷ [];
       capacities = 1 ∷ [];
       streams = (numbers (1 ∷ 2 ∷ 3 ∷ [])) ∷ [];
@@ -62,7 +62,7 @@ abbrev pub sink_stops_early_digest : Digest
 sink_stops_early_digest =
     record {
       cause = Terminated;
-      places = Ended ∷ Ended ∷ [];
+      places = Stopped ∷ Stopped ∷ [];
       steps = 4 ∷ 3 ∷ [];
       capacities = 1 ∷ [];
       streams = (numbers (1 ∷ 2 ∷ 3 ∷ [])) ∷ [];
@@ -84,7 +84,7 @@ abbrev pub nothing_to_count_digest : Digest
 nothing_to_count_digest =
     record {
       cause = Terminated;
-      places = Ended ∷ Ended ∷ [];
+      places = Stopped ∷ Stopped ∷ [];
       steps = 1 ∷ 1 ∷ [];
       capacities = 1 ∷ [];
       streams = [] ∷ [];
@@ -128,7 +128,7 @@ abbrev pub start_tokens_digest : Digest
 start_tokens_digest =
     record {
       cause = Terminated;
-      places = Ended ∷ [];
+      places = Stopped ∷ [];
       steps = 5 ∷ [];
       capacities = 1 ∷ [];
       streams = (numbers (7 ∷ 7 ∷ 7 ∷ [])) ∷ [];

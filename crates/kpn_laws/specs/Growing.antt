@@ -1,7 +1,7 @@
 -- Worked networks: which channel grows, and when none can.
 use Rattle.std.specs.Prelude.{[], ◌∷◌}
 use Rattle.kpn_model.specs.declared.history.End.TheVariants.{Terminated, Deadlock, Ceiling}
-use Rattle.kpn_model.specs.declared.history.Place.TheVariants.{Stopped as Ended, Reads, Writes}
+use Rattle.kpn_model.specs.declared.history.Place.TheVariants.{Stopped, Reads, Writes}
 use Rattle.kpn_model.specs.Network.{Network}
 use Rattle.kpn_model.specs.History.{Digest}
 use Rattle.kpn_model.specs.Standard.{standard}
@@ -18,7 +18,7 @@ abbrev pub counter_outlives_sink_digest : Digest
 counter_outlives_sink_digest =
     record {
       cause = Terminated;
-      places = Ended ∷ Ended ∷ [];
+      places = Stopped ∷ Stopped ∷ [];
       steps = 4 ∷ 2 ∷ [];
       capacities = 2 ∷ [];
       streams = (numbers (1 ∷ 2 ∷ 3 ∷ [])) ∷ [];
@@ -40,7 +40,7 @@ abbrev pub equal_capacities_digest : Digest
 equal_capacities_digest =
     record {
       cause = Terminated;
-      places = Ended ∷ Ended ∷ Ended ∷ Ended ∷ [];
+      places = Stopped ∷ Stopped ∷ Stopped ∷ Stopped ∷ [];
       steps = 3 ∷ 3 ∷ 1 ∷ 1 ∷ [];
       capacities = 2 ∷ 2 ∷ [];
       streams = (numbers (1 ∷ 2 ∷ [])) ∷ (numbers (1 ∷ 2 ∷ [])) ∷ [];
@@ -62,7 +62,7 @@ abbrev pub smallest_full_channel_grows_digest : Digest
 smallest_full_channel_grows_digest =
     record {
       cause = Terminated;
-      places = Ended ∷ Ended ∷ Ended ∷ Ended ∷ [];
+      places = Stopped ∷ Stopped ∷ Stopped ∷ Stopped ∷ [];
       steps = 4 ∷ 4 ∷ 1 ∷ 1 ∷ [];
       capacities = 3 ∷ 3 ∷ [];
       streams = (numbers (1 ∷ 2 ∷ 3 ∷ [])) ∷ (numbers (1 ∷ 2 ∷ 3 ∷ [])) ∷ [];
@@ -84,7 +84,7 @@ abbrev pub full_channel_of_stopped_writer_digest : Digest
 full_channel_of_stopped_writer_digest =
     record {
       cause = Terminated;
-      places = Ended ∷ Ended ∷ Ended ∷ Ended ∷ [];
+      places = Stopped ∷ Stopped ∷ Stopped ∷ Stopped ∷ [];
       steps = 2 ∷ 4 ∷ 1 ∷ 1 ∷ [];
       capacities = 1 ∷ 3 ∷ [];
       streams = (numbers (1 ∷ [])) ∷ (numbers (1 ∷ 2 ∷ 3 ∷ [])) ∷ [];
@@ -105,7 +105,7 @@ abbrev pub growth_step_digest : Digest
 growth_step_digest =
     record {
       cause = Terminated;
-      places = Ended ∷ Ended ∷ Ended ∷ Ended ∷ [];
+      places = Stopped ∷ Stopped ∷ Stopped ∷ Stopped ∷ [];
       steps = 4 ∷ 4 ∷ 1 ∷ 1 ∷ [];
       capacities = 6 ∷ 5 ∷ [];
       streams = (numbers (1 ∷ 2 ∷ 3 ∷ [])) ∷ (numbers (1 ∷ 2 ∷ 3 ∷ [])) ∷ [];
@@ -126,7 +126,7 @@ abbrev pub ceiling_reached_digest : Digest
 ceiling_reached_digest =
     record {
       cause = Ceiling;
-      places = Writes 0 ∷ Ended ∷ [];
+      places = Writes 0 ∷ Stopped ∷ [];
       steps = 2 ∷ 1 ∷ [];
       capacities = 2 ∷ [];
       streams = (numbers (1 ∷ 2 ∷ [])) ∷ [];
@@ -148,7 +148,7 @@ abbrev pub parks_case_digest : Digest
 parks_case_digest =
     record {
       cause = Deadlock;
-      places = Ended ∷ Reads 0 ∷ Reads 1 ∷ Ended ∷ [];
+      places = Stopped ∷ Reads 0 ∷ Reads 1 ∷ Stopped ∷ [];
       steps = 4 ∷ 9 ∷ 12 ∷ 7 ∷ [];
       capacities = 1 ∷ 1 ∷ 2 ∷ 1 ∷ [];
       streams = (numbers (1 ∷ 2 ∷ 3 ∷ [])) ∷ (numbers (1 ∷ 2 ∷ 3 ∷ [])) ∷ (numbers (1 ∷ 2 ∷ 3 ∷ [])) ∷ (numbers (1 ∷ 2 ∷ 3 ∷ 1 ∷ 2 ∷ 3 ∷ [])) ∷ [];

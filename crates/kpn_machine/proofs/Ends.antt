@@ -10,9 +10,9 @@ use Rattle.kpn_laws.proofs.Causes.{cause_same, over_grows_not}
 use Rattle.kpn_body.specs.Input.{Input}
 use Rattle.kpn_state.specs.StateAndHistory.{StateAndHistory}
 use Rattle.kpn_state.specs.declared.standing.Standing.{Standing}
-use Rattle.kpn_state.specs.declared.standing.Standing.TheVariants.{Ready, Parked, Stopped as Ended}
+use Rattle.kpn_state.specs.declared.standing.Standing.TheVariants.{Ready, Parked, Stopped}
 use Rattle.kpn_commit.specs.declared.settle.Settled.{Settled}
-use Rattle.kpn_commit.specs.declared.settle.Settled.TheVariants.{Busy, Ended as Over, Enlarged}
+use Rattle.kpn_commit.specs.declared.settle.Settled.TheVariants.{Busy, Stopped as Over, Enlarged}
 use Rattle.kpn_commit.specs.declared.outcome.Outcome.{Outcome}
 use Rattle.kpn_state.specs.Standings.{is_busy}
 use Rattle.kpn_commit.specs.Settling.{CanGrow, EndsBy, Settles, GrowsAndPuts}
@@ -69,7 +69,7 @@ module _ (kinds : Family) (net : Network) where
       let within = place_within standings g.writer (λ f. parked_ended (sym g.parked ∙ f)) in
       busy_at moved g.writer (ap is_busy (ap (λ (l : List Standing). standing l g.writer) g.puts.moves ∙ place_set_same standings g.writer Ready within))
     where
-      parked_ended : Parked g.wanted ≡ Ended → ⊥
+      parked_ended : Parked g.wanted ≡ Stopped → ⊥
       parked_ended e = cc
 
   module _ (s : StateAndHistory) (standings : List Standing) (t : StateAndHistory) (moved : List Standing) (budget entries : ℕ) where

@@ -12,7 +12,7 @@ use Rattle.kpn_state.specs.declared.standing.Standing.{Standing}
 use Rattle.kpn_commit.specs.declared.react.Reaction.{Reaction}
 use Rattle.kpn_commit.specs.declared.react.Reaction.TheVariants.{Waits, Acts, HandsOn}
 use Rattle.kpn_commit.specs.declared.settle.Settled.{Settled}
-use Rattle.kpn_commit.specs.declared.settle.Settled.TheVariants.{Busy, Ended as Over, Enlarged}
+use Rattle.kpn_commit.specs.declared.settle.Settled.TheVariants.{Busy, Ended, Enlarged}
 use Rattle.kpn_commit.specs.declared.outcome.Outcome.{Outcome}
 use Rattle.kpn_commit.specs.Reactions.{Reacts}
 use Rattle.kpn_commit.specs.Settling.{Settles}
@@ -68,7 +68,7 @@ module _ (kinds : Family) (net : Network) where
   pub settled_goes :
       (s : StateAndHistory) (standings : List Standing) (x : Settled) (t : StateAndHistory) (moved : List Standing) → Settles kinds net s standings x t moved → GoesOn s t (settled_entries x)
   settled_goes s standings Busy t moved h = goes_none s t h.1
-  settled_goes s standings (Over end) t moved h = goes_none s t h.1
+  settled_goes s standings (Ended end) t moved h = goes_none s t h.1
   settled_goes s standings Enlarged t moved h =
       let g = h.1 in
       let first = more s g.grown (Grew g.channel g.to) in

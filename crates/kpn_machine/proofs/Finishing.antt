@@ -8,7 +8,7 @@ use Rattle.kpn_model.specs.Network.{Network, Family}
 use Rattle.kpn_model.specs.Semantics.{State, Run}
 use Rattle.kpn_body.specs.Input.{Input}
 use Rattle.kpn_state.specs.declared.standing.Standing.{Standing}
-use Rattle.kpn_state.specs.declared.standing.Standing.TheVariants.{Ready, Out, Parked, Stopped as Ended}
+use Rattle.kpn_state.specs.declared.standing.Standing.TheVariants.{Ready, Out, Parked, Stopped}
 use Rattle.kpn_commit.specs.declared.outcome.Outcome.{Outcome}
 use Rattle.kpn_commit.specs.declared.outcome.Outcome.TheVariants.{Done, Parked as Parks, LaidBack}
 use Rattle.kpn_state.specs.Standings.{standing, is_busy, is_out}
@@ -30,24 +30,24 @@ others_count : (x : Standing) → x ≢ Out → weight x ≤ 0
 others_count Ready n = omega arith
 others_count Out n = absurd (n refl)
 others_count (Parked a) n = omega arith
-others_count Ended n = omega arith
+others_count Stopped n = omega arith
 
-ended_not_out : Ended ≢ Out
+ended_not_out : Stopped ≢ Out
 ended_not_out e = cc
 
 -- where none is counted out, none is out
 pub none_is_out : (standings : List Standing) → count_by is_out standings ≡ 0 → (p : ℕ) → standing standings p ≢ Out
 none_is_out standings h p e =
     ⊎_elim
-    (λ within. let one = out_counts (standing standings p) e in let most = get_or-le-sum_by weight standings p Ended within in omega arith)
-    (λ past. ended_not_out (sym (get_or_past standings p Ended past) ∙ e)) (cases_lt p (length standings))
+    (λ within. let one = out_counts (standing standings p) e in let most = get_or-le-sum_by weight standings p Stopped within in omega arith)
+    (λ past. ended_not_out (sym (get_or_past standings p Stopped past) ∙ e)) (cases_lt p (length standings))
 
 -- and the other way round
 pub none_counted : (standings : List Standing) → ((p : ℕ) → standing standings p ≢ Out) → count_by is_out standings ≡ 0
 none_counted standings h =
     let all = sum_by-le weight 0 standings (λ i d within. others_count _ (λ e. h i (same_default standings i d within ∙ e))) in omega arith
   where
-    same_default : (xs : List Standing) (i : ℕ) (d : Standing) → i < length xs → get_or xs i Ended ≡ get_or xs i d
+    same_default : (xs : List Standing) (i : ℕ) (d : Standing) → i < length xs → get_or xs i Stopped ≡ get_or xs i d
     same_default [] i d l = absurd (omega arith)
     same_default (x ∷ xs) zero d l = refl
     same_default (x ∷ xs) (suc i) d l = same_default xs i d (omega arith)
@@ -56,7 +56,7 @@ idle : (x : Standing) → x ≢ Ready → x ≢ Out → is_busy x ≡ false
 idle Ready r o = absurd (r refl)
 idle Out r o = absurd (o refl)
 idle (Parked a) r o = refl
-idle Ended r o = refl
+idle Stopped r o = refl
 
 all_idle : (standings : List Standing) → ((p : ℕ) → is_busy (standing standings p) ≡ false) → list_any is_busy standings ≡ false
 all_idle [] h = refl

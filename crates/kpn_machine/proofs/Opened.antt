@@ -13,7 +13,7 @@ use Rattle.kpn_model.specs.Network.{Network, Family, no_channel, card_of, no_pro
 use Rattle.kpn_model.specs.Semantics.{nothing_held, start}
 use Rattle.kpn_model.specs.Valid.{IsValid}
 use Rattle.kpn_laws.proofs.WellTypedDeeds.{sorted_start}
-use Rattle.kpn_state.specs.declared.standing.Standing.TheVariants.{Ready, Parked, Stopped as Ended}
+use Rattle.kpn_state.specs.declared.standing.Standing.TheVariants.{Ready, Parked, Stopped}
 use Rattle.kpn_state.specs.Standings.{standing, is_busy, StandingsFit}
 use Rattle.kpn_machine.specs.Opening.{cards_of, AreSeated}
 use Rattle.kpn_machine.specs.MachineView.{machine_view, IsSound}
@@ -27,10 +27,10 @@ ready_at (suc n) zero h = refl
 ready_at (suc n) (suc p) h = ready_at n p (omega arith)
 
 -- and none else is there
-ended_past : (n p : ℕ) → n ≤ p → standing (replicate n Ready) p ≡ Ended
-ended_past n p h = let many = length-replicate n Ready in get_or_past (replicate n Ready) p Ended (omega arith)
+ended_past : (n p : ℕ) → n ≤ p → standing (replicate n Ready) p ≡ Stopped
+ended_past n p h = let many = length-replicate n Ready in get_or_past (replicate n Ready) p Stopped (omega arith)
 
-ready_ended : Ready ≡ Ended → ⊥
+ready_ended : Ready ≡ Stopped → ⊥
 ready_ended e = cc
 
 -- none is parked
@@ -40,7 +40,7 @@ never_parked n p a e = ⊎_elim (λ within. ready_parked (sym (ready_at n p with
     ready_parked : Ready ≡ Parked a → ⊥
     ready_parked f = cc
 
-    ended_parked : Ended ≡ Parked a → ⊥
+    ended_parked : Stopped ≡ Parked a → ⊥
     ended_parked f = cc
 
 module _ (kinds : Family) where

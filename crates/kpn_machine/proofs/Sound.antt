@@ -23,11 +23,11 @@ use Rattle.kpn_laws.proofs.EachMoment.{enabled_can_do, fronts}
 use Rattle.kpn_body.specs.Input.{Input, answer_to}
 use Rattle.kpn_state.specs.StateAndHistory.{StateAndHistory, state_and_history}
 use Rattle.kpn_state.specs.declared.standing.Standing.{Standing}
-use Rattle.kpn_state.specs.declared.standing.Standing.TheVariants.{Ready, Out, Parked, Stopped as Ended}
+use Rattle.kpn_state.specs.declared.standing.Standing.TheVariants.{Ready, Out, Parked, Stopped}
 use Rattle.kpn_commit.specs.declared.react.Reaction.{Reaction}
 use Rattle.kpn_commit.specs.declared.react.Reaction.TheVariants.{Waits, Acts, HandsOn}
 use Rattle.kpn_commit.specs.declared.settle.Settled.{Settled}
-use Rattle.kpn_commit.specs.declared.settle.Settled.TheVariants.{Busy, Ended as Over, Enlarged}
+use Rattle.kpn_commit.specs.declared.settle.Settled.TheVariants.{Busy, Stopped as Over, Enlarged}
 use Rattle.kpn_commit.specs.declared.outcome.Outcome.{Outcome}
 use Rattle.kpn_commit.specs.declared.outcome.Outcome.TheVariants.{Done, Parked as Parks, LaidBack}
 use Rattle.kpn_state.specs.Standings.{standing, is_busy, parked_answer, StandingsFit}
@@ -97,7 +97,7 @@ module _ (kinds : Family) (net : Network) where
       let within : g.writer < length standings = place_within standings g.writer (λ f. parked_ended g.wanted (sym g.parked ∙ f)) in
       busy_at moved g.writer (ap is_busy (ap (λ (l : List Standing). standing l g.writer) g.puts.moves ∙ place_set_same standings g.writer Ready within))
     where
-      parked_ended : (a : Answer) → Parked a ≡ Ended → ⊥
+      parked_ended : (a : Answer) → Parked a ≡ Stopped → ⊥
       parked_ended a f = cc
 
   -- and with one that isn't the budget's none is
@@ -134,7 +134,7 @@ module _ (kinds : Family) (admits : Card → List ℕ → Option Token → Type 
   idle_wants net M standings p Ready k e idle = cc
   idle_wants net M standings p Out k e idle = cc
   idle_wants net M standings p (Parked a) k e idle = k.wanted p a e
-  idle_wants net M standings p Ended k e idle = ap (answered kinds net p) (k.stopped p e)
+  idle_wants net M standings p Stopped k e idle = ap (answered kinds net p) (k.stopped p e)
 
   -- what holds of every state that a run leads to holds at each moment of a run
   at_each_moment : (net : Network) (E : List Entry) (M : State) (P : State → Type 0) → IsRun kinds net E M → ((F : List Entry) (N : State) → IsRun kinds net F N → P N) → AtEachMoment kinds net E P
@@ -174,7 +174,7 @@ module _ (kinds : Family) (admits : Card → List ℕ → Option Token → Type 
 
   module _ (net : Network) (M : State) (E : List Entry) (standings : List Standing) (end : Option End) (commits room : ℕ) (bodies : List (Option Card)) (h : IsSound kinds admits (machine_view net M E standings end commits) room bodies) where
     -- a process that is ready or out is live
-    busy_live : (p : ℕ) (x : Standing) → standing standings p ≡ x → x ≢ Ended → status M p ≢ Halted
+    busy_live : (p : ℕ) (x : Standing) → standing standings p ≡ x → x ≢ Stopped → status M p ≢ Halted
     busy_live p x e n f = n (sym e ∙ h.keeps.done p f)
 
     pub sound_taken : (p : ℕ) → end ≡ None → standing standings p ≡ Ready → IsSound kinds admits (machine_view net M E (set standings p Out) end commits) room (set bodies p None)

@@ -15,7 +15,7 @@ use Rattle.kpn_model.specs.Valid.{IsWellTyped}
 use Rattle.kpn_body.specs.Input.{Input}
 use Rattle.kpn_state.specs.StateAndHistory.{StateAndHistory, state_and_history}
 use Rattle.kpn_state.specs.declared.standing.Standing.{Standing}
-use Rattle.kpn_state.specs.declared.standing.Standing.TheVariants.{Ready, Out, Parked, Stopped as Ended}
+use Rattle.kpn_state.specs.declared.standing.Standing.TheVariants.{Ready, Out, Parked, Stopped}
 use Rattle.kpn_state.specs.Standings.{standing, is_busy, is_ready, parked_answer, StandingsFit}
 use Rattle.kpn_commit.specs.Settling.{EndsBy}
 
@@ -75,14 +75,14 @@ abbrev pub waits : Standing → ℕ
 waits Ready = 0
 waits Out = 0
 waits (Parked a) = 1
-waits Ended = 0
+waits Stopped = 0
 
 -- 1 for a process that is not out
 abbrev pub stays_in : Standing → ℕ
 stays_in Ready = 1
 stays_in Out = 0
 stays_in (Parked a) = 1
-stays_in Ended = 1
+stays_in Stopped = 1
 
 -- the history is a run to the state, and all else fits; answers are taken at most once for each entry
 -- and each process that waits, and where an end stands for each that is not out

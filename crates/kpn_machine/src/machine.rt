@@ -5,7 +5,7 @@ ghost use Rattle.kpn_model.specs.Semantics.{status, start};
 ghost use Rattle.kpn_machine.specs.Opening.{cards_of, IsOpenFault};
 ghost use Rattle.kpn_model.specs.declared.history.Status.TheVariants.{Done, Live};
 ghost use Rattle.kpn_model.specs.Valid.{IsWellTyped};
-ghost use Rattle.kpn_state.specs.declared.standing.Standing.TheVariants.{Out, Ready as ReadyV};
+ghost use Rattle.kpn_state.specs.declared.standing.Standing.TheVariants.{Out, Ready};
 ghost use Rattle.kpn_state.specs.Standings.{standing, is_out, is_ready, StandingsFit};
 ghost use Rattle.kpn_machine.specs.MachineView.{machine_view, IsOut, IsOutAt, TakesOut, IsFaithful, IsFresh};
 ghost use Rattle.kpn_machine.specs.Commits.{Commits, Appends, EndsAs, ContinuesRun, TellsEnabled, number};
@@ -73,7 +73,7 @@ impl<B: Body> Machine<B> {
         net: Net<B::Kinds>,
         mut bodies: Vec<B>,
     ) -> Result<Machine<B>, OpenRefused<B>>
-        ensures opened { IfOk result (λ m. m ≡ machine_view net (start B.Kinds.family net) [] (replicate (length net.processes) ReadyV) None 0) }
+        ensures opened { IfOk result (λ m. m ≡ machine_view net (start B.Kinds.family net) [] (replicate (length net.processes) Ready) None 0) }
         ensures fresh { IfOk result IsFresh }
         ensures cards { OnOk result (map B.card bodies.items ≡ cards_of net.processes) }
         ensures net_back { IfErr result (λ refused. refused.net ≡ net) }
@@ -177,7 +177,7 @@ impl<B: Body> Machine<B> {
     #[inline(always)]
     pub fn take(&mut self) -> Option<Task<B>>
         ensures some { IfSome result (λ task. (self.old.end ≡ None) × TakesOut self.old task self.new) }
-        ensures none { IfNone result (self.old.end ≡ None → (p : ℕ) → standing self.old.standings p ≢ ReadyV) }
+        ensures none { IfNone result (self.old.end ≡ None → (p : ℕ) → standing self.old.standings p ≢ Ready) }
         ensures same { IfNone result (self.new ≡ self.old) }
     {
         if self.end.is_some() {

@@ -11,7 +11,7 @@ use Rattle.kpn_model.specs.declared.history.Entry.{Entry}
 use Rattle.kpn_model.specs.declared.history.Entry.TheVariants.{Did, Grew}
 use Rattle.kpn_model.specs.declared.history.End.{End}
 use Rattle.kpn_model.specs.declared.history.Place.{Place}
-use Rattle.kpn_model.specs.declared.history.Place.TheVariants.{Stopped as Ended, Reads, Writes}
+use Rattle.kpn_model.specs.declared.history.Place.TheVariants.{Stopped, Reads, Writes}
 use Rattle.kpn_model.specs.Network.{Family, Network, channel_of, in_of, out_of}
 use Rattle.kpn_model.specs.Semantics.{State, wants}
 
@@ -60,20 +60,20 @@ pub record Digest : Type 0 where
 
 -- where a process stands, which wants this; `Ended` also where a port is the end of no channel, as no port of a valid network is
 abbrev pub reads : Option ℕ → Place
-reads None = Ended
+reads None = Stopped
 reads (Some c) = Reads c
 
 abbrev pub writes : Option ℕ → Place
-writes None = Ended
+writes None = Stopped
 writes (Some c) = Writes c
 
 abbrev pub place_of_act : Network → ℕ → Act → Place
-place_of_act net p Stop = Ended
+place_of_act net p Stop = Stopped
 place_of_act net p (Read k) = reads (in_of net p k)
 place_of_act net p (Write k t) = writes (out_of net p k)
 
 abbrev pub place_of : Network → ℕ → Option Answer → Place
-place_of net p None = Ended
+place_of net p None = Stopped
 place_of net p (Some a) = place_of_act net p a.act
 
 abbrev pub each_process : {X : Type 0} → Network → (ℕ → X) → List X

@@ -5,7 +5,7 @@ use Rattle.std.proofs.lemmas.Bool.{cases_eq, eq-eqb, ne_eqb, lt-ltb, eqb-true, e
 use Rattle.std.proofs.lemmas.List.Sums.{sum_by-cons, sum_by_push, sum_by-set, count_by-le-length, get_or-le-sum_by}
 use Rattle.std.specs.Prelude.{nat_eq, nat_lt}
 use Rattle.kpn_state.specs.declared.standing.Standing.{Standing}
-use Rattle.kpn_state.specs.declared.standing.Standing.TheVariants.{Ready, Out, Parked, Stopped as Ended}
+use Rattle.kpn_state.specs.declared.standing.Standing.TheVariants.{Ready, Out, Parked, Stopped}
 use Rattle.kpn_state.specs.Standings.{standing, is_busy, is_ready, is_out, has_stopped}
 use Rattle.kpn_state.specs.Rosters.{times, Agrees, queue_after}
 use Rattle.kpn_state.proofs.Placed.{place_set_same, place_set_other, place_within, ready_not_ended}
@@ -21,13 +21,13 @@ pub not_ready : (x : Standing) → x ≢ Ready → is_ready x ≡ false
 not_ready Ready n = absurd (n refl)
 not_ready Out n = refl
 not_ready (Parked a) n = refl
-not_ready Ended n = refl
+not_ready Stopped n = refl
 
 is_ready_ready : (x : Standing) → is_ready x ≡ true → x ≡ Ready
 is_ready_ready Ready e = refl
 is_ready_ready Out e = cc
 is_ready_ready (Parked a) e = cc
-is_ready_ready Ended e = cc
+is_ready_ready Stopped e = cc
 
 -- a queue with one more
 times_push : (queue : List ℕ) (p q : ℕ) → times (queue ++ p ∷ []) q ≡ times queue q + cond (nat_eq p q) 1 0
@@ -44,7 +44,7 @@ none_there p q n = ap one_if (ne_eqb p q n)
 
 -- who passes is counted
 counted : (f : Standing → Bool) (standings : List Standing) (p : ℕ) (x : Standing) → p < length standings → count_by f (set standings p x) + weight f (standing standings p) ≡ count_by f standings + weight f x
-counted f standings p x within = sum_by-set (weight f) standings p x Ended within
+counted f standings p x within = sum_by-set (weight f) standings p x Stopped within
 
 -- some process is ready or out where one is counted
 pub busy_counted : (standings : List Standing) → list_any is_busy standings ≡ nat_lt 0 (count_by is_ready standings + count_by is_out standings)
@@ -60,10 +60,10 @@ busy_counted (Parked a ∷ xs) =
     let o = sum_by-cons (weight is_out) (Parked a) xs in
     let same : count_by is_ready xs + count_by is_out xs ≡ count_by is_ready (Parked a ∷ xs) + count_by is_out (Parked a ∷ xs) = omega arith in
     busy_counted xs ∙ ap (λ n. nat_lt 0 n) same
-busy_counted (Ended ∷ xs) =
-    let r = sum_by-cons (weight is_ready) Ended xs in
-    let o = sum_by-cons (weight is_out) Ended xs in
-    let same : count_by is_ready xs + count_by is_out xs ≡ count_by is_ready (Ended ∷ xs) + count_by is_out (Ended ∷ xs) = omega arith in
+busy_counted (Stopped ∷ xs) =
+    let r = sum_by-cons (weight is_ready) Stopped xs in
+    let o = sum_by-cons (weight is_out) Stopped xs in
+    let same : count_by is_ready xs + count_by is_out xs ≡ count_by is_ready (Stopped ∷ xs) + count_by is_out (Stopped ∷ xs) = omega arith in
     busy_counted xs ∙ ap (λ n. nat_lt 0 n) same
 
 eq_suc : (a b : ℕ) → nat_eq a b ≡ nat_eq (suc a) (suc b)
@@ -76,9 +76,9 @@ eq_suc a b = by_test (nat_eq a b) refl
 -- all have stopped where as many are counted
 pub stopped_counted : (standings : List Standing) → list_all has_stopped standings ≡ nat_eq (count_by has_stopped standings) (length standings)
 stopped_counted [] = refl
-stopped_counted (Ended ∷ xs) =
-    let c = sum_by-cons (weight has_stopped) Ended xs in
-    let more : suc (count_by has_stopped xs) ≡ count_by has_stopped (Ended ∷ xs) = omega arith in
+stopped_counted (Stopped ∷ xs) =
+    let c = sum_by-cons (weight has_stopped) Stopped xs in
+    let more : suc (count_by has_stopped xs) ≡ count_by has_stopped (Stopped ∷ xs) = omega arith in
     stopped_counted xs ∙ eq_suc (count_by has_stopped xs) (length xs) ∙ ap (λ n. nat_eq n (suc (length xs))) more
 stopped_counted (Ready ∷ xs) =
     let c = sum_by-cons (weight has_stopped) Ready xs in
@@ -106,7 +106,7 @@ place_before [] (suc p) x n = refl
 place_before (y ∷ ys) zero x n = refl
 place_before (y ∷ ys) (suc p) x n = place_before ys p x (λ e. n (omega arith))
 
-place_past : (standings : List Standing) (p : ℕ) → p ≡ length standings → standing standings p ≡ Ended
+place_past : (standings : List Standing) (p : ℕ) → p ≡ length standings → standing standings p ≡ Stopped
 place_past [] p e = refl
 place_past (y ∷ ys) zero e = absurd (omega arith)
 place_past (y ∷ ys) (suc p) e = place_past ys p (omega arith)
@@ -138,10 +138,10 @@ kept_more standings queue room out stopped n is k below =
 module _ (standings : List Standing) (queue : List ℕ) (room out stopped : ℕ) (k : Agrees standings queue room out stopped) where
   -- who is out is counted
   pub out_within : (p : ℕ) → p < length standings → weight is_out (standing standings p) ≤ out
-  out_within p within = let o = k.out_is in let l = get_or-le-sum_by (weight is_out) standings p Ended within in omega arith
+  out_within p within = let o = k.out_is in let l = get_or-le-sum_by (weight is_out) standings p Stopped within in omega arith
 
   pub stopped_within : (p : ℕ) → p < length standings → weight has_stopped (standing standings p) ≤ stopped
-  stopped_within p within = let o = k.stopped_is in let l = get_or-le-sum_by (weight has_stopped) standings p Ended within in omega arith
+  stopped_within p within = let o = k.stopped_is in let l = get_or-le-sum_by (weight has_stopped) standings p Stopped within in omega arith
 
   pub out_few : out ≤ length standings
   out_few = let o = k.out_is in let l = count_by-le-length is_out standings in omega arith

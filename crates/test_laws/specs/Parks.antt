@@ -2,7 +2,7 @@
 use Rattle.std.specs.Prelude.{ℕ, ℤ, pos, codes, List, [], ◌∷◌, ◌==◌, if◌then◌else◌}
 use Rattle.kpn_model.specs.declared.token.Sort.TheVariants.{Words}
 use Rattle.kpn_model.specs.declared.history.End.TheVariants.{Deadlock}
-use Rattle.kpn_model.specs.declared.history.Place.TheVariants.{Stopped as Ended, Reads}
+use Rattle.kpn_model.specs.declared.history.Place.TheVariants.{Stopped, Reads}
 use Rattle.kpn_net.specs.declared.sketch.ProcessSketch.{ProcessSketch}
 use Rattle.kpn_net.specs.declared.sketch.ChannelSketch.{ChannelSketch}
 use Rattle.kpn_net.specs.declared.sketch.Sketch.{Sketch}
@@ -54,7 +54,7 @@ abbrev pub parks_digest : Digest
 parks_digest =
     record {
       cause = Deadlock;
-      places = Ended ∷ Reads 0 ∷ Reads 1 ∷ Ended ∷ [];
+      places = Stopped ∷ Reads 0 ∷ Reads 1 ∷ Stopped ∷ [];
       steps = 4 ∷ 9 ∷ 12 ∷ 7 ∷ [];
       capacities = 1 ∷ 1 ∷ 2 ∷ 1 ∷ [];
       streams = (numbers (1 ∷ 2 ∷ 3 ∷ [])) ∷ (numbers (1 ∷ 2 ∷ 3 ∷ [])) ∷ (numbers (1 ∷ 2 ∷ 3 ∷ [])) ∷ (numbers (1 ∷ 2 ∷ 3 ∷ 1 ∷ 2 ∷ 3 ∷ [])) ∷ [];
