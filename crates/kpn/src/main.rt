@@ -4,7 +4,7 @@
 use kpn_execute::serve;
 use kpn_front::say::WRITE_FAILED;
 use kpn_front::streams::Fallible;
-use kpn_front::words::WordsFault;
+use kpn_args::WordsFault;
 use std::process::ExitCode;
 use std::rt::{Clock, Env};
 use std::sync::Wait;

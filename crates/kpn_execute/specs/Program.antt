@@ -6,8 +6,8 @@ use Rattle.kpn_model.specs.Network.{Network}
 use Rattle.kpn_model.specs.Standard.{standard}
 use Rattle.kpn_standard.specs.Names.{named}
 use Rattle.kpn_standard.specs.Signatures.{signature}
-use Rattle.kpn_front.specs.declared.words.Choice.{Choice}
-use Rattle.kpn_front.specs.declared.words.Choice.TheVariants.{Check, Run}
+use Rattle.kpn_args.specs.declared.words.Choice.{Choice}
+use Rattle.kpn_args.specs.declared.words.Choice.TheVariants.{Check, Run}
 use Rattle.kpn_front.specs.Lines.{checked_line, refused_line, status_of_fault}
 use Rattle.kpn_front.specs.Loading.{Loads}
 use Rattle.kpn_execute.specs.Execution.{TellsOfBodies, Writes}

@@ -1,8 +1,8 @@
 //! The program, from its words and its input to what it writes.
 ghost use Rattle.std.specs.Prelude.{◌≡◌, ◌+◌, IfOk, IfErr, OnErr, map};
-ghost use Rattle.kpn_front.specs.Choices.{HasFewWorkers, IsChoice, IsWordsFault};
+ghost use Rattle.kpn_args.specs.Choices.{HasFewWorkers, IsChoice, IsWordsFault};
 ghost use Rattle.kpn_front.specs.Loading.{ReadsAtMost, longest};
-ghost use Rattle.kpn_front.specs.declared.words.Choice.{Choice as ChoiceV};
+ghost use Rattle.kpn_args.specs.declared.words.Choice.{Choice as ChoiceV};
 ghost use Rattle.kpn_execute.specs.Program.{Serves};
 
 use crate::standard::execute_standard;
@@ -10,7 +10,7 @@ use kpn_body::Standard;
 use kpn_front::load::load;
 use kpn_front::say::{say_checked, say_refused};
 use kpn_front::streams::{Sink, Source};
-use kpn_front::words::{Choice, WordsFault, read_words};
+use kpn_args::{Choice, WordsFault, read_words};
 use kpn_net::{Net, NetFault};
 use std::alloc::Global;
 use std::rt::Clock;

@@ -1,4 +1,2 @@
-pub mod Entries
 pub mod Loaded
-pub mod Subcommands
 pub mod Writing

@@ -1,4 +1,2 @@
-pub mod Command
-pub mod Choices
 pub mod Lines
 pub mod Loading

@@ -1,9 +1,6 @@
-//! The ends of the program: its words, its input and its lines.
+//! The ends of the program: its input and its lines.
 #![tactic(auto)]
 
 pub mod load;
 pub mod say;
 pub mod streams;
-#[cfg(test)]
-mod tests;
-pub mod words;

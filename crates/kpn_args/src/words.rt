@@ -2,8 +2,8 @@
 ghost use Rattle.std.specs.Prelude.{◌≡◌, ◌≤◌, IfOk, IfErr, Some, false, map, option_map, codes, if◌then◌else◌};
 ghost use Rattle.clap.specs.Words.{FailsBy, app_of, fault_of, first_of, found_of, rows_of, rule_of, subcommand_of, subcommand_rows_of};
 ghost use Rattle.clap.specs.declared.builder.command.Command.TheViews.{out-Command as fields_of};
-ghost use Rattle.kpn_front.specs.Command.{kpn, check_command, run_command, workers_rule, show_rule};
-ghost use Rattle.kpn_front.specs.Choices.{IsWorkers, WorkersFrom, IsRefusedWorkers, HasFewWorkers, IsChoice, IsChoiceOf, AreTaken, IsWordsFault, asks_for_help};
+ghost use Rattle.kpn_args.specs.Command.{kpn, check_command, run_command, workers_rule, show_rule};
+ghost use Rattle.kpn_args.specs.Choices.{IsWorkers, WorkersFrom, IsRefusedWorkers, HasFewWorkers, IsChoice, IsChoiceOf, AreTaken, IsWordsFault, asks_for_help};
 
 use clap::error::ErrorKind;
 use clap::{Arg, ArgMatches, Command};
@@ -77,7 +77,7 @@ impl WordsFault {
 }
 
 impl fmt::Display for WordsFault {
-    ghost use Rattle.kpn_front.specs.Choices.{text_of};
+    ghost use Rattle.kpn_args.specs.Choices.{text_of};
 
     ghost output = { text_of };
 

@@ -1,7 +1,7 @@
 use Rattle.std.proofs.Common.{rules}
-use Rattle.kpn_front.proofs.Subcommands.{names_no_other, names_some}
-use Rattle.kpn_front.proofs.words.read_words.Goals.{in_default-via-in-Some+in_default, in_default-via-in_default}
-use Rattle.kpn_front.proofs.words.read_words.Goals as goal
+use Rattle.kpn_args.proofs.Subcommands.{names_no_other, names_some}
+use Rattle.kpn_args.proofs.words.read_words.Goals.{in_default-via-in-Some+in_default, in_default-via-in_default}
+use Rattle.kpn_args.proofs.words.read_words.Goals as goal
 
 -- words that are taken name `check` or `run`
 pub unreachable-requires : goal.unreachable-requires

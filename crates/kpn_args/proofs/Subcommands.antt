@@ -6,8 +6,8 @@ use Rattle.clap.specs.Kinds.{Kinds, or_else}
 use Rattle.clap.specs.Faults.{check_fault, defaults_fault, entered_fault, level_fault, settle_fault, walk_fault}
 use Rattle.clap.specs.Walk.{Held, Names, finished, nothing_held, settled, walk, walk_from}
 use Rattle.clap.specs.Simple.{Shape, argument_words, entered, names_of, rows_at}
-use Rattle.kpn_front.specs.Choices.{AreTaken}
-use Rattle.kpn_front.specs.Command.{kpn}
+use Rattle.kpn_args.specs.Choices.{AreTaken}
+use Rattle.kpn_args.specs.Command.{kpn}
 
 -- the command line is one whose answers clap's clauses tell
 pub is_simple : is_simple_and_free kpn ≡ true

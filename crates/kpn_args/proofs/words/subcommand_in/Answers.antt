@@ -1,5 +1,5 @@
-use Rattle.kpn_front.proofs.Entries.{rows_of_pair}
-use Rattle.kpn_front.proofs.words.subcommand_in.Goals as goal
+use Rattle.kpn_args.proofs.Entries.{rows_of_pair}
+use Rattle.kpn_args.proofs.words.subcommand_in.Goals as goal
 
 pub returns : goal.returns
 returns c = rows_of_pair c.subcommand.result _ c.subcommand.ensures.name c.subcommand.ensures.rows

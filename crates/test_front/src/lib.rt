@@ -1,0 +1,7 @@
+//! Tests of kpn_front and kpn_args, in a crate of their own so that these are proved once.
+#![tactic(auto)]
+
+#[cfg(test)]
+mod arguments;
+#[cfg(test)]
+mod texts;
