@@ -12,9 +12,9 @@ use Rattle.kpn_model.specs.Network.{Family, Network, channel_of}
 use Rattle.kpn_model.specs.Semantics.{State, capacity, IsOver}
 use Rattle.kpn_model.specs.History.{growths}
 use Rattle.kpn_model.specs.Moments.{IsBound}
-use Rattle.kpn_model.specs.Standard.{standard}
+use Rattle.kpn_standard.specs.Standard.{standard}
 use Rattle.kpn_laws.specs.RoomOfRun.{TakesAtMost, TakesLeastRoom}
-use Rattle.kpn_laws.specs.WorkedRoom.{longer_parks_case, TwoPlacesSuffice}
+use Rattle.test_laws.specs.WorkedRoom.{longer_parks_case, TwoPlacesSuffice}
 use Rattle.example_least_room.specs.Growth.{entry_grows}
 use Rattle.kpn_machine.specs.MachineView.{MachineView, EndHolds, IsFaithful}
 

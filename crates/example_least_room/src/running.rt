@@ -3,13 +3,13 @@ ghost use Rattle.std.specs.Prelude.{◌≡◌, ◌≢◌, ℕ, ◌<◌, ◌≤�
 ghost use Rattle.kpn_model.specs.declared.history.End.TheVariants.{Budget, Ceiling};
 ghost use Rattle.kpn_model.specs.Semantics.{capacity};
 ghost use Rattle.kpn_model.specs.History.{growths};
-ghost use Rattle.kpn_model.specs.Standard.{standard};
+ghost use Rattle.kpn_standard.specs.Standard.{standard};
 ghost use Rattle.kpn_state.specs.Standings.{is_out};
-ghost use Rattle.kpn_laws.specs.WorkedRoom.{longer_parks_case};
+ghost use Rattle.test_laws.specs.WorkedRoom.{longer_parks_case};
 ghost use Rattle.example_least_room.specs.Growth.{entry_grows};
 
 use kpn_body::Body;
-use kpn_laws::worked_room;
+use test_laws::worked_room;
 use kpn_machine::Machine;
 use kpn_net::Entry;
 

@@ -1,10 +1,10 @@
 //! The run of Parks's case with a counter of five: its end, its growths and its length, as worked out by
 //! hand.
 ghost use Rattle.std.specs.Prelude.{◌≡◌, ◌<◌, All, IfSome, IsSome, Some, length, slice_get};
-ghost use Rattle.kpn_model.specs.Standard.{standard};
+ghost use Rattle.kpn_standard.specs.Standard.{standard};
 ghost use Rattle.kpn_body.specs.Standard.{signature, Admitted};
 ghost use Rattle.kpn_machine.specs.Opening.{cards_of};
-ghost use Rattle.kpn_laws.specs.WorkedRoom.{longer_parks_case as the_case};
+ghost use Rattle.test_laws.specs.WorkedRoom.{longer_parks_case as the_case};
 
 use crate::*;
 use kpn_body::{Body, Call, Standard, StandardBody, answer};

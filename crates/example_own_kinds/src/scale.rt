@@ -1,6 +1,6 @@
 //! A closure of a caller's own for a standard kind.
 ghost use Rattle.std.specs.Prelude.{◌≡◌, ◌*◌, ◌%◌, ◌^◌, ◌∷◌, [], IfOk};
-ghost use Rattle.kpn_model.specs.Standard.{standard, says};
+ghost use Rattle.kpn_standard.specs.Standard.{standard, says};
 ghost use Rattle.kpn_body.specs.Standard.{card, Admitted};
 
 use crate::asked::answer_of;

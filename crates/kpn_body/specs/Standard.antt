@@ -1,5 +1,5 @@
 -- What the contracts of standard bodies speak of, for crates that use this one alone.
-pub use Rattle.kpn_model.specs.Standard.{standard}
+pub use Rattle.kpn_standard.specs.Standard.{standard}
 pub use Rattle.kpn_standard.specs.Signatures.{card, signature}
 pub use Rattle.kpn_standard.specs.Locals.{one, two, three}
 pub use Rattle.kpn_standard.specs.Admitted.{Admitted}

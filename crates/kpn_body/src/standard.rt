@@ -1,6 +1,6 @@
 //! The bodies of the standard kinds.
 ghost use Rattle.std.specs.Prelude.{◌≡◌, IsSome};
-ghost use Rattle.kpn_model.specs.Standard.{standard};
+ghost use Rattle.kpn_standard.specs.Standard.{standard};
 ghost use Rattle.kpn_standard.specs.Signatures.{signature};
 ghost use Rattle.kpn_standard.specs.Admitted.{Admitted};
 ghost use Rattle.kpn_body.specs.Calls.{IsCallable, Answers, answers_prop};

@@ -1,6 +1,6 @@
 //! Tasks of standard bodies: what the readers give, and two lines of the table of kinds.
 ghost use Rattle.std.specs.Prelude.{◌≡◌, IsSome, IfOk};
-ghost use Rattle.kpn_model.specs.Standard.{standard};
+ghost use Rattle.kpn_standard.specs.Standard.{standard};
 ghost use Rattle.kpn_standard.specs.Signatures.{signature};
 ghost use Rattle.kpn_standard.specs.Admitted.{Admitted};
 

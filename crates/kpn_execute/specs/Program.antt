@@ -3,7 +3,7 @@ use Rattle.std.specs.Prelude.{◌≡◌, ℕ, Bool, true, false, List, Option, S
 use Rattle.kpn_net.specs.declared.fault.NetFault.{NetFault}
 use Rattle.kpn_net.specs.declared.fault.NetFault.TheVariants.{Input}
 use Rattle.kpn_model.specs.Network.{Network}
-use Rattle.kpn_model.specs.Standard.{standard}
+use Rattle.kpn_standard.specs.Standard.{standard}
 use Rattle.kpn_standard.specs.Names.{named}
 use Rattle.kpn_standard.specs.Signatures.{signature}
 use Rattle.kpn_args.specs.declared.words.Choice.{Choice}

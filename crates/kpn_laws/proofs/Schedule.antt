@@ -15,7 +15,6 @@ use Rattle.kpn_model.specs.declared.history.Status.{Status}
 use Rattle.kpn_model.specs.declared.history.Status.TheVariants.{Live, Done}
 use Rattle.kpn_model.specs.Semantics.{State, tokens, capacity, wants, start, after_deed, with_channel}
 use Rattle.kpn_model.specs.History.{Digest, digest}
-use Rattle.kpn_model.specs.Standard.{standard}
 
 -- a turn: this process goes on, or the channel to which it wants to write grows
 pub data Turn : Type 0 where
@@ -162,7 +161,3 @@ module _ (kinds : Family) (net : Network) where
   -- the digest of the run of this schedule, if it can be run and is over for this cause
   abbrev pub digest_of : End → List Turn → Option Digest
   digest_of cause ts = digested cause (played (start kinds net) ts)
-
--- the history and the state that a schedule of a network of the standard kinds leads to
-abbrev pub led : Network → State → List Turn → List Entry × State
-led net M ts = unwrap_or (played standard net M ts) ([], M)

@@ -1,13 +1,6 @@
 pub mod Digested
-pub mod Building
-pub mod Ends
-pub mod Growing
-pub mod Computing
 pub mod ValidRuns
 pub mod Sufficient
 pub mod LeastRoom
 pub mod Completion
 pub mod RoomOfRun
-pub mod WorkedRoom
-pub mod ChangedRules
-pub mod ChangedBounds

@@ -5,20 +5,12 @@
 //! docs/least-room.md tell the proofs' ideas.
 #![tactic(auto)]
 
-mod bounds;
-mod changed;
 mod ending;
 mod outcome;
 mod room;
 mod run;
-mod sufficing;
-mod worked;
 
-pub use bounds::changed_bounds;
-pub use changed::changed_definitions;
 pub use ending::{completion, completion_of};
 pub use outcome::{determinacy, determinacy_of};
 pub use room::{least_room, least_room_of};
 pub use run::{moments, typed_runs, valid_runs};
-pub use sufficing::worked_room;
-pub use worked::worked_networks;

@@ -6,4 +6,3 @@ pub mod Determinacy
 pub mod Moments
 pub mod Name
 pub mod Valid
-pub mod Standard

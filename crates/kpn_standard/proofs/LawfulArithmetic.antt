@@ -1,7 +1,7 @@
 -- The answers of add and scale are lawful.
 use Rattle.std.proofs.Common.{◌≡◌, ℕ, List, Option, Some, IsSome, refl, arith}
 use Rattle.kpn_model.specs.declared.token.Token.{Token}
-use Rattle.kpn_model.specs.Standard.{got, add, scale}
+use Rattle.kpn_standard.specs.Standard.{got, add, scale}
 use Rattle.kpn_standard.specs.Signatures.{card, signature, one_word, two_words}
 use Rattle.kpn_standard.specs.Locals.{IsLocal, LastFits}
 use Rattle.kpn_standard.specs.Arithmetic.{Add, Scale, add_reads_first, add_reads_second, add_writes, scale_reads, scale_writes}

@@ -1,7 +1,7 @@
 -- The answers of take, copy and prefix are lawful.
 use Rattle.std.proofs.Common.{◌≡◌, ℕ, ◌+◌, ◌≤◌, List, Option, Some, None, IsSome, refl, arith}
 use Rattle.kpn_model.specs.declared.token.Token.{Token}
-use Rattle.kpn_model.specs.Standard.{at, got, take, copy, prefix}
+use Rattle.kpn_standard.specs.Standard.{at, got, take, copy, prefix}
 use Rattle.kpn_standard.specs.Signatures.{card, signature, one_word, two_words}
 use Rattle.kpn_standard.specs.Locals.{two, IsLocal, LastFits}
 use Rattle.kpn_standard.specs.Copies.{Take, Copy, Prefix, take_reads, take_writes, take_stops, copy_reads, copy_writes_first, copy_writes_second, prefix_begins, prefix_reads, prefix_writes}

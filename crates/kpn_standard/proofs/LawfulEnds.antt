@@ -3,7 +3,7 @@ use Rattle.std.proofs.Common.{◌≡◌, ℕ, ◌+◌, ◌<◌, ◌≤◌, ◌^�
 use Rattle.std.proofs.lemmas.Bool.{and_parts}
 use Rattle.kpn_model.specs.declared.token.Token.{Token}
 use Rattle.kpn_model.specs.declared.token.Token.TheVariants.{Word}
-use Rattle.kpn_model.specs.Standard.{at, got, count, sink}
+use Rattle.kpn_standard.specs.Standard.{at, got, count, sink}
 use Rattle.kpn_standard.specs.Signatures.{card, signature, no_port, one_word}
 use Rattle.kpn_standard.specs.Locals.{one, IsLocal, LastFits}
 use Rattle.kpn_standard.specs.Ends.{Count, Sink, count_writes, count_stops, sink_reads_first, sink_reads_next, sink_reads_none, sink_stops}

@@ -1,7 +1,7 @@
 -- The answers of divides, switch and select are lawful.
 use Rattle.std.proofs.Common.{◌≡◌, ℕ, List, Option, Some, IsSome, refl, arith}
 use Rattle.kpn_model.specs.declared.token.Token.{Token}
-use Rattle.kpn_model.specs.Standard.{got, divides, switch, select}
+use Rattle.kpn_standard.specs.Standard.{got, divides, switch, select}
 use Rattle.kpn_standard.specs.Signatures.{card, signature, one_word, two_words, one_flag, word_and_flag, two_words_and_flag}
 use Rattle.kpn_standard.specs.Locals.{IsLocal, LastFits}
 use Rattle.kpn_standard.specs.Flags.{Divides, Switch, Select, divides_reads, divides_writes, switch_reads_flag, switch_reads_word, switch_writes_first, switch_writes_second, select_reads_flag, select_reads_word, select_writes}

@@ -4,7 +4,7 @@ use Rattle.std.proofs.lemmas.Bool.{and_parts}
 use Rattle.kpn_model.specs.declared.token.Token.{Token}
 use Rattle.kpn_model.specs.declared.kinds.Card.{Card}
 use Rattle.kpn_model.specs.Lawful.{CardFits, AreLawful}
-use Rattle.kpn_model.specs.Standard.{at, got, answer_by_number, standard}
+use Rattle.kpn_standard.specs.Standard.{at, got, answer_by_number, standard}
 use Rattle.kpn_standard.specs.Signatures.{card, signature}
 use Rattle.kpn_standard.specs.Locals.{IsLocal, LastFits, one}
 use Rattle.kpn_standard.specs.Ends.{Count, Sink, count_writes, count_stops, sink_reads_first, sink_reads_none}

@@ -3,7 +3,7 @@ use Rattle.std.proofs.Common.{◌≡◌, ℕ, ◌+◌, ◌<◌, ◌^◌, ◌&&�
 use Rattle.std.proofs.lemmas.Bool.{and_parts}
 use Rattle.kpn_model.specs.declared.token.Token.{Token}
 use Rattle.kpn_model.specs.declared.token.Token.TheVariants.{Word}
-use Rattle.kpn_model.specs.Standard.{at, got, emit, weave, merge}
+use Rattle.kpn_standard.specs.Standard.{at, got, emit, weave, merge}
 use Rattle.kpn_standard.specs.Signatures.{card, signature, one_word, two_words}
 use Rattle.kpn_standard.specs.Locals.{two, IsLocal, LastFits}
 use Rattle.kpn_standard.specs.Merging.{Weave, Merge, weave_reads_first, weave_writes_first, weave_turns_to_second, weave_reads_second, weave_writes_second, weave_turns_to_first, merge_reads_first, merge_reads_second, merge_has_second, merge_refills_first, merge_refills_second, merge_has_first}

@@ -9,7 +9,7 @@ use Rattle.kpn_model.specs.declared.kinds.Signature.{Signature}
 use Rattle.kpn_model.specs.declared.kinds.Act.TheVariants.{Read, Write, Stop}
 use Rattle.kpn_model.specs.declared.kinds.Answer.{Answer}
 use Rattle.kpn_model.specs.Lawful.{sort_of, Fits, port_at, in_sort, out_sort, NamesPort, LeadsOn}
-use Rattle.kpn_model.specs.Standard.{at}
+use Rattle.kpn_standard.specs.Standard.{at}
 use Rattle.kpn_standard.specs.Signatures.{given, signature}
 use Rattle.kpn_standard.specs.Admitted.{Admitted}
 

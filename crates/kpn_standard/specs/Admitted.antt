@@ -2,7 +2,7 @@
 use Rattle.std.specs.Prelude.{ℕ, ◌==◌, Bool, true, false, List, Option}
 use Rattle.kpn_model.specs.declared.token.Token.{Token}
 use Rattle.kpn_model.specs.declared.kinds.Card.{Card}
-use Rattle.kpn_model.specs.Standard.{at}
+use Rattle.kpn_standard.specs.Standard.{at}
 use Rattle.kpn_standard.specs.Locals.{IsLocal, LastFits}
 use Rattle.kpn_standard.specs.Ends.{Count, Sink}
 use Rattle.kpn_standard.specs.Copies.{Take, Copy, Prefix}

@@ -1,3 +1,4 @@
+pub mod Standard
 pub mod Names
 pub mod Signatures
 pub mod Locals

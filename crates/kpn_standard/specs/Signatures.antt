@@ -4,7 +4,7 @@ use Rattle.kpn_model.specs.declared.token.Sort.{Sort}
 use Rattle.kpn_model.specs.declared.token.Sort.TheVariants.{Words, Flags}
 use Rattle.kpn_model.specs.declared.kinds.Card.{Card}
 use Rattle.kpn_model.specs.declared.kinds.Signature.{Signature}
-use Rattle.kpn_model.specs.Standard.{at}
+use Rattle.kpn_standard.specs.Standard.{at}
 
 -- the card of a kind with these arguments
 abbrev pub card : ℕ → List ℕ → Card

@@ -1,6 +1,6 @@
 //! The kinds that write flags, or go by them.
 ghost use Rattle.std.specs.Prelude.{◌≡◌, IsSome};
-ghost use Rattle.kpn_model.specs.Standard.{standard};
+ghost use Rattle.kpn_standard.specs.Standard.{standard};
 ghost use Rattle.kpn_standard.specs.Signatures.{card, signature};
 ghost use Rattle.kpn_standard.specs.Admitted.{Admitted};
 

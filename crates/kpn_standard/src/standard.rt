@@ -1,5 +1,5 @@
 //! The family of the standard kinds.
-ghost use Rattle.kpn_model.specs.Standard.{standard};
+ghost use Rattle.kpn_standard.specs.Standard.{standard};
 ghost use Rattle.kpn_standard.specs.Names.{named as number_named};
 ghost use Rattle.kpn_standard.specs.Signatures.{signature as standard_signature};
 ghost use Rattle.kpn_standard.specs.Admitted.{Admitted};

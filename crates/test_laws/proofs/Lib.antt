@@ -1,1 +1,6 @@
+mod Led
+mod WorkedNetworks
+mod Counterexamples
+mod WorkedRoom
+mod ChangedBounds
 mod ParksCase

@@ -5,7 +5,7 @@ use Rattle.std.specs.List.{All}
 use Rattle.kpn_model.specs.declared.parts.Process.{Process}
 use Rattle.kpn_model.specs.declared.parts.Channel.{Channel}
 use Rattle.kpn_model.specs.Lawful.{CardFits, Fits as TokenFits}
-use Rattle.kpn_model.specs.Standard.{standard}
+use Rattle.kpn_standard.specs.Standard.{standard}
 use Rattle.kpn_model.specs.Valid.{IsValid}
 use Rattle.kpn_net.proofs.ValidNet.{valid}
 use Rattle.kpn_standard.specs.Names.{named}

@@ -1,2 +1,9 @@
+pub mod Building
+pub mod Ends
+pub mod Growing
+pub mod Computing
+pub mod WorkedRoom
+pub mod ChangedRules
+pub mod ChangedBounds
 pub mod Unbounded
 pub mod Parks

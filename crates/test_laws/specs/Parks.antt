@@ -10,7 +10,7 @@ use Rattle.kpn_model.specs.Network.{Network, resized}
 use Rattle.kpn_model.specs.History.{Digest}
 use Rattle.kpn_net.specs.Sketched.{net_of}
 use Rattle.kpn_standard.specs.Names.{named}
-use Rattle.kpn_laws.specs.Building.{numbers}
+use Rattle.test_laws.specs.Building.{numbers}
 
 abbrev pub process : List ℕ → List ℕ → List ℤ → ProcessSketch
 process name kind args = record { name = name; kind = kind; args = args }

@@ -1,9 +1,17 @@
-//! What meets the premises of the laws: theorems that show of each premise that something meets it,
-//! and of one that without it the law is false.
+//! What meets the premises of the laws, networks that were worked out by hand, and definitions that were
+//! changed, of which a law is then false.
 //!
 //! A function here does nothing: what it ensures is proved.
 #![tactic(auto)]
 
+mod bounds;
+mod changed;
 mod premises;
+mod sufficing;
+mod worked;
 
+pub use bounds::changed_bounds;
+pub use changed::changed_definitions;
 pub use premises::{parks_case_meets_the_premises, standard_kinds_are_lawful};
+pub use sufficing::worked_room;
+pub use worked::worked_networks;

@@ -1,5 +1,5 @@
 //! The standard kinds are lawful, and Parks's case is a valid network of them.
-ghost use Rattle.kpn_model.specs.Standard.{standard};
+ghost use Rattle.kpn_standard.specs.Standard.{standard};
 ghost use Rattle.kpn_model.specs.Lawful.{AreLawful};
 ghost use Rattle.kpn_model.specs.Valid.{IsValid, StaysWellTyped};
 ghost use Rattle.kpn_standard.specs.Signatures.{signature};

@@ -1,6 +1,6 @@
 //! Two closures that wait for each other.
 ghost use Rattle.std.specs.Prelude.{◌≡◌, IsSome};
-ghost use Rattle.kpn_model.specs.Standard.{standard};
+ghost use Rattle.kpn_standard.specs.Standard.{standard};
 ghost use Rattle.kpn_body.specs.Standard.{signature, Admitted};
 
 use crate::bodies::{Parts, parts_of};

@@ -1,5 +1,5 @@
 use Rattle.std.proofs.Common.{ap, Some, None, sym, ◌∙◌, ◌≤◌, length, arith}
-use Rattle.kpn_model.specs.Standard.{standard}
+use Rattle.kpn_standard.specs.Standard.{standard}
 use Rattle.example_own_kinds.proofs.Cards.{one_more, of_all}
 use Rattle.example_own_kinds.proofs.bodies.first_answers.Goals as goal
 

@@ -6,9 +6,9 @@ use Rattle.kpn_model.specs.declared.history.Entry.{Entry}
 use Rattle.kpn_model.specs.Network.{Network}
 use Rattle.kpn_model.specs.Semantics.{State, capacity}
 use Rattle.kpn_model.specs.Determinacy.{IsRun}
-use Rattle.kpn_model.specs.Standard.{standard}
+use Rattle.kpn_standard.specs.Standard.{standard}
 use Rattle.kpn_laws.specs.Sufficient.{EndsWithin, LastsWithin}
-use Rattle.kpn_laws.specs.Building.{count, sink, copy, scale, weave, words, holding, numbers, network}
+use Rattle.test_laws.specs.Building.{count, sink, copy, scale, weave, words, holding, numbers, network}
 
 -- a process and a channel with a name, as a description gives them
 abbrev pub process_named : List ℕ → Process → Process

@@ -1,6 +1,6 @@
 -- Networks for which a known number of places suffices.
-use Rattle.kpn_laws.proofs.WorkedRoom.{two_places_suffice, never_three, ring_lasts}
-use Rattle.kpn_laws.proofs.sufficing.worked_room.Goals as goal
+use Rattle.test_laws.proofs.WorkedRoom.{two_places_suffice, never_three, ring_lasts}
+use Rattle.test_laws.proofs.sufficing.worked_room.Goals as goal
 
 pub returns-clause-parks_case : goal.returns-clause-parks_case
 returns-clause-parks_case c = two_places_suffice

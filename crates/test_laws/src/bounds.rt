@@ -1,6 +1,6 @@
 //! Bounds that would not do.
-ghost use Rattle.kpn_laws.specs.ChangedRules.{EarlyGrowth};
-ghost use Rattle.kpn_laws.specs.ChangedBounds.{GrowsBelowBy, GreatestGrows, EachBelowItsOwn, StaysUpTo};
+ghost use Rattle.test_laws.specs.ChangedRules.{EarlyGrowth};
+ghost use Rattle.test_laws.specs.ChangedBounds.{GrowsBelowBy, GreatestGrows, EachBelowItsOwn, StaysUpTo};
 
 /// The bound of `least_room` changed in four ways, each of which fails, of networks of the standard
 /// kinds.

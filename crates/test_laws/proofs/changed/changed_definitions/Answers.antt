@@ -1,6 +1,6 @@
 -- The laws that fail of the changed definitions.
-use Rattle.kpn_laws.proofs.Counterexamples.{early_growth_fails, put_into_full_overfills, put_into_full_fails, any_of_equal_fails, taken_does_not_tell}
-use Rattle.kpn_laws.proofs.changed.changed_definitions.Goals as goal
+use Rattle.test_laws.proofs.Counterexamples.{early_growth_fails, put_into_full_overfills, put_into_full_fails, any_of_equal_fails, taken_does_not_tell}
+use Rattle.test_laws.proofs.changed.changed_definitions.Goals as goal
 
 pub returns-clause-early_growth : goal.returns-clause-early_growth
 returns-clause-early_growth c = early_growth_fails

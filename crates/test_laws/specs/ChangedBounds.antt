@@ -6,9 +6,9 @@ use Rattle.kpn_model.specs.declared.history.End.{End}
 use Rattle.kpn_model.specs.Network.{Network, channel_of, resized}
 use Rattle.kpn_model.specs.Semantics.{State, start, tokens, capacity, with_channel, Does, IsBlocked, IsArtificial, IsChosen}
 use Rattle.kpn_model.specs.Determinacy.{IsRun, IsFinal, IsNatural}
-use Rattle.kpn_model.specs.Standard.{standard}
+use Rattle.kpn_standard.specs.Standard.{standard}
 use Rattle.kpn_laws.specs.Sufficient.{Suffices}
-use Rattle.kpn_laws.specs.ChangedRules.{RunBy}
+use Rattle.test_laws.specs.ChangedRules.{RunBy}
 
 -- where b places suffice, a growth by this rule is from fewer
 abbrev pub GrowsBelowBy : (Network → State → Entry → State → Type 0) → Type 0

@@ -4,9 +4,9 @@ use Rattle.kpn_model.specs.declared.history.End.TheVariants.{Terminated, Deadloc
 use Rattle.kpn_model.specs.declared.history.Place.TheVariants.{Stopped, Reads}
 use Rattle.kpn_model.specs.Network.{Network}
 use Rattle.kpn_model.specs.History.{Digest}
-use Rattle.kpn_model.specs.Standard.{standard}
+use Rattle.kpn_standard.specs.Standard.{standard}
 use Rattle.kpn_laws.specs.Digested.{HasDigest}
-use Rattle.kpn_laws.specs.Building.{count, sink, take, copy, words, holding, numbers, network}
+use Rattle.test_laws.specs.Building.{count, sink, take, copy, words, holding, numbers, network}
 
 -- a counter of three into a sink of three: both stop, and nothing is left
 abbrev pub counter_into_sink : Network

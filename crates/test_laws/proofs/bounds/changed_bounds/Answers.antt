@@ -1,6 +1,6 @@
 -- The bounds that do not hold.
-use Rattle.kpn_laws.proofs.ChangedBounds.{greatest_grows_fails, early_growth_fails, each_below_its_own_fails, stays_up_to_fails}
-use Rattle.kpn_laws.proofs.bounds.changed_bounds.Goals as goal
+use Rattle.test_laws.proofs.ChangedBounds.{greatest_grows_fails, early_growth_fails, each_below_its_own_fails, stays_up_to_fails}
+use Rattle.test_laws.proofs.bounds.changed_bounds.Goals as goal
 
 pub returns-clause-greatest_first : goal.returns-clause-greatest_first
 returns-clause-greatest_first c = greatest_grows_fails

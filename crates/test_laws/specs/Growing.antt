@@ -4,9 +4,9 @@ use Rattle.kpn_model.specs.declared.history.End.TheVariants.{Terminated, Deadloc
 use Rattle.kpn_model.specs.declared.history.Place.TheVariants.{Stopped, Reads, Writes}
 use Rattle.kpn_model.specs.Network.{Network}
 use Rattle.kpn_model.specs.History.{Digest}
-use Rattle.kpn_model.specs.Standard.{standard}
+use Rattle.kpn_standard.specs.Standard.{standard}
 use Rattle.kpn_laws.specs.Digested.{HasDigest}
-use Rattle.kpn_laws.specs.Building.{count, sink, copy, weave, words, numbers, network}
+use Rattle.test_laws.specs.Building.{count, sink, copy, weave, words, numbers, network}
 
 -- the sink stops after one token: the channel grows by one, so that the counter can stop too
 abbrev pub counter_outlives_sink : Network

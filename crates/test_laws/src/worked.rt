@@ -1,7 +1,7 @@
 //! Networks whose outcome is written out.
-ghost use Rattle.kpn_laws.specs.Ends.{CounterIntoSink, SinkWaitsForOneMore, SinkStopsEarly, NothingToCount, DeadFromTheStart, StartTokens};
-ghost use Rattle.kpn_laws.specs.Growing.{CounterOutlivesSink, EqualCapacities, SmallestFullChannelGrows, FullChannelOfStoppedWriter, GrowthStep, CeilingReached, ParksCase};
-ghost use Rattle.kpn_laws.specs.Computing.{ProductsWrap, SwitchedByFlags, RunningSums, MergedInOrder};
+ghost use Rattle.test_laws.specs.Ends.{CounterIntoSink, SinkWaitsForOneMore, SinkStopsEarly, NothingToCount, DeadFromTheStart, StartTokens};
+ghost use Rattle.test_laws.specs.Growing.{CounterOutlivesSink, EqualCapacities, SmallestFullChannelGrows, FullChannelOfStoppedWriter, GrowthStep, CeilingReached, ParksCase};
+ghost use Rattle.test_laws.specs.Computing.{ProductsWrap, SwitchedByFlags, RunningSums, MergedInOrder};
 
 /// Worked networks of the standard kinds. Each clause says of its network that some run which is over
 /// has the digest written there, and that every other run which is over has the same: whichever

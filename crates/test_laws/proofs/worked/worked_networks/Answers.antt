@@ -1,6 +1,6 @@
 -- The worked networks.
-use Rattle.kpn_laws.proofs.WorkedNetworks.{has_counter_into_sink, has_sink_waits_for_one_more, has_sink_stops_early, has_nothing_to_count, has_dead_from_the_start, has_start_tokens, has_counter_outlives_sink, has_equal_capacities, has_smallest_full_channel_grows, has_full_channel_of_stopped_writer, has_growth_step, has_ceiling_reached, has_parks_case, has_products_wrap, has_switched_by_flags, has_running_sums, has_merged_in_order}
-use Rattle.kpn_laws.proofs.worked.worked_networks.Goals as goal
+use Rattle.test_laws.proofs.WorkedNetworks.{has_counter_into_sink, has_sink_waits_for_one_more, has_sink_stops_early, has_nothing_to_count, has_dead_from_the_start, has_start_tokens, has_counter_outlives_sink, has_equal_capacities, has_smallest_full_channel_grows, has_full_channel_of_stopped_writer, has_growth_step, has_ceiling_reached, has_parks_case, has_products_wrap, has_switched_by_flags, has_running_sums, has_merged_in_order}
+use Rattle.test_laws.proofs.worked.worked_networks.Goals as goal
 
 pub returns-clause-counter_into_sink : goal.returns-clause-counter_into_sink
 returns-clause-counter_into_sink c = has_counter_into_sink

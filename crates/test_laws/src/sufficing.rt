@@ -1,5 +1,5 @@
 //! Networks for which it is known how many places suffice.
-ghost use Rattle.kpn_laws.specs.WorkedRoom.{TwoPlacesSuffice, NeverThree, RingLasts};
+ghost use Rattle.test_laws.specs.WorkedRoom.{TwoPlacesSuffice, NeverThree, RingLasts};
 
 /// Networks of the standard kinds for which a known number of places suffices, so that the laws of
 /// `least_room` have their premise there.

@@ -12,13 +12,14 @@ use Rattle.kpn_model.specs.Network.{Network}
 use Rattle.kpn_model.specs.Semantics.{State, start, tokens, with_channel, after_deed, IsDeed, Step, Run}
 use Rattle.kpn_model.specs.History.{Digest}
 use Rattle.kpn_model.specs.Moments.{IsWithin}
-use Rattle.kpn_model.specs.Standard.{standard}
-use Rattle.kpn_laws.specs.Ends.{counter_into_sink}
-use Rattle.kpn_laws.specs.Growing.{counter_outlives_sink, equal_capacities}
-use Rattle.kpn_laws.specs.ChangedRules.{RunBy, OneDigestBy, AlwaysWithinBy, EarlyGrowth, IsDeedAnyway, PutIntoFull, AnyOfEqual, TakenTells}
-use Rattle.kpn_laws.proofs.Schedule.{Go, Grow, led}
+use Rattle.kpn_standard.specs.Standard.{standard}
+use Rattle.test_laws.specs.Ends.{counter_into_sink}
+use Rattle.test_laws.specs.Growing.{counter_outlives_sink, equal_capacities}
+use Rattle.test_laws.specs.ChangedRules.{RunBy, OneDigestBy, AlwaysWithinBy, EarlyGrowth, IsDeedAnyway, PutIntoFull, AnyOfEqual, TakenTells}
+use Rattle.kpn_laws.proofs.Schedule.{Go, Grow}
+use Rattle.test_laws.proofs.Led.{led}
 use Rattle.kpn_laws.proofs.Replay.{played_sound, full_sound, chosen_sound, still_sound, over_sound}
-use Rattle.kpn_laws.proofs.WorkedNetworks.{has_counter_into_sink, has_counter_outlives_sink, has_equal_capacities}
+use Rattle.test_laws.proofs.WorkedNetworks.{has_counter_into_sink, has_counter_outlives_sink, has_equal_capacities}
 
 -- numbers that a test tells apart are not one
 different : (m n : ℕ) → m ≡ n → (m == n) ≡ false → ⊥

@@ -7,16 +7,17 @@ use Rattle.kpn_model.specs.declared.history.End.TheVariants.{Terminated}
 use Rattle.kpn_model.specs.Network.{Network, resized}
 use Rattle.kpn_model.specs.Semantics.{State, start, tokens, capacity, with_channel, Does, Run, IsArtificial, IsChosen}
 use Rattle.kpn_model.specs.History.{growths}
-use Rattle.kpn_model.specs.Standard.{standard}
+use Rattle.kpn_standard.specs.Standard.{standard}
 use Rattle.kpn_laws.specs.Sufficient.{EndsWithin}
-use Rattle.kpn_laws.specs.Ends.{counter_into_sink}
-use Rattle.kpn_laws.specs.Growing.{growth_step}
-use Rattle.kpn_laws.specs.WorkedRoom.{longer_parks_case}
-use Rattle.kpn_laws.specs.ChangedRules.{RunBy, EarlyGrowth}
-use Rattle.kpn_laws.specs.ChangedBounds.{GrowsBelowBy, GreatestGrows, EachBelowItsOwn, StaysUpTo}
-use Rattle.kpn_laws.proofs.Schedule.{Turn, Go, Grow, led}
+use Rattle.test_laws.specs.Ends.{counter_into_sink}
+use Rattle.test_laws.specs.Growing.{growth_step}
+use Rattle.test_laws.specs.WorkedRoom.{longer_parks_case}
+use Rattle.test_laws.specs.ChangedRules.{RunBy, EarlyGrowth}
+use Rattle.test_laws.specs.ChangedBounds.{GrowsBelowBy, GreatestGrows, EachBelowItsOwn, StaysUpTo}
+use Rattle.kpn_laws.proofs.Schedule.{Turn, Go, Grow}
+use Rattle.test_laws.proofs.Led.{led}
 use Rattle.kpn_laws.proofs.Replay.{played_sound, full_sound, chosen_sound, still_sound}
-use Rattle.kpn_laws.proofs.WorkedRoom.{bounded_sound, ends_by, ends_in_two}
+use Rattle.test_laws.proofs.WorkedRoom.{bounded_sound, ends_by, ends_in_two}
 
 module _ (rule : State → Entry → State → Type 0) (net : Network) (allows : (M : State) (p : ℕ) (d : Deed) (N : State) → Does standard net M p d N → rule M (Did p d) N) where
   -- a run without growths is one by a rule with the same deeds

@@ -5,9 +5,9 @@ use Rattle.kpn_model.specs.declared.history.End.TheVariants.{Deadlock}
 use Rattle.kpn_model.specs.declared.history.Place.TheVariants.{Stopped, Reads}
 use Rattle.kpn_model.specs.Network.{Network}
 use Rattle.kpn_model.specs.History.{Digest}
-use Rattle.kpn_model.specs.Standard.{standard}
+use Rattle.kpn_standard.specs.Standard.{standard}
 use Rattle.kpn_laws.specs.Digested.{HasDigest}
-use Rattle.kpn_laws.specs.Building.{count, sink, copy, add, scale, merge, divides, switch, words, flags, holding, numbers, network}
+use Rattle.test_laws.specs.Building.{count, sink, copy, add, scale, merge, divides, switch, words, flags, holding, numbers, network}
 
 -- twice 9,223,372,036,854,775,807, and two more: sums and products are taken modulo 2^64
 abbrev pub products_wrap : Network

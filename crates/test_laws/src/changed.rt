@@ -1,5 +1,5 @@
 //! Definitions that would not do.
-ghost use Rattle.kpn_laws.specs.ChangedRules.{OneDigestBy, AlwaysWithinBy, EarlyGrowth, PutIntoFull, AnyOfEqual, TakenTells};
+ghost use Rattle.test_laws.specs.ChangedRules.{OneDigestBy, AlwaysWithinBy, EarlyGrowth, PutIntoFull, AnyOfEqual, TakenTells};
 
 /// Four definitions changed, each with a law that then fails, of networks of the standard kinds.
 ///

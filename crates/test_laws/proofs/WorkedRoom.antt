@@ -7,10 +7,11 @@ use Rattle.kpn_model.specs.Network.{Network, channel_of, resized}
 use Rattle.kpn_model.specs.Semantics.{Held, State, start, capacity, Run}
 use Rattle.kpn_model.specs.History.{growths}
 use Rattle.kpn_model.specs.Determinacy.{IsNatural}
-use Rattle.kpn_model.specs.Standard.{standard}
+use Rattle.kpn_standard.specs.Standard.{standard}
 use Rattle.kpn_laws.specs.Sufficient.{EndsWithin}
-use Rattle.kpn_laws.specs.WorkedRoom.{longer_parks_case, TwoPlacesSuffice, NeverThree, ring, RingLasts}
-use Rattle.kpn_laws.proofs.Schedule.{Turn, Go, played, led, is_over}
+use Rattle.test_laws.specs.WorkedRoom.{longer_parks_case, TwoPlacesSuffice, NeverThree, ring, RingLasts}
+use Rattle.kpn_laws.proofs.Schedule.{Turn, Go, played, is_over}
+use Rattle.test_laws.proofs.Led.{led}
 use Rattle.kpn_laws.proofs.Replay.{both_true, played_sound, over_sound}
 use Rattle.kpn_laws.proofs.LeastRoom.{stays_below}
 

@@ -14,7 +14,7 @@ use Rattle.kpn_model.specs.Semantics.{State, start, wants, tokens, capacity, wit
 use Rattle.kpn_model.specs.History.{taken, digest}
 use Rattle.kpn_model.specs.Determinacy.{IsRun}
 use Rattle.kpn_model.specs.Moments.{IsWithin}
-use Rattle.kpn_model.specs.Standard.{standard}
+use Rattle.kpn_standard.specs.Standard.{standard}
 
 -- the entries lead from M to N, one step of this rule each
 abbrev pub RunBy : (State → Entry → State → Type 0) → State → List Entry → State → Type 0
