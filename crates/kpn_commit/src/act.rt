@@ -129,7 +129,7 @@ pub fn advance<K: Kinds>(
     ensures same { IfNone result (store.new ≡ store.old) }
     ensures same_places { IfNone result (standings.new ≡ standings.old) }
 {
-    net.processes();
+    net.assure_valid();
     let card = net.card(process);
     let Status::Live { local, last } = store.status(process) else {
         unreachable!()

@@ -42,7 +42,7 @@ fn settle_idle<K: Kinds>(net: &Net<K>, store: &mut Store, standings: &mut Roster
     ensures settles { Settles K.family net.now store.old standings.old result store.new standings.new }
     ensures keeps { StandingsFit K.family K.admits net.now None store.new.state standings.new }
 {
-    net.processes();
+    net.assure_valid();
     if standings.all_stopped() {
         return Settled::Ended(End::Terminated);
     }

@@ -90,7 +90,7 @@ impl<B: Body> Machine<B> {
                 fault: OpenFault::Memory,
             });
         };
-        net.processes();
+        net.assure_valid();
         let Start {
             store,
             standings,
@@ -113,10 +113,17 @@ impl<B: Body> Machine<B> {
         ensures end { result ≡ self.now.end }
         ensures faithful { IsFaithful B.Kinds.family B.Kinds.admits self.now }
     {
-        self.net.processes();
+        self.assure_faithful();
+        self.end
+    }
+
+    /// Does nothing: a caller knows from here on what is true of each machine at each time.
+    pub fn assure_faithful(&self)
+        ensures faithful { IsFaithful B.Kinds.family B.Kinds.admits self.now }
+    {
+        self.net.assure_valid();
         valid_runs();
         typed_runs::<B::Kinds>();
-        self.end
     }
 
     /// The entries so far.
@@ -290,7 +297,7 @@ impl<B: Body> Machine<B> {
         ensures back { standing self.new.standings finished.process ≢ Out }
         ensures others { (p : ℕ) → p ≢ finished.process → (standing self.new.standings p ≡ Out) ↔ (standing self.old.standings p ≡ Out) }
     {
-        self.net.processes();
+        self.net.assure_valid();
         let process = finished.process();
         let answer = finished.answer();
         self.bodies[process] = Some(finished.into_body());
@@ -343,7 +350,7 @@ impl<B: Body> Machine<B> {
     pub fn into_chronicle(self) -> Chronicle<B::Kinds>
         ensures { result ≡ self }
     {
-        self.end();
+        self.assure_faithful();
         let Machine {
             net,
             store,

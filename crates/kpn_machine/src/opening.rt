@@ -87,7 +87,7 @@ fn start_statuses<K: Kinds>(alloc: Global, net: &Net<K>) -> Result<Vec<Status>, 
 fn start_rings<K: Kinds>(alloc: Global, net: &Net<K>) -> Result<Vec<Ring>, AllocError>
     ensures { IfOk result (λ v. v.items ≡ map filled net.now.channels) }
 {
-    net.processes();
+    net.assure_valid();
     let mut rings = Vec::with_capacity(alloc, net.channels())?;
     for c in 0..net.channels() {
         rings.push(Ring::new(alloc, net.tokens(c), net.capacity(c))?)?;
@@ -100,7 +100,7 @@ fn start_store<K: Kinds>(alloc: Global, net: &Net<K>) -> Result<Store, AllocErro
     ensures store { IfOk result (λ s. s ≡ state_and_history (start K.family net.now) [] (net.now.budget + 2)) }
     ensures admitted { OnOk result ((p : ℕ) → p < length net.now.processes → K.admits (card_of net.now p) (K.family.start (card_of net.now p)) None) }
 {
-    net.processes();
+    net.assure_valid();
     let room = net.budget() as usize + 2;
     let statuses = start_statuses(alloc, net)?;
     let rings = start_rings(alloc, net)?;

@@ -18,7 +18,7 @@ pub(crate) fn give_one<B: Body>(machine: &mut Machine<B>, finished: Finished<B>)
     ensures network { machine.new.network ≡ machine.old.network }
     ensures committed { WasCommitted B.Kinds.family B.Kinds.admits machine.old.network finished result }
 {
-    machine.end();
+    machine.assure_faithful();
     machine.commit_asked(finished)
 }
 

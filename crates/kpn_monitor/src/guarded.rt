@@ -92,7 +92,7 @@ impl<B: Body, E: EntryLedger, O: Ledger> Guarded<B, E, O> {
         requires parts { (E.parts ≡ 65536) × (O.parts ≡ 65536) }
         ensures { result ≡ record { machine = machine; overs = 0; watchers = 0 } }
     {
-        machine.end();
+        machine.assure_faithful();
         Guarded {
             machine,
             entries,
@@ -123,7 +123,7 @@ impl<B: Body, E: EntryLedger, O: Ledger> Guarded<B, E, O> {
             }
             None => match self.machine.take() {
                 Some(task) => {
-                    self.machine.end();
+                    self.machine.assure_faithful();
                     Some(Taken::Task(task))
                 }
                 None => None,
@@ -148,7 +148,7 @@ impl<B: Body, E: EntryLedger, O: Ledger> Guarded<B, E, O> {
         }
         let outcome = give_one(&mut self.machine, finished);
         let ended = self.machine.end();
-        self.machine.net().processes();
+        self.machine.net().assure_valid();
         self.publisher.publish(board, self.machine.history(), ended);
         seat.add_entries(&mut self.entries, count_of(outcome));
         Ok(outcome)
@@ -173,7 +173,7 @@ impl<B: Body, E: EntryLedger, O: Ledger> Guarded<B, E, O> {
         let before = self.machine.history().len();
         let refused = give_all(&mut self.machine, hand);
         let ended = self.machine.end();
-        self.machine.net().processes();
+        self.machine.net().assure_valid();
         let history = self.machine.history();
         self.publisher.publish(board, history, ended);
         seat.add_entries(&mut self.entries, (history.len() - before) as u64);
@@ -260,10 +260,10 @@ impl<B: Body, E: EntryLedger, O: Ledger> Guarded<B, E, O> {
         ensures more { result ≡ true → (i : Input) × (hand.new ≡ record hand.old { tasks = hand.old.tasks ++ i ∷ [] }) × TakesOut self.old.machine i self.new.machine × WasTaken B.Kinds.family B.Kinds.admits E.net i }
         ensures none { result ≡ false → (hand.new ≡ hand.old) × (self.new ≡ self.old) }
     {
-        self.machine.end();
+        self.machine.assure_faithful();
         match self.machine.take() {
             Some(task) => {
-                self.machine.end();
+                self.machine.assure_faithful();
                 hand.put(task);
                 true
             }
@@ -308,8 +308,8 @@ impl<B: Body, E: EntryLedger, O: Ledger> Guarded<B, E, O> {
         ensures overs { result.1 ≡ self.now.overs }
         ensures ended { 0 < result.1 → IsSome self.now.machine.end }
     {
-        self.machine.end();
-        self.machine.net().processes();
+        self.machine.assure_faithful();
+        self.machine.net().assure_valid();
         (self.machine.history().len() as u64, self.over_count)
     }
 
@@ -322,7 +322,7 @@ impl<B: Body, E: EntryLedger, O: Ledger> Guarded<B, E, O> {
         ensures full { IsErr result ↔ (self.old.watchers ≡ 64) }
         ensures kept { OnErr result (self.new ≡ self.old) }
     {
-        self.machine.end();
+        self.machine.assure_faithful();
         self.publisher.watch(board)
     }
 

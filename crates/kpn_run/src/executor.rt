@@ -141,7 +141,7 @@ fn told_by_laws<K: Kinds>(finish: &Finish<K>)
     determinacy_of::<K>();
     least_room_of::<K>();
     valid_runs();
-    finish.net().processes();
+    finish.net().assure_valid();
     finish.end();
 }
 

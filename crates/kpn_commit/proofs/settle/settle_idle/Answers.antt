@@ -60,7 +60,7 @@ advance-requires-clause-keeps g c κs within =
     let best = rw c.as_slice.ensures.value at c.in-Some.ensures.smallest in
     let parked = rw c.as_slice-2.ensures.value at c.in-Some-parked.ensures.some in
     let there : c.in-Some.channel < length c.args.store.now.state.channels = omega (arith, k.channels, c.in-Some.ensures.channel) in
-    let step = c.processes.ensures.valid.some_step in
+    let step = c.assure_valid.ensures.valid.some_step in
     keeps_enlarged _ _ _ c.args.store.now c.args.standings.now k c.in-Some.channel c.in-Some.writer c.in-Some-parked.answer c.enlarged-to.result best.0 parked there c.grow.new.self c.in-Ok.ensures.ok
     (omega (arith, c.enlarged-to.ensures, c.filling-capacity.ensures.capacity)) (omega (arith, c.enlarged-to.ensures, c.ceiling-2.ensures))
 

@@ -13,7 +13,7 @@ returns-clause-within g c = λ E F is.
     let net = machine.network in
     let run = subst (λ l. IsRun kinds net l machine.state) (sym is) c.end.ensures.finish.run in
     let front = c.determinacy_of.ensures.fronts net (start kinds net) machine.state E F run in
-    let valid = subst (λ (n : Network). IsValid g.K.Kinds.signature_of n) c.net.ensures c.processes.ensures.valid in
+    let valid = subst (λ (n : Network). IsValid g.K.Kinds.signature_of n) c.net.ensures c.assure_valid.ensures.valid in
     (front.0, front.1, c.valid_runs.ensures.within g.K.Kinds.signature_of kinds net valid E front.0 front.1)
 
 pub returns-clause-budget : goal.returns-clause-budget

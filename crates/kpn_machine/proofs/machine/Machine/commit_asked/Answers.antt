@@ -9,7 +9,7 @@ use Rattle.kpn_machine.proofs.machine.Machine.commit_asked.Goals as goal
 
 pub overflow_add-self : goal.overflow_add-self
 overflow_add-self g c =
-    let valid = c.processes.ensures.valid in
+    let valid = c.assure_valid.ensures.valid in
     let few = c.self.invariant.0.few in
     let fit = commits_fit g.B.Kinds.Kinds.family g.B.Kinds.Kinds.admits _ _ _ _ _ _ _ _ c.self.invariant.0 in
     let some = valid.few_processes in

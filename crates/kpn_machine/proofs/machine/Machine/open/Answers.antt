@@ -15,7 +15,7 @@ invariant_of-result g c =
     let many = length-map c.args.bodies.items g.B.Body.card in
     let same = ap length cards in (
       rw (c.in-Ok.ensures.store, c.in-Ok.ensures.standings)
-          (sound_opened g.B.Kinds.Kinds.signature_of g.B.Kinds.Kinds.admits g.B.Kinds.Kinds.family c.args.net c.processes.ensures.valid c.in-Ok.ensures.admitted (map g.B.Body.card c.args.bodies.items) _ cards c.seat_all.ensures.seated
+          (sound_opened g.B.Kinds.Kinds.signature_of g.B.Kinds.Kinds.admits g.B.Kinds.Kinds.family c.args.net c.assure_valid.ensures.valid c.in-Ok.ensures.admitted (map g.B.Body.card c.args.bodies.items) _ cards c.seat_all.ensures.seated
           (length-map c.seat_all.new.slots.items _ ∙ c.seat_all.ensures.slots ∙ c.in-Ok.ensures.slots)),
       record { emptied = c.seat_all.ensures.emptied; enough = omega (arith, c.seat_all.ensures.room, c.args.bodies.ok.0, c.args.bodies.ok.1) },
     )

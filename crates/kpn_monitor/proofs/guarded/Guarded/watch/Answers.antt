@@ -14,4 +14,4 @@ returns-clause-run g c =
     let net = g.E.EntryLedger.net in
     let i = c.self.inside in
     subst (λ (h : UnderLock). IfOk c.watch.result (λ w. (M : State) × IsRun kinds net w.entries M × EndHolds kinds net w.entries M h.machine.end)) c.self.view_is
-    (ok_with c.watch.result _ _ (λ w is. shown_run kinds g.B.Kinds.Kinds.admits net i.machine g.E.EntryLedger.board i.publisher w c.self.invariant.0.network c.end.ensures.faithful c.self.invariant.1 is) c.watch.ensures.seen)
+    (ok_with c.watch.result _ _ (λ w is. shown_run kinds g.B.Kinds.Kinds.admits net i.machine g.E.EntryLedger.board i.publisher w c.self.invariant.0.network c.assure_faithful.ensures.faithful c.self.invariant.1 is) c.watch.ensures.seen)

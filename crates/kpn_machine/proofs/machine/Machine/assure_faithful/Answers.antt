@@ -1,0 +1,8 @@
+-- What a machine keeps says all this.
+use Rattle.kpn_machine.proofs.Sound.{sound_faithful}
+use Rattle.kpn_machine.proofs.machine.Machine.assure_faithful.Goals as goal
+
+pub returns-clause-faithful : goal.returns-clause-faithful
+returns-clause-faithful g c =
+    let kinds = g.B.Kinds.Kinds in
+    rw (← c.self.view_is) (sound_faithful kinds.family kinds.admits kinds.signature_of _ _ _ c.assure_valid.ensures.valid (c.valid_runs.ensures.within kinds.signature_of kinds.family) c.typed_runs.ensures c.self.invariant.0)
