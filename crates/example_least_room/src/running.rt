@@ -9,9 +9,9 @@ ghost use Rattle.test_laws.specs.WorkedRoom.{longer_parks_case};
 ghost use Rattle.example_least_room.specs.Growth.{entry_grows};
 
 use kpn_body::Body;
-use test_laws::worked_room;
 use kpn_machine::Machine;
 use kpn_net::Entry;
+use test_laws::worked_room;
 
 /// Runs Parks's case with a counter of five to its end in the calling thread, where no process is out,
 /// and tells how often a channel grew.

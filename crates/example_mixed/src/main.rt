@@ -2,12 +2,12 @@
 #![tactic(auto)]
 
 use example_signals::{Gains, MovingSums};
+use kpn_args::{Choice, read_words};
 use kpn_compute::{Both, Filtered};
 use kpn_execute::execute_net;
 use kpn_front::load::load;
 use kpn_front::say::{say_checked, say_refused};
 use kpn_front::streams::Fallible;
-use kpn_args::{Choice, read_words};
 use kpn_net::Net;
 use kpn_standard::Standard;
 use std::process::ExitCode;

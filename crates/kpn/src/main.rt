@@ -1,10 +1,10 @@
 //! Checks and runs Kahn process networks that are described on standard input.
 #![tactic(auto)]
 
+use kpn_args::WordsFault;
 use kpn_execute::serve;
 use kpn_front::say::WRITE_FAILED;
 use kpn_front::streams::Fallible;
-use kpn_args::WordsFault;
 use std::process::ExitCode;
 use std::rt::{Clock, Env};
 use std::sync::Wait;

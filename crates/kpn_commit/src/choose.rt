@@ -31,7 +31,11 @@ fn is_before(store: &Store, channel: usize, other: usize) -> bool
 
 /// The smallest channel to which a parked process waits to write, of equal ones the one of least
 /// number, and that process (Parks 1995: the smallest full channel grows).
-pub fn choose<K: Kinds>(net: &Net<K>, store: &Store, standings: &[Standing]) -> Option<(usize, usize)>
+pub fn choose<K: Kinds>(
+    net: &Net<K>,
+    store: &Store,
+    standings: &[Standing],
+) -> Option<(usize, usize)>
     requires { length store.now.state.channels ≡ length net.now.channels }
     ensures smallest { IsSmallest net.now store.now.state standings.now (length standings.now) result }
     ensures channel { IfSome result (λ b. b.0 < length net.now.channels) }

@@ -6,11 +6,11 @@ ghost use Rattle.kpn_args.specs.declared.words.Choice.{Choice as ChoiceV};
 ghost use Rattle.kpn_execute.specs.Program.{Serves};
 
 use crate::standard::execute_standard;
+use kpn_args::{Choice, WordsFault, read_words};
 use kpn_body::Standard;
 use kpn_front::load::load;
 use kpn_front::say::{say_checked, say_refused};
 use kpn_front::streams::{Sink, Source};
-use kpn_args::{Choice, WordsFault, read_words};
 use kpn_net::{Net, NetFault};
 use std::alloc::Global;
 use std::rt::Clock;

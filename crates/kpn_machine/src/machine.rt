@@ -15,12 +15,12 @@ use crate::chronicle::Chronicle;
 use crate::opening::{OpenFault, Start, misfit, prepare, seat_all};
 use crate::same::{same_card, same_last, same_local};
 use kpn_body::{Body, Finished, Task};
+use kpn_commit::Outcome;
+use kpn_commit::work::work;
 use kpn_laws::{least_room_of, typed_runs, valid_runs};
 use kpn_net::{End, Entry, Net, Status};
 use kpn_state::standing::all_ready;
 use kpn_state::{Roster, Standing, Store};
-use kpn_commit::Outcome;
-use kpn_commit::work::work;
 use std::alloc::Global;
 use std::marker::Model;
 

@@ -8,10 +8,9 @@ ghost use Rattle.kpn_model.specs.Name.{is_letter, is_name_byte, is_name};
 ghost use Rattle.kpn_net.specs.Faults.{any_pair, is_outside, same_process, same_channel, same_out, same_in, port_sort, is_sort, is_token, has_wrong_tokens, card_with, signature_of, has_unknown_kind, takes_other_count, has_wrong_args, signature_named, sketched_out_sort, sketched_in_sort, is_unused_out, is_unused_in, is_unused, has_unused_port, has_fault, first_fault};
 
 use crate::fault::NetFault;
-use kpn_model::{Card, Kinds, Signature};
 use crate::sketch::{ChannelSketch, ProcessSketch, Sketch, TokenSketch};
-use kpn_model::Sort;
 use crate::version::{ceiling_in, greatest_budget_in, is_two};
+use kpn_model::{Card, Kinds, Signature, Sort};
 
 fn is_outside(low: i64, high: i64, x: i64) -> bool
     ensures { result ≡ is_outside low high x }

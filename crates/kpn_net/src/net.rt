@@ -9,13 +9,10 @@ ghost use Rattle.kpn_model.specs.Valid.{IsValid};
 
 use crate::check::{card_with, first_fault};
 use crate::fault::NetFault;
-use kpn_model::{Card, Kinds};
-use kpn_model::{Channel, Ends, Process};
 use crate::ports::{Ports, find_in, find_out, table_of};
 use crate::sketch::{ChannelSketch, ProcessSketch, Sketch, TokenSketch};
-use kpn_model::{Listed, Text};
-use kpn_model::{Sort, Token};
 use crate::version::ceiling_in;
+use kpn_model::{Card, Channel, Ends, Kinds, Listed, Process, Sort, Text, Token};
 use std::alloc::Global;
 use std::marker::{Model, PhantomData};
 

@@ -8,9 +8,8 @@ ghost use Rattle.kpn_net.specs.Description.{Describes, IsReadFault, sketch_of, t
 use crate::fault::NetFault;
 use crate::form::{Form, find, has_only, optional, required};
 use crate::sketch::{ChannelSketch, ProcessSketch, Sketch, TokenSketch};
-use kpn_model::Listed;
-use kpn_model::Sort;
 use crate::version::is_two;
+use kpn_model::{Listed, Sort};
 use std::alloc::Global;
 use toml::{Table, Value};
 

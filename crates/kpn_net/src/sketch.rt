@@ -1,7 +1,6 @@
 //! What a description says, before it is checked. Its numbers may be out of range, and its names
 //! may name nothing.
-use kpn_model::{Listed, Text};
-use kpn_model::Sort;
+use kpn_model::{Listed, Sort, Text};
 
 /// A description with its defaults filled in: its version, its budget in entries of a history, how
 /// many places a growth adds (1 in version 1, which says nothing of it), and its processes and

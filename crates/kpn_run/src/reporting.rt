@@ -6,9 +6,8 @@ ghost use Rattle.kpn_run.specs.Reports.{IsEveryRuns, IsOutcome};
 
 use crate::finish::Finish;
 use kpn_laws::determinacy_of;
-use kpn_report::places_of;
 use kpn_net::{Deed, Entry, Kinds, Net, Token};
-use kpn_report::{Report, report_of};
+use kpn_report::{Report, places_of, report_of};
 use std::alloc::{AllocError, Global};
 
 /// The report of a run: why it ended, and its detail where it came to its own end, which is exactly

@@ -56,5 +56,7 @@ pub fn parked(standings: &[Standing], process: usize) -> Option<Answer>
 pub fn all_ready(standings: &[Standing]) -> bool
     ensures { result ≡ list_all is_ready standings.now }
 {
-    standings.iter().all(|standing| matches!(standing, Standing::Ready))
+    standings
+        .iter()
+        .all(|standing| matches!(standing, Standing::Ready))
 }
