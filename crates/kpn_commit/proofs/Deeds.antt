@@ -13,6 +13,7 @@ use Rattle.kpn_model.specs.Semantics.{State, tokens, capacity, with_status, IsPo
 use Rattle.kpn_laws.proofs.States.{in_of-reader, out_of-writer, tokens_set_other}
 use Rattle.kpn_laws.proofs.Steps.{capacity_after, took_read, put_write}
 use Rattle.kpn_state.specs.Standings.{partner}
+use Rattle.kpn_state.proofs.Contradictions.{none_some}
 
 module _ (kinds : Family) (net : Network) where
   -- the deed is on channel c
@@ -71,10 +72,7 @@ module _ (kinds : Family) (net : Network) where
   pub partner_back :
       (M : State) (p : ℕ) (a : Answer) (d : Deed) (q : ℕ) (x : Act) (e : Deed) (r : ℕ) → IsDeed kinds net M p a.act d → q ≢ p → (IsPossible kinds net M q x → ⊥)
       → IsDeed kinds net (after_deed kinds net M p a.next d) q x e → partner net e ≡ Some r → r ≡ p
-  partner_back M p a d q x Stopped r is ne cant ie pe = absurd (none_some pe)
-    where
-      none_some : None ≡ Some r → ⊥
-      none_some h = cc
+  partner_back M p a d q x Stopped r is ne cant ie pe = absurd (none_some r pe)
   partner_back M p a d q x (Took c t) r is ne cant ie pe =
       let N = after_deed kinds net M p a.next d in
       let read = took_read kinds net N q c t x ie in

@@ -13,9 +13,7 @@ use Rattle.kpn_commit.specs.declared.settle.Settled.TheVariants.{Busy, Ended, En
 use Rattle.kpn_state.specs.Standings.{is_busy}
 use Rattle.kpn_commit.specs.Settling.{CanGrow, EndsBy, Settles}
 use Rattle.kpn_commit.specs.Works.{end_after}
-
-true_false : (b : Bool) → b ≡ true → b ≡ false → ⊥
-true_false b x y = cc
+use Rattle.kpn_state.proofs.Contradictions.{true_false}
 
 module _ (kinds : Family) (net : Network) where
   -- where a growth is due, the run has no end but for want of memory

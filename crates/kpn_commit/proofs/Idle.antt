@@ -17,9 +17,7 @@ use Rattle.kpn_state.specs.declared.standing.Standing.TheVariants.{Ready, Out, P
 use Rattle.kpn_state.specs.Standings.{standing, is_busy, has_stopped, StandingsFit}
 use Rattle.kpn_commit.specs.Choice.{written_by, awaited_by, awaited, IsSmallest}
 use Rattle.kpn_state.proofs.Placed.{idle_at, stopped_at, one_live}
-
-none_some : (c : ℕ) → None ≡ Some c → ⊥
-none_some c e = cc
+use Rattle.kpn_state.proofs.Contradictions.{none_some, true_false}
 
 -- what is awaited, is awaited by a parked process
 awaiting : (net : Network) (p c : ℕ) (x : Standing) → awaited_by net p x ≡ Some c → (a : Answer) × (x ≡ Parked a) × (written_by net p a.act ≡ Some c)
@@ -57,9 +55,6 @@ module _ (kinds : Family) (admits : Card → List ℕ → Option Token → Type 
     -- no process can go on
     pub idle_quiet : IsQuiet kinds net M
     idle_quiet p e = true_false _ (enabled_busy p e) (idle_at standings p idle)
-      where
-        true_false : (b : Bool) → b ≡ true → b ≡ false → ⊥
-        true_false b x y = cc
 
     -- a blocked writer awaits its channel
     pub blocked_awaits : (p c : ℕ) → IsBlocked kinds net M p c → awaited net standings p ≡ Some c

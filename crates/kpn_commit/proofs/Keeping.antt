@@ -18,6 +18,7 @@ use Rattle.kpn_state.specs.declared.standing.Standing.{Standing}
 use Rattle.kpn_state.specs.declared.standing.Standing.TheVariants.{Parked, Stopped as Ended}
 use Rattle.kpn_state.specs.Standings.{standing, place_after, partner, StandingsFit}
 use Rattle.kpn_state.proofs.Placed.{place_set_same, place_set_other, acted_not_parked}
+use Rattle.kpn_state.proofs.Contradictions.{none_some}
 use Rattle.kpn_commit.proofs.Deeds.{possible_before, partner_back}
 
 -- a process after its deed has stopped exactly where it stands so
@@ -30,9 +31,6 @@ after_ended : (a : Answer) (d : Deed) → after (Some a) d ≡ Done → place_af
 after_ended a (Took c t) e = cc
 after_ended a (Put c t) e = cc
 after_ended a Stopped e = refl
-
-none_some : (p : ℕ) → None ≡ Some p → ⊥
-none_some p e = cc
 
 some_same : (p q : ℕ) → Some p ≡ Some q → p ≡ q
 some_same p q e = cc

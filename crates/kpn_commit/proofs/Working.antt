@@ -16,6 +16,7 @@ use Rattle.kpn_commit.specs.declared.react.Reaction.TheVariants.{Waits, Acts, Ha
 use Rattle.kpn_state.specs.Standings.{standing, is_busy, place_after, partner}
 use Rattle.kpn_commit.specs.Reactions.{Handed, Reacts}
 use Rattle.kpn_state.proofs.Placed.{place_set_same, place_set_other, acted_not_parked, busy_at}
+use Rattle.kpn_state.proofs.Contradictions.{true_false}
 
 -- one more entry makes the history longer by one
 pub longer : (s t : StateAndHistory) (M : State) (e : Entry) → t ≡ more s M e → (length t.history ≡ length s.history + 1) × (t.room ≡ s.room)
@@ -43,6 +44,3 @@ module _ (kinds : Family) (net : Network) where
   reaction_room s standings p a Waits t moved within room h idle = subst (λ (x : StateAndHistory). length x.history + 2 ≤ x.room) (sym h.1) (omega arith)
   reaction_room s standings p a Acts t moved within room h idle = let l = longer s t t.state (Did p h.0) h.1.entry in omega (arith, l.0, l.1)
   reaction_room s standings p a HandsOn t moved within room h idle = absurd (true_false _ (handed_busy s standings p t moved within h) idle)
-    where
-      true_false : (b : Bool) → b ≡ true → b ≡ false → ⊥
-      true_false b x y = cc

@@ -21,10 +21,8 @@ use Rattle.kpn_machine.specs.MachineView.{MachineView, state_and_history_of}
 use Rattle.kpn_machine.specs.Commits.{IsCause, EndsAs, WorksOn, Commits}
 use Rattle.kpn_commit.specs.declared.outcome.Outcome.TheVariants.{Done, Parked as Parks, LaidBack}
 use Rattle.kpn_state.proofs.Placed.{place_set_same, place_within, busy_at}
+use Rattle.kpn_state.proofs.Contradictions.{true_false}
 use Rattle.kpn_state.specs.Standings.{standing}
-
-true_false : (b : Bool) → b ≡ true → b ≡ false → ⊥
-true_false b x y = cc
 
 -- the budget is no cause
 budget_no_cause : (b : Bool) (cause : End) → IsCause cause → (if b then Some Budget else None) ≡ Some cause → ⊥

@@ -15,6 +15,7 @@ use Rattle.kpn_state.specs.Standings.{standing, is_busy, is_out}
 use Rattle.kpn_machine.specs.MachineView.{MachineView, TakesOut}
 use Rattle.kpn_machine.specs.Commits.{Commits, Appends, ContinuesRun, number}
 use Rattle.kpn_state.proofs.Placed.{place_set_other}
+use Rattle.kpn_state.proofs.Contradictions.{true_false}
 use Rattle.kpn_machine.proofs.Entries.{run_both}
 
 -- 1 for a process that is out
@@ -65,9 +66,6 @@ all_idle (x ∷ xs) h = rw (h 0) (all_idle xs (λ p. h (suc p)))
 -- some process is ready where one is ready or out and none is out
 pub some_ready : (standings : List Standing) → list_any is_busy standings ≡ true → ((p : ℕ) → standing standings p ≢ Out) → ((p : ℕ) → standing standings p ≢ Ready) → ⊥
 some_ready standings busy out ready = true_false _ busy (all_idle standings (λ p. idle (standing standings p) (ready p) (out p)))
-  where
-    true_false : (b : Bool) → b ≡ true → b ≡ false → ⊥
-    true_false b x y = cc
 
 module _ (kinds : Family) where
   -- a commit is in the same network

@@ -37,18 +37,13 @@ use Rattle.kpn_commit.specs.Works.{Works, acted_entries, settled_entries, outcom
 use Rattle.kpn_machine.specs.MachineView.{MachineView, machine_view, IsOutAt, HasBodies, EndIs, waits, stays_in, IsSound, EndHolds, IsFaithful}
 use Rattle.kpn_machine.specs.Commits.{number, Appends, WorksOn, Commits, TellsEnabled}
 use Rattle.kpn_state.proofs.Placed.{place_set_same, place_set_other, place_within, busy_at, out_not_ended, ready_not_ended}
+use Rattle.kpn_state.proofs.Contradictions.{none_some, true_false}
 use Rattle.kpn_commit.proofs.Keeping.{keeps_moved}
 use Rattle.kpn_commit.proofs.Idle.{enabled_busy}
 use Rattle.kpn_commit.proofs.Working.{handed_busy}
 use Rattle.kpn_commit.proofs.Due.{grows_exactly}
 use Rattle.kpn_machine.proofs.Entries.{GoesOn, run_both, number_is, works_goes}
 use Rattle.kpn_machine.proofs.Moves.{waiting_in, in_within, waits_moved, in_moved, out_or_not, works_back, works_out, works_others, works_count}
-
-true_false : (b : Bool) → b ≡ true → b ≡ false → ⊥
-true_false b x y = cc
-
-none_some : (x : End) → None ≡ Some x → ⊥
-none_some x e = cc
 
 -- an end by the budget alone is the budget's
 spent : (b : Bool) (cause : End) → (if b then Some Budget else None) ≡ Some cause → cause ≡ Budget

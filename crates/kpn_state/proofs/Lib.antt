@@ -1,2 +1,3 @@
+pub mod Contradictions
 pub mod Placed
 pub mod Rostered

@@ -9,6 +9,7 @@ use Rattle.kpn_model.specs.declared.history.Deed.TheVariants.{Took, Put, Stopped
 use Rattle.kpn_state.specs.declared.standing.Standing.{Standing}
 use Rattle.kpn_state.specs.declared.standing.Standing.TheVariants.{Ready, Out, Parked, Stopped as Ended}
 use Rattle.kpn_state.specs.Standings.{standing, is_busy, is_ready, has_stopped, place_after}
+use Rattle.kpn_state.proofs.Contradictions.{true_false}
 
 -- a process that is moved stands where it was moved to
 pub place_set_same : (standings : List Standing) (p : ℕ) (x : Standing) → p < length standings → standing (set standings p x) p ≡ x
@@ -80,9 +81,6 @@ busy_at standings p h = by_cases _ refl
     by_cases : (b : Bool) → list_any is_busy standings ≡ b → list_any is_busy standings ≡ true
     by_cases true e = e
     by_cases false e = absurd (true_false _ h (idle_at standings p e))
-      where
-        true_false : (b : Bool) → b ≡ true → b ≡ false → ⊥
-        true_false b e f = cc
 
 -- where all have stopped, this one has
 pub stopped_at : (standings : List Standing) (p : ℕ) → list_all has_stopped standings ≡ true → standing standings p ≡ Ended
