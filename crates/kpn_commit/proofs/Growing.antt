@@ -52,7 +52,7 @@ module _ (kinds : Family) (admits : Card → List ℕ → Option Token → Type 
         processes = k.processes;
         channels = length-set M.channels c _ ∙ k.channels;
         standing = k.standing;
-        sorted = record { tokens = λ d. subst (λ l. AllByRecursion (IsOfSort (channel_of net d).sort) l) (sym (same_tokens d)) (k.sorted.tokens d); locals = k.sorted.locals };
+        well_typed = record { tokens = λ d. subst (λ l. AllByRecursion (IsOfSort (channel_of net d).sort) l) (sym (same_tokens d)) (k.well_typed.tokens d); locals = k.well_typed.locals };
         smallest = λ d h.
             let old = k.smallest d h in
             ⊎_elim (λ (e : d ≡ c).

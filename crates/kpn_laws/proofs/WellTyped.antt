@@ -24,30 +24,30 @@ module _ (signature : Card → Option Signature) (admits : Card → List ℕ →
   signed_at : (p : ℕ) → p < length net.processes → CardFits (card_of net p) × IsSome (signature (card_of net p))
   signed_at p within = (valid.cards p no_process within, valid.signed p no_process within)
 
-  module _ (M : State) (sorted : IsWellTyped admits net M) (p : ℕ) (a : Answer) (w : wants kinds net M p ≡ Some a) (signed : CardFits (card_of net p) × IsSome (signature (card_of net p))) where
-    -- what a process wants in a sorted state names a port of it
+  module _ (M : State) (well_typed : IsWellTyped admits net M) (p : ℕ) (a : Answer) (w : wants kinds net M p ≡ Some a) (signed : CardFits (card_of net p) × IsSome (signature (card_of net p))) where
+    -- what a process wants in a well_typed state names a port of it
     names : NamesPort signature (card_of net p) a.act
     names =
         let l = live_of kinds net p (status M p) a w in
-        subst (λ (x : Answer). NamesPort signature (card_of net p) x.act) l.1.2 (laws.names_port (card_of net p) l.0 l.1.0 signed.0 signed.1 (sorted.locals p l.0 l.1.0 l.1.1))
+        subst (λ (x : Answer). NamesPort signature (card_of net p) x.act) l.1.2 (laws.names_port (card_of net p) l.0 l.1.0 signed.0 signed.1 (well_typed.locals p l.0 l.1.0 l.1.1))
 
     -- and leads on to what is admitted
     leads : (t : Token) → LeadsOn signature admits (card_of net p) a t
     leads t =
         let l = live_of kinds net p (status M p) a w in
-        subst (λ (x : Answer). LeadsOn signature admits (card_of net p) x t) l.1.2 (laws.leads_on (card_of net p) l.0 l.1.0 t signed.0 signed.1 (sorted.locals p l.0 l.1.0 l.1.1))
+        subst (λ (x : Answer). LeadsOn signature admits (card_of net p) x t) l.1.2 (laws.leads_on (card_of net p) l.0 l.1.0 t signed.0 signed.1 (well_typed.locals p l.0 l.1.0 l.1.1))
 
-  -- each step leaves the state sorted
+  -- each step leaves the state well_typed
   sorted_step : (H : List Entry) (M : State) (e : Entry) (N : State) → Kept kinds net (start kinds net) H M → IsWellTyped admits net M → Step kinds net M e N → IsWellTyped admits net N
-  sorted_step H M (Did p d) N k sorted s =
+  sorted_step H M (Did p d) N k well_typed s =
       let within = live_within kinds net M p s.answer s.wanted in
       let signed = signed_at p (omega (arith, k.processes)) in
-      subst (λ x. IsWellTyped admits net x) (sym s.leaves) (sorted_deed signature admits kinds net valid M sorted p s.answer s.wanted (names M sorted p s.answer s.wanted signed) d s.is_deed (leads M sorted p s.answer s.wanted signed (read_by d)) k.channels)
-  sorted_step H M (Grew c to) N k sorted s =
+      subst (λ x. IsWellTyped admits net x) (sym s.leaves) (sorted_deed signature admits kinds net valid M well_typed p s.answer s.wanted (names M well_typed p s.answer s.wanted signed) d s.is_deed (leads M well_typed p s.answer s.wanted signed (read_by d)) k.channels)
+  sorted_step H M (Grew c to) N k well_typed s =
       subst (λ x. IsWellTyped admits net x) (sym s.leaves)
       (record {
-        tokens = λ b. subst (λ l. AllByRecursion (IsOfSort (channel_of net b).sort) l) (sym (tokens_grew kinds net (start kinds net) H M k c to (blocked_within kinds net (start kinds net) H M k s.chosen.writer c s.chosen.blocked) b)) (sorted.tokens b);
-        locals = sorted.locals;
+        tokens = λ b. subst (λ l. AllByRecursion (IsOfSort (channel_of net b).sort) l) (sym (tokens_grew kinds net (start kinds net) H M k c to (blocked_within kinds net (start kinds net) H M k s.chosen.writer c s.chosen.blocked) b)) (well_typed.tokens b);
+        locals = well_typed.locals;
       })
 
   -- so is each state that a run leads to
@@ -57,6 +57,6 @@ module _ (signature : Card → Option Signature) (admits : Card → List ℕ →
       (sorted_start signature admits kinds net valid (λ p within. let s = signed_at p within in laws.starts (card_of net p) s.0 s.1))
       (λ H M e N before ih s. sorted_step H M e N (kept_run kinds net (start kinds net) (fresh_start kinds net) H M before) ih s)
 
--- each run of a valid network of lawful kinds is sorted at each moment
+-- each run of a valid network of lawful kinds is well_typed at each moment
 pub always_sorted : (signature : Card → Option Signature) (admits : Card → List ℕ → Option Token → Type 0) (kinds : Family) → AreLawful signature admits kinds → StaysWellTyped signature admits kinds
 always_sorted signature admits kinds laws net valid E M run = sorted_run signature admits kinds net valid laws E M run

@@ -51,10 +51,10 @@ module _ (signature : Card → Option Signature) (admits : Card → List ℕ →
       subst (λ x. out_sort signature (card_of net x) k ≡ Some (channel_of net c).sort) r.1
       (subst (λ x. out_sort signature (card_of net (channel_of net c).writer) x ≡ Some (channel_of net c).sort) (out_of-out net p k c e) (valid.ends c no_channel r.0).out)
 
-  module _ (M : State) (sorted : IsWellTyped admits net M) (p : ℕ) (a : Answer) (w : wants kinds net M p ≡ Some a) (names : NamesPort signature (card_of net p) a.act) where
+  module _ (M : State) (well_typed : IsWellTyped admits net M) (p : ℕ) (a : Answer) (w : wants kinds net M p ≡ Some a) (names : NamesPort signature (card_of net p) a.act) where
     -- a deed leaves the tokens of each channel of its sort
     tokens_did : (d : Deed) → IsDeed kinds net M p a.act d → length M.channels ≡ length net.channels → (c : ℕ) → AreOf c (tokens (after_deed kinds net M p a.next d) c)
-    tokens_did Stopped is many c = sorted.tokens c
+    tokens_did Stopped is many c = well_typed.tokens c
     tokens_did (Took b t) is many c =
         let r = took_read kinds net M p b t a.act is in
         let M1 = with_status M p (Live a.next (Some t)) in
@@ -62,9 +62,9 @@ module _ (signature : Card → Option Signature) (admits : Card → List ℕ →
         ⊎_elim
         (λ (e : c ≡ b).
         let left : tokens N c ≡ r.3.0 = ap (λ x. tokens N x) e ∙ tokens_set_same M1 b _ _ (holds_within M b t r.3.0 r.3.1) ∙ ap (λ l. drop 1 l) r.3.1 in
-        let was : AreOf c (t ∷ r.3.0) = subst (λ l. AreOf c l) (ap (λ x. tokens M x) e ∙ r.3.1) (sorted.tokens c) in
+        let was : AreOf c (t ∷ r.3.0) = subst (λ l. AreOf c l) (ap (λ x. tokens M x) e ∙ r.3.1) (well_typed.tokens c) in
         subst (λ l. AreOf c l) (sym left) was.1)
-        (λ ne. subst (λ l. AreOf c l) (sym (tokens_set_other M1 b c _ _ ne)) (sorted.tokens c))
+        (λ ne. subst (λ l. AreOf c l) (sym (tokens_set_other M1 b c _ _ ne)) (well_typed.tokens c))
         (cases_eq c b)
     tokens_did (Put b t) is many c =
         let r = put_write kinds net M p b t a.act is in
@@ -77,8 +77,8 @@ module _ (signature : Card → Option Signature) (admits : Card → List ℕ →
         let port = subst (λ x. NamesPort signature (card_of net p) x) r.1 names in
         let sort : sort_of t ≡ (channel_of net c).sort = same_Some _ _ (sym port.2 ∙ writer_sort p r.0 b r.2) ∙ ap (λ x. (channel_of net x).sort) (sym e) in
         let left : tokens N c ≡ tokens M c ++ t ∷ [] = ap (λ x. tokens N x) e ∙ tokens_set_same M1 b _ _ within ∙ ap (λ x. tokens M x ++ t ∷ []) (sym e) in
-        subst (λ l. AreOf c l) (sym left) (all_push (IsOfSort (channel_of net c).sort) (tokens M c) t (sorted.tokens c) (sort, port.1)))
-        (λ ne. subst (λ l. AreOf c l) (sym (tokens_set_other M1 b c _ _ ne)) (sorted.tokens c))
+        subst (λ l. AreOf c l) (sym left) (all_push (IsOfSort (channel_of net c).sort) (tokens M c) t (well_typed.tokens c) (sort, port.1)))
+        (λ ne. subst (λ l. AreOf c l) (sym (tokens_set_other M1 b c _ _ ne)) (well_typed.tokens c))
         (cases_eq c b)
 
     -- the state after the deed is admitted, where the answer leads on with the token that was read
@@ -87,7 +87,7 @@ module _ (signature : Card → Option Signature) (admits : Card → List ℕ →
     local_did (Took b t) is leads local last e =
         let r = took_read kinds net M p b t a.act is in
         let on : in_sort signature (card_of net p) r.0 ≡ Some (sort_of t) → Fits t → admits (card_of net p) a.next (Some t) = subst (λ x. LeadsOn signature admits (card_of net p) (record { next = a.next; act = x }) t) r.1 leads in
-        let was : AreOf b (t ∷ r.3.0) = subst (λ l. AreOf b l) r.3.1 (sorted.tokens b) in
+        let was : AreOf b (t ∷ r.3.0) = subst (λ l. AreOf b l) r.3.1 (well_typed.tokens b) in
         let port : in_sort signature (card_of net p) r.0 ≡ Some (sort_of t) = reader_sort p r.0 b r.2 ∙ ap (λ s. Some s) (sym was.0.0) in
         let x : a.next ≡ local = cc in
         let y : Some t ≡ last = cc in
@@ -99,7 +99,7 @@ module _ (signature : Card → Option Signature) (admits : Card → List ℕ →
         let y : None ≡ last = cc in
         subst (λ o. admits (card_of net p) local o) y (subst (λ l. admits (card_of net p) l None) x on)
 
-    -- a deed leaves the state sorted, where the laws hold of the answer that it comes from
+    -- a deed leaves the state well-typed, where the laws hold of the answer that it comes from
     pub sorted_deed : (d : Deed) → IsDeed kinds net M p a.act d → LeadsOn signature admits (card_of net p) a (read_by d) → length M.channels ≡ length net.channels → IsWellTyped admits net (after_deed kinds net M p a.next d)
     sorted_deed d is leads many =
         record {
@@ -108,7 +108,7 @@ module _ (signature : Card → Option Signature) (admits : Card → List ℕ →
               (λ (x : q ≡ p).
               let here : after (Some a) d ≡ Live local last = sym (status_after_same kinds net M p a d (live_within kinds net M p a w)) ∙ ap (λ y. status (after_deed kinds net M p a.next d) y) (sym x) ∙ e in
               subst (λ y. admits (card_of net y) local last) (sym x) (local_did d is leads local last here))
-              (λ ne. sorted.locals q local last (sym (status_after_other kinds net M p q a.next d ne) ∙ e))
+              (λ ne. well_typed.locals q local last (sym (status_after_other kinds net M p q a.next d ne) ∙ e))
               (cases_eq q p);
         }
 
@@ -125,7 +125,7 @@ module _ (signature : Card → Option Signature) (admits : Card → List ℕ →
       (λ (past : length net.channels ≤ c). subst (λ (l : Channel). AllByRecursion (IsOfSort l.sort) l.tokens) (sym (get_or_past net.channels c no_channel past)) tt)
       (cases_lt c (length net.channels))
 
-  -- the start is sorted, where each card admits its start
+  -- the start is well-typed, where each card admits its start
   pub sorted_start : ((p : ℕ) → p < length net.processes → admits (card_of net p) (kinds.start (card_of net p)) None) → IsWellTyped admits net (start kinds net)
   sorted_start starts =
       record {

@@ -64,7 +64,7 @@ module _ (signature : Card → Option Signature) (admits : Card → List ℕ →
         processes = length-map net.processes _;
         channels = length-map net.channels _;
         standing = length-replicate n Ready;
-        sorted = sorted_start signature admits kinds net valid starts;
+        well_typed = sorted_start signature admits kinds net valid starts;
         smallest = λ c h. subst (λ x. 1 ≤ x) (sym (capacity_start net.channels c)) (valid.capacities c no_channel h).0;
         greatest = λ c. subst (λ x. x ≤ net.ceiling) (sym (capacity_start net.channels c))
             (⊎_elim (λ h. (valid.capacities c no_channel h).1) (λ (past : length net.channels ≤ c). subst (λ (l : Channel). l.capacity ≤ net.ceiling) (sym (get_or_past net.channels c no_channel past)) (omega arith)) (cases_lt c (length net.channels)));

@@ -205,7 +205,7 @@ fn take_out<B: Body>(
     requires process { process < length store.now.state.processes }
     requires bodies { process < length bodies.old.items }
     requires live { status store.now.state process ≢ Done }
-    requires sorted { IsWellTyped B.Kinds.admits net.now store.now.state }
+    requires well_typed { IsWellTyped B.Kinds.admits net.now store.now.state }
     requires has_body { get_or (map (option_map B.card) bodies.old.items) process None ≡ Some (card_of net.now process) }
     ensures process { result.process ≡ process }
     ensures card { card_of net.now process ≡ result.card }

@@ -72,7 +72,7 @@ pub record StandingsFit (kinds : Family) (admits : Card → List ℕ → Option 
   pub processes : length M.processes ≡ length net.processes
   pub channels : length M.channels ≡ length net.channels
   pub standing : length standings ≡ length net.processes
-  pub sorted : IsWellTyped admits net M
+  pub well_typed : IsWellTyped admits net M
   pub smallest : (c : ℕ) → c < length net.channels → 1 ≤ capacity M c
   pub greatest : (c : ℕ) → capacity M c ≤ net.ceiling
   pub stopped : (p : ℕ) → standing standings p ≡ Ended → status M p ≡ Done
