@@ -25,7 +25,7 @@ module _ (signature : Card → Option Signature) (admits : Card → List ℕ →
   signed_at p within = (valid.cards p no_process within, valid.signed p no_process within)
 
   module _ (M : State) (well_typed : IsWellTyped admits net M) (p : ℕ) (a : Answer) (w : wants kinds net M p ≡ Some a) (signed : CardFits (card_of net p) × IsSome (signature (card_of net p))) where
-    -- what a process wants in a well_typed state names a port of it
+    -- what a process wants in a well-typed state names a port of it
     names : NamesPort signature (card_of net p) a.act
     names =
         let l = live_of kinds net p (status M p) a w in
@@ -37,7 +37,7 @@ module _ (signature : Card → Option Signature) (admits : Card → List ℕ →
         let l = live_of kinds net p (status M p) a w in
         subst (λ (x : Answer). LeadsOn signature admits (card_of net p) x t) l.1.2 (laws.leads_on (card_of net p) l.0 l.1.0 t signed.0 signed.1 (well_typed.locals p l.0 l.1.0 l.1.1))
 
-  -- each step leaves the state well_typed
+  -- each step leaves the state well-typed
   sorted_step : (H : List Entry) (M : State) (e : Entry) (N : State) → Kept kinds net (start kinds net) H M → IsWellTyped admits net M → Step kinds net M e N → IsWellTyped admits net N
   sorted_step H M (Did p d) N k well_typed s =
       let within = live_within kinds net M p s.answer s.wanted in
@@ -57,6 +57,6 @@ module _ (signature : Card → Option Signature) (admits : Card → List ℕ →
       (sorted_start signature admits kinds net valid (λ p within. let s = signed_at p within in laws.starts (card_of net p) s.0 s.1))
       (λ H M e N before ih s. sorted_step H M e N (kept_run kinds net (start kinds net) (fresh_start kinds net) H M before) ih s)
 
--- each run of a valid network of lawful kinds is well_typed at each moment
+-- each run of a valid network of lawful kinds is well-typed at each moment
 pub always_sorted : (signature : Card → Option Signature) (admits : Card → List ℕ → Option Token → Type 0) (kinds : Family) → AreLawful signature admits kinds → StaysWellTyped signature admits kinds
 always_sorted signature admits kinds laws net valid E M run = sorted_run signature admits kinds net valid laws E M run
