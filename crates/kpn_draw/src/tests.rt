@@ -1,0 +1,1 @@
+//! Worked lines of words, and worked pictures.
