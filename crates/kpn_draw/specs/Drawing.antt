@@ -57,11 +57,14 @@ pub record DrawsNet (net : Network) (status : ℕ) (text : List ℕ) : Type 0 wh
   pub status_is : status ≡ 0
   pub text_is : text ≡ picture standard_title net None [] [] []
 
--- what is drawn of a network: itself, or as a run by so many workers left it; or it is told that memory
--- was refused
+-- what is drawn of a run that ended: it, or it is told that memory was refused
+abbrev pub DrawsEnd : Network → ℕ → List ℕ → Type 0
+DrawsEnd net status text = TellsRefused status text ⊎ DrawsRun net status text
+
+-- what is drawn of a network: itself, or as a run by so many workers left it; or it is told why not
 abbrev pub DrawsOf : Option ℕ → Network → ℕ → List ℕ → Type 0
 DrawsOf None net status text = TellsRefused status text ⊎ DrawsNet net status text
-DrawsOf (Some workers) net status text = TellsRefused status text ⊎ (TellsLost status text ⊎ DrawsRun net status text)
+DrawsOf (Some workers) net status text = TellsLost status text ⊎ DrawsEnd net status text
 
 -- what is drawn of a description that was loaded, or told of one that was refused
 abbrev pub DrawsLoaded : Option ℕ → Result Network NetFault → ℕ → List ℕ → Type 0

@@ -1,9 +1,10 @@
 //! A network that is run, and drawn as the run left it.
-ghost use Rattle.std.specs.Prelude.{◌≡◌, ◌≤◌, Some, IfOk, string_bytes};
+ghost use Rattle.std.specs.Prelude.{◌≡◌, ◌≤◌, Some, IfOk, map, string_bytes};
 ghost use Rattle.kpn_execute.specs.Execution.{Writes};
-ghost use Rattle.kpn_draw.specs.Drawing.{DrawsOf, DrawsRun, report_picture};
+ghost use Rattle.kpn_draw.specs.Drawing.{DrawsEnd, DrawsOf, DrawsRun, report_picture};
 
-use kpn_compute::bodies_of;
+use kpn_body::Body;
+use kpn_compute::{CardBody, bodies_of};
 use kpn_front::say::{say, say_lost, say_refused};
 use kpn_front::streams::Sink;
 use kpn_net::{Net, NetFault};
@@ -31,9 +32,25 @@ pub(crate) fn draw_run<S: Sink, R: Wait + Clock + Threads + Sync>(
     requires { (1 ≤ workers) × (workers ≤ 16) }
     ensures { Writes (DrawsOf (Some workers) net) (S.takes sink.old) (S.contents sink.old) (S.contents sink.new) result }
 {
-    let Ok(bodies) = bodies_of(alloc, &net) else {
-        return say_refused(&NetFault::Memory, sink);
-    };
+    match bodies_of(alloc, &net) {
+        Ok(bodies) => draw_run_of(rt, alloc, net, bodies, workers, sink),
+        Err(_) => say_refused(&NetFault::Memory, sink),
+    }
+}
+
+/// The same, with a body for each process.
+fn draw_run_of<S: Sink, R: Wait + Clock + Threads + Sync>(
+    rt: &R,
+    alloc: Global,
+    net: Net<Standard>,
+    bodies: Vec<CardBody<Standard>>,
+    workers: usize,
+    sink: &mut S,
+) -> u8
+    requires cards { map ⟦<CardBody<Standard> as Body>⟧.card bodies.items ≡ map (λ p. p.card) net.processes }
+    requires workers { (1 ≤ workers) × (workers ≤ 16) }
+    ensures { Writes (DrawsOf (Some workers) net) (S.takes sink.old) (S.contents sink.old) (S.contents sink.new) result }
+{
     match run(rt, alloc, net, bodies, workers, &Open) {
         Ok(finish) => draw_finish(alloc, &finish, sink),
         Err(RunFault::Memory { .. }) => say_refused(&NetFault::Memory, sink),
@@ -45,7 +62,7 @@ pub(crate) fn draw_run<S: Sink, R: Wait + Clock + Threads + Sync>(
 
 /// Writes the picture of a run that is over.
 fn draw_finish<S: Sink>(alloc: Global, finish: &Finish<Standard>, sink: &mut S) -> u8
-    ensures { Writes (DrawsOf (Some 1) finish.now.machine.network) (S.takes sink.old) (S.contents sink.old) (S.contents sink.new) result }
+    ensures { Writes (DrawsEnd finish.now.machine.network) (S.takes sink.old) (S.contents sink.old) (S.contents sink.new) result }
 {
     match picture_of_run(alloc, finish) {
         Ok(picture) => say(sink, picture.as_str(), 0),
@@ -59,7 +76,8 @@ fn picture_of_run(alloc: Global, finish: &Finish<Standard>) -> Result<String, Al
 {
     let _end = finish.end();
     let report = report(alloc, finish)?;
-    picture_of_report(alloc, finish.net(), &report)
+    let picture = picture_of_report(alloc, finish.net(), &report)?;
+    Ok(picture)
 }
 
 /// The picture of a report.

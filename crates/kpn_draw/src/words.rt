@@ -1,12 +1,12 @@
 //! The words of the command line.
-ghost use Rattle.std.specs.Prelude.{◌≡◌, ◌≤◌, IfOk, IfErr, map, option_map, codes, false, if◌then◌else◌};
+ghost use Rattle.std.specs.Prelude.{◌≡◌, ◌≤◌, Some, None, IfOk, IfErr, map, option_map, codes, false, if◌then◌else◌};
 ghost use Rattle.std.specs.Option.{option_map_or};
 ghost use Rattle.std.specs.Str.{bytes_eq};
 ghost use Rattle.clap.specs.Words.{FailsBy, app_of, fault_of, first_of, found_of, matches_of, rows_of, rule_of};
 ghost use Rattle.clap.specs.declared.builder.command.Command.TheViews.{out-Command as fields_of};
 ghost use Rattle.kpn_front.specs.Choices.{IsRefusedWorkers, IsWorkers, WorkersFrom};
 ghost use Rattle.kpn_draw.specs.Command.{kpn_draw, run_rule, workers_rule, file_rule};
-ghost use Rattle.kpn_draw.specs.Choices.{AreTaken, HasFewWorkers, IsChoice, IsWordsFault, asks_for_help, is_run};
+ghost use Rattle.kpn_draw.specs.Choices.{AreTaken, HasFewWorkers, IsChoice, IsChoiceOf, IsWordsFault, asks_for_help, is_run};
 
 use clap::error::ErrorKind;
 use clap::{Arg, ArgAction, ArgMatches, Command};
@@ -100,10 +100,26 @@ pub(crate) fn read_words<'a>(
     ensures fault { IfErr result (IsWordsFault (map (λ w. w.now) words.entry.now)) }
 {
     let matches = matches_of(alloc, words)?;
-    let count = workers_in(text_in(&matches, "workers"))?;
-    let workers = if is_run(&matches) { Some(count) } else { None };
-    let file = text_in(&matches, "file");
+    choice_of(&matches)
+}
+
+/// The choice that the entries of the command line ask for.
+fn choice_of<'a>(matches: &ArgMatches<'a>) -> Result<Choice<'a>, WordsFault>
+    ensures ok { IfOk result (IsChoiceOf (rows_of (found_of matches.now))) }
+    ensures few { IfOk result (λ c. HasFewWorkers c.workers) }
+    ensures workers { IfErr result (λ e. (e ≡ WordsFault.Workers) × IsRefusedWorkers (first_of (codes "workers") (rows_of (found_of matches.now)))) }
+{
+    let count = workers_in(text_in(matches, "workers"))?;
+    let workers = asked_for(is_run(matches), count);
+    let file = text_in(matches, "file");
     Ok(Choice { workers, file })
+}
+
+/// The number of workers of a run, where one is asked for.
+fn asked_for(is_run: bool, count: usize) -> Option<usize>
+    ensures { result ≡ (if is_run then Some count else None) }
+{
+    if is_run { Some(count) } else { None }
 }
 
 /// Whether a run is asked for.
