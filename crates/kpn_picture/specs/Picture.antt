@@ -1,5 +1,5 @@
 -- The text of a picture, in the language of Graphviz.
-use Rattle.std.specs.Prelude.{ℕ, ◌==◌, zero, suc, Bool, true, false, not, if◌then◌else◌, codes, decimal, List, [], ◌++◌, length, take, slice_get, Option, Some, None}
+use Rattle.std.specs.Prelude.{◌≢◌, All, ℕ, ◌==◌, zero, suc, Bool, true, false, not, if◌then◌else◌, codes, decimal, List, [], ◌++◌, length, take, slice_get, Option, Some, None}
 use Rattle.std.specs.List.{flat_map}
 use Rattle.std.specs.Option.{option_map_or}
 use Rattle.kpn_net.specs.declared.token.Token.{Token}
@@ -16,9 +16,13 @@ use Rattle.kpn_picture.specs.Waits.{is_on_cycle, is_jammed}
 -- the lines that stand above all processes
 abbrev pub head : List ℕ
 head =
-    codes "digraph kpn {\n  rankdir=LR;\n  fontname=\"Helvetica\";\n"
+    codes "digraph kpn {\n  graph [rankdir=LR, nodesep=0.5, labelloc=t, fontname=\"Helvetica\", fontsize=16];\n"
     ++ codes "  node [shape=box, style=\"rounded,filled\", fillcolor=\"#eef3fa\", color=\"#44546a\", fontname=\"Helvetica\"];\n"
-    ++ codes "  edge [color=\"#44546a\", fontname=\"Helvetica\", fontsize=11];\n"
+    ++ codes "  edge [color=\"#44546a\", fontcolor=\"#44546a\", fontname=\"Helvetica\", fontsize=11];\n"
+
+-- a text that stands for itself between quotes: it has no quote, no backslash and no line feed
+abbrev pub IsPlain : List ℕ → Type 0
+IsPlain text = All (λ b. (b ≢ 34) × (b ≢ 92) × (b ≢ 10)) text
 
 -- how a run ended
 abbrev pub end_text : End → List ℕ
@@ -49,10 +53,10 @@ abbrev pub held_part : ℕ → List ℕ
 held_part zero = []
 held_part (suc n) = codes "\\nholds " ++ decimal (suc n)
 
--- how an edge looks: one on a cycle of waits red and bold, one that grew blue
+-- how an edge looks: one on a cycle of waits red and bold; one that grew blue, or with blue text
 abbrev pub edge_look : Bool → Bool → List ℕ
 edge_look true true = codes ", color=\"#c0392b\", fontcolor=\"#1f6fb4\", penwidth=3"
-edge_look true false = codes ", color=\"#c0392b\", penwidth=3"
+edge_look true false = codes ", color=\"#c0392b\", fontcolor=\"#c0392b\", penwidth=3"
 edge_look false true = codes ", color=\"#1f6fb4\", fontcolor=\"#1f6fb4\", penwidth=2"
 edge_look false false = []
 

@@ -6,13 +6,13 @@ use kpn_net::{End, Place, Sort};
 use std::alloc::AllocError;
 use std::fmt::Write;
 
-/// How an edge looks: one on a cycle of waits red and bold, one that grew blue.
+/// How an edge looks: one on a cycle of waits red and bold; one that grew blue, or with blue text.
 pub(crate) fn edge_look(is_jammed: bool, has_grown: bool) -> &'static str
     ensures { result.now ≡ edge_look is_jammed has_grown }
 {
     match (is_jammed, has_grown) {
         (true, true) => ", color=\"#c0392b\", fontcolor=\"#1f6fb4\", penwidth=3",
-        (true, false) => ", color=\"#c0392b\", penwidth=3",
+        (true, false) => ", color=\"#c0392b\", fontcolor=\"#c0392b\", penwidth=3",
         (false, true) => ", color=\"#1f6fb4\", fontcolor=\"#1f6fb4\", penwidth=2",
         (false, false) => "",
     }
