@@ -1,5 +1,5 @@
 -- Which process waits for which, where a run left them, and the cycles of these waits.
-use Rattle.std.specs.Prelude.{ℕ, zero, suc, ◌==◌, ◌&&◌, ◌||◌, Bool, false, List, length, slice_get, Option, Some, None, option_map, option_and_then}
+use Rattle.std.specs.Prelude.{ℕ, zero, suc, ◌==◌, ◌&&◌, ◌||◌, Bool, false, List, length, slice_get, Option, None, option_map, option_and_then}
 use Rattle.std.specs.Option.{option_map_or}
 use Rattle.kpn_net.specs.declared.history.Place.{Place}
 use Rattle.kpn_net.specs.declared.history.Place.TheVariants.{Stopped, Reads, Writes}

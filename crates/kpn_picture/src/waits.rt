@@ -35,13 +35,7 @@ fn waits_for<K: Kinds>(net: &Net<K>, places: &[Place], p: usize) -> Option<usize
 
 /// Whether `goal` is met on the way from a process, from one to the next for whom it waits, in at
 /// most so many steps.
-fn is_met<K: Kinds>(
-    net: &Net<K>,
-    places: &[Place],
-    steps: usize,
-    goal: usize,
-    from: usize,
-) -> bool
+fn is_met<K: Kinds>(net: &Net<K>, places: &[Place], steps: usize, goal: usize, from: usize) -> bool
     ensures { result ≡ is_met net.now places.now steps goal from }
 {
     let mut at = from;
