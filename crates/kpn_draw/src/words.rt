@@ -91,10 +91,7 @@ impl error::Error for WordsFault {}
 /// clap has for them (a call for help or for the version is one), or where memory was refused. It is
 /// `Workers` just where the command line takes the words, and the text of `--workers` is not read as
 /// a number from 1 to 16. Without `--run` nothing is run, whatever the number of workers.
-pub(crate) fn read_words<'a>(
-    alloc: Global,
-    words: &'a [&'a str],
-) -> Result<Choice<'a>, WordsFault>
+pub(crate) fn read_words<'a>(alloc: Global, words: &'a [&'a str]) -> Result<Choice<'a>, WordsFault>
     ensures ok { IfOk result (IsChoice (map (λ w. w.now) words.entry.now)) }
     ensures workers { IfOk result (λ c. HasFewWorkers c.workers) }
     ensures fault { IfErr result (IsWordsFault (map (λ w. w.now) words.entry.now)) }
