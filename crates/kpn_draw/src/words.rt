@@ -13,7 +13,7 @@ use clap::{Arg, ArgAction, ArgMatches, Command};
 use std::alloc::{AllocError, Global};
 use std::{error, fmt};
 
-/// The statuses that the program exits with, as its help tells them.
+/// What the help ends with: an example, and the statuses that the program exits with.
 const STATUSES: &str = "\
 The description is TOML. The picture is a text for Graphviz:
   kpn-draw examples/parks.toml | dot -Tsvg > parks.svg

@@ -9,7 +9,7 @@ returns-in-Ok g c =
     record {
       status = 0;
       text = c.as_str.result.now;
-      told = inr (record { status_is = refl; text_is = c.as_str.ensures.value ∙ c.in-Ok.ensures });
+      told = inr (record { status_is = refl; text_is = c.as_str.ensures.value ∙ c.in-Ok.ensures.text });
       written = c.say.ensures.said;
       room = c.say.ensures.room;
     }

@@ -1,5 +1,5 @@
 -- The picture is written, or want of memory is told.
-use Rattle.std.proofs.Common.{inl, inr, refl, ◌∙◌}
+use Rattle.std.proofs.Common.{inl, refl}
 use Rattle.kpn_net.specs.declared.fault.NetFault.TheVariants.{Memory}
 use Rattle.kpn_front.specs.Lines.{refused_line}
 use Rattle.kpn_draw.proofs.running.draw_finish.Goals as goal

@@ -1,6 +1,5 @@
 -- The picture is that of the run's report, and the report is the run's own and that of each run.
 use Rattle.std.proofs.Common.{refl, ◌∙◌}
-use Rattle.kpn_draw.specs.Drawing.{report_picture}
 use Rattle.kpn_draw.proofs.Pictures.{own_picture, every_picture}
 use Rattle.kpn_draw.proofs.running.picture_of_run.Goals as goal
 
