@@ -1,0 +1,15 @@
+-- Want of memory for the bodies is told as such.
+use Rattle.std.proofs.Common.{inl, inr, refl}
+use Rattle.kpn_net.specs.declared.fault.NetFault.TheVariants.{Memory}
+use Rattle.kpn_front.specs.Lines.{refused_line}
+use Rattle.kpn_draw.proofs.running.draw_run.Goals as goal
+
+pub returns-in-Err : goal.returns-in-Err
+returns-in-Err g c =
+    record {
+      status = 4;
+      text = refused_line Memory;
+      told = inr (inl (record { status_is = refl; text_is = refl }));
+      written = c.say_refused.ensures.said;
+      room = c.say_refused.ensures.room;
+    }

@@ -1,0 +1,81 @@
+-- What the program writes of a description, and its exit status.
+use Rattle.std.specs.Prelude.{◌≡◌, ◌⊎◌, ℕ, Bool, true, false, List, [], Option, Some, None, IfSome, Result, Ok, Err, if◌then◌else◌}
+use Rattle.kpn_net.specs.declared.fault.NetFault.{NetFault}
+use Rattle.kpn_net.specs.declared.fault.NetFault.TheVariants.{Input}
+use Rattle.kpn_net.specs.declared.history.Entry.{Entry}
+use Rattle.kpn_net.specs.declared.history.End.{End}
+use Rattle.kpn_net.specs.Network.{Network}
+use Rattle.kpn_net.specs.Machine.{State}
+use Rattle.kpn_net.specs.History.{Digest, digest}
+use Rattle.kpn_net.specs.Determinacy.{IsRun, IsFinal}
+use Rattle.kpn_net.specs.Moments.{IsBound}
+use Rattle.kpn_net.specs.Standard.{standard}
+use Rattle.kpn_standard.specs.Names.{named}
+use Rattle.kpn_standard.specs.Signatures.{signature}
+use Rattle.kpn_report.specs.declared.detail.Detail.{Detail}
+use Rattle.kpn_report.specs.Digested.{has_detail}
+use Rattle.kpn_picture.specs.Titles.{standard_title}
+use Rattle.kpn_picture.specs.Picture.{picture}
+use Rattle.kpn_front.specs.Lines.{lost_line, refused_line, status_of}
+use Rattle.kpn_front.specs.Loading.{Loads}
+use Rattle.kpn_execute.specs.Execution.{TellsRefused, Writes}
+use Rattle.kpn_execute.specs.Program.{fault_of}
+
+-- the picture of a network as a run left it, by the run's digest
+abbrev pub digest_picture : Network → Digest → List ℕ
+digest_picture net d = picture standard_title net (Some d.cause) d.places d.capacities d.rests
+
+-- the picture of a run to M that ended for this cause: after a spent budget and after want of memory it
+-- tells the cause alone
+abbrev pub run_picture : Network → End → List Entry → State → List ℕ
+run_picture net cause E M = if has_detail cause then digest_picture net (digest standard net cause E M) else picture standard_title net (Some cause) [] [] []
+
+-- the picture of a report: with its detail, where there is one
+abbrev pub report_picture : Network → End → Option Detail → List ℕ
+report_picture net end None = picture standard_title net (Some end) [] [] []
+report_picture net end (Some d) = picture standard_title net (Some end) d.places d.capacities d.rests
+
+-- a run from the start ended for a cause to which it is bound, and this is its picture; where it came to
+-- its own end, it is the picture of each run that is over
+pub record DrawsRun (net : Network) (status : ℕ) (text : List ℕ) : Type 0 where
+  pub history : List Entry
+  pub state : State
+  pub cause : End
+  pub run : IsRun standard net history state
+  pub bound : IsBound standard net history state cause
+  pub status_is : status ≡ 0
+  pub text_is : text ≡ run_picture net cause history state
+  pub settled : has_detail cause ≡ true → (F : List Entry) (N : State) (b : End) → IsFinal standard net F N b → text ≡ digest_picture net (digest standard net b F N)
+
+-- an answer of a worker was refused
+pub record TellsLost (status : ℕ) (text : List ℕ) : Type 0 where
+  pub status_is : status ≡ 8
+  pub text_is : text ≡ lost_line
+
+-- the network itself is drawn
+pub record DrawsNet (net : Network) (status : ℕ) (text : List ℕ) : Type 0 where
+  pub status_is : status ≡ 0
+  pub text_is : text ≡ picture standard_title net None [] [] []
+
+-- what is drawn of a run that ended: it, or it is told that memory was refused
+abbrev pub DrawsEnd : Network → ℕ → List ℕ → Type 0
+DrawsEnd net status text = TellsRefused status text ⊎ DrawsRun net status text
+
+-- what is drawn of a network: itself, or as a run by so many workers left it; or it is told why not
+abbrev pub DrawsOf : Option ℕ → Network → ℕ → List ℕ → Type 0
+DrawsOf None net status text = TellsRefused status text ⊎ DrawsNet net status text
+DrawsOf (Some workers) net status text = TellsLost status text ⊎ DrawsEnd net status text
+
+-- what is drawn of a description that was loaded, or told of one that was refused
+abbrev pub DrawsLoaded : Option ℕ → Result Network NetFault → ℕ → List ℕ → Type 0
+DrawsLoaded workers (Ok net) status text = DrawsOf workers net status text
+DrawsLoaded workers (Err fault) status text = (status ≡ status_of fault) × (text ≡ refused_line fault)
+
+-- the input is loaded, and what is drawn of it is written; of the input are known its bytes, where they
+-- are, and whether a read had failed before and after
+pub record Draws (workers : Option ℕ) (input : Option (List ℕ)) (failed_before failed_after : Bool) (takes : ℕ → Bool) (before after : Option (List ℕ)) (status : ℕ) (fault : Option NetFault) : Type 0 where
+  pub loaded : Result Network NetFault
+  pub loads : failed_before ≡ false → IfSome input (λ text. Loads named signature failed_after text loaded)
+  pub failed : failed_before ≡ false → failed_after ≡ true → loaded ≡ Err Input
+  pub fault_is : fault ≡ fault_of loaded
+  pub writes : Writes (DrawsLoaded workers loaded) takes before after status

@@ -1,0 +1,107 @@
+//! Draws Kahn process networks that are described in TOML, for Graphviz.
+#![tactic(auto)]
+
+ghost use Rattle.kpn_draw.specs.Choices.{HasFewWorkers};
+
+mod drawing;
+mod running;
+#[cfg(test)]
+mod tests;
+mod words;
+
+use crate::drawing::{Served, serve};
+use crate::words::{Choice, WordsFault, read_words};
+use kpn_front::say::{WRITE_FAILED, say_refused};
+use kpn_front::streams::Fallible;
+use kpn_net::NetFault;
+use std::process::ExitCode;
+use std::rt::{Clock, Env, Files};
+use std::sync::Wait;
+use std::thread::Threads;
+use std::{env, fs, io};
+
+/// The exit status where the words are refused.
+const REFUSED: u8 = 1;
+
+fn main(rt: HostRuntime) -> ExitCode {
+    ExitCode::from(status_of(&rt))
+}
+
+/// Reads the words, draws what they ask for, and answers the exit status.
+fn status_of<R: Env + Files + Input + Print + Eprint + AllocGlobal + Wait + Clock + Threads + Sync>(
+    rt: &R,
+) -> u8 {
+    let Ok(words) = words_of(rt) else {
+        return say_no_memory(rt);
+    };
+    let Ok(texts) = texts_of(rt, &words) else {
+        return say_no_memory(rt);
+    };
+    match read_words(rt.alloc(), texts.as_slice()) {
+        Ok(choice) => {
+            let served = serve_choice(rt, &choice);
+            if let Some(fault) = served.fault {
+                let _ = eprintln!(rt; "kpn-draw: {fault}");
+            }
+            served.status
+        }
+        Err(fault) => say_words_refused(rt, &fault),
+    }
+}
+
+/// Draws the description of the file that is named, or of standard input where none is. A file that
+/// can't be opened can't be read.
+fn serve_choice<R: Files + Input + Print + AllocGlobal + Wait + Clock + Threads + Sync>(
+    rt: &R,
+    choice: &Choice<'_>,
+) -> Served
+    requires { HasFewWorkers choice.now.workers }
+{
+    let mut sink = Fallible::new(io::writer(rt));
+    let Some(path) = choice.file else {
+        let mut source = Fallible::new(rt.reader());
+        return serve(rt, rt.alloc(), choice.workers, &mut source, &mut sink);
+    };
+    match fs::open(rt, path) {
+        Ok(file) => {
+            let mut source = Fallible::new(file);
+            serve(rt, rt.alloc(), choice.workers, &mut source, &mut sink)
+        }
+        Err(_) => Served {
+            status: say_refused(&NetFault::Input, &mut sink),
+            fault: Some(NetFault::Input),
+        },
+    }
+}
+
+/// The words could not be collected, for want of memory.
+fn say_no_memory<R: Eprint>(rt: &R) -> u8 {
+    let _ = eprintln!(rt; "kpn-draw: memory was refused while the words were read");
+    REFUSED
+}
+
+fn words_of<R: Env + AllocGlobal>(rt: &R) -> io::Result<Vec<String>> {
+    let words: Vec<String> = env::args(rt)?.collect(rt.alloc())?;
+    Ok(words)
+}
+
+fn texts_of<'a>(rt: &impl AllocGlobal, words: &'a Vec<String>) -> io::Result<Vec<&'a str>> {
+    let mut texts = Vec::with_capacity(rt.alloc(), words.len())?;
+    for word in words {
+        texts.push(word.as_str())?;
+    }
+    Ok(texts)
+}
+
+/// Help goes to standard output, and what is wrong with the words to standard error.
+fn say_words_refused<R: Print + Eprint>(rt: &R, fault: &WordsFault) -> u8 {
+    let said = if fault.asks_for_help() {
+        print!(rt; "{fault}")
+    } else {
+        eprint!(rt; "{fault}")
+    };
+    match said {
+        Ok(()) => fault.status(),
+        Err(_) => WRITE_FAILED,
+    }
+}

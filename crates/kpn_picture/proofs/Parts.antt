@@ -1,0 +1,9 @@
+-- Texts that are pushed part by part.
+use Rattle.std.proofs.Common.{◌≡◌, ℕ, List, ◌++◌, ap, ◌∙◌, append_assoc}
+
+pub pushed_two : (old mid new a b : List ℕ) → mid ≡ old ++ a → new ≡ mid ++ b → new ≡ old ++ (a ++ b)
+pushed_two old mid new a b first second = second ∙ ap (λ xs. xs ++ b) first ∙ append_assoc old a b
+
+pub pushed_four : (old m n o new a b c d : List ℕ) → m ≡ old ++ a → n ≡ m ++ b → o ≡ n ++ c → new ≡ o ++ d → new ≡ old ++ (a ++ b ++ c ++ d)
+pushed_four old m n o new a b c d first second third fourth =
+    pushed_two old o new (a ++ b ++ c) d (pushed_two old n o (a ++ b) c (pushed_two old m n a b first second) third) fourth

@@ -1,0 +1,10 @@
+-- One more step on the way of those who wait.
+use Rattle.std.proofs.Common.{◌≡◌, ◌≢◌, ℕ, suc, List, Some, refl}
+use Rattle.std.proofs.lemmas.Bool.{ne_eqb}
+use Rattle.kpn_net.specs.declared.history.Place.{Place}
+use Rattle.kpn_net.specs.Network.{Network}
+use Rattle.kpn_picture.specs.Waits.{waits_for, is_met}
+
+module _ (net : Network) (places : List Place) where
+  pub met_next : (n m goal p q : ℕ) → m ≡ suc n → waits_for net places p ≡ Some q → q ≢ goal → is_met net places n goal q ≡ is_met net places m goal p
+  met_next n m goal p q more waits other = rw (more, waits, ne_eqb q goal other) refl

@@ -1,0 +1,143 @@
+//! Channels, as edges.
+ghost use Rattle.std.specs.Prelude.{◌≡◌, ◌++◌, ◌<◌, OnOk, length, string_bytes};
+ghost use Rattle.kpn_picture.specs.Waits.{is_jammed};
+ghost use Rattle.kpn_picture.specs.Picture.{process_name, channel_name, arrow, label_opening, edge_opening, edge_look, has_grown, capacity_text, held_part, held, last_capacity, channel_line, lines_upto};
+
+use crate::looks::{edge_look, push_closing, sort_text};
+use crate::picture::Left;
+use crate::waits::is_jammed;
+use kpn_net::{Kinds, Net, Sort};
+use std::alloc::AllocError;
+use std::fmt::Write;
+
+pub(crate) fn process_name<K: Kinds>(net: &Net<K>, p: usize) -> &str
+    ensures { result.now ≡ process_name net.now p }
+{
+    if p < net.processes() {
+        net.process_name(p)
+    } else {
+        ""
+    }
+}
+
+pub(crate) fn channel_name<K: Kinds>(net: &Net<K>, c: usize) -> &str
+    ensures { result.now ≡ channel_name net.now c }
+{
+    if c < net.channels() {
+        net.channel_name(c)
+    } else {
+        ""
+    }
+}
+
+/// The capacity of a channel at first, and the one that it grew to.
+fn push_capacity(out: &mut String, at_first: usize, last: usize) -> Result<(), AllocError>
+    ensures { OnOk result (string_bytes out.new ≡ string_bytes out.old ++ capacity_text at_first last) }
+{
+    if at_first == last {
+        write!(out, "{last}")
+    } else {
+        write!(out, "{at_first} -> {last}")
+    }
+}
+
+/// How many tokens a channel holds, where it holds any.
+fn push_held(out: &mut String, tokens: usize) -> Result<(), AllocError>
+    ensures { OnOk result (string_bytes out.new ≡ string_bytes out.old ++ held_part tokens) }
+{
+    if tokens == 0 {
+        Ok(())
+    } else {
+        write!(out, "\\nholds {tokens}")
+    }
+}
+
+/// How many tokens a channel holds in the end, if that is known, and else at first.
+fn held<K: Kinds>(net: &Net<K>, left: &Left<'_>, c: usize) -> usize
+    requires { c < length net.now.channels }
+    ensures { result ≡ held net.now left.now.places.now left.now.capacities.now left.now.rests.now c }
+{
+    match left.rests.get(c) {
+        Some(rest) => rest.as_slice().len(),
+        None => net.tokens(c).len(),
+    }
+}
+
+/// The capacity of a channel in the end, if that is known, and else at first.
+fn last_capacity<K: Kinds>(net: &Net<K>, left: &Left<'_>, c: usize) -> usize
+    requires { c < length net.now.channels }
+    ensures { result ≡ last_capacity net.now left.now.places.now left.now.capacities.now left.now.rests.now c }
+{
+    match left.capacities.get(c) {
+        Some(capacity) => *capacity,
+        None => net.capacity(c),
+    }
+}
+
+/// How the line of a channel between processes of these names begins.
+fn push_arrow(out: &mut String, writer: &str, reader: &str) -> Result<(), AllocError>
+    ensures { OnOk result (string_bytes out.new ≡ string_bytes out.old ++ arrow writer.now reader.now) }
+{
+    write!(out, "  \"{writer}\" -> \"{reader}\" [label=\"")
+}
+
+/// How the text of a channel begins, up to its capacity.
+fn push_label(out: &mut String, name: &str, sort: Sort) -> Result<(), AllocError>
+    ensures { OnOk result (string_bytes out.new ≡ string_bytes out.old ++ label_opening name.now sort) }
+{
+    let sort = sort_text(sort);
+    write!(out, "{name}\\n{sort}, capacity ")
+}
+
+/// How the line of a channel begins, up to its capacity.
+fn push_opening<K: Kinds>(out: &mut String, net: &Net<K>, c: usize) -> Result<(), AllocError>
+    requires { c < length net.now.channels }
+    ensures { OnOk result (string_bytes out.new ≡ string_bytes out.old ++ edge_opening net.now c) }
+{
+    let ends = net.ends(c);
+    let writer = process_name(net, ends.writer);
+    let reader = process_name(net, ends.reader);
+    push_arrow(out, writer, reader)?;
+    push_label(out, channel_name(net, c), net.sort(c))?;
+    Ok(())
+}
+
+/// How a channel looks.
+fn look<K: Kinds>(net: &Net<K>, left: &Left<'_>, c: usize) -> &'static str
+    requires { c < length net.now.channels }
+    ensures { result.now ≡ edge_look (is_jammed net.now left.now.places.now c) (has_grown net.now left.now.places.now left.now.capacities.now left.now.rests.now c) }
+{
+    let has_grown = net.capacity(c) != last_capacity(net, left, c);
+    edge_look(is_jammed(net, left.places, c), has_grown)
+}
+
+/// The line of a channel.
+fn push_channel<K: Kinds>(
+    out: &mut String,
+    net: &Net<K>,
+    left: &Left<'_>,
+    c: usize,
+) -> Result<(), AllocError>
+    requires { c < length net.now.channels }
+    ensures { OnOk result (string_bytes out.new ≡ string_bytes out.old ++ channel_line net.now left.now.places.now left.now.capacities.now left.now.rests.now c) }
+{
+    push_opening(out, net, c)?;
+    push_capacity(out, net.capacity(c), last_capacity(net, left, c))?;
+    push_held(out, held(net, left, c))?;
+    push_closing(out, look(net, left, c))?;
+    Ok(())
+}
+
+/// The lines of all channels.
+pub(crate) fn push_channels<K: Kinds>(
+    out: &mut String,
+    net: &Net<K>,
+    left: &Left<'_>,
+) -> Result<(), AllocError>
+    ensures { OnOk result (string_bytes out.new ≡ string_bytes out.old ++ lines_upto (channel_line net.now left.now.places.now left.now.capacities.now left.now.rests.now) (length net.now.channels)) }
+{
+    for c in 0..net.channels() {
+        push_channel(out, net, left, c)?;
+    }
+    Ok(())
+}

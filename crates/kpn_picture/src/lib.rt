@@ -1,0 +1,15 @@
+//! Pictures of networks, in the language of Graphviz: of a description, and of how a run left it.
+#![tactic(auto)]
+
+mod edges;
+mod looks;
+mod nodes;
+mod picture;
+#[cfg(test)]
+mod tests;
+mod titles;
+mod waits;
+
+pub use picture::{Left, picture_of};
+pub use titles::Titled;
+pub use waits::is_jammed;

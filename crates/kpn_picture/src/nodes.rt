@@ -1,0 +1,106 @@
+//! Processes, in boxes.
+ghost use Rattle.std.specs.Prelude.{◌≡◌, ◌++◌, ◌<◌, [], OnOk, IsSome, length, string_bytes};
+ghost use Rattle.std.specs.List.{flat_map};
+ghost use Rattle.std.specs.Option.{option_map_or};
+ghost use Rattle.kpn_net.specs.Network.{card_of};
+ghost use Rattle.kpn_picture.specs.Picture.{argument_part, box_opening, kind_text, place_text, process_line, lines_upto};
+
+use crate::edges::{channel_name, process_name};
+use crate::looks::{process_look, push_closing};
+use crate::titles::Titled;
+use crate::waits::{is_on_cycle, place_at};
+use kpn_net::{Card, Kinds, Net, Place};
+use std::alloc::AllocError;
+use std::fmt::Write;
+
+fn push_arguments(out: &mut String, arguments: &[u64]) -> Result<(), AllocError>
+    ensures { OnOk result (string_bytes out.new ≡ string_bytes out.old ++ flat_map argument_part arguments.now) }
+{
+    for argument in arguments {
+        write!(out, " {argument}")?;
+    }
+    Ok(())
+}
+
+/// The kind of a card, with the arguments that it takes.
+fn push_kind<K: Titled>(out: &mut String, card: &Card) -> Result<(), AllocError>
+    requires { IsSome (K.signature_of card.now) }
+    ensures { OnOk result (string_bytes out.new ≡ string_bytes out.old ++ kind_text K.title card.now) }
+{
+    let (name, arity) = K::title(card);
+    out.push_str(name)?;
+    push_arguments(out, &card.args[..arity.min(3)])
+}
+
+/// Where a run left a process, if that is known.
+fn push_place<K: Kinds>(
+    out: &mut String,
+    net: &Net<K>,
+    place: Option<Place>,
+) -> Result<(), AllocError>
+    ensures { OnOk result (string_bytes out.new ≡ string_bytes out.old ++ option_map_or (place_text net.now) place []) }
+{
+    match place {
+        Some(Place::Stopped) => out.push_str("\\nended"),
+        Some(Place::Reads(c)) => {
+            let channel = channel_name(net, c);
+            write!(out, "\\nwaits to read {channel}")
+        }
+        Some(Place::Writes(c)) => {
+            let channel = channel_name(net, c);
+            write!(out, "\\nwaits to write {channel}")
+        }
+        None => Ok(()),
+    }
+}
+
+/// The card of a process, which has a signature.
+fn card<K: Kinds>(net: &Net<K>, p: usize) -> Card
+    requires { p < length net.now.processes }
+    ensures is { result ≡ card_of net.now p }
+    ensures signed { IsSome (K.signature_of result) }
+{
+    let _valid = net.processes();
+    net.card(p)
+}
+
+/// How the line of a process begins, up to its kind.
+fn push_opening(out: &mut String, name: &str) -> Result<(), AllocError>
+    ensures { OnOk result (string_bytes out.new ≡ string_bytes out.old ++ box_opening name.now) }
+{
+    write!(out, "  \"{name}\" [label=\"{name}\\n")
+}
+
+/// The line of a process.
+fn push_process<K: Titled>(
+    out: &mut String,
+    net: &Net<K>,
+    places: &[Place],
+    p: usize,
+) -> Result<(), AllocError>
+    requires { p < length net.now.processes }
+    ensures { OnOk result (string_bytes out.new ≡ string_bytes out.old ++ process_line net.now K.title places.now p) }
+{
+    let name = process_name(net, p);
+    let place = place_at(places, p);
+    let look = process_look(is_on_cycle(net, places, p), place);
+    push_opening(out, name)?;
+    push_kind::<K>(out, &card(net, p))?;
+    push_place(out, net, place)?;
+    push_closing(out, look)?;
+    Ok(())
+}
+
+/// The lines of all processes.
+pub(crate) fn push_processes<K: Titled>(
+    out: &mut String,
+    net: &Net<K>,
+    places: &[Place],
+) -> Result<(), AllocError>
+    ensures { OnOk result (string_bytes out.new ≡ string_bytes out.old ++ lines_upto (process_line net.now K.title places.now) (length net.now.processes)) }
+{
+    for p in 0..net.processes() {
+        push_process(out, net, places, p)?;
+    }
+    Ok(())
+}

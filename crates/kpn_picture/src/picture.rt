@@ -1,0 +1,84 @@
+//! The picture of a network.
+ghost use Rattle.std.specs.Prelude.{All, ◌≡◌, ◌++◌, OnOk, IfOk, string_bytes};
+ghost use Rattle.kpn_picture.specs.Picture.{IsPlain, end_line, head, picture};
+
+use crate::edges::push_channels;
+use crate::looks::end_text;
+use crate::nodes::push_processes;
+use crate::titles::Titled;
+use kpn_net::{End, Kinds, Listed, Net, Place, Token};
+use std::alloc::{AllocError, Global};
+use std::fmt::Write;
+
+/// How a run left a network: where each process stands; of each channel the last capacity, and what it
+/// still holds. Where a list is shorter, no more is known: then no place is drawn, and a channel as it
+/// was at first.
+#[derive(Clone, Copy)]
+pub struct Left<'a> {
+    pub places: &'a [Place],
+    pub capacities: &'a [usize],
+    pub rests: &'a [Listed<Token>],
+}
+
+/// The lines that stand above all processes.
+const HEAD: &str = "\
+digraph kpn {
+  graph [rankdir=LR, nodesep=0.5, labelloc=t, fontname=\"Helvetica\", fontsize=16];
+  node [shape=box, style=\"rounded,filled\", fillcolor=\"#eef3fa\", color=\"#44546a\", fontname=\"Helvetica\"];
+  edge [color=\"#44546a\", fontcolor=\"#44546a\", fontname=\"Helvetica\", fontsize=11];
+";
+
+/// The names of a network stand for themselves between quotes.
+fn names_are_plain<K: Kinds>(net: &Net<K>)
+    ensures processes { All (λ p. IsPlain p.name) net.now.processes }
+    ensures channels { All (λ c. IsPlain c.name) net.now.channels }
+{
+    net.processes();
+}
+
+/// The line of the end of a run, where there was one.
+fn push_end(out: &mut String, end: Option<End>) -> Result<(), AllocError>
+    ensures { OnOk result (string_bytes out.new ≡ string_bytes out.old ++ end_line end) }
+{
+    match end {
+        Some(end) => {
+            let text = end_text(end);
+            write!(out, "  label=\"{text}\";\n")
+        }
+        None => Ok(()),
+    }
+}
+
+/// The lines above all processes, with the end of a run, where there was one.
+fn head(alloc: Global, end: Option<End>) -> Result<String, AllocError>
+    ensures { IfOk result (λ text. string_bytes text ≡ head ++ end_line end) }
+{
+    let mut out = String::from_str(alloc, HEAD)?;
+    push_end(&mut out, end)?;
+    Ok(out)
+}
+
+/// The picture of a network, as a directed graph in the language of Graphviz: each process a box with
+/// its name and its kind, each channel an edge from its writer to its reader, with its name, its sort
+/// and its capacity. Of a run that ended it tells how, where it left each process, to what capacity
+/// each channel grew and what it holds; the channels on a cycle of waits are red.
+///
+/// A name stands in quotes, and needs no other care, since it has neither a quote nor a backslash
+/// (`processes` and `channels`). The error is want of memory.
+pub fn picture_of<K: Titled>(
+    alloc: Global,
+    net: &Net<K>,
+    end: Option<End>,
+    left: &Left<'_>,
+) -> Result<String, AllocError>
+    ensures processes { All (λ p. IsPlain p.name) net.now.processes }
+    ensures channels { All (λ c. IsPlain c.name) net.now.channels }
+    ensures text { IfOk result (λ text. string_bytes text ≡ picture K.title net.now end left.now.places.now left.now.capacities.now left.now.rests.now) }
+{
+    names_are_plain(net);
+    let mut out = head(alloc, end)?;
+    push_processes(&mut out, net, left.places)?;
+    push_channels(&mut out, net, left)?;
+    out.push_str("}\n")?;
+    Ok(out)
+}

@@ -1,0 +1,42 @@
+//! The titles of kinds.
+ghost use Rattle.kpn_picture.specs.Titles.{standard_title};
+
+use kpn_net::{Card, Kinds};
+use kpn_standard::Standard;
+
+/// A family whose kinds have titles: the name by which a description calls each, and how many
+/// arguments it takes.
+pub trait Titled: Kinds {
+    ghost use Rattle.std.specs.Prelude.{◌≡◌, ℕ, List, Some, IsSome};
+
+    ghost title: { ℕ → List ℕ × ℕ };
+
+    /// The title of the kind of a card: its name, which means this kind, and the number of its
+    /// arguments.
+    fn title(card: &Card) -> (&'static str, usize)
+        requires { IsSome (Self.signature_of card.now) }
+        ensures name { result.0.now ≡ (title card.now.kind).0 }
+        ensures arity { result.1 ≡ (title card.now.kind).1 }
+        ensures named { Self.named (title card.now.kind).0 ≡ Some (card.now.kind, (title card.now.kind).1) };
+}
+
+impl Titled for Standard {
+    ghost title = { standard_title };
+
+    fn title(card: &Card) -> (&'static str, usize) {
+        match card.kind {
+            0 => ("count", 2),
+            1 => ("sink", 1),
+            2 => ("take", 1),
+            3 => ("copy", 0),
+            4 => ("prefix", 1),
+            5 => ("add", 0),
+            6 => ("scale", 1),
+            7 => ("weave", 2),
+            8 => ("merge", 0),
+            9 => ("divides", 1),
+            10 => ("switch", 0),
+            _ => ("select", 0),
+        }
+    }
+}
