@@ -1,12 +1,12 @@
 -- The picture of a run's report is that of its digest.
 use Rattle.std.proofs.Common.{◌≡◌, ℕ, Bool, true, false, List, Option, refl, ap}
-use Rattle.kpn_net.specs.declared.history.End.{End}
-use Rattle.kpn_net.specs.declared.history.Entry.{Entry}
-use Rattle.kpn_net.specs.Network.{Network}
-use Rattle.kpn_net.specs.Machine.{State}
-use Rattle.kpn_net.specs.History.{Digest, digest}
-use Rattle.kpn_net.specs.Determinacy.{IsFinal}
-use Rattle.kpn_net.specs.Standard.{standard}
+use Rattle.kpn_model.specs.declared.history.End.{End}
+use Rattle.kpn_model.specs.declared.history.Entry.{Entry}
+use Rattle.kpn_model.specs.Network.{Network}
+use Rattle.kpn_model.specs.Semantics.{State}
+use Rattle.kpn_model.specs.History.{Digest, digest}
+use Rattle.kpn_model.specs.Determinacy.{IsFinal}
+use Rattle.kpn_standard.specs.Standard.{standard}
 use Rattle.kpn_report.specs.declared.detail.Detail.{Detail}
 use Rattle.kpn_report.specs.Digested.{has_detail, IsReport}
 use Rattle.kpn_run.specs.Reports.{IsEveryRuns}

@@ -3,7 +3,7 @@ use Rattle.std.specs.Prelude.{◌≡◌, ◌≤◌, ℕ, Bool, false, codes, Lis
 use Rattle.std.specs.Option.{option_map_or}
 use Rattle.std.specs.Str.{bytes_eq}
 use Rattle.clap.specs.Words.{HasKind, Row, Text, fault_of, first_of, kind_of, matches_of}
-use Rattle.kpn_front.specs.Choices.{IsRefusedWorkers, WorkersFrom, is_text_asked_for}
+use Rattle.kpn_args.specs.Choices.{IsRefusedWorkers, WorkersFrom, is_text_asked_for}
 use Rattle.kpn_draw.specs.declared.words.Choice.{Choice}
 use Rattle.kpn_draw.specs.declared.words.WordsFault.{WordsFault}
 use Rattle.kpn_draw.specs.declared.words.WordsFault.TheVariants.{Parser, Workers}

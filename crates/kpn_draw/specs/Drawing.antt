@@ -2,21 +2,21 @@
 use Rattle.std.specs.Prelude.{◌≡◌, ◌⊎◌, ℕ, Bool, true, false, List, [], Option, Some, None, IfSome, Result, Ok, Err, if◌then◌else◌}
 use Rattle.kpn_net.specs.declared.fault.NetFault.{NetFault}
 use Rattle.kpn_net.specs.declared.fault.NetFault.TheVariants.{Input}
-use Rattle.kpn_net.specs.declared.history.Entry.{Entry}
-use Rattle.kpn_net.specs.declared.history.End.{End}
-use Rattle.kpn_net.specs.Network.{Network}
-use Rattle.kpn_net.specs.Machine.{State}
-use Rattle.kpn_net.specs.History.{Digest, digest}
-use Rattle.kpn_net.specs.Determinacy.{IsRun, IsFinal}
-use Rattle.kpn_net.specs.Moments.{IsBound}
-use Rattle.kpn_net.specs.Standard.{standard}
+use Rattle.kpn_model.specs.declared.history.Entry.{Entry}
+use Rattle.kpn_model.specs.declared.history.End.{End}
+use Rattle.kpn_model.specs.Network.{Network}
+use Rattle.kpn_model.specs.Semantics.{State}
+use Rattle.kpn_model.specs.History.{Digest, digest}
+use Rattle.kpn_model.specs.Determinacy.{IsRun, IsFinal}
+use Rattle.kpn_model.specs.Moments.{IsBound}
+use Rattle.kpn_standard.specs.Standard.{standard}
 use Rattle.kpn_standard.specs.Names.{named}
 use Rattle.kpn_standard.specs.Signatures.{signature}
 use Rattle.kpn_report.specs.declared.detail.Detail.{Detail}
 use Rattle.kpn_report.specs.Digested.{has_detail}
 use Rattle.kpn_picture.specs.Titles.{standard_title}
 use Rattle.kpn_picture.specs.Picture.{picture}
-use Rattle.kpn_front.specs.Lines.{lost_line, refused_line, status_of}
+use Rattle.kpn_front.specs.Lines.{lost_line, refused_line, status_of_fault}
 use Rattle.kpn_front.specs.Loading.{Loads}
 use Rattle.kpn_execute.specs.Execution.{TellsRefused, Writes}
 use Rattle.kpn_execute.specs.Program.{fault_of}
@@ -69,7 +69,7 @@ DrawsOf (Some workers) net status text = TellsLost status text ⊎ DrawsEnd net 
 -- what is drawn of a description that was loaded, or told of one that was refused
 abbrev pub DrawsLoaded : Option ℕ → Result Network NetFault → ℕ → List ℕ → Type 0
 DrawsLoaded workers (Ok net) status text = DrawsOf workers net status text
-DrawsLoaded workers (Err fault) status text = (status ≡ status_of fault) × (text ≡ refused_line fault)
+DrawsLoaded workers (Err fault) status text = (status ≡ status_of_fault fault) × (text ≡ refused_line fault)
 
 -- the input is loaded, and what is drawn of it is written; of the input are known its bytes, where they
 -- are, and whether a read had failed before and after

@@ -1,7 +1,7 @@
 //! The program, from its input to what it draws.
 ghost use Rattle.std.specs.Prelude.{◌+◌, None};
 ghost use Rattle.kpn_execute.specs.Execution.{Writes};
-ghost use Rattle.kpn_front.specs.Loading.{TakesAtMost, longest};
+ghost use Rattle.kpn_front.specs.Loading.{ReadsAtMost, longest};
 ghost use Rattle.kpn_draw.specs.Choices.{HasFewWorkers};
 ghost use Rattle.kpn_draw.specs.Drawing.{Draws, DrawsOf};
 
@@ -38,7 +38,7 @@ pub(crate) fn serve<I: Source, O: Sink, R: Wait + Clock + Threads + Sync>(
 ) -> Served
     requires { HasFewWorkers workers }
     ensures drawn { Draws workers (I.remaining source.old) (I.has_failed source.old) (I.has_failed source.new) (O.takes sink.old) (O.contents sink.old) (O.contents sink.new) result.status result.fault }
-    ensures taken { TakesAtMost (longest + 1) (I.remaining source.old) (I.remaining source.new) }
+    ensures taken { ReadsAtMost (longest + 1) (I.remaining source.old) (I.remaining source.new) }
 {
     let net: Net<Standard> = match load(alloc, source) {
         Ok(net) => net,

@@ -4,7 +4,7 @@ ghost use Rattle.std.specs.Option.{option_map_or};
 ghost use Rattle.std.specs.Str.{bytes_eq};
 ghost use Rattle.clap.specs.Words.{FailsBy, app_of, fault_of, first_of, found_of, matches_of, rows_of, rule_of};
 ghost use Rattle.clap.specs.declared.builder.command.Command.TheViews.{out-Command as fields_of};
-ghost use Rattle.kpn_front.specs.Choices.{IsRefusedWorkers, IsWorkers, WorkersFrom};
+ghost use Rattle.kpn_args.specs.Choices.{IsRefusedWorkers, IsWorkers, WorkersFrom};
 ghost use Rattle.kpn_draw.specs.Command.{kpn_draw, run_rule, workers_rule, file_rule};
 ghost use Rattle.kpn_draw.specs.Choices.{AreTaken, HasFewWorkers, IsChoice, IsChoiceOf, IsWordsFault, asks_for_help, is_run};
 

@@ -1,7 +1,7 @@
 -- Names have no quote, no backslash and no line feed.
 use Rattle.std.proofs.Common.{◌≡◌, ◌≢◌, ◌&&◌, ℕ, Bool, true, false, List, refl}
 use Rattle.std.proofs.lemmas.List.Sums.{AllPass-from_list_all}
-use Rattle.kpn_net.specs.Name.{is_name, is_name_byte}
+use Rattle.kpn_model.specs.Name.{is_name, is_name_byte}
 use Rattle.kpn_picture.specs.Picture.{IsPlain}
 
 and_right : (a b : Bool) → (a && b) ≡ true → b ≡ true

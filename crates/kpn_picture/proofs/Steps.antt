@@ -1,8 +1,8 @@
 -- One more step on the way of those who wait.
 use Rattle.std.proofs.Common.{◌≡◌, ◌≢◌, ℕ, suc, List, Some, refl}
 use Rattle.std.proofs.lemmas.Bool.{ne_eqb}
-use Rattle.kpn_net.specs.declared.history.Place.{Place}
-use Rattle.kpn_net.specs.Network.{Network}
+use Rattle.kpn_model.specs.declared.history.Place.{Place}
+use Rattle.kpn_model.specs.Network.{Network}
 use Rattle.kpn_picture.specs.Waits.{waits_for, is_met}
 
 module _ (net : Network) (places : List Place) where

@@ -1,9 +1,9 @@
 -- Which process waits for which, where a run left them, and the cycles of these waits.
 use Rattle.std.specs.Prelude.{ℕ, zero, suc, ◌==◌, ◌&&◌, ◌||◌, Bool, false, List, length, slice_get, Option, None, option_map, option_and_then}
 use Rattle.std.specs.Option.{option_map_or}
-use Rattle.kpn_net.specs.declared.history.Place.{Place}
-use Rattle.kpn_net.specs.declared.history.Place.TheVariants.{Stopped, Reads, Writes}
-use Rattle.kpn_net.specs.Network.{Network, channel_of}
+use Rattle.kpn_model.specs.declared.history.Place.{Place}
+use Rattle.kpn_model.specs.declared.history.Place.TheVariants.{Stopped, Reads, Writes}
+use Rattle.kpn_model.specs.Network.{Network, channel_of}
 
 -- who stands here wants to read the channel, or to write it
 abbrev pub stands_at_read : ℕ → Place → Bool

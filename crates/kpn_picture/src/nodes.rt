@@ -2,7 +2,7 @@
 ghost use Rattle.std.specs.Prelude.{◌≡◌, ◌++◌, ◌<◌, [], OnOk, IsSome, length, string_bytes};
 ghost use Rattle.std.specs.List.{flat_map};
 ghost use Rattle.std.specs.Option.{option_map_or};
-ghost use Rattle.kpn_net.specs.Network.{card_of};
+ghost use Rattle.kpn_model.specs.Network.{card_of};
 ghost use Rattle.kpn_picture.specs.Picture.{argument_part, box_opening, kind_text, place_text, process_line, lines_upto};
 
 use crate::edges::{channel_name, process_name};
