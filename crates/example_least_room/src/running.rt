@@ -13,7 +13,7 @@ use kpn_machine::Machine;
 use kpn_net::Entry;
 use test_laws::worked_room;
 
-/// Runs Parks's case with a counter of five to its end in the calling thread, where no process is out,
+/// Runs Parks's case with a counter of five to its end in the calling thread, if no process is out,
 /// and tells how often a channel grew.
 ///
 /// Two places a channel suffice for it, in a run of 46 entries. So, by what `finish_alone` ensures, no

@@ -102,7 +102,7 @@ impl Body for FlipBody {
     }
 }
 
-/// What a flip answers before it has read, or where it has just read a flag.
+/// What a flip answers before it has read, or if it has just read a flag.
 pub fn flip_answer(alloc: Global, read: Option<bool>) -> Result<Answer, AllocError>
     ensures { IfOk result (λ a. a ≡ answer (option_map Token.Flag read)) }
 {

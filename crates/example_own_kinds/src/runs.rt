@@ -16,7 +16,7 @@ use std::sync::Wait;
 use std::thread::Threads;
 
 /// Runs a network of flips by 1 to 16 workers, and writes the report of the run, with the stream
-/// of a channel where `show` names one.
+/// of a channel if `show` names one.
 ///
 /// The answer is the exit status, as `execute` gives it. The error is want of memory for the
 /// bodies; nothing was then written.

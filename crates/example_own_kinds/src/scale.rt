@@ -11,7 +11,7 @@ use std::alloc::{AllocError, Global};
 /// The number of the standard kind `scale`, which reads a word and writes its product by a factor.
 const SCALE: u16 = 6;
 
-/// What a scale by this factor answers where it has just read a word: it writes their product modulo
+/// What a scale by this factor answers if it has just read a word: it writes their product modulo
 /// 2^64, and is then in its first local state.
 pub fn scale_answer(alloc: Global, factor: u64, word: u64) -> Result<Answer, AllocError>
     ensures { IfOk result (λ a. a ≡ says 0 0 0 (Act.Write 0 (Token.Word ((factor * word) % 2 ^ 64)))) }

@@ -1,4 +1,4 @@
--- gain: reads a word and writes its product by a factor, or the greatest word where that is less, for ever.
+-- gain: reads a word and writes its product by a factor, or the greatest word if that is less, for ever.
 use Rattle.std.specs.Prelude.{◌≡◌, ℕ, ◌*◌, ◌-◌, ◌^◌, ◌<◌, ◌==◌, ◌&&◌, min, Bool, if◌then◌else◌, List, [], ◌∷◌, Option, Some, None, codes}
 use Rattle.std.specs.Str.{bytes_eq}
 use Rattle.kpn_compute.specs.Table.{Sort, Words, Token, Word, Flag, Card, Signature, Read, Write, Answer, Family, at}

@@ -11,7 +11,7 @@ use std::sync::Wait;
 use std::thread::Threads;
 use std::{env, io};
 
-/// The exit status where the words are refused.
+/// The exit status if the words are refused.
 const REFUSED: u8 = 1;
 
 fn main(rt: HostRuntime) -> ExitCode {

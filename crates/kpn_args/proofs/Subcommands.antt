@@ -1,4 +1,4 @@
--- Where the command line takes the words, they name one of its two subcommands.
+-- If the command line takes the words, they name one of its two subcommands.
 use Rattle.std.proofs.Common.{◌≡◌, ◌⊎◌, inl, inr, Bool, true, false, cond, List, [], ◌∷◌, Option, Some, None, IfSome, IsSomeAnd, is_some, option_map, codes, refl, subst}
 use Rattle.std.specs.Str.{bytes_eq}
 use Rattle.clap.specs.Words.{Row, Text, built, is_simple_and_free, subcommand_of}
@@ -13,7 +13,7 @@ use Rattle.kpn_args.specs.Command.{kpn}
 pub is_simple : is_simple_and_free kpn ≡ true
 is_simple = refl
 
--- where no step fails, the last one does not
+-- if no step fails, the last one does not
 last_passes : (first next : Kinds) → or_else first next ≡ [] → next ≡ []
 last_passes [] next h = h
 last_passes (k ∷ ks) next h = cc
@@ -58,7 +58,7 @@ names_one words h =
     let stop = (walk (built kpn).top.rules (names_of (built kpn)) nothing_held (argument_words kpn words)).stopped in
     level_has_one (names_of (built kpn)) nothing_held (argument_words kpn words) (is_some (entered (built kpn) stop)) (entered_fault (built kpn) stop) h
 
--- what is there, and has the form where it is there, has it
+-- what is there, and has the form if it is there, has it
 some_is : (p : Option (Text × List Row)) → is_some p ≡ true → IfSome p IsCommand → IsSomeAnd p IsCommand
 some_is None some is = cc
 some_is (Some p) some is = is
@@ -74,7 +74,7 @@ at_some : (r : Option (Text × List Row)) (p : Text × List Row) → Some p ≡ 
 at_some None p e is = absurd is
 at_some (Some q) p e is = let same : q ≡ p = cc in subst IsCommand same is
 
--- where there is a value, there is not none
+-- if there is a value, there is not none
 at_none : (r : Option (Text × List Row)) → None ≡ r → IsSomeAnd r IsCommand → ⊥
 at_none None e is = is
 at_none (Some q) e is = cc

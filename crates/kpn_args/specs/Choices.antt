@@ -68,7 +68,7 @@ abbrev pub asks_for_help : WordsFault → Bool
 asks_for_help (Parser e) = is_text_asked_for (kind_of e)
 asks_for_help Workers = false
 
--- the text for the user, where it is not the parser's own
+-- the text for the user, if it is not the parser's own
 abbrev pub text_of : WordsFault → Option Text
 text_of (Parser e) = None
 text_of Workers = Some (codes "error: --workers takes a number from 1 to " ++ (decimal MAX_WORKERS ++ codes "\n\nFor more information, try 'kpn run --help'.\n"))

@@ -12,7 +12,7 @@ use kpn_model::{Answer, Card, Kinds, Local, Token};
 ///
 /// A family's bodies are a type that implements this trait, and not one type for all families: such
 /// a type stores a boxed closure beside facts about the family's answers, and these can be stated
-/// where the family is known. `StandardBody` is the one of the standard kinds.
+/// if the family is known. `StandardBody` is the one of the standard kinds.
 pub trait Body: Send + Drop {
     ghost use Rattle.kpn_model.specs.declared.kinds.Card.{Card};
 
@@ -26,7 +26,7 @@ pub trait Body: Send + Drop {
         ensures card { result ≡ card self.now }
         ensures signed { IsSome (Self.Kinds.signature_of (card self.now)) };
 
-    /// What a process of the card answers, in a local state, where it has just read `last`.
+    /// What a process of the card answers, in a local state, if it has just read `last`.
     fn answer(&self, local: Local, last: Option<Token>) -> Answer
         requires { Self.Kinds.admits (card self.now) local last }
         ensures { result ≡ Self.Kinds.family.answer (card self.now) local last };

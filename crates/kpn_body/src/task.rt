@@ -30,7 +30,7 @@ impl<B: Body> Model for Task<B> {
 }
 
 impl<B: Body> Task<B> {
-    /// A task of the process of this number, in this local state, where it has just read `last`.
+    /// A task of the process of this number, in this local state, if it has just read `last`.
     pub fn new(process: usize, body: B, local: Local, last: Option<Token>) -> Self
         requires { B.Kinds.admits (B.card body) local last }
         ensures { result ≡ input process (B.card body) local last }

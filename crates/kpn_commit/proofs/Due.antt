@@ -1,4 +1,4 @@
--- A growth follows exactly where it is due.
+-- A growth follows exactly when it is due.
 use Rattle.std.proofs.Common.{◌≡◌, ◌≢◌, ◌↔◌, List, Some, Bool, true, false, refl, ap, ℕ}
 use Rattle.std.specs.List.{list_any}
 use Rattle.kpn_model.specs.declared.history.End.{End}
@@ -16,7 +16,7 @@ use Rattle.kpn_commit.specs.Works.{end_after}
 use Rattle.kpn_state.proofs.Contradictions.{true_false}
 
 module _ (kinds : Family) (net : Network) where
-  -- where a growth is due, the run has no end but for want of memory
+  -- if a growth is due, the run has no end but for want of memory
   due_memory : (M : State) (end : End) → EndsBy kinds net M end → CanGrow kinds net M → end ≡ Memory
   due_memory M Terminated h can = absurd (over_grows_not kinds net M Terminated can.channel can.to can.next h can.grows)
   due_memory M Deadlock h can = absurd (over_grows_not kinds net M Deadlock can.channel can.to can.next h can.grows)

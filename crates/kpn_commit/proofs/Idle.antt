@@ -1,4 +1,4 @@
--- Where no process is ready or out, the parked ones decide.
+-- If no process is ready or out, the parked ones decide.
 use Rattle.std.proofs.Common.{◌≡◌, ◌≢◌, ⊎_elim, List, length, refl, sym, ap, ◌∙◌, arith, ℕ, ◌<◌, Bool, true, false, Some, None, Option, subst}
 use Rattle.std.proofs.lemmas.Bool.{cases_lt}
 use Rattle.std.proofs.lemmas.Option.{same_Some}
@@ -105,16 +105,16 @@ module _ (kinds : Family) (admits : Card → List ℕ → Option Token → Type 
     pub smallest_artificial : (c w : ℕ) → IsSmallest net M standings (length standings) (Some (c, w)) → IsArtificial kinds net M
     smallest_artificial c w best = record { quiet = idle_quiet idle; writer = w; channel = c; blocked = awaits_blocked w c best.0 }
 
-    -- where none waits to write, none is blocked on a write
+    -- if none waits to write, none is blocked on a write
     pub none_blocked : IsSmallest net M standings (length standings) None → (p c : ℕ) → IsBlocked kinds net M p c → ⊥
     none_blocked none p c b =
         let waits = blocked_awaits idle p c b in
         none_some c (sym (none p (awaits_within p c waits)) ∙ waits)
 
-  -- where not all have stopped, some process is live
+  -- if not all have stopped, some process is live
   pub some_live : list_all has_stopped standings ≡ false → (p : ℕ) × (status M p ≢ Done)
   some_live h = let one = one_live standings h in (one.0, λ e. one.1 (k.done one.0 e))
 
-  -- where all have, none is
+  -- if all have, none is
   pub all_done : list_all has_stopped standings ≡ true → (p : ℕ) → status M p ≡ Done
   all_done h p = k.stopped p (stopped_at standings p h)

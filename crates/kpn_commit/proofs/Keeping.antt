@@ -49,7 +49,7 @@ module _ (kinds : Family) (admits : Card → List ℕ → Option Token → Type 
   keeps_all M standings (Some p) k h =
       record { processes = k.processes; channels = k.channels; standing = k.standing; well_typed = k.well_typed; smallest = k.smallest; greatest = k.greatest; stopped = k.stopped; done = k.done; wanted = k.wanted; blocked = λ q a ne e. ⊎_elim (λ (x : q ≡ p). h q a (ap Some (sym x)) e) (λ y. k.blocked q a (λ f. y (sym (some_same p q f))) e) (cases_eq q p) }
 
-  -- a live process may be moved, where what it is parked with is wanted and can't be done
+  -- a live process may be moved, if what it is parked with is wanted and can't be done
   pub keeps_moved :
       (M : State) (standings : List Standing) (p : ℕ) (x : Standing) → StandingsFit kinds admits net None M standings → p < length standings → x ≢ Ended → status M p ≢ Done
       → ((a : Answer) → x ≡ Parked a → (wants kinds net M p ≡ Some a) × (IsPossible kinds net M p a.act → ⊥)) → StandingsFit kinds admits net None M (set standings p x)

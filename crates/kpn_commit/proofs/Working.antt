@@ -37,7 +37,7 @@ module _ (kinds : Family) (net : Network) where
       let still : standing moved p ≡ Ready = ap (λ (l : List Standing). standing l p) h.second.moves ∙ place_set_other h.places_between h.other p (place_after h.handed) other ∙ here ∙ partner_ready net h.deed h.other h.at_other_end in
       busy_at moved p (ap is_busy still)
 
-  -- where none is ready or out after a reaction, it appended at most one entry
+  -- if none is ready or out after a reaction, it appended at most one entry
   pub reaction_room :
       (s : StateAndHistory) (standings : List Standing) (p : ℕ) (a : Answer) (r : Reaction) (t : StateAndHistory) (moved : List Standing)
       → p < length standings → length s.history + 3 ≤ s.room → Reacts kinds net s standings p a r t moved → list_any is_busy moved ≡ false → length t.history + 2 ≤ t.room

@@ -1,4 +1,4 @@
--- What happens where no process is ready or out.
+-- What happens when no process is ready or out.
 use Rattle.std.specs.Prelude.{◌≡◌, ℕ, true, false, List}
 use Rattle.std.specs.List.{list_any}
 use Rattle.kpn_model.specs.declared.token.Token.{Token}

@@ -1,4 +1,4 @@
-//! Doing what a process wants, where it can be done.
+//! Doing what a process wants, if it can be done.
 ghost use Rattle.std.specs.Prelude.{◌≡◌, ◌≢◌, ◌<◌, length, set, Some, IfSome, IfNone, IsSome};
 ghost use Rattle.kpn_model.specs.Network.{card_of};
 ghost use Rattle.kpn_model.specs.Lawful.{NamesPort, LeadsOn, read_by};
@@ -65,7 +65,7 @@ fn write<K: Kinds>(
     Some(Deed::Put { channel, token })
 }
 
-/// Does what a process answered, where it can be done.
+/// Does what a process answered, if it can be done.
 #[inline(always)]
 fn perform<K: Kinds>(
     net: &Net<K>,
@@ -106,7 +106,7 @@ fn obey<K: Kinds>(card: Card, local: Local, last: Option<Token>, deed: Deed)
     K::leads_on(card, local, last, token);
 }
 
-/// Does what a process answered, where it can be done, and moves the process on.
+/// Does what a process answered, if it can be done, and moves the process on.
 #[inline(always)]
 pub fn advance<K: Kinds>(
     net: &Net<K>,

@@ -1,4 +1,4 @@
-//! What follows where no process is ready or out.
+//! What follows when no process is ready or out.
 ghost use Rattle.std.specs.Prelude.{◌≡◌, ◌<◌, ◌≤◌, ◌+◌, min, length, None, false};
 ghost use Rattle.std.specs.List.{list_any};
 ghost use Rattle.kpn_state.specs.Standings.{StandingsFit, is_busy};
@@ -31,7 +31,7 @@ fn enlarged(capacity: usize, step: usize, ceiling: usize) -> usize
     }
 }
 
-/// Ends the run or lets the chosen channel grow and its writer put its token. Where the growth is
+/// Ends the run or lets the chosen channel grow and its writer put its token. If the growth is
 /// refused memory, the run ends.
 #[cold]
 #[inline(never)]
@@ -66,8 +66,8 @@ fn settle_idle<K: Kinds>(net: &Net<K>, store: &mut Store, standings: &mut Roster
     Settled::Enlarged
 }
 
-/// Where no process is ready or out, ends the run or lets the chosen channel grow and its writer put
-/// its token. Where the growth is refused memory, the run ends.
+/// If no process is ready or out, ends the run or lets the chosen channel grow and its writer put
+/// its token. If the growth is refused memory, the run ends.
 #[inline(always)]
 pub fn settle<K: Kinds>(net: &Net<K>, store: &mut Store, standings: &mut Roster) -> Settled
     requires keeps { StandingsFit K.family K.admits net.now None store.old.state standings.old }

@@ -11,7 +11,7 @@ use crate::settle::{Settled, settle};
 use kpn_net::{Answer, End, Kinds, Net};
 use kpn_state::{Roster, Store};
 
-/// How many entries were appended where no process was ready or out.
+/// How many entries were appended if no process was ready or out.
 fn settled_entries(settled: Settled) -> usize
     ensures value { result ≡ settled_entries settled }
     ensures few { result ≤ 2 }
@@ -50,7 +50,7 @@ fn end_after(settled: Settled, budget: u64, entries: u64) -> Option<End>
     }
 }
 
-/// Takes the answer of a process that is out, where no end stands: the outcome, and the end.
+/// Takes the answer of a process that is out, if no end stands: the outcome, and the end.
 #[inline(always)]
 pub fn work<K: Kinds>(
     net: &Net<K>,

@@ -22,7 +22,7 @@ follows_same s t a b c d next Stop token e admits after = after
 follows_same s t a b c d next (Read k) token e admits after = λ sort fits. admits (Some token) (after (ap (λ ports. option_and_then (λ (p : Signature). port_at p.ins k) ports) e ∙ sort) fits)
 follows_same s t a b c d next (Write k written) token e admits after = admits None after
 
--- a card fits where it does in both
+-- a card fits if it does in both
 own_fits : (card : Card) → CardFits card → CardFits (own_card card)
 own_fits card fits = record { kind = omega (arith, fits.kind); three = fits.three; args = fits.args }
 
@@ -39,7 +39,7 @@ module _ (s t : Card → Option Signature) (a b : Card → List ℕ → Option T
   own_signed : (card : Card) (x : Bool) → is_first card ≡ x → IsSome (both_ports s t card) → IsSome ((if x then s else t) (own_card card))
   own_signed card x e signed = subst (λ (ports : Option Signature). IsSome ports) (ports_of card x e signed) signed
 
-  -- a card is admitted where its own family admits it
+  -- a card is admitted if its own family admits it
   admitted_by : (card : Card) (x : Bool) (local : List ℕ) (last : Option Token) → is_first card ≡ x → picked x (a (own_card card) local last) (b (own_card card) local last) → BothAdmit a b card local last
   admitted_by card x local last e admitted = subst (λ (y : Bool). picked y (a (own_card card) local last) (b (own_card card) local last)) (sym e) admitted
 

@@ -24,7 +24,7 @@ pub trait Filters: Send + Sync {
 
     ghost step: { Card → List ℕ → ℕ → List ℕ × ℕ };
 
-    /// The number of the kind of a name, and how many arguments it takes; `None` where no kind has
+    /// The number of the kind of a name, and how many arguments it takes; `None` if no kind has
     /// this name.
     fn named(name: &str) -> Option<(u16, usize)>
         ensures { result ≡ named name.now };

@@ -69,7 +69,7 @@ run_told kinds admits s cause places channel status bytes faithful room ended pl
           told ∙ one_text kinds s.network one s.history F s.state N cause b channel (record { run = faithful.run; over = over_of kinds s.network cause s.history s.state has bound }) final;
     }
 
--- where all are ready, none is out
+-- if all are ready, none is out
 pub none_out : (n : ℕ) → count_by is_out (replicate n Ready) ≡ 0
 none_out zero = refl
 none_out (suc n) = none_out n

@@ -71,7 +71,7 @@ pub record TellsRun (kinds : Family) (net : Network) (channel : Option ℕ) (sta
 abbrev pub TellsEnded : Family → Network → Option ℕ → ℕ → List ℕ → Type 0
 TellsEnded kinds net channel status text = TellsRefused status text ⊎ TellsRun kinds net channel status text
 
--- what is told of a network that is run by so many workers, where the name that is to be shown is that of
+-- what is told of a network that is run by so many workers, if the name that is to be shown is that of
 -- a channel
 abbrev pub TellsKnown : Family → Network → ℕ → Option ℕ → ℕ → List ℕ → Type 0
 TellsKnown kinds net workers channel status text = TellsLost workers status text ⊎ TellsEnded kinds net channel status text
@@ -84,8 +84,8 @@ Tells kinds net workers show status text = TellsNoChannel net show status text �
 abbrev pub TellsOfBodies : Family → Network → ℕ → Option (List ℕ) → ℕ → List ℕ → Type 0
 TellsOfBodies kinds net workers show status text = TellsRefused status text ⊎ Tells kinds net workers show status text
 
--- what is told is written, and the status is its own; it is 7 where the write fails, as it does not
--- where the sink takes so many bytes
+-- what is told is written, and the status is its own; it is 7 if the write fails, as it does not
+-- if the sink takes so many bytes
 pub record Writes (tells : ℕ → List ℕ → Type 0) (takes : ℕ → Bool) (before after : Option (List ℕ)) (result : ℕ) : Type 0 where
   pub status : ℕ
   pub text : List ℕ

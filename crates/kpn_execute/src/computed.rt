@@ -15,7 +15,7 @@ use std::thread::Threads;
 /// Runs a network of a family that a plain function answers for by 1 to 16 workers, and writes what
 /// came of it, as `execute` does. A body is made for each process.
 ///
-/// Where memory for the bodies is refused, `refused 14` is written, and the answer is 4.
+/// If memory for the bodies is refused, `refused 14` is written, and the answer is 4.
 pub fn execute_net<K: Computes, S: Sink, R: Wait + Clock + Threads + Sync>(
     rt: &R,
     alloc: Global,

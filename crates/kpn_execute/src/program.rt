@@ -17,7 +17,7 @@ use std::rt::Clock;
 use std::sync::Wait;
 use std::thread::Threads;
 
-/// What came of a choice: the exit status, and the fault of the description where it was refused.
+/// What came of a choice: the exit status, and the fault of the description if it was refused.
 #[derive(Drop)]
 pub struct Served {
     pub status: u8,
@@ -28,7 +28,7 @@ pub struct Served {
 /// the source, and writes that it is a network (`check`), or how its run ended (`run`), or that it is
 /// refused.
 ///
-/// The status is 2 where the description is refused (4 for want of memory), and 7 where a write fails;
+/// The status is 2 if the description is refused (4 for want of memory), and 7 if a write fails;
 /// else 0 for `check`, and for `run` the one that `execute_standard` answers.
 ///
 /// The error is the fault of words that ask for neither, as `read_words` finds it: nothing was then

@@ -24,16 +24,16 @@ struct Told {
 }
 
 /// Runs a network by 1 to 16 workers, with a body for each process, and writes what came of it: the
-/// report of the run, with the stream of a channel where `show` names one. One worker is the calling
+/// report of the run, with the stream of a channel if `show` names one. One worker is the calling
 /// thread, which then takes no lock.
 ///
-/// Where the run came to its own end, each run of the network that is over tells the same, whatever
+/// If the run came to its own end, each run of the network that is over tells the same, whatever
 /// the schedule. Whatever number of places a channel suffices for the network, the run takes no more.
 ///
-/// The answer is the exit status: 0, 5 or 6 where the run terminated, ended in a deadlock or at the
-/// ceiling, 3 where its budget was spent, 1 where `show` is the name of no channel (nothing is then
-/// run, and `no channel NAME` is written), 4 where memory was refused, before the run or for the
-/// report (`refused 14`) or for a growth (`end memory`), 7 where the write fails, and 8 where the
+/// The answer is the exit status: 0, 5 or 6 if the run terminated, ended in a deadlock or at the
+/// ceiling, 3 if its budget was spent, 1 if `show` is the name of no channel (nothing is then
+/// run, and `no channel NAME` is written), 4 if memory was refused, before the run or for the
+/// report (`refused 14`) or for a growth (`end memory`), 7 if the write fails, and 8 if the
 /// machine refused an answer of one of several workers (`lost`).
 pub fn execute<B: Body, S: Sink, R: Wait + Clock + Threads + Sync>(
     rt: &R,
@@ -57,7 +57,7 @@ pub fn execute<B: Body, S: Sink, R: Wait + Clock + Threads + Sync>(
     }
 }
 
-/// Runs a network and writes what came of it, with the stream of a channel where one is to be shown.
+/// Runs a network and writes what came of it, with the stream of a channel if one is to be shown.
 fn tell<B: Body, S: Sink, R: Wait + Clock + Threads + Sync>(
     rt: &R,
     alloc: Global,

@@ -19,7 +19,7 @@ use std::thread::Threads;
 /// Runs a network of standard kinds by 1 to 16 workers, and writes what came of it, as `execute`
 /// does. A body is made for each process, with a closure of its own.
 ///
-/// Where memory for a body is refused, `refused 14` is written, and the answer is 4.
+/// If memory for a body is refused, `refused 14` is written, and the answer is 4.
 pub fn execute_standard<S: Sink, R: Wait + Clock + Threads + Sync>(
     rt: &R,
     alloc: Global,

@@ -17,10 +17,10 @@ abbrev pub status_of_fault : NetFault → ℕ
 status_of_fault Memory = 4
 status_of_fault _ = 2
 
--- what is written where a worker's answer was refused
+-- what is written if a worker's answer was refused
 abbrev pub lost_line : List ℕ
 lost_line = codes "lost\n"
 
--- what is written where no channel has the name that is to be shown
+-- what is written if no channel has the name that is to be shown
 abbrev pub no_channel_line : List ℕ → List ℕ
 no_channel_line name = codes "no channel " ++ name ++ codes "\n"

@@ -15,7 +15,7 @@ use Rattle.kpn_net.specs.Sketched.{net_of}
 abbrev pub longest : ℕ
 longest = 1048576
 
--- of the bytes that a source had left, where they are known, at most n are gone
+-- of the bytes that a source had left, if they are known, at most n are gone
 abbrev pub ReadsAtMost : ℕ → Option (List ℕ) → Option (List ℕ) → Type 0
 ReadsAtMost n old new = (bytes : List ℕ) × Consumes old new bytes × (length bytes ≤ n)
 

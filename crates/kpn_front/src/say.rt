@@ -10,21 +10,21 @@ use itoa::Buffer;
 use kpn_net::{Kinds, Net, NetFault};
 use std::io;
 
-/// The exit status where a write fails.
+/// The exit status if a write fails.
 pub const WRITE_FAILED: u8 = 7;
 
-/// The exit status where a worker's answer was refused.
+/// The exit status if a worker's answer was refused.
 pub const LOST: u8 = 8;
 
-/// The exit status where no channel has the name that is to be shown.
+/// The exit status if no channel has the name that is to be shown.
 pub const NO_CHANNEL: u8 = 1;
 
 /// The room of a line: two numbers and the words around them.
 const ROOM: usize = 64;
 
-/// Writes a text, and answers `status`, or 7 where the write fails.
+/// Writes a text, and answers `status`, or 7 if the write fails.
 ///
-/// It does not fail where the sink takes so many bytes. After a 7 some of them may have been written.
+/// It does not fail if the sink takes so many bytes. After a 7 some of them may have been written.
 pub fn say<S: Sink>(sink: &mut S, text: &str, status: u8) -> u8
     requires { status ≢ 7 }
     ensures said { result ≢ 7 → (result ≡ status) × Appends (S.contents sink.old) (S.contents sink.new) text.now }
@@ -39,7 +39,7 @@ pub fn say<S: Sink>(sink: &mut S, text: &str, status: u8) -> u8
 /// Writes that a network was accepted, as the line `ok 2 processes 1 channels` of the counter of
 /// three into a sink.
 ///
-/// The answer is the exit status: 0, or 7 where the write fails. No memory is taken.
+/// The answer is the exit status: 0, or 7 if the write fails. No memory is taken.
 pub fn say_checked<K: Kinds, S: Sink>(net: &Net<K>, sink: &mut S) -> u8
     ensures said { result ≢ 7 → (result ≡ 0) × Appends (S.contents sink.old) (S.contents sink.new) (checked_line net.now) }
     ensures room { S.takes sink.old (length (checked_line net.now)) ≡ true → result ≢ 7 }
@@ -49,7 +49,7 @@ pub fn say_checked<K: Kinds, S: Sink>(net: &Net<K>, sink: &mut S) -> u8
 
 /// Writes that a description was refused, as the line `refused 9` of two channels that share a port.
 ///
-/// The answer is the exit status: 4 where memory was refused, 2 of every other fault, and 7 where the
+/// The answer is the exit status: 4 if memory was refused, 2 of every other fault, and 7 if the
 /// write fails. No memory is taken.
 pub fn say_refused<S: Sink>(fault: &NetFault, sink: &mut S) -> u8
     ensures said { result ≢ 7 → (result ≡ status_of_fault fault.now) × Appends (S.contents sink.old) (S.contents sink.new) (refused_line fault.now) }
@@ -60,7 +60,7 @@ pub fn say_refused<S: Sink>(fault: &NetFault, sink: &mut S) -> u8
 
 /// Writes that a run was given up, since the machine refused a worker's answer, as the line `lost`.
 ///
-/// The answer is the exit status: 8, or 7 where the write fails. No memory is taken.
+/// The answer is the exit status: 8, or 7 if the write fails. No memory is taken.
 pub fn say_lost<S: Sink>(sink: &mut S) -> u8
     ensures said { result ≢ 7 → (result ≡ 8) × Appends (S.contents sink.old) (S.contents sink.new) lost_line }
     ensures room { S.takes sink.old (length lost_line) ≡ true → result ≢ 7 }
@@ -70,7 +70,7 @@ pub fn say_lost<S: Sink>(sink: &mut S) -> u8
 
 /// Writes that no channel has a name, as the line `no channel c9`.
 ///
-/// The answer is the exit status: 1, or 7 where the write fails. No memory is taken.
+/// The answer is the exit status: 1, or 7 if the write fails. No memory is taken.
 pub fn say_no_channel<S: Sink>(name: &str, sink: &mut S) -> u8
     ensures said { result ≢ 7 → (result ≡ 1) × Appends (S.contents sink.old) (S.contents sink.new) (no_channel_line name.now) }
     ensures room { S.takes sink.old (length (no_channel_line name.now)) ≡ true → result ≢ 7 }

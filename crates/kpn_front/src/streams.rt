@@ -1,4 +1,4 @@
-//! Readers and writers whose contracts also say where they can't fail.
+//! Readers and writers whose contracts also say when they can't fail.
 ghost use Rattle.std.specs.Prelude.{◌||◌, not, is_ok, ◌≡◌, ◌+◌, ℕ, Bool, true, false, List, Option, Some, OnOk, IsOk, length, vec_len, vec_capacity, nat_le};
 ghost use Rattle.std.specs.Io.{ReadsAtMost};
 ghost use Rattle.std.specs.Io.KnownBytes.{ReadConsumes, Appends};
@@ -8,7 +8,7 @@ use std::io::{Read, Write};
 
 /// A source of bytes.
 ///
-/// `remaining` is what is left to read, where that is known, `is_steady` says that no read fails,
+/// `remaining` is what is left to read, if that is known, `is_steady` says that no read fails,
 /// and `has_failed` that some read has failed.
 pub trait Source {
     ghost remaining: { Self → Option (List ℕ) };
@@ -18,7 +18,7 @@ pub trait Source {
     ghost has_failed: { Self → Bool };
 
     /// Reads the next bytes into the front of `buf`, and answers how many they are: no more than
-    /// `buf` has room for, and 0 only at the end or where `buf` is empty.
+    /// `buf` has room for, and 0 only at the end or if `buf` is empty.
     ///
     /// An error takes no byte from the source.
     fn read(&mut self, buf: &mut [u8]) -> io::Result<usize>
@@ -30,7 +30,7 @@ pub trait Source {
 
 /// A sink of bytes.
 ///
-/// `contents` is what has been written, where that is known, and `takes` says that so many more
+/// `contents` is what has been written, if that is known, and `takes` says that so many more
 /// bytes can be written without a failure, in one write or in several.
 pub trait Sink {
     ghost contents: { Self → Option (List ℕ) };

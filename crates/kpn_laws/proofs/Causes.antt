@@ -23,7 +23,7 @@ module _ (kinds : Family) (net : Network) where
   blocked_done_not : (M : State) (p c : ℕ) → status M p ≡ Done → IsBlocked kinds net M p c → ⊥
   blocked_done_not M p c e b = done_wants_none kinds net p (status M p) b.answer e b.wanted
 
-  -- where a run is over, no process can go on
+  -- when a run is over, no process can go on
   pub over_quiet : (M : State) (a : End) → IsOver kinds net M a → IsQuiet kinds net M
   over_quiet M Terminated o = o.0
   over_quiet M Deadlock o = o.0
@@ -45,7 +45,7 @@ module _ (kinds : Family) (net : Network) where
   over_grows_not M Budget c to N o g = absurd o
   over_grows_not M Memory c to N o g = absurd o
 
-  -- where all have stopped, or in a deadlock, no writer is blocked
+  -- if all have stopped, or in a deadlock, no writer is blocked
   pub none_blocked : (M : State) (a : End) → IsNatural a → IsOver kinds net M a → (p c : ℕ) → IsBlocked kinds net M p c → ⊥
   none_blocked M Terminated n o p c b = done_wants_none kinds net p (status M p) b.answer (o.1 p) b.wanted
   none_blocked M Deadlock n o p c b = o.2 p c b
@@ -53,7 +53,7 @@ module _ (kinds : Family) (net : Network) where
   none_blocked M Budget n o p c b = n
   none_blocked M Memory n o p c b = n
 
-  -- at most one cause fits
+  -- a run is over for at most one cause
   pub cause_same : (M : State) (a b : End) → IsOver kinds net M a → IsOver kinds net M b → a ≡ b
   cause_same M Terminated Terminated o u = refl
   cause_same M Terminated Deadlock o u = absurd (u.1.1 (o.1 u.1.0))

@@ -1,4 +1,4 @@
--- Where a network can come to its end in b places, each run does; where it can go on for ever, each can.
+-- If a network can come to its end in b places, each run does; if it can go on for ever, each can.
 use Rattle.std.proofs.Common.{◌≤◌, ◌<◌, ◌⊎◌, inl, inr, ⊎_elim, List, [], ◌∷◌, ◌++◌, length, refl, arith, ℕ, ◌+◌, ◌*◌, zero, suc, length-append}
 use Rattle.kpn_model.specs.Determinacy.{IsRun}
 use Rattle.kpn_model.specs.declared.history.Entry.{Entry}
@@ -17,7 +17,7 @@ use Rattle.kpn_laws.proofs.FewGrowths.{few_growths}
 use Rattle.kpn_laws.proofs.GoingOn.{goes_on}
 
 module _ (kinds : Family) (net : Network) where
-  -- a state that is over, and not for the ceiling, has ended
+  -- a state that is over, and not because of the ceiling, has ended
   natural_end : (M : State) (a : End) → IsOver kinds net M a → (IsOver kinds net M Ceiling → ⊥) → IsAtOwnEnd kinds net M
   natural_end M Terminated o h = (Terminated, tt, o)
   natural_end M Deadlock o h = (Deadlock, tt, o)
@@ -25,7 +25,7 @@ module _ (kinds : Family) (net : Network) where
   natural_end M Budget o h = absurd o
   natural_end M Memory o h = absurd o
 
-  -- where b places suffice and are within the ceiling, a run can go on or has ended
+  -- if b places suffice and are within the ceiling, a run can go on or has ended
   goes_or_ended : (b : ℕ) → Suffices kinds net b → b ≤ net.ceiling → (E : List Entry) (M : State) → IsRun kinds net E M → CanGoOn kinds net M ⊎ IsAtOwnEnd kinds net M
   goes_or_ended b s enough E M run =
       ⊎_elim inl
@@ -35,7 +35,7 @@ module _ (kinds : Family) (net : Network) where
       rest))
       (goes_on kinds net M)
 
-  -- a run that has ended dominates each other, so none has more deeds
+  -- a run that has ended dominates every other, so none has more deeds
   no_more_deeds : (n : ℕ) (b : ℕ) (E : List Entry) (M : State) → IsRun kinds net E M → IsAtOwnEnd kinds net M → LastsWithin kinds net b n → n ≤ length E
   no_more_deeds n b E M run ended l =
       let S = start kinds net in
@@ -72,11 +72,11 @@ module _ (kinds : Family) (net : Network) (b : ℕ) (s : EndsWithin kinds net b)
   abbrev EndFrom : State → Type 0
   EndFrom M = (F : List Entry) × ((N : State) × Run kinds net M F N × IsAtOwnEnd kinds net N)
 
-  -- one more entry leads to where such a run begins
+  -- one more entry leads to a state from which such a run begins
   end_after : (M : State) (x : CanGoOn kinds net M) → EndFrom x.1.0 → EndFrom M
   end_after M x r = (x.0 ∷ r.0, (r.1.0, (x.1.0, x.1.1, r.1.1), r.1.2))
 
-  -- a run of all entries but n, at least, goes on to its end
+  -- a run that can have fewer than n more entries goes on to its end
   end_within : (n : ℕ) (E : List Entry) (M : State) → IsRun kinds net E M → length s.history + length net.channels * b < length E + n → EndFrom M
   end_within zero E M run far = let short = few_entries kinds net b s some E M run in absurd (omega arith)
   end_within (suc n) E M run far =

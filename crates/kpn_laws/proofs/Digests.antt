@@ -18,7 +18,7 @@ use Rattle.kpn_laws.proofs.Streams.{put_on_deeds, taken_deeds}
 use Rattle.kpn_laws.proofs.Totals.{total, total_le, entries_total}
 
 module _ (kinds : Family) (net : Network) where
-  -- at equal growths all deeds and the state are equal, so all that is read off them is
+  -- two runs with equal growths have equal deeds and one state, and so equal digests
   digest_same :
       (E F : List Entry) (M N : State) (a b : End) → Run kinds net (start kinds net) E M → IsOver kinds net M a → Run kinds net (start kinds net) F N
       → IsOver kinds net N b → digest kinds net a E M ≡ digest kinds net b F N
@@ -52,7 +52,7 @@ module _ (kinds : Family) (net : Network) where
         entries = entries i;
       }
 
-  -- each process has done no more and no more has grown, so no run is longer
+  -- each process has done no more, and no more channels have grown, so no run is longer
   none_longer :
       (E F : List Entry) (M N : State) (a : End) → Run kinds net (start kinds net) E M → IsOver kinds net M a → Run kinds net (start kinds net) F N
       → length F ≤ length E

@@ -1,4 +1,4 @@
--- A run that stands still dominates every other: whatever is done elsewhere was done in it.
+-- A run to a quiet state dominates every other: each process did at least as much in it.
 use Rattle.std.proofs.Common.{◌≡◌, ◌≤◌, inl, ⊎_elim, List, [], ◌∷◌, ◌++◌, length, refl, sym, ap, ◌∙◌, arith, append_assoc, length-append, ℕ, ◌≢◌, ◌<◌, Some, subst}
 use Rattle.std.proofs.lemmas.List.{append_cancel_left}
 use Rattle.std.proofs.lemmas.Bool.{cases_lt}
@@ -25,11 +25,12 @@ use Rattle.kpn_laws.proofs.InLine.{at_deeds_push}
 
 module _ (kinds : Family) (net : Network) where
   module _ (S S' : State) (E : List Entry) (M : State) (k : Kept kinds net S E M) (H : List Entry) (K : State) (j : Kept kinds net S' H K) (front : (q : ℕ) → IsPrefixOf (deeds H q) (deeds E q)) where
-    -- who has done the same wants the same
+    -- a process that has done the same in both wants the same in both
     same_wants : (p : ℕ) → deeds H p ≡ deeds E p → wants kinds net M p ≡ wants kinds net K p
     same_wants p same = ap (λ s. answered kinds net p s) (k.statuses p ∙ ap (λ l. status_by kinds net p l) (sym same) ∙ sym (j.statuses p))
 
-    -- a channel that its reader found a token on in K has one in M, where at least as much was put and as much was taken
+    -- if the reader of a channel found a token in K, there is one in M, provided that at least as much was put in M and the same
+    -- was taken
     tokens_left : (p c : ℕ) (t : Token) (rest : List Token) → deeds H p ≡ deeds E p → (channel_of net c).reader ≡ p → tokens K c ≡ t ∷ rest → tokens M c ≢ []
     tokens_left p c t rest same reader e none =
         let w = (channel_of net c).writer in
@@ -43,7 +44,7 @@ module _ (kinds : Family) (net : Network) where
         let left : tokens M c ≡ t ∷ (rest ++ x.0) = append_cancel_left (took (deeds E p) c) _ _ both in
         cc
 
-    -- a channel of whose writer all is done has no more tokens in M, where at least as much was taken
+    -- a channel has no more tokens in M than in K, if its writer has put the same in both and at least as much was taken in M
     fewer_tokens : (p c : ℕ) → deeds H p ≡ deeds E p → (channel_of net c).writer ≡ p → length (tokens M c) ≤ length (tokens K c)
     fewer_tokens p c same writer =
         let r = (channel_of net c).reader in
@@ -56,7 +57,7 @@ module _ (kinds : Family) (net : Network) where
         let lb = ap length b ∙ length-append (took (deeds H r) c) (tokens K c) in
         omega arith
 
-    -- an act that could be done in K can be done in M, unless its channel is full there with a lesser capacity
+    -- an act that could be done in K can be done in M, unless its channel is full in M with a lesser capacity
     possible_too :
         (p : ℕ) (d : Deed) (a : Answer) → deeds H p ≡ deeds E p → wants kinds net M p ≡ Some a → IsDeed kinds net K p a.act d
         → ((c : ℕ) → IsBlocked kinds net M p c → capacity K c ≤ capacity M c) → IsPossible kinds net M p a.act
@@ -84,7 +85,8 @@ module _ (kinds : Family) (net : Network) where
         let w = same_wants p same ∙ s.wanted in
         record { answer = s.answer; wanted = w; possible = possible_too p d s.answer same w s.is_deed room }
 
-  -- a run of which G holds does nothing that a run which stands still has not done, where G says that wherever this one's writer is blocked the other has no more room
+  -- a run of which G holds does nothing that a run to a quiet state has not done, if G says that each channel with a blocked
+  -- writer there has no more room in the other
   pub dominated :
       (G : List Entry → Type 0) → ((H : List Entry) (e : Entry) → G (H ++ e ∷ []) → G H) → (S S' : State) → IsFresh kinds net S → IsFresh kinds net S'
       → (E : List Entry) (M : State) → Run kinds net S E M → IsQuiet kinds net M
@@ -111,12 +113,12 @@ module _ (kinds : Family) (net : Network) where
           (front_cases (deeds H p) (deeds E p) (ih p)))
           ih q
 
-  -- a history's growths begin with those of its front
+  -- if the growths with one more entry are a prefix of those of E, so are the growths without it
   pub growths_down : (E H : List Entry) (e : Entry) → IsPrefixOf (growths (H ++ e ∷ [])) (growths E) → IsPrefixOf (growths H) (growths E)
   growths_down E H (Did p d) f = subst (λ g. IsPrefixOf g (growths E)) (growths_push_did H p d) f
   growths_down E H (Grew c to) f = front_trans _ _ _ (front_of_push (growths H) (c, to)) (subst (λ g. IsPrefixOf g (growths E)) (growths_push_grew H c to) f)
 
-  -- with no more growths than one that stands still, no more is done
+  -- a run whose growths are a prefix of those of a run to a quiet state does no more than that run
   pub dominated_by_growths :
       (S : State) → IsFresh kinds net S → (E : List Entry) (M : State) → Run kinds net S E M → IsQuiet kinds net M → (F : List Entry) (N : State)
       → Run kinds net S F N → IsPrefixOf (growths F) (growths E) → (p : ℕ) → IsPrefixOf (deeds F p) (deeds E p)

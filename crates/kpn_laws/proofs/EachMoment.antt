@@ -35,7 +35,7 @@ module _ (kinds : Family) (net : Network) where
   grown_run E M run c =
       ap (λ n. grown n (growths E) c) (starts_with net.channels c) ∙ sym ((kept_run kinds net (start kinds net) (fresh_start kinds net) E M run).capacities c)
 
-  -- what each channel holds, and its capacity, are read off the history
+  -- the history determines what each channel holds, and its capacity
   told_run :
       (E : List Entry) (M : State) → IsRun kinds net E M → (c : ℕ)
       → (stream net E c ≡ taken E c ++ tokens M c) × (drop (length (taken E c)) (stream net E c) ≡ tokens M c) × (grown (channel_of net c).capacity (growths E) c ≡ capacity M c)
@@ -67,14 +67,14 @@ module _ (kinds : Family) (net : Network) where
   deed_possible M p (Write k u) (Put c t) h = (c, h.0, h.2)
   deed_possible M p x d h = absurd h
 
--- a process is enabled exactly where it can do a deed
+-- a process is enabled exactly when it can do a deed
 pub enabled_can_do : (kinds : Family) → EnabledCanDo kinds
 enabled_can_do kinds net M p = (
   λ e. can_do kinds net M p e.answer e.wanted e.answer.act refl e.possible,
   λ s. record { answer = s.1.1.answer; wanted = s.1.1.wanted; possible = deed_possible kinds net M p s.1.1.answer.act s.0 s.1.1.is_deed },
 )
 
--- at most one cause fits
+-- a run is over for at most one cause
 pub one_cause : (kinds : Family) → OneCause kinds
 one_cause kinds net M a b = cause_same kinds net M a b
 
@@ -82,11 +82,11 @@ one_cause kinds net M a b = cause_same kinds net M a b
 pub one_state : (kinds : Family) → OneState kinds
 one_state kinds net S M N E = run_one kinds net E S M N
 
--- a front of a run is a run
+-- a prefix of a run is a run
 pub fronts : (kinds : Family) → FrontsAreRuns kinds
 fronts kinds net S N E F = run_split kinds net E F S N
 
--- the history tells what each channel holds
+-- the history determines what each channel holds
 pub history_tells_state : (kinds : Family) → HistoryTellsState kinds
 history_tells_state kinds net E M = told_run kinds net E M
 

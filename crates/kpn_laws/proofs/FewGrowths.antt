@@ -1,4 +1,4 @@
--- Where b places suffice, there are at most b growths times the number of channels.
+-- If b places suffice, there are at most b growths times the number of channels.
 use Rattle.std.proofs.Common.{◌≡◌, ◌≤◌, ◌<◌, ⊎_elim, List, [], ◌∷◌, ◌++◌, length, sym, ap, ◌∙◌, arith, ℕ, ◌+◌, ◌*◌, zero, suc, subst, min, length-append}
 use Rattle.std.proofs.lemmas.Bool.{cases_eq}
 use Rattle.kpn_model.specs.Determinacy.{IsRun}
@@ -20,7 +20,7 @@ use Rattle.kpn_laws.proofs.Totals.{total, total_le}
 use Rattle.kpn_laws.proofs.LeastRoom.{chosen_has_fewer}
 
 module _ (kinds : Family) (net : Network) where
-  -- a sum that has more in one place, and no less in any, is greater
+  -- a sum that has more in one term, and no less in any, is greater
   total_rises : (n p : ℕ) (f g : ℕ → ℕ) → p < n → f p + 1 ≤ g p → ((i : ℕ) → f i ≤ g i) → total kinds net n f + 1 ≤ total kinds net n g
   total_rises zero p f g l at others = absurd (omega arith)
   total_rises (suc n) p f g l at others =
@@ -40,11 +40,11 @@ module _ (kinds : Family) (net : Network) where
   total_up_to zero b f h = omega arith
   total_up_to (suc n) b f h = let a = total_up_to n b f h in let c = h n in omega arith
 
-  -- the places of all channels together, of each at most b
+  -- the places of all channels together, counted up to b for each
   abbrev places : ℕ → State → ℕ
   places b M = total kinds net (length net.channels) (λ c. min b (capacity M c))
 
-  -- a growth from fewer than b adds to them
+  -- a growth from fewer than b places adds to this sum
   places_grew :
       (b : ℕ) (H : List Entry) (M : State) (c to : ℕ) (N : State) → IsRun kinds net H M → Grows kinds net M c to N → capacity M c < b → 0 < net.step
       → places b M + 1 ≤ places b N
@@ -61,7 +61,7 @@ module _ (kinds : Family) (net : Network) where
       (cases_eq d c) in
       total_rises (length net.channels) c (λ d. min b (capacity M d)) (λ d. min b (capacity N d)) (omega (arith, within, k.channels)) (omega arith) others
 
-  -- so there are no more growths than b places a channel
+  -- so there are at most b growths times the number of channels
   growths_few : (b : ℕ) → Suffices kinds net b → 0 < net.step → (E : List Entry) (M : State) → IsRun kinds net E M → length (growths E) ≤ length net.channels * b
   growths_few b s some E M run =
       let most = total_up_to (length net.channels) b (λ c. min b (capacity M c)) (λ c. omega arith) in
@@ -79,6 +79,6 @@ module _ (kinds : Family) (net : Network) where
           let more = places_grew b H M c to N before t (chosen_has_fewer kinds net b s H M c before t.artificial t.chosen) some in
           omega arith
 
--- there are no more growths than b places a channel
+-- there are at most b growths times the number of channels
 pub few_growths : (kinds : Family) → FewGrowths kinds
 few_growths kinds net b s some E M run = growths_few kinds net b s some E M run

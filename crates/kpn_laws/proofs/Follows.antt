@@ -1,4 +1,4 @@
--- What a process does next is settled by what it has done and by what was put for it.
+-- What a process does next is determined by what it has done and by what was put for it.
 use Rattle.std.proofs.Common.{◌≡◌, List, [], ◌∷◌, ◌++◌, refl, sym, ap, ◌∙◌, append_assoc, ℕ, Some, Option, subst}
 use Rattle.kpn_model.specs.Determinacy.{IsPrefixOf, ArePrefixComparable}
 use Rattle.kpn_model.specs.declared.token.Token.{Token}
@@ -56,13 +56,13 @@ module _ (kinds : Family) (net : Network) where
     pub wanted : wants_by p ds ≡ Some answer
     pub act : answer.act ≡ Stop
 
-  -- where every process has done this, d is what p does after ds
+  -- given that every process has done D, d is what p does after ds
   abbrev pub Follows : (ℕ → List Deed) → ℕ → List Deed → Deed → Type 0
   Follows D p ds (Took c t) = Takes D p ds c t
   Follows D p ds (Put c t) = Writes p ds c t
   Follows D p ds Stopped = Ends p ds
 
-  -- it stays so as all go on
+  -- it remains so as all processes go on
   pub follows_more : (D D' : ℕ → List Deed) (p : ℕ) (ds : List Deed) (d : Deed) → ((q : ℕ) → IsPrefixOf (D q) (D' q)) → Follows D p ds d → Follows D' p ds d
   follows_more D D' p ds (Took c t) more f =
       let w = (channel_of net c).writer in
@@ -80,7 +80,7 @@ module _ (kinds : Family) (net : Network) where
   follows_more D D' p ds (Put c t) more f = f
   follows_more D D' p ds Stopped more f = f
 
-  -- both take the same token: what was put for them is in line, and they have taken as many
+  -- both take the same token: what was put for them is prefix-comparable, and they have taken as many
   same_take :
       (D D' : ℕ → List Deed) (p : ℕ) (ds : List Deed) (c b : ℕ) (t u : Token) → ((q : ℕ) → ArePrefixComparable (D q) (D' q)) → Takes D p ds c t
       → Takes D' p ds b u → Took c t ≡ Took b u
@@ -93,7 +93,7 @@ module _ (kinds : Family) (net : Network) where
       let h = same_next ((channel_of net c).tokens ++ puts (D w) c) ((channel_of net c).tokens ++ puts (D' w) c) (took ds c) f.rest g.rest t u (in_line_after (channel_of net c).tokens _ _ (puts_in_line (D w) (D' w) c (line w))) f.next g' in
       cc
 
-  -- where two have done the same, and the others are in line, both do the same next
+  -- if a process has done the same in two runs, and the deeds of the others are prefix-comparable, it does the same next in both
   pub follows_same :
       (D D' : ℕ → List Deed) (p : ℕ) (ds : List Deed) (d e : Deed) → ((q : ℕ) → ArePrefixComparable (D q) (D' q)) → Follows D p ds d → Follows D' p ds e → d ≡ e
   follows_same D D' p ds (Took c t) (Took b u) line f g = same_take D D' p ds c b t u line f g

@@ -20,7 +20,7 @@ module _ (kinds : Family) (net : Network) (M : State) where
   answer_goes p None d w h = cc
   answer_goes p (Some a) d w h = (Did p d, (after_deed kinds net M p a.next d, record { answer = a; wanted = w; is_deed = deed_sound kinds net M p a.act d h; leaves = refl }))
 
-  -- one of the processes below n can go on, or for none of them a deed is computed
+  -- one of the processes below n can go on, or no deed is computed for any of them
   find_deed : (n : ℕ) → CanGoOn kinds net M ⊎ ((p : ℕ) → p < n → deed_of kinds net M p ≡ None)
   find_deed zero = inr (λ p l. absurd (omega arith))
   find_deed (suc n) = here (deed_of kinds net M n) refl (find_deed n)
@@ -32,7 +32,7 @@ module _ (kinds : Family) (net : Network) (M : State) where
       here None e (inl x) = inl x
       here None e (inr below) = inr (λ p l. ⊎_elim (λ (s : p ≡ n). ap (λ x. deed_of kinds net M x) s ∙ e) (λ ne. below p (omega arith)) (cases_eq p n))
 
-  -- where no deed is computed for any process, the state is quiet
+  -- if no deed is computed for any process, the state is quiet
   none_quiet : ((p : ℕ) → p < length M.processes → deed_of kinds net M p ≡ None) → IsQuiet kinds net M
   none_quiet h p x = still_answer kinds net M p (wants kinds net M p) x.answer (h p (live_within kinds net M p x.answer x.wanted)) x.wanted x.possible
 
@@ -40,13 +40,13 @@ module _ (kinds : Family) (net : Network) (M : State) where
   abbrev IsBefore : ℕ → ℕ → Type 0
   IsBefore c d = (capacity M c < capacity M d) ⊎ ((capacity M c ≡ capacity M d) × (c ≤ d))
 
-  -- of the full channels to which the processes below n want to write c is the first in that order
+  -- among the full channels to which the processes below n want to write, c is the first in that order
   record IsFirst (n c : ℕ) : Type 0 where
     writer : ℕ
     blocked : IsBlocked kinds net M writer c
     first : (q d : ℕ) → q < n → full_of kinds net M q ≡ Some d → IsBefore c d
 
-  -- of two channels one comes before the other
+  -- one of any two channels comes before the other
   which_before : (c d : ℕ) → IsBefore c d ⊎ IsBefore d c
   which_before c d =
       ⊎_elim (λ l. inl (inl l))
@@ -173,6 +173,6 @@ module _ (kinds : Family) (net : Network) (M : State) where
       ⊎_elim (λ (x : (c : ℕ) × IsChosen kinds net M c). grows_or_over x.0 quiet x.1) (λ free. inr (inl (free_over quiet free))) find_chosen)
       (find_deed (length M.processes))
 
--- so it is in every state of every network
+-- so it is for every state of every network
 pub goes_on : (kinds : Family) → CanAlwaysGoOn kinds
 goes_on kinds net M = goes_on_here kinds net M

@@ -1,4 +1,4 @@
--- No run grows more than one that is over, nor otherwise.
+-- The growths of any run are a prefix of those of a run that is over.
 use Rattle.std.proofs.Common.{◌≡◌, ⊎_elim, List, [], ◌∷◌, ◌++◌, refl, sym, ap, ◌∙◌, ℕ, subst, min, ◌+◌}
 use Rattle.kpn_model.specs.Determinacy.{IsPrefixOf}
 use Rattle.kpn_model.specs.declared.history.Entry.{Entry}
@@ -47,11 +47,11 @@ module _ (kinds : Family) (net : Network) where
           (λ (x : (ws : List (ℕ × ℕ)) × (growths H ≡ gs ++ g ∷ ws)). ih gs g x.0 x.1)
           (push_split (growths H) gs rest (c, to) g (sym (growths_push_grew H c to) ∙ e))
 
-  -- a growth is its channel and its capacity
+  -- a growth is determined by its channel and its capacity
   pair_same : (c to : ℕ) (g : ℕ × ℕ) → c ≡ g.0 → to ≡ g.1 → (c, to) ≡ g
   pair_same c to g p q = λ i. (p i, q i)
 
-  -- no run grows more than one that is over, nor otherwise
+  -- the growths of any run are a prefix of those of a run that is over
   pub growths_front :
       (S : State) → IsFresh kinds net S → (E : List Entry) (M : State) (a : End) → Run kinds net S E M → IsOver kinds net M a
       → (F : List Entry) (N : State) → Run kinds net S F N → IsPrefixOf (growths F) (growths E)

@@ -1,4 +1,4 @@
--- Of what a process does in two runs, one list begins with the other.
+-- The deeds of a process in any two runs are prefix-comparable.
 use Rattle.std.proofs.Common.{◌≡◌, inl, ⊎_elim, List, [], ◌∷◌, ◌++◌, refl, sym, ℕ, subst, ne_eqb}
 use Rattle.std.proofs.lemmas.Bool.{cases_eq}
 use Rattle.kpn_model.specs.Determinacy.{ArePrefixComparable}
@@ -27,7 +27,7 @@ module _ (kinds : Family) (net : Network) where
       (λ ne. subst (λ l. P q l) (sym (deeds_push_other H p q d (ne_eqb p q (λ e. ne (sym e))))) (others q))
       (cases_eq q p)
 
-  -- of the deeds of a process in any two runs one list begins with the other
+  -- the deeds of a process in any two runs are prefix-comparable
   pub runs_in_line :
       (S S' : State) → IsFresh kinds net S → IsFresh kinds net S' → (F : List Entry) (N : State) → Run kinds net S' F N → (E : List Entry) (M : State)
       → Run kinds net S E M → (p : ℕ) → ArePrefixComparable (deeds E p) (deeds F p)

@@ -1,4 +1,4 @@
--- What every run keeps between its start, its history and its state.
+-- The invariant of every run: how its start, its history and its state belong together.
 use Rattle.std.proofs.Common.{◌≡◌, ◌≤◌, List, [], ◌∷◌, ◌++◌, length, refl, sym, ◌∙◌, arith, append-nil, ℕ, get_or, suc, zero, map}
 use Rattle.std.proofs.lemmas.List.{length-map}
 use Rattle.kpn_model.specs.Determinacy.{IsPrefixOf}
@@ -19,7 +19,7 @@ module _ (kinds : Family) (net : Network) where
     pub processes : length S.processes ≡ length net.processes
     pub channels : length S.channels ≡ length net.channels
 
-  -- what is kept of a run H from S to M
+  -- the invariant of a run H from S to M
   pub record Kept (S : State) (H : List Entry) (M : State) : Type 0 where
     -- each status is the one that the process's own deeds lead to
     pub statuses : (p : ℕ) → status M p ≡ status_by kinds net p (deeds H p)
@@ -27,24 +27,24 @@ module _ (kinds : Family) (net : Network) where
     pub fifo : (c : ℕ) → (channel_of net c).tokens ++ puts (deeds H (channel_of net c).writer) c ≡ took (deeds H (channel_of net c).reader) c ++ tokens M c
     -- each deed follows from the process's deeds before it and from what all have done
     pub follows : (p : ℕ) (ds : List Deed) (d : Deed) (rest : List Deed) → deeds H p ≡ ds ++ d ∷ rest → Follows kinds net (deeds H) p ds d
-    -- each capacity is the one that the growths tell
+    -- each capacity is that of the channel's last growth, or the starting one
     pub capacities : (c : ℕ) → capacity M c ≡ grown (capacity S c) (growths H) c
     -- and was never greater
     pub rising : (gs : List (ℕ × ℕ)) → IsPrefixOf gs (growths H) → (c : ℕ) → grown (capacity S c) gs c ≤ capacity M c
     pub processes : length M.processes ≡ length net.processes
     pub channels : length M.channels ≡ length net.channels
 
-  -- no element stands in an empty list
+  -- no element is in an empty list
   nil_split : {X : Type 0} (ds : List X) (d : X) (rest : List X) → [] ≡ ds ++ d ∷ rest → ⊥
   nil_split [] d rest e = cc
   nil_split (x ∷ ds) d rest e = cc
 
-  -- where nothing has grown, nothing has a greater capacity
+  -- if nothing has grown, nothing has a greater capacity
   rising_fresh : (S : State) (gs : List (ℕ × ℕ)) → IsPrefixOf gs [] → (c : ℕ) → grown (capacity S c) gs c ≤ capacity S c
   rising_fresh S [] f c = omega arith
   rising_fresh S (g ∷ gs) f c = let e = f.1 in cc
 
-  -- it holds where nothing has happened
+  -- the invariant holds before anything has happened
   pub kept_fresh : (S : State) → IsFresh S → Kept S [] S
   kept_fresh S f =
       record {
@@ -65,7 +65,7 @@ module _ (kinds : Family) (net : Network) where
   tokens_at (l ∷ ls) zero = refl
   tokens_at (l ∷ ls) (suc c) = tokens_at ls c
 
-  -- in the start nothing has happened
+  -- nothing has happened at the start
   pub fresh_start : IsFresh (start kinds net)
   fresh_start =
       record {

@@ -1,4 +1,4 @@
--- A deed keeps what every run keeps.
+-- A deed keeps the invariant of every run.
 use Rattle.std.proofs.Common.{◌≡◌, ⊎_elim, List, [], ◌∷◌, ◌++◌, length, refl, sym, ap, ◌∙◌, arith, append_assoc, ℕ, ◌<◌, Some, None, drop, subst, ne_eqb}
 use Rattle.std.proofs.lemmas.Bool.{cases_eq}
 use Rattle.kpn_model.specs.Determinacy.{IsPrefixOf}
@@ -19,7 +19,7 @@ use Rattle.kpn_laws.proofs.Follows.{replay_push, status_by, wants_by, Follows, f
 use Rattle.kpn_laws.proofs.Kept.{Kept}
 
 module _ (kinds : Family) (net : Network) where
-  -- a process's deeds go on with the history
+  -- a process's deeds after one more entry begin with those before it
   pub deeds_more : (H : List Entry) (e : Entry) (q : ℕ) → IsPrefixOf (deeds H q) (deeds (H ++ e ∷ []) q)
   deeds_more H e q = (deeds (e ∷ []) q, sym (deeds-append H (e ∷ []) q))
 
@@ -80,7 +80,7 @@ module _ (kinds : Family) (net : Network) where
         (λ ne. follows_more kinds net D D' q ds e more (k.follows q ds e rest (sym (deeds_push_other H p q d (ne_eqb p q (λ x. ne (sym x)))) ∙ h)))
         (cases_eq q p)
 
-    -- what was put is still what was taken and what is left: a take and a put move a token
+    -- what was put is still what was taken and what is left: a take and a put move one token
     fifo_did :
         (p : ℕ) (d : Deed) (a : Answer) → IsDeed kinds net M p a.act d → (c : ℕ)
         → (channel_of net c).tokens ++ puts (deeds (H ++ Did p d ∷ []) (channel_of net c).writer) c ≡ took (deeds (H ++ Did p d ∷ []) (channel_of net c).reader) c ++ tokens (after_deed kinds net M p a.next d) c
@@ -134,7 +134,7 @@ module _ (kinds : Family) (net : Network) where
         ∙ ap (λ l. took (deeds H' (channel_of net c).reader) c ++ l) (sym (tokens_set_other M1 b c _ _ ne)))
         (cases_eq c b)
 
-    -- a deed keeps it all
+    -- a deed keeps the whole invariant
     pub kept_after :
         (p : ℕ) (d : Deed) (a : Answer) → wants kinds net M p ≡ Some a → IsDeed kinds net M p a.act d
         → Kept kinds net S (H ++ Did p d ∷ []) (after_deed kinds net M p a.next d)

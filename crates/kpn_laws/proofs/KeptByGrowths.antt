@@ -1,4 +1,4 @@
--- A growth keeps what every run keeps.
+-- A growth keeps the invariant of every run.
 use Rattle.std.proofs.Common.{◌≡◌, ◌≤◌, ⊎_elim, List, [], ◌∷◌, ◌++◌, length, sym, ap, ◌∙◌, arith, ℕ, ◌==◌, if◌then◌else◌, eq-eqb, ◌<◌, length-set, subst, ne_eqb}
 use Rattle.std.proofs.lemmas.Bool.{cases_eq}
 use Rattle.kpn_model.specs.Determinacy.{IsPrefixOf}
@@ -16,11 +16,11 @@ use Rattle.kpn_laws.proofs.KeptByDeeds.{deeds_more}
 
 module _ (kinds : Family) (net : Network) where
   module _ (S : State) (H : List Entry) (M : State) (k : Kept kinds net S H M) where
-    -- a channel with a blocked writer is there
+    -- a channel with a blocked writer is one of the network's
     pub blocked_within : (p c : ℕ) → IsBlocked kinds net M p c → c < length M.channels
     blocked_within p c b = let at = out_of-writer net p b.port c b.at in omega (arith, at.0, k.channels)
 
-    -- a growth gives that channel its new capacity, and leaves each other's
+    -- a growth gives that channel its new capacity, and leaves those of the others
     capacity_grew : (c to : ℕ) → c < length M.channels → (b : ℕ) → capacity (with_channel M c (tokens M c) to) b ≡ (if c == b then to else capacity M b)
     capacity_grew c to within b =
         ⊎_elim
@@ -28,7 +28,7 @@ module _ (kinds : Family) (net : Network) where
         (λ (ne : b ≡ c → ⊥). capacity_set_other M c b _ _ ne ∙ ap (λ x. if x then to else capacity M b) (sym (ne_eqb c b (λ e. ne (sym e)))))
         (cases_eq b c)
 
-    -- each capacity is still told by the growths
+    -- each capacity is still that of the channel's last growth, or the starting one
     capacities_grew :
         (c to : ℕ) → c < length M.channels → (b : ℕ)
         → capacity (with_channel M c (tokens M c) to) b ≡ grown (capacity S b) (growths (H ++ Grew c to ∷ [])) b
@@ -36,7 +36,7 @@ module _ (kinds : Family) (net : Network) where
         capacity_grew c to within b ∙ ap (λ n. if c == b then to else n) (k.capacities b)
         ∙ sym (ap (λ gs. grown (capacity S b) gs b) (growths_push_grew H c to) ∙ grown_push (growths H) (capacity S b) c to b)
 
-    -- a growth makes no capacity less
+    -- a growth makes no capacity smaller
     no_less : (c to : ℕ) → c < length M.channels → capacity M c ≤ to → (b : ℕ) → capacity M b ≤ capacity (with_channel M c (tokens M c) to) b
     no_less c to within more b =
         let now = capacity_grew c to within b in
@@ -66,7 +66,7 @@ module _ (kinds : Family) (net : Network) where
         (λ (ne : b ≡ c → ⊥). tokens_set_other M c b _ _ ne)
         (cases_eq b c)
 
-    -- a growth keeps it all
+    -- a growth keeps the whole invariant
     pub kept_grown : (c to : ℕ) → c < length M.channels → capacity M c ≤ to → Kept kinds net S (H ++ Grew c to ∷ []) (with_channel M c (tokens M c) to)
     kept_grown c to within more =
         let same = deeds_push_grew H c to in

@@ -37,7 +37,7 @@ module _ (kinds : Family) (net : Network) where
         let most = room p c b in
         omega arith) F N run' ([], append-nil _)
 
-    -- and then has no fewer entries, growths apart
+    -- and then it has no fewer entries, growths apart
     pub is_dominated : ((p : ℕ) → IsPrefixOf (deeds F p) (deeds E p)) → IsDominated F E
     is_dominated front =
         let d = total_le kinds net (length net.processes) (λ p. length (deeds F p)) (λ p. length (deeds E p)) (λ p. front-length _ _ (front p)) in
@@ -45,7 +45,7 @@ module _ (kinds : Family) (net : Network) where
         let f = entries_total kinds net S' fresh' F N run' in
         record { deeds = front; entries = omega arith }
 
-  -- of two runs to quiet states in which each process has done the same, both have a blocked writer or none
+  -- if each process has done the same in two runs to quiet states, the same writers are blocked in both
   blocked_too :
       (S S' : State) (E F : List Entry) (M N : State) → IsFresh kinds net S → IsFresh kinds net S' → Run kinds net S E M → Run kinds net S' F N
       → ((p : ℕ) → deeds E p ≡ deeds F p) → IsQuiet kinds net N → (p c : ℕ) → IsBlocked kinds net M p c → IsBlocked kinds net N p c
@@ -59,7 +59,7 @@ module _ (kinds : Family) (net : Network) where
       (λ (full : capacity N c ≤ length (tokens N c)). record { answer = b.answer; wanted = w; port = b.port; token = b.token; act = b.act; at = b.at; full = full })
       (cases_lt (length (tokens N c)) (capacity N c))
 
-  -- a run to an artificial deadlock dominates each with no more places a channel than the chosen one has
+  -- a run to an artificial deadlock dominates each run in which no channel has more places than the chosen one
   chosen_dominates : (sizes : ℕ → ℕ) (E F : List Entry) (M N : State) (c : ℕ) → IsRun kinds net E M → IsArtificial kinds net M → IsChosen kinds net M c → IsRun kinds (resized net sizes) F N → IsBoundedBy N (capacity M c) → IsDominated F E
   chosen_dominates sizes E F M N c run artificial chosen run' up =
       let S = start kinds net in
@@ -100,7 +100,7 @@ module _ (kinds : Family) (net : Network) where
       (blocked_too (start kinds net) (start kinds (resized net sizes)) E F M N (fresh_start kinds net) (fresh_resized kinds net sizes) run
       (run_resized kinds net sizes F N s.final.run) same (over_quiet kinds net N s.cause over) chosen.writer c chosen.blocked)
 
-  -- and fewer than suffice for ever: otherwise the run to it dominates one with more deeds
+  -- and fewer than suffice for ever: otherwise the run to it would dominate a run with more deeds
   below_lasting : (b : ℕ) → ((n : ℕ) → LastsWithin kinds net b n) → (E : List Entry) (M : State) (c : ℕ) → IsRun kinds net E M → IsArtificial kinds net M → IsChosen kinds net M c → b ≤ capacity M c → ⊥
   below_lasting b more E M c run artificial chosen far =
       let l = more (length E + 1) in
@@ -109,7 +109,7 @@ module _ (kinds : Family) (net : Network) where
       let many = l.many in
       omega arith
 
-  -- where b places suffice, the chosen channel of an artificial deadlock has fewer
+  -- if b places suffice, the chosen channel of an artificial deadlock has fewer
   fewer_here : (b : ℕ) → Suffices kinds net b → (E : List Entry) (M : State) (c : ℕ) → IsRun kinds net E M → IsArtificial kinds net M → IsChosen kinds net M c → capacity M c < b
   fewer_here b s E M c run artificial chosen =
       ⊎_elim (λ h. h)
@@ -117,7 +117,7 @@ module _ (kinds : Family) (net : Network) where
       absurd (⊎_elim (λ x. below_end b x E M c run artificial chosen far) (λ x. below_lasting b x E M c run artificial chosen far) s))
       (cases_lt (capacity M c) b)
 
-  -- a growth from fewer than b gives its channel fewer places than b and a step, and leaves each other's
+  -- a growth from fewer than b places gives its channel fewer than b and a step, and leaves the others' capacities
   below_grew :
       (b : ℕ) (H : List Entry) (M : State) (c to : ℕ) (N : State) → IsRun kinds net H M → Grows kinds net M c to N → capacity M c < b
       → ((d : ℕ) → (capacity M d ≡ (channel_of net d).capacity) ⊎ (capacity M d < b + net.step))
@@ -149,11 +149,11 @@ module _ (kinds : Family) (net : Network) where
       step H M (Grew d to) N before ih t c =
           below_grew b H M d to N before t (fewer_here b s H M d before t.artificial t.chosen) ih c
 
--- a run to an artificial deadlock dominates each with no more places a channel than the chosen one has
+-- a run to an artificial deadlock dominates each run in which no channel has more places than the chosen one
 pub dominates : (kinds : Family) → Dominates kinds
 dominates kinds net sizes E F M N c run artificial chosen run' up = chosen_dominates kinds net sizes E F M N c run artificial chosen run' up
 
--- where b places suffice, the chosen channel of an artificial deadlock has fewer
+-- if b places suffice, the chosen channel of an artificial deadlock has fewer
 pub chosen_has_fewer : (kinds : Family) → ChosenHasFewer kinds
 chosen_has_fewer kinds net b s E M c run artificial chosen = fewer_here kinds net b s E M c run artificial chosen
 

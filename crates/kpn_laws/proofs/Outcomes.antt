@@ -1,4 +1,4 @@
--- Whatever the starting capacities: one outcome, and everything in line.
+-- Whatever the starting capacities: one outcome, and all runs are prefix-comparable.
 use Rattle.std.proofs.Common.{◌≡◌, List, ◌++◌, sym, ap, ◌∙◌, ℕ, subst}
 use Rattle.kpn_model.specs.Determinacy.{IsPrefixOf, ArePrefixComparable, AreAllPrefixComparable, IsRun, IsFinal, IsNatural, HaveSameOutcome, OneOutcome, AllPrefixComparable}
 use Rattle.kpn_model.specs.declared.history.Entry.{Entry}
@@ -19,7 +19,7 @@ use Rattle.kpn_laws.proofs.Wiring.{answered_alike, over_alike, place_alike}
 use Rattle.kpn_laws.proofs.Resized.{resize-tokens, wired_resized, fresh_resized, run_resized}
 
 module _ (kinds : Family) (net : Network) (sizes : ℕ → ℕ) where
-  -- of what each process does and of each stream, in any two runs, one begins with the other
+  -- in any two runs, what each process does is prefix-comparable, and so is each stream
   all_in_line_here : (E F : List Entry) (M N : State) → IsRun kinds net E M → IsRun kinds (resized net sizes) F N → AreAllPrefixComparable net (resized net sizes) E F
   all_in_line_here E F M N run run' =
       let S = start kinds net in
@@ -36,7 +36,7 @@ module _ (kinds : Family) (net : Network) (sizes : ℕ → ℕ) where
             subst (λ l. ArePrefixComparable (stream net E c) (l ++ put_on F c)) (sym (resize-tokens net.channels sizes c)) (in_line_after (channel_of net c).tokens _ _ put);
       }
 
-  -- a run that ends with no blocked writer has all that is done in any other
+  -- a run to a quiet state without a blocked writer has all that is done in any other
   dominates :
       (S S' : State) → IsFresh kinds net S → IsFresh kinds net S' → (E F : List Entry) (M N : State) → Run kinds net S E M → IsQuiet kinds net M
       → ((p c : ℕ) → IsBlocked kinds net M p c → ⊥) → Run kinds net S' F N → (p : ℕ) → IsPrefixOf (deeds F p) (deeds E p)
@@ -73,6 +73,6 @@ module _ (kinds : Family) (net : Network) (sizes : ℕ → ℕ) where
 pub one_outcome : (kinds : Family) → OneOutcome kinds
 one_outcome kinds net sizes E F M N a b x n y m = one_outcome_here kinds net sizes E F M N a b x n y m
 
--- any two runs are in line
+-- any two runs are prefix-comparable
 pub all_in_line : (kinds : Family) → AllPrefixComparable kinds
 all_in_line kinds net sizes E F M N x y = all_in_line_here kinds net sizes E F M N x y

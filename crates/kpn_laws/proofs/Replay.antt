@@ -30,7 +30,7 @@ both_true true false e = cc
 both_true false b e = cc
 
 module _ (kinds : Family) (net : Network) where
-  -- the deed computed for a read is one
+  -- the deed computed for a read is what the read comes to
   read_sound : (M : State) (p k : ℕ) (o : Option ℕ) (d : Deed) → in_of net p k ≡ o → read_deed M o ≡ Some d → IsDeed kinds net M p (Read k) d
   read_sound M p k None d e h = cc
   read_sound M p k (Some c) d e h = first (tokens M c) refl h
@@ -39,7 +39,7 @@ module _ (kinds : Family) (net : Network) where
       first [] g h = cc
       first (t ∷ ts) g h = let x : Took c t ≡ d = cc in subst (λ y. IsDeed kinds net M p (Read k) y) x (e, (ts, g))
 
-  -- the deed computed for a write is one
+  -- the deed computed for a write is what the write comes to
   write_sound :
       (M : State) (p k : ℕ) (t : Token) (o : Option ℕ) (d : Deed) → out_of net p k ≡ o → write_deed M t o ≡ Some d
       → IsDeed kinds net M p (Write k t) d
@@ -50,18 +50,18 @@ module _ (kinds : Family) (net : Network) where
       room false g h = cc
       room true g h = let x : Put c t ≡ d = cc in subst (λ y. IsDeed kinds net M p (Write k t) y) x (e, refl, ltb-true _ _ g)
 
-  -- the deed computed for an act is one
+  -- the deed computed for an act is what the act comes to
   pub deed_sound : (M : State) (p : ℕ) (a : Act) (d : Deed) → act_deed kinds net M p a ≡ Some d → IsDeed kinds net M p a d
   deed_sound M p Stop d h = let x : Stopped ≡ d = cc in subst (λ y. IsDeed kinds net M p Stop y) x tt
   deed_sound M p (Read k) d h = read_sound M p k (in_of net p k) d refl h
   deed_sound M p (Write k t) d h = write_sound M p k t (out_of net p k) d refl h
 
-  -- from a channel with a token a deed is computed
+  -- a deed is computed for a read from a channel with a token
   first_some : (c : ℕ) (ts : List Token) → ts ≢ [] → first_taken c ts ≡ None → ⊥
   first_some c [] ne h = ne refl
   first_some c (t ∷ ts) ne h = cc
 
-  -- an act for which none is computed cannot be done
+  -- an act for which no deed is computed can't be done
   still_act : (M : State) (p : ℕ) (a : Act) → act_deed kinds net M p a ≡ None → IsPossible kinds net M p a → ⊥
   still_act M p Stop h x = cc
   still_act M p (Read k) h x = first_some x.0 (tokens M x.0) x.2 (ap (λ o. read_deed M o) (sym x.1) ∙ h)
@@ -75,23 +75,23 @@ module _ (kinds : Family) (net : Network) where
   pub still_answer : (M : State) (p : ℕ) (o : Option Answer) (a : Answer) → answer_deed kinds net M p o ≡ None → o ≡ Some a → IsPossible kinds net M p a.act → ⊥
   still_answer M p o a h e x = still_act M p a.act (ap (λ y. answer_deed kinds net M p y) (sym e) ∙ h) x
 
-  -- what is tested to be nothing is nothing
+  -- if the test says that there is none, there is none
   none_from_test : {X : Type 0} (o : Option X) → is_none o ≡ true → o ≡ None
   none_from_test None e = refl
   none_from_test (Some x) e = cc
 
-  -- if all are found still, each is
+  -- if all processes are found unable to go on, each is
   still_below : (M : State) (n p : ℕ) → all_still kinds net M n ≡ true → p < n → deed_of kinds net M p ≡ None
   still_below M zero p h l = absurd (omega arith)
   still_below M (suc n) p h l =
       let both = both_true _ _ h in
       ⊎_elim (λ (e : p ≡ n). ap (λ x. deed_of kinds net M x) e ∙ none_from_test _ both.0) (λ ne. still_below M n p both.1 (omega arith)) (cases_eq p n)
 
-  -- a state that is found still is quiet
+  -- a state in which no deed is computed is quiet
   pub still_sound : (M : State) → all_still kinds net M (length M.processes) ≡ true → IsQuiet kinds net M
   still_sound M h p x = still_answer M p (wants kinds net M p) x.answer (still_below M (length M.processes) p h (live_within kinds net M p x.answer x.wanted)) x.wanted x.possible
 
-  -- a full channel to which p wants to write
+  -- if this test finds a full channel, p is blocked on it
   full_write :
       (M : State) (p k : ℕ) (t : Token) (o : Option ℕ) (c : ℕ) (a : Answer) → out_of net p k ≡ o → full_at M o ≡ Some c → wants kinds net M p ≡ Some a
       → a.act ≡ Write k t → IsBlocked kinds net M p c
@@ -104,7 +104,7 @@ module _ (kinds : Family) (net : Network) where
           let x : b ≡ c = cc in
           subst (λ y. IsBlocked kinds net M p y) x (record { answer = a; wanted = w; port = k; token = t; act = act; at = e; full = leb-true _ _ g })
 
-  -- the same of an act
+  -- the same for an act
   full_act :
       (M : State) (p : ℕ) (x : Act) (c : ℕ) (a : Answer) → act_full kinds net M p x ≡ Some c → wants kinds net M p ≡ Some a → a.act ≡ x
       → IsBlocked kinds net M p c
@@ -112,22 +112,22 @@ module _ (kinds : Family) (net : Network) where
   full_act M p (Read k) c a h w e = cc
   full_act M p (Write k t) c a h w e = full_write M p k t (out_of net p k) c a refl h w e
 
-  -- the same of an answer
+  -- the same for an answer
   full_answer : (M : State) (p : ℕ) (o : Option Answer) (c : ℕ) → answer_full kinds net M p o ≡ Some c → wants kinds net M p ≡ o → IsBlocked kinds net M p c
   full_answer M p None c h w = cc
   full_answer M p (Some a) c h w = full_act M p a.act c a h w refl
 
-  -- a process with a full channel is blocked on it
+  -- a process for which a full channel is found is blocked on it
   pub full_sound : (M : State) (p c : ℕ) → full_of kinds net M p ≡ Some c → IsBlocked kinds net M p c
   full_sound M p c h = full_answer M p (wants kinds net M p) c h refl
 
-  -- and one that is blocked has such a channel
+  -- and for one that is blocked, that channel is found
   pub full_complete : (M : State) (p c : ℕ) → IsBlocked kinds net M p c → full_of kinds net M p ≡ Some c
   full_complete M p c b =
       ap (λ o. answer_full kinds net M p o) b.wanted ∙ ap (λ x. act_full kinds net M p x) b.act ∙ ap (λ o. full_at M o) b.at
       ∙ ap (λ x. if x then Some c else None) (le-leb (capacity M c) (length (tokens M c)) b.full)
 
-  -- a channel found first comes before each other
+  -- a channel that the test finds first comes before every other
   first_of_all :
       (M : State) (c n q d : ℕ) → all_after kinds net M c n ≡ true → q < n → full_of kinds net M q ≡ Some d
       → comes_first kinds net M c (Some d) ≡ true
@@ -212,7 +212,7 @@ module _ (kinds : Family) (net : Network) where
       on None e h ih = cc
       on (Some s) e h ih = rest_on s (turned_sound M t s e) (played kinds net s.1 ts) (ih s.1) h
 
-  -- if all are found done, each is
+  -- if all processes are found to have stopped, each has
   pub done_all : (ss : List Status) → all_done kinds net ss ≡ true → (p : ℕ) → get_or ss p Done ≡ Done
   done_all [] h p = refl
   done_all (Done ∷ ss) h zero = refl
@@ -225,11 +225,11 @@ module _ (kinds : Family) (net : Network) where
   live_some (Done ∷ ss) h = let r = live_some ss h in (suc r.0, r.1)
   live_some (Live local last ∷ ss) h = (0, λ e. cc)
 
-  -- where all have stopped, none can go on
+  -- if all have stopped, no process can go on
   done_quiet : (M : State) → ((p : ℕ) → status M p ≡ Done) → IsQuiet kinds net M
   done_quiet M h p x = done_wants_none kinds net p (status M p) x.answer (h p) x.wanted
 
-  -- if none is found blocked, each is free
+  -- if no process is found blocked, none is
   full_below : (M : State) (n p : ℕ) → none_full kinds net M n ≡ true → p < n → full_of kinds net M p ≡ None
   full_below M zero p h l = absurd (omega arith)
   full_below M (suc n) p h l =
@@ -243,7 +243,7 @@ module _ (kinds : Family) (net : Network) where
       let some = full_complete M p c b in
       cc
 
-  -- a channel that is first and at the ceiling is the chosen one, at the ceiling
+  -- a channel found first and at the ceiling is the chosen one, and is at the ceiling
   stuck_sound :
       (M : State) (p : ℕ) (o : Option ℕ) → full_of kinds net M p ≡ o → stuck_at kinds net M o ≡ true
       → (c : ℕ) × IsBlocked kinds net M p c × IsChosen kinds net M c × (capacity M c ≡ net.ceiling)
@@ -253,7 +253,7 @@ module _ (kinds : Family) (net : Network) where
       let b = full_sound M p c f in
       (c, b, chosen_sound M p c b both.0, eqb-true _ _ both.1)
 
-  -- a process stands before such a channel
+  -- some process is blocked on such a channel
   abbrev IsStuck : State → Type 0
   IsStuck M = (p : ℕ) × ((c : ℕ) × IsBlocked kinds net M p c × IsChosen kinds net M c × (capacity M c ≡ net.ceiling))
 
@@ -264,7 +264,7 @@ module _ (kinds : Family) (net : Network) where
   either_stuck M n true below e h later = (n, stuck_sound M n (full_of kinds net M n) refl e)
   either_stuck M n false below e h later = later h
 
-  -- so it is where one of the processes below n stands before such a channel
+  -- so it is if one of the processes below n is blocked on such a channel
   some_stuck_sound : (M : State) (n : ℕ) → some_stuck kinds net M n ≡ true → IsStuck M
   some_stuck_sound M zero h = cc
   some_stuck_sound M (suc n) h = either_stuck M n (stuck_at kinds net M (full_of kinds net M n)) (some_stuck kinds net M n) refl h (some_stuck_sound M n)
@@ -274,7 +274,7 @@ module _ (kinds : Family) (net : Network) where
   not_true true h = sym h
   not_true false h = refl
 
-  -- a run that is found over is over
+  -- a run that the test finds over is over
   pub over_sound : (M : State) (a : End) → is_over kinds net M a ≡ true → IsOver kinds net M a
   over_sound M Terminated h = let d = done_all M.processes h in (done_quiet M d, d)
   over_sound M Deadlock h =
@@ -288,12 +288,12 @@ module _ (kinds : Family) (net : Network) where
   over_sound M Budget h = cc
   over_sound M Memory h = cc
 
-  -- one run that is over tells the digest of all
+  -- the digest of one run that is over is that of all
   all_have : (E : List Entry) (M : State) (d : Digest) → IsFinal kinds net E M d.cause → digest kinds net d.cause E M ≡ d → HasDigest kinds net d
   all_have E M d f e =
       record { history = E; state = M; final = f; digest_is = e; others = λ F N b g. one_digest kinds net F E N M b d.cause g f ∙ e }
 
-  -- what is digested of a played run is the digest of all
+  -- the digest that is computed for a played schedule is that of all runs
   digested_sound :
       (o : Option (List Entry × State)) (d : Digest) → ((r : List Entry × State) → o ≡ Some r → Run kinds net (start kinds net) r.0 r.1)
       → digested kinds net d.cause o ≡ Some d → HasDigest kinds net d
@@ -304,6 +304,6 @@ module _ (kinds : Family) (net : Network) where
       test false e h = cc
       test true e h = all_have r.0 r.1 d (record { run = run r refl; over = over_sound r.1 d.cause e }) (same_Some _ _ h)
 
-  -- a schedule that plays to an end shows the digest of all runs
+  -- the digest of a schedule that plays to an end is that of all runs
   pub digest_from_schedule : (ts : List Turn) (d : Digest) → digest_of kinds net d.cause ts ≡ Some d → HasDigest kinds net d
   digest_from_schedule ts d h = digested_sound (played kinds net (start kinds net) ts) d (λ r e. played_sound ts (start kinds net) r e) h

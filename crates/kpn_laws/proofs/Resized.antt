@@ -14,7 +14,7 @@ resize-length : (ls : List Channel) (sizes : ℕ → ℕ) → length (resize ls 
 resize-length [] sizes = refl
 resize-length (l ∷ ls) sizes = ap suc (resize-length ls (λ c. sizes (c + 1)))
 
--- a test that does not see capacities passes over as many
+-- a test that does not look at capacities passes over as many channels
 resize-prefix :
     (test : Channel → Bool) → ((l : Channel) (n : ℕ) → test (record l { capacity = n }) ≡ test l) → (ls : List Channel) (sizes : ℕ → ℕ)
     → prefix_len test (resize ls sizes) ≡ prefix_len test ls
@@ -23,7 +23,7 @@ resize-prefix test blind (l ∷ ls) sizes =
     ap (λ x. cond x (1 + prefix_len test (resize ls (λ c. sizes (c + 1)))) 0) (blind l (sizes 0))
     ∙ ap (λ n. cond (test l) (1 + n) 0) (resize-prefix test blind ls (λ c. sizes (c + 1)))
 
--- a test that does not see capacities finds the same channel
+-- a test that does not look at capacities finds the same channel
 resize-position :
     (test : Channel → Bool) → ((l : Channel) (n : ℕ) → test (record l { capacity = n }) ≡ test l) → (ls : List Channel) (sizes : ℕ → ℕ)
     → position test (resize ls sizes) ≡ position test ls
@@ -49,7 +49,7 @@ wired_resized net sizes =
     }
 
 module _ (kinds : Family) (net : Network) (sizes : ℕ → ℕ) where
-  -- in its start nothing has happened
+  -- nothing has happened at its start
   pub fresh_resized : IsFresh kinds net (start kinds (resized net sizes))
   fresh_resized =
       let f = fresh_start kinds (resized net sizes) in

@@ -1,4 +1,4 @@
--- Each run takes the least room.
+-- Every run takes the least room.
 use Rattle.std.proofs.Common.{subst}
 use Rattle.kpn_model.specs.Determinacy.{IsRun}
 use Rattle.kpn_model.specs.Network.{Family}

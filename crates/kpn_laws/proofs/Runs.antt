@@ -1,4 +1,4 @@
--- Runs: one more step, a run cut in two, and what is kept by each step.
+-- Runs: one more step, a run split in two, and invariants of the steps.
 use Rattle.std.proofs.Common.{◌≡◌, List, [], ◌∷◌, ◌++◌, refl, sym, ap, ◌∙◌, append_assoc, append-nil, Some, subst}
 use Rattle.kpn_model.specs.declared.history.Entry.{Entry}
 use Rattle.kpn_model.specs.declared.history.Entry.TheVariants.{Did, Grew}
@@ -12,7 +12,7 @@ module _ (kinds : Family) (net : Network) where
   run_push S M N [] e r s = (N, subst (λ x. Step kinds net x e N) r s, refl)
   run_push S M N (f ∷ E) e r s = (r.0, r.1, run_push r.0 M N E e r.2 s)
 
-  -- what each step keeps holds still after a longer run
+  -- an invariant of the steps holds after further steps
   run_on :
       (P : List Entry → State → Type 0) (S : State)
       → ((H : List Entry) (M : State) (e : Entry) (N : State) → Run kinds net S H M → P H M → Step kinds net M e N → P (H ++ e ∷ []) N)
@@ -22,7 +22,7 @@ module _ (kinds : Family) (net : Network) where
       subst (λ l. P l N) (append_assoc H (e ∷ []) E)
       (run_on P S step (H ++ e ∷ []) E r.0 N (run_push S M r.0 H e before r.1) (step H M e r.0 before p r.1) r.2)
 
-  -- what holds at first and is kept by each step holds of each run
+  -- what holds at the start and is kept by each step holds after each run
   pub run_induction :
       (P : List Entry → State → Type 0) (S : State) → P [] S
       → ((H : List Entry) (M : State) (e : Entry) (N : State) → Run kinds net S H M → P H M → Step kinds net M e N → P (H ++ e ∷ []) N)
@@ -39,14 +39,14 @@ module _ (kinds : Family) (net : Network) where
       same_answer x y e = cc
   step_one M (Grew c to) N N' s t = s.leaves ∙ sym t.leaves
 
-  -- so does a history
+  -- and so does a history
   pub run_one : (E : List Entry) (S M N : State) → Run kinds net S E M → Run kinds net S E N → M ≡ N
   run_one [] S M N r q = r ∙ sym q
   run_one (e ∷ E) S M N r q =
       let same = step_one S e r.0 q.0 r.1 q.1 in
       run_one E q.0 M N (subst (λ x. Run kinds net x E M) same r.2) q.2
 
-  -- a run is a run of its front and then one of the rest
+  -- a run is a run of its prefix and then one of the rest
   pub run_split : (E F : List Entry) (S N : State) → Run kinds net S (E ++ F) N → (M : State) × Run kinds net S E M × Run kinds net M F N
   run_split [] F S N r = (S, refl, r)
   run_split (e ∷ E) F S N r = let q = run_split E F r.0 N r.2 in (q.0, (r.0, r.1, q.1), q.2)

@@ -53,7 +53,7 @@ module _ (kinds : Family) (net : Network) where
   act_deed M p (Read k) = read_deed M (in_of net p k)
   act_deed M p (Write k t) = write_deed M t (out_of net p k)
 
-  -- the same of an answer, if there is one
+  -- the same for an answer, if there is one
   abbrev pub answer_deed : State → ℕ → Option Answer → Option Deed
   answer_deed M p None = None
   answer_deed M p (Some a) = act_deed M p a.act
@@ -64,7 +64,7 @@ module _ (kinds : Family) (net : Network) where
   act_full M p Stop = None
   act_full M p (Read k) = None
 
-  -- the same of an answer, if there is one
+  -- the same for an answer, if there is one
   abbrev pub answer_full : State → ℕ → Option Answer → Option ℕ
   answer_full M p None = None
   answer_full M p (Some a) = act_full M p a.act
@@ -77,7 +77,7 @@ module _ (kinds : Family) (net : Network) where
   abbrev pub full_of : State → ℕ → Option ℕ
   full_of M p = answer_full M p (wants kinds net M p)
 
-  -- none of the processes below n can go on
+  -- no process below n can go on
   abbrev pub all_still : State → ℕ → Bool
   all_still M zero = true
   all_still M (suc n) = is_none (deed_of M n) && all_still M n
@@ -92,7 +92,7 @@ module _ (kinds : Family) (net : Network) where
   all_after M c zero = true
   all_after M c (suc n) = comes_first M c (full_of M n) && all_after M c n
 
-  -- p does this, if it is anything
+  -- p does this deed, if there is one
   abbrev pub went : State → ℕ → List ℕ → Option Deed → Option (Entry × State)
   went M p next None = None
   went M p next (Some d) = Some (Did p d, after_deed kinds net M p next d)
@@ -102,14 +102,14 @@ module _ (kinds : Family) (net : Network) where
   goes M p None = None
   goes M p (Some a) = went M p a.next (act_deed M p a.act)
 
-  -- the full channel grows, where no process can go on and it is the first
+  -- the full channel grows, if no process can go on and it is the first
   abbrev pub grows_at : State → Option ℕ → Option (Entry × State)
   grows_at M None = None
   grows_at M (Some c) =
       if all_still M (length M.processes) && (all_after M c (length M.processes) && nat_lt (capacity M c) net.ceiling)
       then Some (Grew c (min (capacity M c + net.step) net.ceiling), with_channel M c (tokens M c) (min (capacity M c + net.step) net.ceiling)) else None
 
-  -- the entry of a turn and the state after it, where it can be taken
+  -- the entry of a turn and the state after it, if the turn can be taken
   abbrev pub turned : State → Turn → Option (Entry × State)
   turned M (Go p) = goes M p (wants kinds net M p)
   turned M (Grow p) = grows_at M (full_of M p)
@@ -119,7 +119,7 @@ module _ (kinds : Family) (net : Network) where
   played_on None rest = None
   played_on (Some r) rest = entered r.0 (rest r.1)
 
-  -- the history of a schedule and the state after it, where each turn can be taken
+  -- the history of a schedule and the state after it, if each turn can be taken
   abbrev pub played : State → List Turn → Option (List Entry × State)
   played M [] = Some ([], M)
   played M (t ∷ ts) = played_on (turned M t) (λ N. played N ts)
@@ -130,17 +130,17 @@ module _ (kinds : Family) (net : Network) where
   all_done (Done ∷ ss) = all_done ss
   all_done (Live local last ∷ ss) = false
 
-  -- none of the processes below n is blocked
+  -- no process below n is blocked
   abbrev pub none_full : State → ℕ → Bool
   none_full M zero = true
   none_full M (suc n) = is_none (full_of M n) && none_full M n
 
-  -- the full channel is the first, and at the ceiling
+  -- the full channel is the chosen one, and at the ceiling
   abbrev pub stuck_at : State → Option ℕ → Bool
   stuck_at M None = false
   stuck_at M (Some c) = all_after M c (length M.processes) && (capacity M c == net.ceiling)
 
-  -- that of one of the processes below n is
+  -- that of some process below n is
   abbrev pub some_stuck : State → ℕ → Bool
   some_stuck M zero = false
   some_stuck M (suc n) = stuck_at M (full_of M n) || some_stuck M n

@@ -1,4 +1,4 @@
--- Two runs that stand still after the same growths are in one state.
+-- Two runs to quiet states with the same growths end in the same state.
 use Rattle.std.proofs.Common.{◌≡◌, List, [], ◌++◌, sym, ap, ◌∙◌, append-nil, ℕ}
 use Rattle.std.proofs.lemmas.List.{append_cancel_left, ext_get_or}
 use Rattle.kpn_model.specs.declared.history.Entry.{Entry}
@@ -14,15 +14,15 @@ use Rattle.kpn_laws.proofs.KeptByRuns.{kept_run}
 use Rattle.kpn_laws.proofs.Domination.{dominated_by_growths}
 
 module _ (kinds : Family) (net : Network) where
-  -- a channel's tokens and capacity are all of it
+  -- a channel's state is determined by its tokens and its capacity
   held_same : (x y : Held) → x.tokens ≡ y.tokens → x.capacity ≡ y.capacity → x ≡ y
   held_same x y a b = λ i. record { tokens = a i; capacity = b i }
 
-  -- the processes and the channels are all of a state
+  -- a state is determined by its processes and its channels
   state_same : (x y : State) → x.processes ≡ y.processes → x.channels ≡ y.channels → x ≡ y
   state_same x y a b = λ i. record { processes = a i; channels = b i }
 
-  -- the deeds and the growths tell the state
+  -- the deeds and the growths determine the state
   pub same_state :
       (S : State) (E F : List Entry) (M N : State) → Kept kinds net S E M → Kept kinds net S F N → ((p : ℕ) → deeds E p ≡ deeds F p)
       → growths E ≡ growths F → M ≡ N
@@ -35,7 +35,7 @@ module _ (kinds : Family) (net : Network) where
       (ext_get_or Done M.processes N.processes (k.processes ∙ sym j.processes) (λ i _. st i))
       (ext_get_or nothing_held M.channels N.channels (k.channels ∙ sym j.channels) (λ i _. held_same _ _ (tk i) (cp i)))
 
-  -- two runs that stand still after the same growths have done the same
+  -- in two runs to quiet states with the same growths each process has done the same
   pub same_deeds :
       (S : State) → IsFresh kinds net S → (E F : List Entry) (M N : State) → Run kinds net S E M → IsQuiet kinds net M → Run kinds net S F N
       → IsQuiet kinds net N → growths E ≡ growths F → (p : ℕ) → deeds E p ≡ deeds F p
@@ -44,7 +44,7 @@ module _ (kinds : Family) (net : Network) where
       (dominated_by_growths kinds net S fresh F N run' quiet' E M run ([], append-nil _ ∙ grew) p)
       (dominated_by_growths kinds net S fresh E M run quiet F N run' ([], append-nil _ ∙ sym grew) p)
 
-  -- and they are in one state
+  -- and they end in one state
   pub same_stand :
       (S : State) → IsFresh kinds net S → (E F : List Entry) (M N : State) → Run kinds net S E M → IsQuiet kinds net M → Run kinds net S F N
       → IsQuiet kinds net N → growths E ≡ growths F → M ≡ N

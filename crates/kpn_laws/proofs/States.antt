@@ -20,13 +20,13 @@ right_true : (a b : Bool) → (a && b) ≡ true → b ≡ true
 right_true true b e = e
 right_true false b e = cc
 
--- the channel at an input of p is there, and p is its reader
+-- the channel at an input of p is one of the network's, and p is its reader
 pub in_of-reader : (net : Network) (p k c : ℕ) → in_of net p k ≡ Some c → (c < length net.channels) × ((channel_of net c).reader ≡ p)
 in_of-reader net p k c e =
     let h = position-Some (λ (l : Channel). (l.reader == p) && (l.input == k)) net.channels c no_channel e in
     (h.0, eqb-true _ _ (left_true _ _ h.1))
 
--- the channel at an output of p is there, and p is its writer
+-- the channel at an output of p is one of the network's, and p is its writer
 pub out_of-writer : (net : Network) (p k c : ℕ) → out_of net p k ≡ Some c → (c < length net.channels) × ((channel_of net c).writer ≡ p)
 out_of-writer net p k c e =
     let h = position-Some (λ (l : Channel). (l.writer == p) && (l.out == k)) net.channels c no_channel e in
@@ -40,7 +40,7 @@ in_of-input net p k c e = eqb-true _ _ (right_true _ _ (position-Some (λ (l : C
 pub out_of-out : (net : Network) (p k c : ℕ) → out_of net p k ≡ Some c → (channel_of net c).out ≡ k
 out_of-out net p k c e = eqb-true _ _ (right_true _ _ (position-Some (λ (l : Channel). (l.writer == p) && (l.out == k)) net.channels c no_channel e).1)
 
--- a channel that holds a token is there
+-- a channel that holds a token is one of the state's
 pub holds_within : (M : State) (c : ℕ) (t : Token) (rest : List Token) → tokens M c ≡ t ∷ rest → c < length M.channels
 holds_within M c t rest e =
     ⊎_elim (λ h. h) (λ past. let g = ap (λ (x : Held). x.tokens) (get_or_past M.channels c nothing_held past) in cc) (cases_lt c (length M.channels))
@@ -49,7 +49,7 @@ holds_within M c t rest e =
 pub status_set_same : (M : State) (p : ℕ) (s : Status) → p < length M.processes → status (with_status M p s) p ≡ s
 status_set_same M p s h = get_or-set_same M.processes p s Done h
 
--- and each other stays
+-- and the others stay
 pub status_set_other : (M : State) (p q : ℕ) (s : Status) → q ≢ p → status (with_status M p s) q ≡ status M q
 status_set_other M p q s h = get_or-set_other M.processes p q s Done h
 
@@ -57,7 +57,7 @@ status_set_other M p q s h = get_or-set_other M.processes p q s Done h
 pub tokens_set_same : (M : State) (c : ℕ) (ts : List Token) (n : ℕ) → c < length M.channels → tokens (with_channel M c ts n) c ≡ ts
 tokens_set_same M c ts n h = ap (λ (x : Held). x.tokens) (get_or-set_same M.channels c (record { tokens = ts; capacity = n }) nothing_held h)
 
--- and each other what it held
+-- and each other holds what it held
 pub tokens_set_other : (M : State) (c b : ℕ) (ts : List Token) (n : ℕ) → b ≢ c → tokens (with_channel M c ts n) b ≡ tokens M b
 tokens_set_other M c b ts n h = ap (λ (x : Held). x.tokens) (get_or-set_other M.channels c b (record { tokens = ts; capacity = n }) nothing_held h)
 
@@ -69,7 +69,7 @@ capacity_set_same M c ts n h = ap (λ (x : Held). x.capacity) (get_or-set_same M
 pub capacity_set_other : (M : State) (c b : ℕ) (ts : List Token) (n : ℕ) → b ≢ c → capacity (with_channel M c ts n) b ≡ capacity M b
 capacity_set_other M c b ts n h = ap (λ (x : Held). x.capacity) (get_or-set_other M.channels c b (record { tokens = ts; capacity = n }) nothing_held h)
 
--- a channel keeps its capacity where only its tokens change
+-- a channel keeps its capacity if only its tokens change
 pub capacity_kept : (M : State) (c b : ℕ) (ts : List Token) → capacity (with_channel M c ts (capacity M c)) b ≡ capacity M b
 capacity_kept M c b ts =
     ⊎_elim

@@ -1,4 +1,4 @@
--- What a deed leaves of each process and each channel.
+-- What a deed does to each process and each channel.
 use Rattle.std.proofs.Common.{◌≡◌, ⊎_elim, List, [], ◌∷◌, ◌++◌, length, refl, sym, ap, ℕ, ◌≢◌, ◌<◌, Some, Option, None, drop, length-set}
 use Rattle.std.proofs.lemmas.Bool.{cases_lt}
 use Rattle.std.proofs.lemmas.List.{get_or_past}
@@ -14,7 +14,7 @@ use Rattle.kpn_model.specs.declared.kinds.Act.TheVariants.{Read, Write, Stop}
 use Rattle.kpn_model.specs.declared.kinds.Answer.{Answer}
 use Rattle.kpn_laws.proofs.States.{status_set_same, status_set_other, capacity_kept}
 
--- what becomes of a process that answered so by this deed
+-- the status of a process that answered so, after this deed
 abbrev pub after : Option Answer → Deed → Status
 after None d = Done
 after (Some a) Stopped = Done
@@ -26,7 +26,7 @@ module _ (kinds : Family) (net : Network) where
   pub done_wants_none : (p : ℕ) (s : Status) (a : Answer) → s ≡ Done → answered kinds net p s ≡ Some a → ⊥
   done_wants_none p s a e w = let h : answered kinds net p s ≡ None = ap (λ x. answered kinds net p x) e in cc
 
-  -- a process that wants something is there
+  -- a process that wants something is one of the network's
   pub live_within : (M : State) (p : ℕ) (a : Answer) → wants kinds net M p ≡ Some a → p < length M.processes
   live_within M p a w =
       ⊎_elim (λ h. h) (λ past. absurd (done_wants_none p (status M p) a (get_or_past M.processes p Done past) w)) (cases_lt p (length M.processes))
@@ -37,7 +37,7 @@ module _ (kinds : Family) (net : Network) where
   status_after_same M p a (Took c t) h = status_set_same M p (Live a.next (Some t)) h
   status_after_same M p a (Put c t) h = status_set_same M p (Live a.next None) h
 
-  -- each other's stays
+  -- the others' statuses stay
   pub status_after_other : (M : State) (p q : ℕ) (next : List ℕ) (d : Deed) → q ≢ p → status (after_deed kinds net M p next d) q ≡ status M q
   status_after_other M p q next Stopped h = status_set_other M p q Done h
   status_after_other M p q next (Took c t) h = status_set_other M p q (Live next (Some t)) h
@@ -49,13 +49,13 @@ module _ (kinds : Family) (net : Network) where
   capacity_after M p b next (Took c t) = capacity_kept M c b (drop 1 (tokens M c))
   capacity_after M p b next (Put c t) = capacity_kept M c b (tokens M c ++ t ∷ [])
 
-  -- or the number of processes
+  -- nor the number of processes
   pub processes_after : (M : State) (p : ℕ) (next : List ℕ) (d : Deed) → length (after_deed kinds net M p next d).processes ≡ length M.processes
   processes_after M p next Stopped = length-set _ _ _
   processes_after M p next (Took c t) = length-set _ _ _
   processes_after M p next (Put c t) = length-set _ _ _
 
-  -- or that of channels
+  -- nor that of channels
   pub channels_after : (M : State) (p : ℕ) (next : List ℕ) (d : Deed) → length (after_deed kinds net M p next d).channels ≡ length M.channels
   channels_after M p next Stopped = refl
   channels_after M p next (Took c t) = length-set _ _ _

@@ -1,4 +1,4 @@
--- What went through a channel is told by the deeds of its writer and of its reader.
+-- What went through a channel is determined by the deeds of its writer and of its reader.
 use Rattle.std.proofs.Common.{◌≡◌, ⊎_elim, List, [], ◌∷◌, ◌++◌, refl, sym, ap, ◌∙◌, append-nil, ℕ, ne_eqb}
 use Rattle.std.proofs.lemmas.Bool.{cases_eq}
 use Rattle.kpn_model.specs.declared.history.Deed.TheVariants.{Took, Put, Stopped}

@@ -7,7 +7,7 @@ use Rattle.kpn_model.specs.Network.{no_channel, channel_of, Family, resize, resi
 use Rattle.kpn_laws.specs.Sufficient.{KeepsCapacities, OwnEndSuffices}
 use Rattle.kpn_laws.proofs.EachMoment.{history_tells_state}
 
--- of other starting capacities none is above b, if none that is given is
+-- no starting capacity is above b, if none of those given is
 resize-capacity :
     (ls : List Channel) (sizes : ℕ → ℕ) (b : ℕ) → ((c : ℕ) → c < length ls → sizes c ≤ b) → (c : ℕ) → (get_or (resize ls sizes) c no_channel).capacity ≤ b
 resize-capacity [] sizes b h c = omega arith

@@ -28,12 +28,12 @@ module _ (kinds : Family) (net : Network) where
   total_le zero f g h = omega arith
   total_le (suc n) f g h = let a = total_le n f g h in let b = h n in omega arith
 
-  -- a sum of nothing is nothing
+  -- a sum of zeros is zero
   total_none : (n : ℕ) → total n (λ i. 0) ≡ 0
   total_none zero = refl
   total_none (suc n) = let h = total_none n in omega arith
 
-  -- a sum with one more in one place is one more
+  -- a sum with one more in one term is one more
   total_more : (n p : ℕ) (f g : ℕ → ℕ) → p < n → g p ≡ f p + 1 → ((i : ℕ) → i ≢ p → g i ≡ f i) → total n g ≡ total n f + 1
   total_more zero p f g l at others = omega arith
   total_more (suc n) p f g l at others =

@@ -12,7 +12,7 @@ use Rattle.kpn_laws.proofs.Kept.{tokens_at}
 use Rattle.kpn_laws.proofs.Within.{always_within}
 use Rattle.kpn_laws.proofs.EachMoment.{starts_with}
 
--- each channel that is there begins within its capacity, and one that is not there holds nothing
+-- each channel of a valid network begins within its capacity, and a number that is no channel's holds nothing
 fits : (signature : Card → Option Signature) (net : Network) → IsValid signature net → (c : ℕ) → length (channel_of net c).tokens ≤ (channel_of net c).capacity
 fits signature net valid c =
     ⊎_elim (λ within. valid.start_fits c no_channel within)

@@ -20,7 +20,7 @@ took [] c = []
 took (Took b t ∷ ds) c = if b == c then t ∷ took ds c else took ds c
 took (_ ∷ ds) c = took ds c
 
--- an element that is added or not comes before what is appended
+-- an element that is added conditionally comes before what is appended
 cond_append : {X : Type 0} (b : Bool) (x : X) (xs ys zs : List X) → xs ++ ys ≡ zs → (if b then x ∷ xs else xs) ++ ys ≡ (if b then x ∷ zs else zs)
 cond_append true x xs ys zs e = ap (λ l. x ∷ l) e
 cond_append false x xs ys zs e = e
@@ -71,7 +71,7 @@ growths-append (Grew c to ∷ E) F = ap (λ l. (c, to) ∷ l) (growths-append E 
 pub deeds_push_same : (E : List Entry) (p : ℕ) (d : Deed) → deeds (E ++ Did p d ∷ []) p ≡ deeds E p ++ d ∷ []
 deeds_push_same E p d = deeds-append E (Did p d ∷ []) p ∙ ap (λ b. deeds E p ++ (if b then d ∷ [] else [])) (eq-eqb p p refl)
 
--- and none in another's
+-- and none in any other's
 pub deeds_push_other : (E : List Entry) (p q : ℕ) (d : Deed) → (p == q) ≡ false → deeds (E ++ Did p d ∷ []) q ≡ deeds E q
 deeds_push_other E p q d h = deeds-append E (Did p d ∷ []) q ∙ ap (λ b. deeds E q ++ (if b then d ∷ [] else [])) h ∙ append-nil (deeds E q)
 
@@ -142,15 +142,15 @@ puts_other b c t h = ap (λ x. if x then t ∷ [] else []) h
 pub took_other : (b c : ℕ) (t : Token) → (b == c) ≡ false → took (Took b t ∷ []) c ≡ []
 took_other b c t h = ap (λ x. if x then t ∷ [] else []) h
 
--- what is put by lists of deeds in line is in line
+-- what is put by prefix-comparable lists of deeds is prefix-comparable
 pub puts_in_line : (xs ys : List Deed) (c : ℕ) → ArePrefixComparable xs ys → ArePrefixComparable (puts xs c) (puts ys c)
 puts_in_line xs ys c (inl a) = inl (puts a.0 c, sym (puts-append xs a.0 c) ∙ ap (λ l. puts l c) a.1)
 puts_in_line xs ys c (inr b) = inr (puts b.0 c, sym (puts-append ys b.0 c) ∙ ap (λ l. puts l c) b.1)
 
--- what a front of a list of deeds puts is a front of what the list puts
+-- what a prefix of a list of deeds puts is a prefix of what the list puts
 pub puts_front : (xs ys : List Deed) (c : ℕ) → IsPrefixOf xs ys → IsPrefixOf (puts xs c) (puts ys c)
 puts_front xs ys c a = (puts a.0 c, sym (puts-append xs a.0 c) ∙ ap (λ l. puts l c) a.1)
 
--- what a front of a list of deeds takes is a front of what the list takes
+-- what a prefix of a list of deeds takes is a prefix of what the list takes
 pub took_front : (xs ys : List Deed) (c : ℕ) → IsPrefixOf xs ys → IsPrefixOf (took xs c) (took ys c)
 took_front xs ys c a = (took a.0 c, sym (took-append xs a.0 c) ∙ ap (λ l. took l c) a.1)

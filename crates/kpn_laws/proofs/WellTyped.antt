@@ -20,7 +20,7 @@ use Rattle.kpn_laws.proofs.KeptByRuns.{kept_run}
 use Rattle.kpn_laws.proofs.WellTypedDeeds.{live_of, sorted_deed, sorted_start}
 
 module _ (signature : Card → Option Signature) (admits : Card → List ℕ → Option Token → Type 0) (kinds : Family) (net : Network) (valid : IsValid signature net) (laws : AreLawful signature admits kinds) where
-  -- a process that is there has a card with a signature, of numbers that fit
+  -- a process of the network has a card with a signature, whose numbers fit
   signed_at : (p : ℕ) → p < length net.processes → CardFits (card_of net p) × IsSome (signature (card_of net p))
   signed_at p within = (valid.cards p no_process within, valid.signed p no_process within)
 
@@ -31,7 +31,7 @@ module _ (signature : Card → Option Signature) (admits : Card → List ℕ →
         let l = live_of kinds net p (status M p) a w in
         subst (λ (x : Answer). NamesPort signature (card_of net p) x.act) l.1.2 (laws.names_port (card_of net p) l.0 l.1.0 signed.0 signed.1 (well_typed.locals p l.0 l.1.0 l.1.1))
 
-    -- and leads on to what is admitted
+    -- and what follows it is admitted
     leads : (t : Token) → LeadsOn signature admits (card_of net p) a t
     leads t =
         let l = live_of kinds net p (status M p) a w in

@@ -33,7 +33,7 @@ live_of kinds net p (Live local last) a w = (local, (last, refl, same_Some _ _ w
 live_of kinds net p Done a w = cc
 
 module _ (signature : Card → Option Signature) (admits : Card → List ℕ → Option Token → Type 0) (kinds : Family) (net : Network) (valid : IsValid signature net) where
-  -- all tokens of c are such as c may hold
+  -- all tokens are such as c may hold
   abbrev AreOf : ℕ → List Token → Type 0
   AreOf c ts = AllByRecursion (IsOfSort (channel_of net c).sort) ts
 
@@ -52,7 +52,7 @@ module _ (signature : Card → Option Signature) (admits : Card → List ℕ →
       (subst (λ x. out_sort signature (card_of net (channel_of net c).writer) x ≡ Some (channel_of net c).sort) (out_of-out net p k c e) (valid.ends c no_channel r.0).out)
 
   module _ (M : State) (well_typed : IsWellTyped admits net M) (p : ℕ) (a : Answer) (w : wants kinds net M p ≡ Some a) (names : NamesPort signature (card_of net p) a.act) where
-    -- a deed leaves the tokens of each channel of its sort
+    -- after a deed the tokens of each channel still have its sort
     tokens_did : (d : Deed) → IsDeed kinds net M p a.act d → length M.channels ≡ length net.channels → (c : ℕ) → AreOf c (tokens (after_deed kinds net M p a.next d) c)
     tokens_did Stopped is many c = well_typed.tokens c
     tokens_did (Took b t) is many c =
@@ -81,7 +81,7 @@ module _ (signature : Card → Option Signature) (admits : Card → List ℕ →
         (λ ne. subst (λ l. AreOf c l) (sym (tokens_set_other M1 b c _ _ ne)) (well_typed.tokens c))
         (cases_eq c b)
 
-    -- the state after the deed is admitted, where the answer leads on with the token that was read
+    -- the state after the deed is admitted, if the answer leads on with the token that was read
     local_did : (d : Deed) → IsDeed kinds net M p a.act d → LeadsOn signature admits (card_of net p) a (read_by d) → (local : List ℕ) (last : Option Token) → after (Some a) d ≡ Live local last → admits (card_of net p) local last
     local_did Stopped is leads local last e = cc
     local_did (Took b t) is leads local last e =
@@ -99,7 +99,7 @@ module _ (signature : Card → Option Signature) (admits : Card → List ℕ →
         let y : None ≡ last = cc in
         subst (λ o. admits (card_of net p) local o) y (subst (λ l. admits (card_of net p) l None) x on)
 
-    -- a deed leaves the state well-typed, where the laws hold of the answer that it comes from
+    -- a deed leaves the state well-typed, if the laws hold of the answer that it comes from
     pub sorted_deed : (d : Deed) → IsDeed kinds net M p a.act d → LeadsOn signature admits (card_of net p) a (read_by d) → length M.channels ≡ length net.channels → IsWellTyped admits net (after_deed kinds net M p a.next d)
     sorted_deed d is leads many =
         record {
@@ -118,14 +118,14 @@ module _ (signature : Card → Option Signature) (admits : Card → List ℕ →
   start_local (x ∷ ps) zero local last e = (omega arith, cc, cc)
   start_local (x ∷ ps) (suc p) local last e = let r = start_local ps p local last e in (omega arith, r.1, r.2)
 
-  -- the start tokens have their channel's sort; a channel that is not there has none
+  -- the start tokens have their channel's sort; a number that is no channel's has none
   start_tokens : (c : ℕ) → AreOf c (channel_of net c).tokens
   start_tokens c =
       ⊎_elim (λ within. valid.start_tokens c no_channel within)
       (λ (past : length net.channels ≤ c). subst (λ (l : Channel). AllByRecursion (IsOfSort l.sort) l.tokens) (sym (get_or_past net.channels c no_channel past)) tt)
       (cases_lt c (length net.channels))
 
-  -- the start is well-typed, where each card admits its start
+  -- the start is well-typed, if each card admits its start
   pub sorted_start : ((p : ℕ) → p < length net.processes → admits (card_of net p) (kinds.start (card_of net p)) None) → IsWellTyped admits net (start kinds net)
   sorted_start starts =
       record {

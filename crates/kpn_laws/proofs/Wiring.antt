@@ -29,7 +29,7 @@ wired_sym : (a b : Network) → AreWiredAlike a b → AreWiredAlike b a
 wired_sym a b w = record { cards = λ p. sym (w.cards p); ins = λ p k. sym (w.ins p k); outs = λ p k. sym (w.outs p k); steps = sym w.steps; ceilings = sym w.ceilings }
 
 module _ (kinds : Family) where
-  -- the same is wanted in both
+  -- each process wants the same in both
   pub answered_alike : (a b : Network) → AreWiredAlike a b → (p : ℕ) (s : Status) → answered kinds a p s ≡ answered kinds b p s
   answered_alike a b w p (Live local last) = ap (λ (x : Card). Some (kinds.answer x local last)) (w.cards p)
   answered_alike a b w p Done = refl
@@ -40,12 +40,12 @@ module _ (kinds : Family) where
   possible_alike a b w M p (Read k) h = (h.0, sym (w.ins p k) ∙ h.1, h.2)
   possible_alike a b w M p (Write k t) h = (h.0, sym (w.outs p k) ∙ h.1, h.2)
 
-  -- the same processes can go on in both
+  -- a process that can go on in one can in the other
   enabled_alike : (a b : Network) → AreWiredAlike a b → (M : State) (p : ℕ) → IsEnabled kinds a M p → IsEnabled kinds b M p
   enabled_alike a b w M p e =
       record { answer = e.answer; wanted = sym (answered_alike a b w p (status M p)) ∙ e.wanted; possible = possible_alike a b w M p e.answer.act e.possible }
 
-  -- none can go on in one where none can in the other
+  -- none can go on in one if none can in the other
   quiet_alike : (a b : Network) → AreWiredAlike a b → (M : State) → IsQuiet kinds a M → IsQuiet kinds b M
   quiet_alike a b w M q p e = q p (enabled_alike b a (wired_sym a b w) M p e)
 
@@ -96,7 +96,7 @@ module _ (kinds : Family) where
   over_alike a b w M Budget o = o
   over_alike a b w M Memory o = o
 
-  -- a process stands in the same place in both
+  -- a process has the same place in both
   pub place_alike : (a b : Network) → AreWiredAlike a b → (p : ℕ) (o : Option Answer) → place_of a p o ≡ place_of b p o
   place_alike a b w p None = refl
   place_alike a b w p (Some x) = place_act x.act

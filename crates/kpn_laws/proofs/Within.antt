@@ -19,7 +19,7 @@ use Rattle.kpn_laws.proofs.KeptByGrowths.{blocked_within, tokens_grew}
 use Rattle.kpn_laws.proofs.KeptByRuns.{kept_run}
 
 module _ (kinds : Family) (net : Network) where
-  -- a deed keeps each channel within its capacity: a take leaves less, a put found room
+  -- a deed keeps each channel within its capacity: after a take it holds less, and a put found room
   within_did :
       (S : State) (H : List Entry) (M : State) → Kept kinds net S H M → IsWithin M → (p : ℕ) (d : Deed) (a : Answer) → IsDeed kinds net M p a.act d
       → IsWithin (after_deed kinds net M p a.next d)
@@ -82,7 +82,7 @@ module _ (kinds : Family) (net : Network) where
   within_step S H M (Grew c to) N k w s =
       subst (λ x. IsWithin x) (sym s.leaves) (within_grew S H M k w c to (blocked_within kinds net S H M k s.chosen.writer c s.chosen.blocked) (let is = s.to_is in let low = s.below in omega arith))
 
-  -- so each run does that begins within
+  -- so does each run that begins within the capacities
   within_run : IsWithin (start kinds net) → (E : List Entry) (M : State) → IsRun kinds net E M → IsWithin M
   within_run fits =
       let S = start kinds net in

@@ -1,4 +1,4 @@
--- What is said of a network: whichever run is over, this is its digest.
+-- Every run of a network that is over has this digest.
 use Rattle.std.specs.Prelude.{◌≡◌, List}
 use Rattle.kpn_model.specs.declared.history.Entry.{Entry}
 use Rattle.kpn_model.specs.declared.history.End.{End}

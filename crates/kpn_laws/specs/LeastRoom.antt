@@ -23,7 +23,7 @@ Dominates kinds =
     → IsRun kinds (resized net sizes) F N → IsBoundedBy N (capacity M c) → IsDominated F E
 
 module _ (kinds : Family) where
-  -- where b places suffice, the chosen channel of an artificial deadlock has fewer
+  -- if b places suffice, the chosen channel of an artificial deadlock has fewer
   abbrev pub ChosenHasFewer : Type 0
   ChosenHasFewer =
       (net : Network) (b : ℕ) → Suffices kinds net b → (E : List Entry) (M : State) (c : ℕ)

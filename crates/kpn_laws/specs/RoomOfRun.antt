@@ -18,12 +18,12 @@ pub record TakesAtMost (kinds : Family) (net : Network) (E : List Entry) (M : St
   pub few_growths : 0 < net.step → length (growths E) ≤ length net.channels * b
   pub below_ceiling : b ≤ net.ceiling → IsOver kinds net M Ceiling → ⊥
 
--- whatever number of places suffices for the network, the run takes no more; and it has at most so many
--- entries as another that comes to its end in b places, and b for each channel
+-- whatever number of places suffices for the network, the run takes no more; and it has at most as many entries as any run that
+-- comes to its end in b places, and b more for each channel
 pub record TakesLeastRoom (kinds : Family) (net : Network) (E : List Entry) (M : State) : Type 0 where
   pub within : (b : ℕ) → Suffices kinds net b → TakesAtMost kinds net E M b
   pub few_entries : (b : ℕ) (s : EndsWithin kinds net b) → 0 < net.step → length E ≤ length s.history + length net.channels * b
 
--- so does each run
+-- each run takes the least room
 abbrev pub EachTakesLeastRoom : Family → Type 0
 EachTakesLeastRoom kinds = (net : Network) (E : List Entry) (M : State) → IsRun kinds net E M → TakesLeastRoom kinds net E M

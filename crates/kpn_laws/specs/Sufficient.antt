@@ -1,5 +1,4 @@
--- How many places a channel suffice for a network: with some capacities of so many it comes to its end, or
--- goes on for ever.
+-- How many places a channel suffice for a network: with some capacities of that size it comes to its end, or goes on for ever.
 use Rattle.std.specs.Prelude.{◌≡◌, ◌⊎◌, ℕ, ◌+◌, ◌<◌, ◌≤◌, List, [], length}
 use Rattle.kpn_model.specs.declared.history.Entry.{Entry}
 use Rattle.kpn_model.specs.declared.history.End.{End}

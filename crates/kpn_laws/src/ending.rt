@@ -1,17 +1,18 @@
-//! What can come to its end in bounded room comes to its end.
+//! A network that can come to its end in bounded room does so.
 ghost use Rattle.kpn_model.specs.Network.{Family};
 ghost use Rattle.kpn_laws.specs.Completion.{CanAlwaysGoOn, FewEntries, Completes, HasEnd, NeverEnds};
 
 use kpn_model::Kinds;
 
-/// What can come to its end in bounded room comes to its end, and what can go on for ever goes on, from
-/// any starting capacities and whatever the schedule, for every family of kinds and every network.
+/// Does nothing: what it ensures are the laws of completion. A network that can come to its end in
+/// bounded room does so, and one that can go on for ever does, whatever the schedule, for every family
+/// of kinds and every network.
 ///
 /// `goes_on`: in every state some entry can follow, or it is over, or the chosen channel is above the
-/// ceiling. `few_entries`: where b places suffice for a run to its end, and the step is not 0, each run has
-/// at most the entries of that run and b for each channel. `completes`: with b within the ceiling, each
-/// run can go on until it terminates or ends in a deadlock. `has_end`: so each run goes on to such an
-/// end. `never_ends`: where b places suffice for any number of deeds, and b is within the ceiling, each
+/// ceiling. `few_entries`: if b places suffice for a run to its end, and the step is not 0, each run
+/// has at most the entries of that run and b for each channel. `completes`: with b within the ceiling,
+/// each run can go on until it terminates or ends in a deadlock. `has_end`: so each run goes on to such
+/// an end. `never_ends`: if b places suffice for any number of deeds, and b is within the ceiling, each
 /// run can go on.
 pub fn completion()
     ensures goes_on { (kinds : Family) → CanAlwaysGoOn kinds }
@@ -21,7 +22,7 @@ pub fn completion()
     ensures never_ends { (kinds : Family) → NeverEnds kinds }
 {}
 
-/// The laws of completion for a family that is given as a type.
+/// Does nothing: the laws of [`completion`] for a family that is given as a type.
 pub fn completion_of<K: Kinds>()
     ensures goes_on { CanAlwaysGoOn K.family }
     ensures few_entries { FewEntries K.family }

@@ -1,8 +1,8 @@
 //! The laws of Kahn process networks with bounded channels, over the definitions of kpn_model alone.
 //!
-//! A function here does nothing: what it ensures is proved, the laws for every family of kinds and every
-//! network, and a caller that calls it may use them from there on. docs/determinacy.md and
-//! docs/least-room.md tell the proofs' ideas.
+//! A function here does nothing. What it ensures are theorems, for every family of kinds and every
+//! network; a caller that calls it may use them from there on. docs/determinacy.md and
+//! docs/least-room.md explain the proofs.
 #![tactic(auto)]
 
 mod ending;

@@ -6,14 +6,15 @@ ghost use Rattle.kpn_model.specs.Moments.{OneState, FrontsAreRuns, AlwaysWithin,
 use crate::run::moments;
 use kpn_model::Kinds;
 
-/// The laws of determinacy, for every family of kinds and every network (Kahn 1974, of runs that end).
+/// Does nothing: what it ensures are the laws of determinacy, for every family of kinds and every
+/// network (Kahn 1974, for finite runs).
 ///
 /// `one_digest`: two runs that are over have one digest, so one cause, one place of each process, the
 /// same deeds, streams, rests, growths in order, last capacities and number of entries. `none_longer`:
 /// no run is longer than one that is over. `one_outcome`: whatever the starting capacities, runs that
-/// terminate or end in a deadlock have the same deeds, streams and places (the growth is Parks's, 1995).
-/// `all_in_line`: of any two runs cut anywhere, from any starting capacities, one's deeds of each
-/// process begin with the other's, and so do the streams.
+/// terminate or end in a deadlock have the same deeds, streams and places (growth is Parks's, 1995).
+/// `all_in_line`: in any two runs cut anywhere, from any starting capacities, the deeds of each process
+/// are prefix-comparable (one list begins with the other), and so are the streams.
 pub fn determinacy()
     ensures one_digest { (kinds : Family) → OneDigest kinds }
     ensures none_longer { (kinds : Family) → NoneLonger kinds }
@@ -21,7 +22,8 @@ pub fn determinacy()
     ensures all_in_line { (kinds : Family) → AllPrefixComparable kinds }
 {}
 
-/// All laws of determinacy, and those of the moments of a run, for a family that is given as a type.
+/// Does nothing: the laws of [`determinacy`] and of `moments` for a family that
+/// is given as a type.
 pub fn determinacy_of<K: Kinds>()
     ensures one_digest { OneDigest K.family }
     ensures none_longer { NoneLonger K.family }

@@ -9,13 +9,14 @@ ghost use Rattle.kpn_laws.specs.ValidRuns.{StartsWithin, StaysWithin};
 
 use kpn_model::Kinds;
 
-/// The laws of the moments of a run, for every family of kinds and every network.
+/// Does nothing: what it ensures are the laws of the moments of a run, for every family of kinds and
+/// every network.
 ///
-/// `one_state`: a history leads from a state to one state. `fronts`: a history's front is a run too,
-/// and the rest goes on from where it leads. `within`: a network that begins with no channel above its
-/// capacity never has one. `told`: what a channel holds, and its capacity, are read off the history.
-/// `budget`: no run ends for its budget where one that is over has fewer entries. `enabled`: a process
-/// is enabled exactly where it can do a deed. `one_cause`: at most one cause fits a state.
+/// `one_state`: a history leads from a state to one state. `fronts`: a prefix of a history is a run
+/// too, and the rest goes on from where it leads. `within`: a network that begins with no channel above
+/// its capacity never has one. `told`: the history determines what a channel holds, and its capacity.
+/// `budget`: no run ends because of its budget if one that is over has fewer entries. `enabled`: a
+/// process is enabled exactly when it can do a deed. `one_cause`: a run is over for at most one cause.
 pub fn moments()
     ensures one_state { (kinds : Family) → OneState kinds }
     ensures fronts { (kinds : Family) → FrontsAreRuns kinds }
@@ -26,15 +27,16 @@ pub fn moments()
     ensures one_cause { (kinds : Family) → OneCause kinds }
 {}
 
-/// A valid network begins with no channel above its capacity, and no run of it ever has one.
+/// Does nothing: what it ensures is that a valid network begins with no channel above its capacity, and
+/// that no run of it ever has one.
 pub fn valid_runs()
     ensures start { (signature : Card → Option Signature) (kinds : Family) → StartsWithin signature kinds }
     ensures within { (signature : Card → Option Signature) (kinds : Family) → StaysWithin signature kinds }
 {}
 
-/// Each run of a valid network is well-typed at each moment: each token in a channel fits and has the
-/// channel's sort, and each live process is in a state that its card admits. It rests on the laws of
-/// the family, which each implementation of `Kinds` proves.
+/// Does nothing: what it ensures is that each run of a valid network is well-typed at each moment. Each
+/// token in a channel fits and has the channel's sort, and each live process is in a state that its
+/// card admits. This follows from the laws of the family, which each implementation of `Kinds` proves.
 pub fn typed_runs<K: Kinds>()
     ensures { StaysWellTyped K.signature_of K.admits K.family }
 {

@@ -120,7 +120,7 @@ module _ (kinds : Family) where
         none = λ x. ends_none kinds n w.between w.places_between (state_and_history_of t) t.standings n.budget (length t.history) w.settled (sym is ∙ x);
       })
 
-  -- where no end stood, a commit was worked on
+  -- if no end stood, a commit was worked on
   pub commits_end : (s : MachineView) (i : Input) (o : Outcome) (t : MachineView) → Commits kinds s i o t → s.end ≡ None → EndsAs kinds t
   commits_end s i (Done n) t h e = works_end s i (Done n) t h
   commits_end s i (Parks n) t h e = works_end s i (Parks n) t h

@@ -36,7 +36,7 @@ others_count Stopped n = omega arith
 ended_not_out : Stopped ≢ Out
 ended_not_out e = cc
 
--- where none is counted out, none is out
+-- if none is counted out, none is out
 pub none_is_out : (standings : List Standing) → count_by is_out standings ≡ 0 → (p : ℕ) → standing standings p ≢ Out
 none_is_out standings h p e =
     ⊎_elim
@@ -63,7 +63,7 @@ all_idle : (standings : List Standing) → ((p : ℕ) → is_busy (standing stan
 all_idle [] h = refl
 all_idle (x ∷ xs) h = rw (h 0) (all_idle xs (λ p. h (suc p)))
 
--- some process is ready where one is ready or out and none is out
+-- some process is ready if one is ready or out and none is out
 pub some_ready : (standings : List Standing) → list_any is_busy standings ≡ true → ((p : ℕ) → standing standings p ≢ Out) → ((p : ℕ) → standing standings p ≢ Ready) → ⊥
 some_ready standings busy out ready = true_false _ busy (all_idle standings (λ p. idle (standing standings p) (ready p) (out p)))
 

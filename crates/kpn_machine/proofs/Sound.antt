@@ -101,7 +101,7 @@ module _ (kinds : Family) (net : Network) where
   idle_follows s standings (Over end) t moved budget entries cause h e not = ap (list_any is_busy) h.2 ∙ h.0
   idle_follows s standings Enlarged t moved budget entries cause h e not = absurd (not (spent _ cause e))
 
-  -- done with 1 to 3 entries where the process could go on, parked with 0 or 2 where it couldn't
+  -- done with 1 to 3 entries where the process could go on, parked with 0 or 2 if it couldn't
   tells :
       (M : State) (E : List Entry) (room : ℕ) (standings : List Standing) (end : Option End) (commits : ℕ) (m : StateAndHistory) (mid : List Standing) (t : StateAndHistory) (moved : List Standing) (p : ℕ) (a : Answer) (r : Reaction) (x : Settled)
       → p < length standings → Reacts kinds net (state_and_history M E room) standings p a r m mid → Settles kinds net m mid x t moved → TellsEnabled kinds (machine_view net M E standings end commits) p (outcome_of r x)

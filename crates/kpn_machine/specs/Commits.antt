@@ -36,7 +36,7 @@ pub record ContinuesRun (kinds : Family) (s t : MachineView) : Type 0 where
   pub history : t.history ≡ s.history ++ entries
   pub run : Run kinds s.network s.state entries t.state
 
--- the answer was worked on, in a machine whose run goes on; a growth follows the deeds exactly where
+-- the answer was worked on, in a machine whose run goes on; a growth follows the deeds exactly when
 -- no process is then ready or out and one is due, unless its memory is refused
 pub record WorksOn (kinds : Family) (s : MachineView) (i : Input) (o : Outcome) (t : MachineView) : Type 0 where
   pub before : s.end ≡ None
@@ -51,7 +51,7 @@ Commits kinds s i LaidBack t = (s.end ≢ None) × (t ≡ record s { standings =
 Commits kinds s i (Done n) t = WorksOn kinds s i (Done n) t
 Commits kinds s i (Parked n) t = WorksOn kinds s i (Parked n) t
 
--- done exactly where the process could go on, with 1 to 3 entries; parked exactly where it could
+-- done exactly where the process could go on, with 1 to 3 entries; parked exactly when it could
 -- not, with none or with a growth and a put
 abbrev pub TellsEnabled : Family → MachineView → ℕ → Outcome → Type 0
 TellsEnabled kinds s p (Done n) = IsEnabled kinds s.network s.state p × (1 ≤ n) × (n ≤ 3)
@@ -66,8 +66,8 @@ IsCause Ceiling = Unit {0}
 IsCause Budget = ⊥
 IsCause Memory = ⊥
 
--- the end of a run that went on until now: a cause exactly where no process is ready or out and the
--- run is over for it; want of memory only where a growth is due; else the budget exactly where it is
+-- the end of a run that went on until now: a cause exactly when no process is ready or out and the
+-- run is over for it; want of memory only if a growth is due; else the budget exactly when it is
 -- spent; else none
 pub record EndsAs (kinds : Family) (t : MachineView) : Type 0 where
   pub over : (cause : End) → IsCause cause → (t.end ≡ Some cause) ↔ ((list_any is_busy t.standings ≡ false) × IsOver kinds t.network t.state cause)

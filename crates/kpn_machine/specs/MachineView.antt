@@ -85,7 +85,7 @@ stays_in (Parked a) = 1
 stays_in Stopped = 1
 
 -- the history is a run to the state, and all else fits; answers are taken at most once for each entry
--- and each process that waits, and where an end stands for each that is not out
+-- and each process that waits, and if an end stands for each that is not out
 pub record IsSound (kinds : Family) (admits : Card → List ℕ → Option Token → Type 0) (s : MachineView) (room : ℕ) (bodies : List (Option Card)) : Type 0 where
   pub run : IsRun kinds s.network s.history s.state
   pub keeps : StandingsFit kinds admits s.network None s.state s.standings

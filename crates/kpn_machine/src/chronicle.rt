@@ -7,7 +7,7 @@ use kpn_state::{Roster, Standing, Store};
 use std::marker::Model;
 
 /// A machine without its bodies: its network, its history, where it left the processes, and how the
-/// run ended, where it did. Its type names no body, so it outlives the bodies and can be named where
+/// run ended, if it did. Its type names no body, so it outlives the bodies and can be named if
 /// they can't.
 ///
 /// It is made by `Machine::into_chronicle` alone. Contracts see what they see of the machine.
@@ -71,7 +71,7 @@ impl<K: Kinds> Chronicle<K> {
         self.standings.as_slice()
     }
 
-    /// How the run ended, where it did.
+    /// How the run ended, if it did.
     pub fn end(&self) -> Option<End>
         ensures end { result ≡ self.now.end }
         ensures faithful { IsFaithful K.family K.admits self.now }

@@ -108,7 +108,7 @@ impl<B: Body> Machine<B> {
         })
     }
 
-    /// How the run ended, where it did.
+    /// How the run ended, if it did.
     pub fn end(&self) -> Option<End>
         ensures end { result ≡ self.now.end }
         ensures faithful { IsFaithful B.Kinds.family B.Kinds.admits self.now }
@@ -261,9 +261,9 @@ impl<B: Body> Machine<B> {
 
     /// Takes the answer of a process that is out.
     ///
-    /// Where an end stands, the process is laid back: ready again, as it was. Otherwise its act is
-    /// done where it can be, or the process is parked with its answer; a deed that lets the parked
-    /// process at the other end of the channel go on is followed by that one's deed. Where no process
+    /// If an end stands, the process is laid back: ready again, as it was. Otherwise its act is
+    /// done if it can be, or the process is parked with its answer; a deed that lets the parked
+    /// process at the other end of the channel go on is followed by that one's deed. If no process
     /// is then ready or out, the run ends, or the chosen channel grows and its writer's put is done.
     /// Takes no memory but that of a growth. The error is an answer of a process that is not out, or
     /// not with this card, local state and last token: nothing changed, and it is handed back.
@@ -285,7 +285,7 @@ impl<B: Body> Machine<B> {
         Ok(self.commit_asked(finished))
     }
 
-    /// Takes the answer of a process that is out, as `commit` does, where it is known to be out, with this
+    /// Takes the answer of a process that is out, as `commit` does, if it is known to be out, with this
     /// card, local state and last token.
     #[inline(always)]
     pub fn commit_asked(&mut self, finished: Finished<B>) -> Outcome
@@ -365,7 +365,7 @@ impl<B: Body> Machine<B> {
 }
 
 impl<B: Body> Machine<B> {
-    /// Runs to an end in the calling thread, where no process is out. Whatever number of places a channel
+    /// Runs to an end in the calling thread, if no process is out. Whatever number of places a channel
     /// suffices for the network, the run takes no more (Parks 1995).
     pub fn finish_alone(&mut self)
         requires { count_by is_out self.old.standings ≡ 0 }

@@ -1,4 +1,4 @@
--- Whatever is chosen, the outcome is the same.
+-- Whatever the schedule, the outcome is the same.
 use Rattle.std.specs.Prelude.{◌≡◌, ◌⊎◌, ℕ, ◌≤◌, List, ◌++◌, length}
 use Rattle.kpn_model.specs.declared.history.Entry.{Entry}
 use Rattle.kpn_model.specs.declared.history.End.{End}
@@ -36,13 +36,13 @@ NoneLonger kinds =
     (net : Network) (E F : List Entry) (M N : State) (a : End)
     → IsFinal kinds net E M a → IsRun kinds net F N → length F ≤ length E
 
--- the end is no matter of capacities
+-- the run came to its own end, which doesn't depend on the capacities: it terminated or ended in a deadlock
 abbrev pub IsNatural : End → Type 0
 IsNatural Terminated = Unit {0}
 IsNatural Deadlock = Unit {0}
 IsNatural _ = ⊥
 
--- what two runs have in common that are over, whatever the capacities
+-- what two runs that are over have in common, whatever the capacities
 pub record HaveSameOutcome (kinds : Family) (net other : Network) (E F : List Entry) (M N : State) : Type 0 where
   pub deeds : (p : ℕ) → deeds E p ≡ deeds F p
   pub streams : (c : ℕ) → stream net E c ≡ stream other F c
@@ -55,12 +55,12 @@ OneOutcome kinds =
     → IsFinal kinds net E M a → IsNatural a → IsFinal kinds (resized net sizes) F N b → IsNatural b
     → HaveSameOutcome kinds net (resized net sizes) E F M N
 
--- of the deeds of each process in two histories, and of each channel's streams, one begins with the other
+-- in two histories the deeds of each process are prefix-comparable, and so are the streams of each channel
 pub record AreAllPrefixComparable (net other : Network) (E F : List Entry) : Type 0 where
   pub deeds : (p : ℕ) → ArePrefixComparable (deeds E p) (deeds F p)
   pub streams : (c : ℕ) → ArePrefixComparable (stream net E c) (stream other F c)
 
--- so it is in any two runs, whatever the starting capacities
+-- any two runs are prefix-comparable in this way, whatever the starting capacities
 abbrev pub AllPrefixComparable : Family → Type 0
 AllPrefixComparable kinds =
     (net : Network) (sizes : ℕ → ℕ) (E F : List Entry) (M N : State)

@@ -43,7 +43,7 @@ growths [] = []
 growths (Grew c to ∷ es) = (c, to) ∷ growths es
 growths (Did p d ∷ es) = growths es
 
--- the capacity of c after these growths: what it began with, or the last growth's
+-- the capacity of c after these growths: that of its last growth, or n if it did not grow
 abbrev pub grown : ℕ → List (ℕ × ℕ) → ℕ → ℕ
 grown n [] c = n
 grown n (g ∷ gs) c = if g.0 == c then grown g.1 gs c else grown n gs c
@@ -58,7 +58,7 @@ pub record Digest : Type 0 where
   pub growths : List (ℕ × ℕ)
   pub entries : ℕ
 
--- where a process stands, which wants this; `Ended` also where a port is the end of no channel, as no port of a valid network is
+-- the place of a process that wants this; `Stopped` also if no channel is at the port, which no valid network has
 abbrev pub reads : Option ℕ → Place
 reads None = Stopped
 reads (Some c) = Reads c

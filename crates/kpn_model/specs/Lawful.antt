@@ -24,30 +24,30 @@ abbrev pub Fits : Token → Type 0
 Fits (Word n) = n < 2 ^ 64
 Fits (Flag b) = Unit {0}
 
--- the numbers of a card are such as it can hold: a kind of 16 bits, and three arguments of 64
+-- the numbers of a card fit: a kind of 16 bits, and three arguments of 64 bits
 pub record CardFits (card : Card) : Type 0 where
   pub kind : card.kind < 2 ^ 16
   pub three : length card.args ≡ 3
   pub args : All (λ n. n < 2 ^ 64) card.args
 
--- the token that a deed read; after another deed any stands for it
+-- the token that a deed took; for any other deed an arbitrary token
 abbrev pub read_by : Deed → Token
 read_by (Took c t) = t
 read_by (Put c t) = Flag false
 read_by Stopped = Flag false
 
--- the ports that are there come first
+-- the ports are filled from the front: none follows an absent one
 abbrev pub is_filled : List (Option Sort) → Bool
 is_filled [] = true
 is_filled (Some sort ∷ ports) = is_filled ports
 is_filled (None ∷ ports) = list_all is_none ports
 
--- the sort of port k, where it is there
+-- the sort of port k, or none if there is no such port
 abbrev pub port_at : List (Option Sort) → ℕ → Option Sort
 port_at ports k = option_and_then (λ sort. sort) (slice_get ports k)
 
 module _ (signature : Card → Option Signature) where
-  -- the sort of a card's input and output k, where it is there
+  -- the sort of a card's input k and output k, or none if there is no such port
   abbrev pub in_sort : Card → ℕ → Option Sort
   in_sort card k = option_and_then (λ s. port_at s.ins k) (signature card)
 
@@ -66,7 +66,7 @@ module _ (signature : Card → Option Signature) where
     AfterAct card next (Read k) token = in_sort card k ≡ Some (sort_of token) → Fits token → admits card next (Some token)
     AfterAct card next (Write k t) token = admits card next None
 
-    -- what follows an answer is admitted, where it is a read of this token too
+    -- what follows an answer is admitted; if the answer is a read, then after it read this token
     abbrev pub LeadsOn : Card → Answer → Token → Type 0
     LeadsOn card answer token = AfterAct card answer.next answer.act token
 

@@ -21,7 +21,7 @@ IsWithin M = (c : ℕ) → length (tokens M c) ≤ capacity M c
 abbrev pub AtEachMoment : Family → Network → List Entry → (State → Type 0) → Type 0
 AtEachMoment kinds net E P = (F G : List Entry) → F ++ G ≡ E → (N : State) × IsRun kinds net F N × P N
 
--- the run E from the start to M may end so
+-- the run E from the start to M may end in this way
 abbrev pub IsBound : Family → Network → List Entry → State → End → Type 0
 IsBound kinds net E M Budget = (net.budget ≤ length E) × (length E ≤ net.budget + 2)
 IsBound kinds net E M Memory = IsArtificial kinds net M × ((c : ℕ) × IsChosen kinds net M c × (capacity M c < net.ceiling))
@@ -31,30 +31,30 @@ IsBound kinds net E M end = IsOver kinds net M end
 abbrev pub OneState : Family → Type 0
 OneState kinds = (net : Network) (S M N : State) (E : List Entry) → Run kinds net S E M → Run kinds net S E N → M ≡ N
 
--- a history's front is a run too, to a state from which the rest goes on
+-- a prefix of a history is a run too, to a state from which the rest goes on
 abbrev pub FrontsAreRuns : Family → Type 0
 FrontsAreRuns kinds = (net : Network) (S N : State) (E F : List Entry) → Run kinds net S (E ++ F) N → (M : State) × Run kinds net S E M × Run kinds net M F N
 
 abbrev pub AlwaysWithin : Family → Type 0
 AlwaysWithin kinds = (net : Network) → IsWithin (start kinds net) → (E : List Entry) (M : State) → IsRun kinds net E M → IsWithin M
 
--- what each channel holds, and its capacity, are read off the history
+-- the history determines what each channel holds, and its capacity
 abbrev pub HistoryTellsState : Family → Type 0
 HistoryTellsState kinds =
     (net : Network) (E : List Entry) (M : State) → IsRun kinds net E M
     → (c : ℕ) → (stream net E c ≡ taken E c ++ tokens M c) × (drop (length (taken E c)) (stream net E c) ≡ tokens M c) × (grown (channel_of net c).capacity (growths E) c ≡ capacity M c)
 
--- where some run that is over has fewer entries than the budget, no run ends for its budget
+-- if some run that is over has fewer entries than the budget, no run ends because of its budget
 abbrev pub BudgetSuffices : Family → Type 0
 BudgetSuffices kinds =
     (net : Network) (E F : List Entry) (M N : State) (a b : End) → IsRun kinds net E M → IsBound kinds net E M a
     → IsFinal kinds net F N b → length F < net.budget → a ≢ Budget
 
--- a process is enabled exactly where it can do a deed
+-- a process is enabled exactly when it can do a deed
 abbrev pub EnabledCanDo : Family → Type 0
 EnabledCanDo kinds =
     (net : Network) (M : State) (p : ℕ) → IsEnabled kinds net M p ↔ ((d : Deed) × ((N : State) × Does kinds net M p d N))
 
--- at most one cause fits
+-- a run is over for at most one cause
 abbrev pub OneCause : Family → Type 0
 OneCause kinds = (net : Network) (M : State) (a b : End) → IsOver kinds net M a → IsOver kinds net M b → a ≡ b

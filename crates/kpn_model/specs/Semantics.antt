@@ -1,4 +1,4 @@
--- The sequential machine: any process that can go on may be next, and a channel grows only where none can.
+-- The sequential machine: any process that can go on may be next, and a channel grows only when none can.
 use Rattle.std.specs.Prelude.{min, ◌≡◌, ◌≢◌, ℕ, ◌+◌, ◌<◌, ◌≤◌, List, [], ◌∷◌, ◌++◌, Option, Some, None, length, get_or, set, drop, map}
 use Rattle.kpn_model.specs.declared.token.Token.{Token}
 use Rattle.kpn_model.specs.declared.kinds.Act.{Act}
@@ -14,7 +14,7 @@ use Rattle.kpn_model.specs.declared.history.Status.{Status}
 use Rattle.kpn_model.specs.declared.history.Status.TheVariants.{Live, Done}
 use Rattle.kpn_model.specs.Network.{Family, Network, card_of, in_of, out_of}
 
--- what a channel holds, the first token first, and how many it may hold
+-- the tokens that a channel holds, in the order in which they are read, and how many it may hold
 pub record Held : Type 0 where
   pub tokens : List Token
   pub capacity : ℕ
@@ -109,14 +109,14 @@ module _ (kinds : Family) (net : Network) where
     pub channel : ℕ
     pub blocked : IsBlocked M writer channel
 
-  -- of the channels with a blocked writer the one of least capacity; of equal ones that of least number
+  -- the channel of least capacity among those with a blocked writer (Parks 1995); among equals the one of least number
   pub record IsChosen (M : State) (c : ℕ) : Type 0 where
     pub writer : ℕ
     pub blocked : IsBlocked M writer c
     pub no_smaller : (q d : ℕ) → IsBlocked M q d → capacity M c ≤ capacity M d
     pub no_earlier : (q d : ℕ) → IsBlocked M q d → capacity M c ≡ capacity M d → c ≤ d
 
-  -- the chosen channel gets a step's places more, up to the ceiling
+  -- the chosen channel grows by the network's step, up to the ceiling
   pub record Grows (M : State) (c to : ℕ) (N : State) : Type 0 where
     pub artificial : IsArtificial M
     pub chosen : IsChosen M c

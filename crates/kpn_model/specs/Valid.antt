@@ -14,7 +14,7 @@ use Rattle.kpn_model.specs.Lawful.{sort_of, Fits, CardFits, in_sort, out_sort}
 use Rattle.kpn_model.specs.Semantics.{State, status, tokens}
 use Rattle.kpn_model.specs.Determinacy.{IsRun}
 
--- just one of the items
+-- exactly one of the items
 abbrev pub JustOne : {A : Type 0} → (A → Type 0) → List A → Type 0
 JustOne P xs = Any P xs × AllPairs (λ x y. P x → P y → ⊥) xs
 
@@ -30,8 +30,8 @@ module _ (signature : Card → Option Signature) (net : Network) where
     pub reader : c.reader < length net.processes
     pub input : in_sort signature (card_of net c.reader) c.input ≡ Some c.sort
 
-  -- each port of each process is the end of just one channel, of its sort; the ceiling and the greatest
-  -- budget go together by the version of the description
+  -- each port of each process is the end of exactly one channel, of its sort; the ceiling and the greatest budget both depend on
+  -- the version of the description
   pub record IsValid : Type 0 where
     pub some_process : 1 ≤ length net.processes
     pub few_processes : length net.processes ≤ 64
@@ -60,7 +60,7 @@ pub record IsWellTyped (admits : Card → List ℕ → Option Token → Type 0) 
   pub tokens : (c : ℕ) → AllByRecursion (IsOfSort (channel_of net c).sort) (tokens M c)
   pub locals : (p : ℕ) (local : List ℕ) (last : Option Token) → status M p ≡ Live local last → admits (card_of net p) local last
 
--- under lawful kinds each run of a valid network is sorted at each moment
+-- under lawful kinds each run of a valid network is well-typed at each moment
 abbrev pub StaysWellTyped : (Card → Option Signature) → (Card → List ℕ → Option Token → Type 0) → Family → Type 0
 StaysWellTyped signature admits kinds =
     (net : Network) → IsValid signature net → (E : List Entry) (M : State) → IsRun kinds net E M → IsWellTyped admits net M

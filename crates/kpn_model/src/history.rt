@@ -29,10 +29,10 @@ pub enum Entry {
 
 /// Why a run ended.
 ///
-/// `Terminated`: every process has stopped. `Deadlock`: some process is live, none can go on, and
-/// none is blocked on a write (Parks 1995 calls it a real deadlock). `Ceiling`: the channel that had
-/// to grow is at the ceiling. `Budget`: the history has at least as many entries as the budget.
-/// `Memory`: the channel that had to grow was refused memory.
+/// `Terminated`: every process has stopped. `Deadlock`: some process is live, none can go on, and none
+/// is blocked on a write (a real deadlock, Parks 1995). `Ceiling`: the channel that had to grow is at
+/// the ceiling. `Budget`: the history has at least as many entries as the budget. `Memory`: the channel
+/// that had to grow was refused memory.
 #[derive(Clone, Copy, Debug, PartialEq, Eq)]
 pub enum End {
     Terminated,

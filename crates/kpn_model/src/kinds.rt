@@ -12,15 +12,15 @@ pub struct Card {
     pub args: [u64; 3],
 }
 
-/// The sorts of a card's inputs and outputs: there is an input k where entry k of `ins` is one, and
-/// an output k where entry k of `outs` is one. Each list is filled from the front.
+/// The sorts of a card's inputs and outputs. There is an input k if entry k of `ins` is `Some`, and an
+/// output k if entry k of `outs` is. Each list is filled from the front.
 #[derive(Clone, Copy, Debug, PartialEq, Eq)]
 pub struct Signature {
     pub ins: [Option<Sort>; 3],
     pub outs: [Option<Sort>; 3],
 }
 
-/// What a process keeps between its acts: four words, whose meaning is its kind's.
+/// What a process keeps between its acts: four words, whose meaning depends on the kind.
 pub type Local = [u64; 4];
 
 /// What a process wants to do next: read an input, write a token to an output, each by its number
@@ -41,17 +41,17 @@ pub struct Answer {
 
 /// A family of kinds of processes.
 ///
-/// A process is a function of what it has read (Kahn 1974): its card, its local state and the token
-/// of the read just done give its answer. A type that implements this trait stands for a family;
-/// callers may bring families of their own.
+/// A process is a function of what it has read (Kahn 1974): its card, its local state and the token of
+/// the read just done give its answer. A type that implements this trait stands for a family; callers
+/// may bring families of their own.
 ///
 /// `family` says how processes begin and what they answer, `signature_of` which ports a card has,
-/// `named` which kind a name means, and `admits` with which local states and last tokens a process
-/// of a card may be asked: it holds only of locals of four numbers and of words, all below 2^64.
+/// `named` which kind a name means, and `admits` with which local states and last tokens a process of a
+/// card may be asked: it holds only of local states of four numbers and of words, all below 2^64.
 ///
-/// The laws of a family are functions that do nothing: a caller that calls one may use what it
-/// ensures. An implementation proves them in `lawful`; `names_port`, `leads_on` and `starts`, which
-/// tell them of the values at hand, come with the trait.
+/// The laws of a family are functions that do nothing: a caller that calls one may use what it ensures.
+/// An implementation proves them in `lawful`; `names_port`, `leads_on` and `starts`, which state them
+/// for given values, come with the trait.
 pub trait Kinds: Send + Sync {
     ghost use Rattle.kpn_model.specs.declared.kinds.Card.{Card};
     ghost use Rattle.kpn_model.specs.declared.kinds.Signature.{Signature};
@@ -67,18 +67,18 @@ pub trait Kinds: Send + Sync {
 
     ghost admits: { Card → List ℕ → Option Token → Type 0 };
 
-    /// The number of the kind of a name, and how many arguments it takes; `None` where no kind has
-    /// this name.
+    /// Returns the number of the kind that has this name, and how many arguments it takes; `None` if no
+    /// kind has this name.
     fn named(name: &str) -> Option<(u16, usize)>
         ensures { result ≡ named name.now };
 
-    /// The ports of a card; `None` where the family has no such kind, or where the kind refuses these
-    /// arguments.
+    /// Returns the ports of a card, filled from the front; `None` if the family has no such kind, or if
+    /// the kind refuses these arguments.
     fn signature(card: &Card) -> Option<Signature>
         ensures is { result ≡ signature_of card.now }
         ensures filled { IfSome result (λ s. IsTrue (is_filled s.ins) × IsTrue (is_filled s.outs)) };
 
-    /// The local state with which a process of a card begins. The card has a signature.
+    /// Returns the local state with which a process of a card begins. The card must have a signature.
     fn start(card: &Card) -> Local
         requires { IsSome (signature_of card.now) }
         ensures { result ≡ family.start card.now };
@@ -121,7 +121,7 @@ pub trait Kinds: Send + Sync {
     }
 }
 
-/// The numbers of a card are such as it can hold.
+/// Does nothing: a caller knows from here on that the card's numbers fit.
 fn card_fits(card: Card)
     ensures { CardFits card }
 {

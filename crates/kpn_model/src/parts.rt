@@ -20,8 +20,8 @@ pub struct Ends {
     pub input: usize,
 }
 
-/// A channel: its name, its ends as in [`Ends`], its sort, how many tokens it may hold at first, and
-/// what it holds at first, the token that is read first in front.
+/// A channel: its name, its ends as in [`Ends`], its sort, its starting capacity in tokens, and the
+/// tokens that it holds at first, in the order in which they are read.
 ///
 /// It is a queue that one process writes and one reads (Kahn 1974), and a write to a full channel
 /// blocks (Parks 1995).

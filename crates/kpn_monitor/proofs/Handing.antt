@@ -123,7 +123,7 @@ all_one P xs y is p = rw is (one_at P y p)
 pub all_more : {X : Type 0} (P : X → Type 0) (xs ys : List X) (y : X) → ys ≡ xs ++ y ∷ [] → All P xs → P y → All P ys
 all_more P xs ys y is all p = rw is (All-append P xs (y ∷ []) all (one_at P y p))
 
--- the history went on by so many entries; where an end stood, by none, and the end stays
+-- the history went on by so many entries; if an end stood, by none, and the end stays
 pub record WentOn (s t : MachineView) (n : ℕ) : Type 0 where
   pub history : IsPrefix s.history t.history
   pub count : length t.history ≡ length s.history + n
@@ -147,14 +147,14 @@ went_on_again s m t a b one more = record {
       (next.0 ∙ first.0, next.1 ∙ first.1);
 }
 
--- where answers were taken, the history went on by as many entries as they appended
+-- if answers were taken, the history went on by as many entries as they appended
 went_on : (kinds : Family) (s : MachineView) (tasks : List Input) (outcomes : List Outcome) (t : MachineView) (left : List Input) → CommitsAll kinds s tasks outcomes t left → WentOn s t (sum_by number outcomes)
 went_on kinds s tasks [] t left all = subst (λ (x : MachineView). WentOn s x 0) (sym all.0) (went_nowhere s)
 went_on kinds s [] (o ∷ outcomes) t left all = absurd all
 went_on kinds s (i ∷ tasks) (o ∷ outcomes) t left all =
     subst (λ n. WentOn s t n) (sym (sum_by-cons number o outcomes)) (went_on_again s all.0 t (number o) (sum_by number outcomes) (went_on_once kinds s i o all.0 all.1 all.2) (went_on kinds all.0 tasks outcomes t left all.3))
 
--- also where one was refused
+-- also if one was refused
 pub gave : (kinds : Family) (s : MachineView) (tasks : List Input) (outcomes : List Outcome) (t : MachineView) (left : List Input) (refused : Option Input)
     → MatchOption refused (CommitsAll kinds s tasks outcomes t left) (λ i. CommitsAll kinds s tasks outcomes t (i ∷ left)) → WentOn s t (sum_by number outcomes)
 gave kinds s tasks outcomes t left None all = went_on kinds s tasks outcomes t left all

@@ -102,7 +102,7 @@ impl<K: Kinds, E: EntryLedger> Closed<K, E> {
         self.receipts
     }
 
-    /// How the run ended, where it did.
+    /// How the run ended, if it did.
     pub fn end(&self) -> Option<End>
         ensures end { result ≡ self.now.machine.end }
         ensures faithful { IsFaithful K.family K.admits self.now.machine }
@@ -111,7 +111,7 @@ impl<K: Kinds, E: EntryLedger> Closed<K, E> {
     }
 
     /// Ends a watcher, and tells how long the whole history is and how it ended. The history goes on from
-    /// what the watcher had seen, and is that where it had seen an end. Takes no memory, and waits for
+    /// what the watcher had seen, and is that if it had seen an end. Takes no memory, and waits for
     /// nobody.
     pub fn settle(&mut self, watcher: Watcher) -> Progress
         requires { watcher.board ≡ E.board }

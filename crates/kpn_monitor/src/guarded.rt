@@ -1,7 +1,7 @@
 //! What the lock guards.
 //!
 //! Each time the lock is free, the history is a run of the network from its start, an end that stands
-//! is bound and stays, the book of entries holds as many as the history has, an end stands where the
+//! is bound and stays, the book of entries holds as many as the history has, an end stands if the
 //! book of overs is not empty, and what is published is the history with the phase of its end.
 ghost use Rattle.std.specs.Prelude.{◌≡◌, ◌+◌, ◌<◌, ◌≤◌, ◌↔◌, [], ◌∷◌, ◌++◌, true, false, length, Some, IfNone, Ok, IfSome, IfOk, IfErr, IsErr, OnOk, OnErr, IsSome, MatchOption, MatchResult};
 ghost use Rattle.std.specs.List.{All, sum_by};
@@ -103,7 +103,7 @@ impl<B: Body, E: EntryLedger, O: Ledger> Guarded<B, E, O> {
         }
     }
 
-    /// A task, or the end that stands, which the seat then has met. None where there is neither, or no
+    /// A task, or the end that stands, which the seat then has met. None if there is neither, or no
     /// room to book the meeting.
     pub(crate) fn take(&mut self, seat: &mut Seat<E, O>) -> Option<Taken<B>>
         ensures none { IfNone result ((seat.new ≡ seat.old) × (self.new ≡ self.old)) }
@@ -181,7 +181,7 @@ impl<B: Body, E: EntryLedger, O: Ledger> Guarded<B, E, O> {
     }
 
     /// Tasks for a hand that has none, at most so many; or the end that stands, which the seat then has
-    /// met. Nothing, where none are asked for.
+    /// met. Nothing, if none are asked for.
     pub(crate) fn deal(&mut self, hand: &mut Hand<B>, seat: &mut Seat<E, O>, most: usize) -> Next
         requires tasks { hand.old.tasks ≡ [] }
         requires called { hand.old.called ≡ 0 }
@@ -210,7 +210,7 @@ impl<B: Body, E: EntryLedger, O: Ledger> Guarded<B, E, O> {
         }
     }
 
-    /// Gives the answers of a hand, which were all called, and deals tasks to it where some are asked for.
+    /// Gives the answers of a hand, which were all called, and deals tasks to it if some are asked for.
     pub(crate) fn exchange(
         &mut self,
         board: &Board,
@@ -254,7 +254,7 @@ impl<B: Body, E: EntryLedger, O: Ledger> Guarded<B, E, O> {
         }
     }
 
-    // One task more. False where no process is ready.
+    // One task more. False if no process is ready.
     fn deal_one(&mut self, hand: &mut Hand<B>) -> bool
         requires { length hand.old.tasks < 16 }
         ensures more { result ≡ true → (i : Input) × (hand.new ≡ record hand.old { tasks = hand.old.tasks ++ i ∷ [] }) × TakesOut self.old.machine i self.new.machine × WasTaken B.Kinds.family B.Kinds.admits E.net i }
@@ -290,7 +290,7 @@ impl<B: Body, E: EntryLedger, O: Ledger> Guarded<B, E, O> {
         self.waiting = self.waiting.saturating_sub(1);
     }
 
-    /// Which waiting threads have something to do: all where an end stands, else no more than there are
+    /// Which waiting threads have something to do: all if an end stands, else no more than there are
     /// ready processes. Nothing is claimed of waking.
     pub(crate) fn wakes(&self) -> Wakes {
         if self.waiting == 0 {

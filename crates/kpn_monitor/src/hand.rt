@@ -54,7 +54,7 @@ impl<B: Body> Hand<B> {
         })
     }
 
-    /// Calls the first task that was not called yet, and tells its process. `None` exactly where all
+    /// Calls the first task that was not called yet, and tells its process. `None` exactly when all
     /// were called, and nothing changes. Takes no lock and no memory.
     #[inline]
     pub fn call(&mut self) -> Option<usize>
@@ -85,7 +85,7 @@ impl<B: Body> Hand<B> {
         self.outcomes.clear();
     }
 
-    /// The first task with its answer, where it was called.
+    /// The first task with its answer, if it was called.
     #[inline]
     pub(crate) fn give(&mut self) -> Option<Finished<B>>
         ensures none { IfNone result ((self.old.called ≡ 0) × (self.new ≡ self.old)) }
@@ -118,7 +118,7 @@ impl<B: Body> Hand<B> {
         append(&mut self.tasks, task);
     }
 
-    /// How many tasks to take where so many are ready, and at most so many are wanted: its share, but
+    /// How many tasks to take if so many are ready, and at most so many are wanted: its share, but
     /// one at least.
     pub(crate) fn wanted(&self, ready: usize, most: usize) -> usize
         ensures { (1 ≤ result) × (result ≤ 16) }

@@ -129,7 +129,7 @@ impl<B: Body, E: EntryLedger, O: Ledger> Monitor<B, E, O> {
     /// at most `most` of them, in one holding of the lock. Waits for nobody but the lock.
     ///
     /// The seat's share of entries grows by what the answers appended. The hand then has tasks, one at
-    /// least; or nothing, where no process was ready or `most` is 0; or the run is over, and the seat has
+    /// least; or nothing, if no process was ready or `most` is 0; or the run is over, and the seat has
     /// met the end: its share of overs is 1. The error is an answer that the machine did not ask for, with
     /// the answers before it committed and those after it left in the hand.
     pub fn exchange<R: Wait>(
@@ -163,8 +163,8 @@ impl<B: Body, E: EntryLedger, O: Ledger> Monitor<B, E, O> {
         answer
     }
 
-    /// Rests until the run is over, or so long, and tells whether it did. A thread doesn't rest where the
-    /// run is over; nor, being idle, where a process is ready; nor, being spare, where all others that ever
+    /// Rests until the run is over, or so long, and tells whether it did. A thread doesn't rest if the
+    /// run is over; nor, being idle, where a process is ready; nor, being spare, if all others that ever
     /// wanted to rest do. Of all that rest one looks out: it alone rests for so long, and has another look
     /// out once it goes on; the others rest until then. They rest beside another lock than the machine's.
     /// Nothing is claimed of it.
@@ -246,7 +246,7 @@ impl<B: Body, E: EntryLedger, O: Ledger> Monitor<B, E, O> {
     }
 
     /// Sees how far the history has come: what is now seen goes on from what this watcher saw before, and
-    /// is the same where it had seen an end. Takes no lock and no memory, and waits for nobody.
+    /// is the same if it had seen an end. Takes no lock and no memory, and waits for nobody.
     pub fn look(&self, watcher: &mut Watcher) -> Progress
         requires { watcher.old.board ≡ E.board }
         ensures board { watcher.new.board ≡ E.board }
@@ -259,9 +259,9 @@ impl<B: Body, E: EntryLedger, O: Ledger> Monitor<B, E, O> {
 }
 
 impl<B: Body, E: EntryLedger, O: Ledger> Monitor<B, E, O> {
-    /// Closes the monitor where the shares of these seats add up to the books, as they do where the seats
+    /// Closes the monitor if the shares of these seats add up to the books, as they do if the seats
     /// have all parts: the history is a run with as many entries as the seats have receipts, and an end
-    /// stands where one of them met one. The error hands back the monitor and the seats. It waits for
+    /// stands if one of them met one. The error hands back the monitor and the seats. It waits for
     /// nobody; a process may still be out.
     pub fn close(self, seats: Vec<Seat<E, O>>) -> Result<Closed<B::Kinds, E>, Unclosed<B, E, O>>
         ensures account { IfOk result (λ c. IsAccount B.Kinds.family B.Kinds.admits E.net c) }

@@ -32,7 +32,7 @@ impl Resters {
         }
     }
 
-    /// A thread wants to rest, perhaps for the first time. False where it is not to: the run is over, or
+    /// A thread wants to rest, perhaps for the first time. False if it is not to: the run is over, or
     /// it is spare and all others rest.
     pub(crate) fn begin(&mut self, is_new: bool, why: Rest) -> bool {
         if is_new {

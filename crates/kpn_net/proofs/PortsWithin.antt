@@ -1,4 +1,4 @@
--- A channel that is found is there.
+-- A channel that is found is one of the network's.
 use Rattle.std.proofs.Common.{◌≡◌, ℕ, ◌<◌, List, length, Bool, Option, Some, None, sym}
 use Rattle.std.specs.List.{position}
 use Rattle.std.specs.Option.{IfSome}

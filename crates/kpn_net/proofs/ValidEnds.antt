@@ -1,4 +1,4 @@
--- Each port of a network is the end of just one channel.
+-- Each port of a network is the end of exactly one channel.
 use Rattle.std.proofs.Common.{◌≡◌, ◌<◌, ℕ, ℤ, pos, negsuc, zero, suc, Bool, true, false, ◌&&◌, nat_lt, List, [], ◌∷◌, length, get_or, Option, Some, None, option_and_then, slice_get, refl, sym, ap, ◌∙◌, arith}
 use Rattle.std.proofs.lemmas.Bool.{or_parts, and_parts, false≢true}
 use Rattle.std.proofs.lemmas.Bool.Decides.{nat_tests, Decides-int_eq}
@@ -18,7 +18,7 @@ use Rattle.kpn_net.specs.Sketched.{index_of}
 use Rattle.kpn_model.specs.Valid.{JustOne}
 use Rattle.kpn_net.proofs.Lists.{no_pair_passes, found_index, found_passes, slice_get_within, none_passes_get}
 
--- the first process of a name is the only one
+-- the first process with a name is the only one
 own_place : (ps : List ProcessSketch) (p : ℕ) (x : ProcessSketch) → any_pair same_process ps ≡ false → slice_get ps p ≡ Some x → position_or_len (λ q. bytes_eq q.name x.name) ps ≡ p
 own_place [] p x h e = cc
 own_place (y ∷ ys) zero x h e =
@@ -42,7 +42,7 @@ port_number ports (pos k) w h = refl
 port_number ports (negsuc k) w h = cc
 
 module _ (named : List ℕ → Option (ℕ × ℕ)) (signature : Card → Option Signature) (ports : Signature → List (Option Sort)) (ps : List ProcessSketch) where
-  -- the sort of a port of the process of a name
+  -- the sort of a port of the process with this name
   abbrev pub port_named : List ℕ → ℤ → Option Sort
   port_named name z = option_and_then (λ g. port_sort (ports g) z) (option_and_then (signature_of named signature) (find (λ p. bytes_eq p.name name) ps))
 

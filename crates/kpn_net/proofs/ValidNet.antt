@@ -41,7 +41,7 @@ inside : (low high : ℕ) (z : ℤ) → is_outside (pos low) (pos high) z ≡ fa
 inside low high (pos n) h = let parts = or_parts (nat_lt n low) (nat_lt high n) h in (grind (arith, nat_tests), grind (arith, nat_tests))
 inside low high (negsuc n) h = cc
 
--- the greatest budget is that of the version's ceiling
+-- the greatest budget goes with the ceiling of the version
 budget_by_ceiling : (two : Bool) (n : ℕ) → n ≤ (if two then 2000000 else 1000000) → (n ≤ 2000000) × ((if two then 1000000 else 65535) ≤ 65535 → n ≤ 1000000)
 budget_by_ceiling true n h = (h, λ low. omega (arith, low))
 budget_by_ceiling false n h = (omega (arith, h), λ low. h)
@@ -77,7 +77,7 @@ port_abs : (ports : List (Option Sort)) (z : ℤ) (w : Sort) → port_sort ports
 port_abs ports (pos k) w h = h
 port_abs ports (negsuc k) w h = cc
 
--- a process by its number, and the process at a place
+-- the sort of port k of process p
 module _ (signature : Card → Option Signature) (ports : Signature → List (Option Sort)) (k : ℕ) where
   abbrev port_placed : List Process → ℕ → Option Sort
   port_placed xs p = option_and_then (λ g. port_at (ports g) k) (option_and_then (λ x. signature x.card) (slice_get xs p))

@@ -26,7 +26,7 @@ tokens_of_sort w (t ∷ ts) h fit =
     let parts = or_parts (not (is_token w t)) (list_any (λ u. not (is_token w u)) ts) h in
     ((sort_is w t parts.0, fit zero (token_in t) (omega arith)), tokens_of_sort w ts parts.1 (λ j e m. fit (suc j) e (omega arith)))
 
--- so many are no more than the capacity
+-- if the test of a channel's tokens passes, they are no more than its capacity
 pub no_more_than : (z : ℤ) (n : ℕ) → int_lt z (pos n) ≡ false → n ≤ unsigned_abs z
 no_more_than (pos k) n h = grind (arith, nat_tests)
 no_more_than (negsuc k) n h = cc

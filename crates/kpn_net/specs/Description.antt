@@ -19,7 +19,7 @@ infixl 10 ◌>>=◌
 abbrev ◌>>=◌ : {A B : Type 0} → Option A → (A → Option B) → Option B
 o >>= f = option_and_then f o
 
--- the table of a value, with no key but these
+-- the table of a value, if it has no other keys than these
 abbrev pub known_table : List (List ℕ) → Data → Option Members
 known_table known d = as_table d >>= (λ table. if has_only known table then Some table else None)
 
@@ -85,7 +85,7 @@ sketch_of table =
 abbrev pub Describes : List ℕ → Sketch → Type 0
 Describes text sketch = IsUtf8 text × (option_and_then sketch_of (parse_document text) ≡ Some sketch)
 
--- when each fault is found in a text: memory at any time, and of the others one in each text that describes nothing
+-- when each fault is found in a text: `Memory` at any time; otherwise one of the others, in each text that describes no sketch
 abbrev pub IsReadFault : List ℕ → NetFault → Type 0
 IsReadFault text NotToml = IsUtf8 text → parse_document text ≡ None
 IsReadFault text Keys = IsUtf8 text × IsSome (parse_document text) × (option_and_then sketch_of (parse_document text) ≡ None)

@@ -19,7 +19,7 @@ use Rattle.kpn_model.specs.Lawful.{port_at}
 use Rattle.kpn_model.specs.Name.{is_name}
 use Rattle.kpn_net.specs.Version.{is_two, ceiling_in, greatest_budget_in}
 
--- the test holds of an item and a later one
+-- the test holds of some item and a later one
 abbrev pub any_pair : {A : Type 0} → (A → A → Bool) → List A → Bool
 any_pair test [] = false
 any_pair test (x ∷ xs) = list_any (test x) xs || any_pair test xs
@@ -58,11 +58,11 @@ is_token Flags (Boolean b) = true
 is_token Words (Boolean b) = false
 is_token Flags (Integer z) = false
 
--- some start token is no token of the channel's sort, or there are more than the channel may hold
+-- some start token is not of the channel's sort, or there are more than the channel may hold
 abbrev pub has_wrong_tokens : ChannelSketch → Bool
 has_wrong_tokens c = list_any (λ t. not (is_token c.sort t)) c.tokens || int_lt c.capacity (pos (length c.tokens))
 
--- the card of a kind with these arguments, of which the missing are 0
+-- the card of a kind with these arguments; missing arguments are 0
 abbrev pub card_with : ℕ → List ℤ → Card
 card_with kind args =
     let arg : ℕ → ℕ = λ k. unsigned_abs (slice_index_or args k (pos 0)) in
@@ -86,7 +86,7 @@ module _ (named : List ℕ → Option (ℕ × ℕ)) (signature : Card → Option
     abbrev pub signature_named : List ℕ → Option Signature
     signature_named name = option_and_then signature_of (find (λ p. bytes_eq p.name name) sketch.processes)
 
-    -- the sorts of the two ports of a channel, where they are there
+    -- the sorts of the two ports of a channel, if there are such ports
     abbrev pub sketched_out_sort : ChannelSketch → Option Sort
     sketched_out_sort c = option_and_then (λ s. port_sort s.outs c.out) (signature_named c.from)
 

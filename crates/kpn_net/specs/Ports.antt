@@ -16,7 +16,7 @@ ports_at channels p = record { ins = in_at channels p 0 ∷ in_at channels p 1 �
 abbrev pub no_ports : Ports
 no_ports = record { ins = []; outs = [] }
 
--- the table holds the channels at the ports of the first processes
+-- the table holds the channels at the ports of the first `count` processes
 pub record HasPorts (channels : List Channel) (count : ℕ) (ports : List Ports) : Type 0 where
   pub many : length ports ≡ count
   pub each : (p : ℕ) → p < count → get_or ports p no_ports ≡ ports_at channels p

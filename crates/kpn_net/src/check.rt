@@ -52,7 +52,7 @@ fn is_name(text: &str) -> bool
     bytes.len() <= 16 && begins_with_letter(bytes) && are_name_bytes(bytes)
 }
 
-/// A relation of two items that a list may not have.
+/// A relation that no two items of a list may have.
 trait Clash<T> {
     ghost clash: { T → T → Bool };
 
@@ -104,7 +104,7 @@ fn clashes_later<T, C: Clash<T>>(x: &T, later: &[T]) -> bool
     later.iter().any(|y| C::clash(x, y))
 }
 
-/// Whether two items clash.
+/// Whether any two items clash.
 fn any_clash<T, C: Clash<T>>(items: &[T]) -> bool
     ensures { result ≡ any_pair C.clash items.now }
 {
@@ -144,7 +144,7 @@ fn arg(args: &[i64], k: usize) -> u64
     args.get(k).copied().unwrap_or(0).unsigned_abs()
 }
 
-/// The card of a kind with these arguments.
+/// The card of a kind with these arguments; missing arguments are 0.
 pub(crate) fn card_with(kind: u16, args: &[i64]) -> Card
     ensures is { result ≡ card_with kind args.now }
     ensures fits { CardFits result }
@@ -187,7 +187,7 @@ fn has_wrong_args<K: Kinds>(process: &ProcessSketch) -> bool
         || signature_of::<K>(process).is_none()
 }
 
-/// The signature of the process of a name.
+/// The signature of the process with this name; `None` if there is no such process, kind or card.
 fn signature_named<K: Kinds>(sketch: &Sketch, name: &str) -> Option<Signature>
     ensures { result ≡ signature_named K.named K.signature_of sketch.now name.now }
 {

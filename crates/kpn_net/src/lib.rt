@@ -1,5 +1,5 @@
 //! Descriptions of Kahn process networks (Kahn 1974), and the check that makes a network of one. The
-//! types of the model come along, so that a user takes them from here.
+//! types of the model are exported here too.
 #![tactic(auto)]
 
 mod check;

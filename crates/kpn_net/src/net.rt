@@ -16,11 +16,11 @@ use kpn_model::{Card, Channel, Ends, Kinds, Listed, Process, Sort, Text, Token};
 use std::alloc::Global;
 use std::marker::{Model, PhantomData};
 
-/// A valid network of processes of one family of kinds: each port of each process is the end of just
-/// one channel, of its sort (Kahn 1974: one writer and one reader a channel). Processes and channels
-/// are numbered from 0 in the order of the text.
+/// A valid network of processes of one family of kinds: each port of each process is the end of exactly
+/// one channel, of its sort (Kahn 1974: a channel has one writer and one reader). Processes and
+/// channels are numbered from 0 in the order of the text.
 ///
-/// `Net::check` makes one. Where a call takes the number of a process or of a channel, it has to be
+/// `Net::check` makes one. The number of a process or of a channel that is given to a call must be
 /// below `processes()` or `channels()`.
 #[derive(Drop)]
 pub struct Net<K: Kinds> {
@@ -48,13 +48,12 @@ impl<K: Kinds> Model for Net<K> {
 }
 
 impl<K: Kinds> Net<K> {
-    /// The valid network that a sketch describes. Its channels grow up to 65,535 places where the
-    /// version is 1, and up to 1,000,000 where it is 2. The sketch stays as it is.
+    /// Makes the valid network that a sketch describes. Its channels grow up to 65,535 places in
+    /// version 1, and up to 1,000,000 in version 2. The sketch stays as it is.
     ///
-    /// The error is the first of `Version`, `Counts`, `Name`, `Kind`, `Args`, `NoEnd`, `Twice`,
-    /// `Unused`, `Sorts`, `Capacity`, `Budget`, `Tokens` and `Step` whose condition holds of the
-    /// sketch, or `Memory`
-    /// where memory was refused; nothing was then made. A sketch without such a fault is refused for
+    /// Errors: the first of `Version`, `Counts`, `Name`, `Kind`, `Args`, `NoEnd`, `Twice`, `Unused`,
+    /// `Sorts`, `Capacity`, `Budget`, `Tokens` and `Step` whose condition holds of the sketch; or
+    /// `Memory`, at any time, if memory was refused. A sketch without such a fault is refused for
     /// memory alone.
     pub fn check(alloc: Global, sketch: &Sketch) -> Result<Net<K>, NetFault>
         ensures ok { IfOk result (λ n. (first_fault K.named K.signature_of sketch.now ≡ None) × (n ≡ net_of K.named sketch.now)) }
@@ -81,7 +80,7 @@ impl<K: Kinds> Net<K> {
 }
 
 impl<K: Kinds> Net<K> {
-    /// How many processes there are: 1 to 64. The network is valid.
+    /// Returns the number of processes: 1 to 64. A caller also learns that the network is valid.
     pub fn processes(&self) -> usize
         ensures count { result ≡ length self.now.processes }
         ensures valid { IsValid K.signature_of self.now }
@@ -94,14 +93,14 @@ impl<K: Kinds> Net<K> {
         ensures valid { IsValid K.signature_of self.now }
     {}
 
-    /// How many channels there are: 0 to 256.
+    /// Returns the number of channels: 0 to 256.
     pub fn channels(&self) -> usize
         ensures { result ≡ length self.now.channels }
     {
         self.channels.len()
     }
 
-    /// The card of process `p`, which has a signature.
+    /// Returns the card of process `p`, which has a signature.
     pub fn card(&self, p: usize) -> Card
         requires { p < length self.now.processes }
         ensures { result ≡ card_of self.now p }
@@ -109,7 +108,8 @@ impl<K: Kinds> Net<K> {
         self.processes[p].card
     }
 
-    /// The name of process `p`: 1 to 16 characters, and no other process's.
+    /// Returns the name of process `p`: 1 to 16 characters, and no other
+    /// process has it.
     pub fn process_name(&self, p: usize) -> &str
         requires { p < length self.now.processes }
         ensures { option_map (λ x. x.name) (slice_get self.now.processes p) ≡ Some result.now }
@@ -117,7 +117,8 @@ impl<K: Kinds> Net<K> {
         self.processes[p].name.as_str()
     }
 
-    /// The name of channel `c`: 1 to 16 characters, and no other channel's.
+    /// Returns the name of channel `c`: 1 to 16 characters, and no other
+    /// channel has it.
     pub fn channel_name(&self, c: usize) -> &str
         requires { c < length self.now.channels }
         ensures { option_map (λ x. x.name) (slice_get self.now.channels c) ≡ Some result.now }
@@ -125,14 +126,14 @@ impl<K: Kinds> Net<K> {
         self.channels[c].name.as_str()
     }
 
-    /// The number of the channel of a name; `None` where no channel has it.
+    /// Returns the number of the channel with this name; `None` if no channel has it.
     pub fn find_channel(&self, name: &str) -> Option<usize>
         ensures { result ≡ position (λ c. bytes_eq c.name name.now) self.now.channels }
     {
         self.channels.iter().position(|c| c.name.as_str() == name)
     }
 
-    /// Where channel `c` begins and ends. Both ports are there.
+    /// Returns where channel `c` begins and ends. Both ports exist.
     pub fn ends(&self, c: usize) -> Ends
         requires { c < length self.now.channels }
         ensures writer { result.writer ≡ (channel_of self.now c).writer }
@@ -149,7 +150,7 @@ impl<K: Kinds> Net<K> {
         }
     }
 
-    /// What channel `c` carries, as the ports at both its ends do.
+    /// Returns the sort of channel `c`: what it carries, as do the ports at both its ends.
     pub fn sort(&self, c: usize) -> Sort
         requires { c < length self.now.channels }
         ensures { result ≡ (channel_of self.now c).sort }
@@ -157,7 +158,7 @@ impl<K: Kinds> Net<K> {
         self.channels[c].sort
     }
 
-    /// How many tokens channel `c` may hold at first: 1 to the ceiling.
+    /// Returns the starting capacity of channel `c`, in tokens: 1 to the ceiling.
     pub fn capacity(&self, c: usize) -> usize
         requires { c < length self.now.channels }
         ensures { result ≡ (channel_of self.now c).capacity }
@@ -165,8 +166,8 @@ impl<K: Kinds> Net<K> {
         self.channels[c].capacity
     }
 
-    /// What channel `c` holds at first, the token that is read first in front: no more tokens than
-    /// its capacity, all of its sort.
+    /// Returns the tokens that channel `c` holds at first, in the order in which they are read: at most
+    /// as many as its capacity, all of its sort.
     pub fn tokens(&self, c: usize) -> &[Token]
         requires { c < length self.now.channels }
         ensures { result.now ≡ (channel_of self.now c).tokens }
@@ -174,32 +175,32 @@ impl<K: Kinds> Net<K> {
         self.channels[c].tokens.as_slice()
     }
 
-    /// How many entries the history of a run may have, and up to two more: 1 to 1,000,000 where the
-    /// ceiling is at most 65,535, and 1 to 2,000,000 where it is above.
+    /// Returns the budget: a run ends once its history has so many entries, and the history may have up
+    /// to two more. It is 1 to 1,000,000 if the ceiling is at most 65,535, and else 1 to 2,000,000.
     pub fn budget(&self) -> u64
         ensures { result ≡ self.now.budget }
     {
         self.budget
     }
 
-    /// How many places a growth of a channel adds: 1 to 1,024 (Parks 1995 enlarges a full channel
-    /// where a run cannot go on without).
+    /// Returns how many places a growth adds to a channel: 1 to 1,024 (Parks 1995 enlarges a full
+    /// channel when a run can't go on otherwise).
     pub fn step(&self) -> usize
         ensures { result ≡ self.now.step }
     {
         self.step
     }
 
-    /// The capacity beyond which no channel grows, in tokens: 65,535 in version 1 of the description
-    /// and 1,000,000 in version 2.
+    /// Returns the capacity beyond which no channel grows, in tokens: 65,535 in version 1 of the
+    /// description and 1,000,000 in version 2.
     pub fn ceiling(&self) -> usize
         ensures { result ≡ self.now.ceiling }
     {
         self.ceiling
     }
 
-    /// The number of the channel that leads to input `port` of process `p`; `None` where there is no
-    /// such process or input.
+    /// Returns the number of the channel that leads to input `port` of process `p`; `None` if there is
+    /// no such process or input.
     pub fn in_of(&self, p: usize, port: usize) -> Option<usize>
         ensures is { result ≡ in_of self.now p port }
         ensures within { IfSome result (λ c. c < length self.now.channels) }
@@ -211,8 +212,8 @@ impl<K: Kinds> Net<K> {
         }
     }
 
-    /// The number of the channel that leads from output `port` of process `p`; `None` where there is
-    /// no such process or output.
+    /// Returns the number of the channel that leads from output `port` of process `p`; `None` if there
+    /// is no such process or output.
     pub fn out_of(&self, p: usize, port: usize) -> Option<usize>
         ensures is { result ≡ out_of self.now p port }
         ensures within { IfSome result (λ c. c < length self.now.channels) }

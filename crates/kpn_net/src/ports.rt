@@ -49,7 +49,7 @@ fn ports_at(channels: &[Channel], p: usize) -> Ports
     }
 }
 
-/// The channels at the ports of so many processes.
+/// The channels at the ports of the first `count` processes. Fails if memory was refused.
 pub(crate) fn table_of(
     alloc: Global,
     channels: &[Channel],

@@ -16,17 +16,16 @@ use toml::{Table, Value};
 /// Reads a description, a TOML document in UTF-8, and fills in its defaults. Ranges and names are not
 /// checked: `Net::check` does that.
 ///
-/// At the top stand `version`, `budget` and `step` (integers; the budget is 10000 and the step 1 where
-/// they are absent), `process` (an array of tables) and `channel` (an array of tables, empty where it
-/// is absent). A process has `name` and `kind` (texts) and `args` (an array of integers, empty where
-/// it is absent). A channel has `name`, `from` and `to` (texts), `out` and `in` (integers, 0 where
-/// they are absent), `sort` (`words` or `flags`, and `words` where it is absent), `capacity` (an
-/// integer, 1 where it is absent) and `tokens` (an array of integers and booleans, empty where it is
-/// absent). `step` and `tokens` are keys in version 2 alone. There are no other keys.
+/// The top level has `version`, `budget` and `step` (integers; by default the budget is 10000 and the
+/// step 1), `process` (an array of tables) and `channel` (an array of tables, by default empty). A
+/// process has `name` and `kind` (texts) and `args` (an array of integers, by default empty). A channel
+/// has `name`, `from` and `to` (texts), `out` and `in` (integers, by default 0), `sort` (`words` or
+/// `flags`, by default `words`), `capacity` (an integer, by default 1) and `tokens` (an array of
+/// integers and booleans, by default empty). `step` and `tokens` are keys of version 2 alone. There are
+/// no other keys.
 ///
-/// The error is `NotToml` where the bytes are not UTF-8 or no TOML, `Keys` where a key is missing or
-/// unknown or its value is of another form, or `Memory` where memory was refused; nothing was then
-/// read.
+/// Errors: `NotToml` if the bytes are not UTF-8 or not TOML; `Keys` if a key is missing or unknown or
+/// its value is of another form; `Memory`, at any time, if memory was refused.
 pub fn read_sketch(alloc: Global, text: &[u8]) -> Result<Sketch, NetFault>
     ensures ok { IfOk result (Describes text.now) }
     ensures fault { IfErr result (IsReadFault text.now) }
@@ -47,7 +46,7 @@ fn version_of(table: &Table) -> Result<i64, NetFault>
     }
 }
 
-/// Whether there are no keys at the top but those of this version.
+/// Whether the keys at the top level are all keys of this version.
 fn has_only_top_keys(version: i64, table: &Table) -> bool
     ensures { result ≡ has_only (top_keys version) (table_view table.now) }
 {
@@ -94,7 +93,7 @@ impl Form for ProcessSketch {
     }
 }
 
-/// Whether a channel has no keys but those of this version.
+/// Whether the keys of a channel are all keys of this version.
 fn has_only_channel_keys(version: i64, table: &Table) -> bool
     ensures { result ≡ has_only (channel_keys version) (table_view table.now) }
 {
@@ -113,7 +112,7 @@ fn has_only_channel_keys(version: i64, table: &Table) -> bool
     }
 }
 
-/// The channel of a table, whatever other keys it has.
+/// Reads the channel of a table, whatever other keys it has.
 fn channel_from(alloc: Global, version: i64, table: &Table) -> Result<ChannelSketch, NetFault>
     ensures { Reads result (channel_from (table_view table.now)) }
 {

@@ -2,9 +2,9 @@
 //! may name nothing.
 use kpn_model::{Listed, Sort, Text};
 
-/// A description with its defaults filled in: its version, its budget in entries of a history, how
-/// many places a growth adds (1 in version 1, which says nothing of it), and its processes and
-/// channels in the order of the text.
+/// A description with its defaults filled in: its version, its budget in entries of a history, how many
+/// places a growth adds (always 1 in version 1), and its processes and channels in the order of the
+/// text.
 #[derive(Drop)]
 pub struct Sketch {
     pub version: i64,
@@ -25,7 +25,7 @@ pub struct ProcessSketch {
 
 /// A channel of a description: its name, the names of the processes that it leads from and to, the
 /// output `out` of the one and the input `input` of the other, its sort, its capacity in tokens, and
-/// what it holds at first, the token that is read first in front (nothing in version 1).
+/// the tokens that it holds at first, in the order in which they are read (none in version 1).
 #[derive(Drop)]
 pub struct ChannelSketch {
     pub name: Text,
@@ -38,8 +38,8 @@ pub struct ChannelSketch {
     pub tokens: Listed<TokenSketch>,
 }
 
-/// A token that a channel of a description holds at first: an integer, which is a word where it is
-/// not negative, or a boolean, which is a flag.
+/// A token that a channel of a description holds at first: an integer, which is a word if it is not
+/// negative, or a boolean, which is a flag.
 #[derive(Clone, Copy, Debug, PartialEq, Eq)]
 pub enum TokenSketch {
     Integer(i64),

@@ -2,7 +2,7 @@
 ghost use Rattle.std.specs.Prelude.{◌≡◌};
 ghost use Rattle.kpn_net.specs.Version.{is_two, ceiling_in, greatest_budget_in};
 
-/// Whether channels have start tokens and growths have a step.
+/// Whether the version is 2: channels may have start tokens, and a step may be given.
 pub(crate) fn is_two(version: i64) -> bool
     ensures { result ≡ is_two version }
 {

@@ -26,7 +26,7 @@ digest_with cause d = record {
 abbrev pub digest_of : Detail → Digest
 digest_of = digest_with Terminated
 
--- the text of a report: its end, and its detail where there is one
+-- the text of a report: its end, and its detail if there is one
 abbrev pub report_text : Network → End → Option Detail → Option ℕ → List ℕ
 report_text net end None show = end_line end
 report_text net end (Some d) show = end_line end ++ digest_text net (digest_of d) show

@@ -96,7 +96,7 @@ pub fn detail_of<K: Kinds>(
     })
 }
 
-/// What is reported of a run: why it ended, and its detail where it came to its own end.
+/// What is reported of a run: why it ended, and its detail if it came to its own end.
 #[derive(Drop)]
 pub struct Report {
     pub end: End,

@@ -28,7 +28,7 @@ fn place<K: Kinds>(net: &Net<K>, process: usize, wanted: Option<Answer>) -> Plac
 /// The place of each process in a network at rest: a parked process reads or writes the channel for
 /// which it waits, and each other counts as stopped.
 ///
-/// Where no process is ready or out, these are the places that a report of the run tells. The error
+/// If no process is ready or out, these are the places that a report of the run tells. The error
 /// is want of memory.
 pub fn places_of<K: Kinds>(
     alloc: Global,

@@ -76,7 +76,7 @@ fn push_detail<K: Kinds>(
     }
 }
 
-/// The text of a report, with the stream of a channel where one is to be shown.
+/// The text of a report, with the stream of a channel if one is to be shown.
 ///
 /// Each line ends in a line feed, and numbers are decimal: `end` and the cause; for each process
 /// its name, where it stands and its steps; for each channel its name, how many tokens were put on

@@ -51,7 +51,7 @@ fn push_channels<K: Kinds>(
     Ok(())
 }
 
-/// The stream of a channel that is to be shown; no tokens where there is no such channel.
+/// The stream of a channel that is to be shown; no tokens if there is no such channel.
 fn shown_stream<K: Kinds>(
     alloc: Global,
     net: &Net<K>,

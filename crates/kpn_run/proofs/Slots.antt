@@ -49,7 +49,7 @@ sums_same f (x ∷ xs) (y ∷ ys) len each =
     let rest = sums_same f xs ys (omega (arith, len)) (λ k d lt. each (suc k) d (omega arith)) in
     omega (arith, one, rest, sum_by-cons f x xs, sum_by-cons f y ys)
 
--- where somebody sits and each has met an end, somebody has met one
+-- if somebody sits and each has met an end, somebody has met one
 pub some_met : (P : Type 0) (seats : List Shares) → 0 < length seats → All (λ (x : Shares). x.overs ≡ 1) seats
     → ((k : ℕ) (s : Shares) → slice_get seats k ≡ Some s → s.overs ≡ 1 → P) → P
 some_met P [] some all told = absurd (omega arith)

@@ -29,7 +29,7 @@ not_budget Ceiling has e = cc
 not_budget Budget has e = cc
 not_budget Memory has e = cc
 
--- where a run came to its own end, what the parked processes answered is what all want
+-- if a run came to its own end, what the parked processes answered is what all want
 pub at_rest :
     (kinds : Family) (admits : Card → List ℕ → Option Token → Type 0) (s : MachineView) (cause : End) → IsFaithful kinds admits s → s.end ≡ Some cause → has_detail cause ≡ true
     → each_process s.network (λ p. place_of s.network p (parked_answer (standing s.standings p))) ≡ each_process s.network (λ p. place_of s.network p (wants kinds s.network s.state p))

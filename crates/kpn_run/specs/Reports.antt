@@ -21,7 +21,7 @@ pub record HasOutcome (kinds : Family) (net other : Network) (history F : List E
   pub steps : d.steps ≡ each_process net (λ p. length (deeds F p))
   pub streams : d.streams ≡ each_channel net (λ c. stream other F c)
 
--- where the run terminated or ended in a deadlock, so it is for every run that does so, from any
+-- if the run terminated or ended in a deadlock, so it is for every run that does so, from any
 -- starting capacities
 abbrev pub IsOutcome : Family → Network → End → List Entry → Option Detail → Type 0
 IsOutcome kinds net cause history detail =

@@ -28,7 +28,7 @@ pub record IsFinish (kinds : Family) (net : Network) (f : FinishedRun) : Type 0 
 abbrev pub StaysWithinCapacities : Family → Network → List Entry → Type 0
 StaysWithinCapacities kinds net history = (E F : List Entry) → E ++ F ≡ history → (M : State) × IsRun kinds net E M × IsWithin M
 
--- where some run that is over has fewer entries than the budget, the end is not the budget's
+-- if some run that is over has fewer entries than the budget, the end is not the budget's
 abbrev pub SparesBudget : Family → Network → End → Type 0
 SparesBudget kinds net cause = (F : List Entry) (N : State) (b : End) → IsFinal kinds net F N b → length F < net.budget → cause ≢ Budget
 

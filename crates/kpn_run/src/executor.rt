@@ -55,11 +55,11 @@ pub enum RunFault<B: Body> {
 ///
 /// The history is a run of the sequential machine, with as many entries as the workers have receipts;
 /// after each prefix of it no channel holds more tokens than its capacity. It does not end by Budget
-/// where some run that is over has fewer entries than the budget. Of the deeds of a process, or the
+/// if some run that is over has fewer entries than the budget. Of the deeds of a process, or the
 /// stream of a channel, in this history and in any run from any starting capacities, one is a prefix of
 /// the other. Whatever number of places a channel suffices for the network, the run takes no more.
 ///
-/// The calling thread is one worker, and each other has a thread of its own; where a thread can't be
+/// The calling thread is one worker, and each other has a thread of its own; if a thread can't be
 /// started, that worker runs in the calling thread. It returns when all have met the end.
 pub fn run<B: Body, R: Wait + Clock + Threads + Sync, G: Gate>(
     rt: &R,

@@ -31,7 +31,7 @@ impl<K: Kinds> Model for Finish<K> {
 }
 
 impl<K: Kinds> Finish<K> {
-    /// `None` where no end stands.
+    /// `None` if no end stands.
     pub(crate) fn of<E: EntryLedger>(closed: Closed<K, E>) -> Option<Finish<K>>
         ensures { MatchOption result (IsNone closed.machine.end) (λ f. (f.machine ≡ closed.machine) × (f.receipts ≡ closed.receipts) × (closed.machine.end ≡ Some f.cause)) }
     {

@@ -19,7 +19,7 @@ pub struct Hold {
 
 impl Hold {
     /// A gate that holds `process` up until `other` has passed `passes` times, and for at most `turns`
-    /// looks each time. Where the two are one process, nothing is held up.
+    /// looks each time. If the two are one process, nothing is held up.
     pub fn new(process: usize, other: usize, passes: u64, turns: u64) -> Hold {
         Hold {
             process,
@@ -43,7 +43,7 @@ impl Hold {
 
 impl Gate for Hold {
     /// Counts one pass of a process that is one of the two (a count past 2^64 - 1 begins again at 0),
-    /// and then holds it up where it is the one to be held.
+    /// and then holds it up if it is the one to be held.
     fn before_commit(&self, process: usize) {
         if process == self.other {
             self.other_passed.fetch_add(1, Ordering::SeqCst);

@@ -6,10 +6,10 @@ use kpn_monitor::{Next, Rest};
 
 /// The most tasks of one round.
 const MOST: usize = 16;
-/// Where the calls of a round take less than so many of its exchanges, the next round has up to twice as
+/// If the calls of a round take less than so many of its exchanges, the next round has up to twice as
 /// many tasks.
 const FEW_EXCHANGES: u64 = 8;
-/// Where they take longer than so many, it has half as many.
+/// If they take longer than so many, it has half as many.
 const MANY_EXCHANGES: u64 = 16;
 /// After a round whose calls took less, so many rounds go by without a look at the clock.
 const BRIEF: u64 = 1_000;
@@ -84,7 +84,7 @@ impl Pace {
         self.then = now;
     }
 
-    /// All tasks that there were have been called, and it is now. How many to take: none where the worker
+    /// All tasks that there were have been called, and it is now. How many to take: none if the worker
     /// is spare, since of late the exchanges took longer than the calls.
     pub(crate) fn called(&mut self, some: bool, now: u64) -> usize {
         let took = now.saturating_sub(self.then);

@@ -10,11 +10,11 @@ use kpn_net::{Deed, Entry, Kinds, Net, Token};
 use kpn_report::{Report, places_of, report_of};
 use std::alloc::{AllocError, Global};
 
-/// The report of a run: why it ended, and its detail where it came to its own end, which is exactly
+/// The report of a run: why it ended, and its detail if it came to its own end, which is exactly
 /// where it ended by Terminated, Deadlock or Ceiling. The error is want of memory.
 ///
 /// The detail is that of every run of the network that is over, whatever the schedule and the number
-/// of workers (`every`). Where the run terminated or ended in a deadlock, every run that does so too,
+/// of workers (`every`). If the run terminated or ended in a deadlock, every run that does so too,
 /// from any starting capacities, has the same deeds, streams and places (`any_capacities`; Kahn 1974,
 /// Parks 1995).
 pub fn report<K: Kinds>(alloc: Global, finish: &Finish<K>) -> Result<Report, AllocError>

@@ -33,7 +33,7 @@ impl Stopwatch {
         }
     }
 
-    /// 0 where the clock can't be read.
+    /// 0 if the clock can't be read.
     fn nanos<R: Clock>(&self, rt: &R) -> u64 {
         let Some(start) = self.start else {
             return 0;
@@ -46,7 +46,7 @@ impl Stopwatch {
 }
 
 /// Calls the tasks of a hand, asks the gate after each, and exchanges the answers for other tasks, again
-/// and again, until the run is over or an answer is refused. Where none was, the seat has met an end. It
+/// and again, until the run is over or an answer is refused. If none was, the seat has met an end. It
 /// may wait for other workers.
 pub(crate) fn work_in_rounds<B: Body, E: EntryLedger, O: Ledger, R: Wait + Clock, G: Gate>(
     rt: &R,

@@ -16,7 +16,7 @@ use std::sync::ledger::Ledger;
 use std::thread;
 use std::thread::Threads;
 
-/// What a worker of `run` has: its seat, its hand, and an answer that the monitor refused, where there is
+/// What a worker of `run` has: its seat, its hand, and an answer that the monitor refused, if there is
 /// one.
 #[derive(Drop)]
 pub(crate) struct WorkerSlot<B: Body, E: EntryLedger, O: Ledger> {
@@ -152,7 +152,7 @@ fn work_each<
     thread::for_each_mut(rt, slots, 16, &|_, slot| slot.work(rt, monitor, gate));
 }
 
-/// The seats of all slots, and an answer that was refused, where there is one.
+/// The seats of all slots, and an answer that was refused, if there is one.
 pub(crate) fn leave_all<B: Body, E: EntryLedger, O: Ledger>(
     mut slots: Vec<WorkerSlot<B, E, O>>,
     seats: &mut Vec<Seat<E, O>>,

@@ -21,7 +21,7 @@ impl Gate for Open {
     fn before_commit(&self, _process: usize) {}
 }
 
-/// What a worker hands back: its seat, and the answer that the monitor refused, where there is one.
+/// What a worker hands back: its seat, and the answer that the monitor refused, if there is one.
 #[derive(Drop)]
 pub struct Worked<B: Body, E: EntryLedger, O: Ledger> {
     pub seat: Seat<E, O>,
@@ -29,7 +29,7 @@ pub struct Worked<B: Body, E: EntryLedger, O: Ledger> {
 }
 
 /// Takes a task, calls it, asks the gate and commits the answer, again and again, until the run is over
-/// or an answer is refused. Where none was, the seat has met an end. It may wait for other workers.
+/// or an answer is refused. If none was, the seat has met an end. It may wait for other workers.
 pub fn work<B: Body, E: EntryLedger, O: Ledger, R: Wait, G: Gate>(
     rt: &R,
     monitor: &Monitor<B, E, O>,

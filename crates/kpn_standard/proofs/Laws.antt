@@ -71,7 +71,7 @@ module _ (card : Card) (s : Signature) (signed : signature card ≡ Some s) (nex
   out_port : out_sort signature card k ≡ port_at s.outs k
   out_port = ap (λ (o : Option Signature). option_and_then (λ s. port_at s.outs k) o) signed
 
-  -- a read of words is lawful, where each word that may come is admitted
+  -- a read of words is lawful, if each word that may come is admitted
   pub reads_word : port_at s.ins k ≡ Some Words → ((w : ℕ) → w < 2 ^ 64 → Admitted card next (Some (Word w))) → IsLawful card (record { next = next; act = Read k })
   reads_word port admitted = record { names_port = (small, some_sort _ _ (in_port ∙ port)); leads_on = λ token is fits. by_token token (sym (in_port ∙ port) ∙ is) fits }
     where
@@ -79,7 +79,7 @@ module _ (card : Card) (s : Signature) (signed : signature card ≡ Some s) (nex
       by_token (Word w) is fits = admitted w fits
       by_token (Flag f) is fits = cc
 
-  -- a read of flags is lawful, where each flag is admitted
+  -- a read of flags is lawful, if each flag is admitted
   pub reads_flag : port_at s.ins k ≡ Some Flags → ((f : Bool) → Admitted card next (Some (Flag f))) → IsLawful card (record { next = next; act = Read k })
   reads_flag port admitted = record { names_port = (small, some_sort _ _ (in_port ∙ port)); leads_on = λ token is fits. by_token token (sym (in_port ∙ port) ∙ is) }
     where
@@ -87,6 +87,6 @@ module _ (card : Card) (s : Signature) (signed : signature card ≡ Some s) (nex
       by_token (Word w) is = cc
       by_token (Flag f) is = admitted f
 
-  -- a write is lawful, where the token fits the port, and what follows is admitted
+  -- a write is lawful, if the token fits the port, and what follows is admitted
   pub writes : (token : Token) → port_at s.outs k ≡ Some (sort_of token) → Fits token → Admitted card next None → IsLawful card (record { next = next; act = Write k token })
   writes token port fits admitted = record { names_port = (small, fits, out_port ∙ port); leads_on = λ other. admitted }

@@ -12,7 +12,7 @@ use crate::merging::{merge, weave};
 use crate::numbers::*;
 use kpn_model::{Answer, Card, Local, Token};
 
-/// What a process of a card answers, in a local state, where it has just read `last`.
+/// What a process of a card answers, in a local state, if it has just read `last`.
 pub fn answer(card: Card, local: Local, last: Option<Token>) -> Answer
     requires signed { IsSome (signature card) }
     requires admitted { Admitted card local last }

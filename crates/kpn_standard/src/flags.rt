@@ -23,7 +23,7 @@ pub fn divides(args: [u64; 3], local: Local, last: Option<Token>) -> Answer
     }
 }
 
-/// Reads a flag of input 1 and then a word of input 0, and writes the word to output 1 where the
+/// Reads a flag of input 1 and then a word of input 0, and writes the word to output 1 if the
 /// flag is true, else to output 0, for ever.
 pub fn switch(args: [u64; 3], local: Local, last: Option<Token>) -> Answer
     requires signed { IsSome (signature (card SWITCH args)) }
@@ -39,7 +39,7 @@ pub fn switch(args: [u64; 3], local: Local, last: Option<Token>) -> Answer
     }
 }
 
-/// Reads a flag of input 2 and then a word, of input 1 where the flag is true, else of input 0,
+/// Reads a flag of input 2 and then a word, of input 1 if the flag is true, else of input 0,
 /// and writes the word, for ever.
 pub fn select(args: [u64; 3], local: Local, last: Option<Token>) -> Answer
     requires signed { IsSome (signature (card SELECT args)) }

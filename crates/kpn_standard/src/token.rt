@@ -31,7 +31,7 @@ pub fn stops(local: Local) -> Answer
     }
 }
 
-/// The token of the read just done, or the word 0 where none was.
+/// The token of the read just done, or the word 0 if none was.
 pub fn got(last: Option<Token>) -> Token
     ensures { result ≡ got_token last }
 {

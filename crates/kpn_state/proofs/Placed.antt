@@ -68,13 +68,13 @@ and_right : (a b : Bool) → (a && b) ≡ true → b ≡ true
 and_right true b e = e
 and_right false b e = cc
 
--- where none is busy, this one isn't
+-- if none is busy, this one isn't
 pub idle_at : (standings : List Standing) (p : ℕ) → list_any is_busy standings ≡ false → is_busy (standing standings p) ≡ false
 idle_at [] p h = refl
 idle_at (x ∷ xs) zero h = or_left (is_busy x) _ h
 idle_at (x ∷ xs) (suc p) h = idle_at xs p (or_right (is_busy x) _ h)
 
--- where one is busy, some is
+-- if one is busy, some is
 pub busy_at : (standings : List Standing) (p : ℕ) → is_busy (standing standings p) ≡ true → list_any is_busy standings ≡ true
 busy_at standings p h = by_cases _ refl
   where
@@ -82,7 +82,7 @@ busy_at standings p h = by_cases _ refl
     by_cases true e = e
     by_cases false e = absurd (true_false _ h (idle_at standings p e))
 
--- where all have stopped, this one has
+-- if all have stopped, this one has
 pub stopped_at : (standings : List Standing) (p : ℕ) → list_all has_stopped standings ≡ true → standing standings p ≡ Ended
 stopped_at [] p h = refl
 stopped_at (x ∷ xs) zero h = ended x (and_left (has_stopped x) _ h)
@@ -94,7 +94,7 @@ stopped_at (x ∷ xs) zero h = ended x (and_left (has_stopped x) _ h)
     ended Ended e = refl
 stopped_at (x ∷ xs) (suc p) h = stopped_at xs p (and_right (has_stopped x) _ h)
 
--- where all are ready, this one isn't out
+-- if all are ready, this one isn't out
 pub ready_not_out_at : (standings : List Standing) (p : ℕ) → list_all is_ready standings ≡ true → standing standings p ≢ Out
 ready_not_out_at [] p h e = cc
 ready_not_out_at (x ∷ xs) zero h e = not_out x (and_left (is_ready x) _ h) e
@@ -106,7 +106,7 @@ ready_not_out_at (x ∷ xs) zero h e = not_out x (and_left (is_ready x) _ h) e
     not_out Ended h e = cc
 ready_not_out_at (x ∷ xs) (suc p) h e = ready_not_out_at xs p (and_right (is_ready x) _ h) e
 
--- where not all have stopped, some has not
+-- if not all have stopped, some has not
 pub one_live : (standings : List Standing) → list_all has_stopped standings ≡ false → (p : ℕ) × (standing standings p ≢ Ended)
 one_live [] h = cc
 one_live (Ready ∷ xs) h = (zero, λ e. cc)

@@ -46,7 +46,7 @@ none_there p q n = ap one_if (ne_eqb p q n)
 counted : (f : Standing → Bool) (standings : List Standing) (p : ℕ) (x : Standing) → p < length standings → count_by f (set standings p x) + weight f (standing standings p) ≡ count_by f standings + weight f x
 counted f standings p x within = sum_by-set (weight f) standings p x Stopped within
 
--- some process is ready or out where one is counted
+-- some process is ready or out if one is counted
 pub busy_counted : (standings : List Standing) → list_any is_busy standings ≡ nat_lt 0 (count_by is_ready standings + count_by is_out standings)
 busy_counted [] = refl
 busy_counted (Ready ∷ xs) =
@@ -73,7 +73,7 @@ eq_suc a b = by_test (nat_eq a b) refl
     by_test true e = e ∙ sym (eq-eqb (suc a) (suc b) (ap suc (eqb-true a b e)))
     by_test false e = e ∙ sym (ne_eqb (suc a) (suc b) (λ s. eqb-false a b e (omega arith)))
 
--- all have stopped where as many are counted
+-- all have stopped if as many are counted
 pub stopped_counted : (standings : List Standing) → list_all has_stopped standings ≡ nat_eq (count_by has_stopped standings) (length standings)
 stopped_counted [] = refl
 stopped_counted (Stopped ∷ xs) =
@@ -152,7 +152,7 @@ module _ (standings : List Standing) (queue : List ℕ) (room out stopped : ℕ)
   pub queue_few : length queue ≤ length standings
   queue_few = let r = k.ready in let l = count_by-le-length is_ready standings in omega arith
 
-  -- where the queue is empty none is ready
+  -- if the queue is empty none is ready
   pub none_queued : slice_get queue 0 ≡ None → (p : ℕ) → standing standings p ≢ Ready
   none_queued e p r = empty queue e (k.queued p ∙ ap (weight is_ready) r)
     where

@@ -7,7 +7,7 @@ use Rattle.kpn_state.specs.Standings.{standing, is_ready, is_out, has_stopped}
 abbrev pub times : List ℕ → ℕ → ℕ
 times queue p = count_by (λ q. nat_eq q p) queue
 
--- a process is queued once where it is ready, and else not at all, and there is room for all; so many
+-- a process is queued once if it is ready, and else not at all, and there is room for all; so many
 -- are out, and so many have stopped
 pub record Agrees (standings : List Standing) (queue : List ℕ) (room out stopped : ℕ) : Type 0 where
   pub queued : (p : ℕ) → times queue p ≡ if is_ready (standing standings p) then 1 else 0

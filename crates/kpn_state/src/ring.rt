@@ -84,7 +84,7 @@ impl Ring {
     }
 }
 
-/// Makes room for so many tokens: twice the room that there was, where that is more and is granted,
+/// Makes room for so many tokens: twice the room that there was, if that is more and is granted,
 /// so that a growth by n places, one at a time, copies no more than 2n tokens. The error is want of
 /// memory, and the buffer is then as it was.
 fn make_room(buffer: &mut HeapCircularBuffer<Token>, needed: usize) -> Result<(), AllocError>

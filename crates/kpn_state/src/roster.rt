@@ -19,7 +19,7 @@ use std::marker::Model;
 pub struct Roster {
     standings: Vec<Standing>,
     // The two counts stand apart: side by side they are loaded and stored as one value of 16 bytes,
-    // and such a load waits where one of them was stored alone just before.
+    // and such a load waits if one of them was stored alone just before.
     out: usize,
     queue: HeapCircularBuffer<usize>,
     stopped: usize,
@@ -91,7 +91,7 @@ impl Roster {
         self.out
     }
 
-    /// The process that has been ready for the longest time goes out; `None` where none is ready.
+    /// The process that has been ready for the longest time goes out; `None` if none is ready.
     pub fn send_out(&mut self) -> Option<usize>
         ensures some { IfSome result (λ p. standing self.old p ≡ Ready) }
         ensures within { IfSome result (λ p. p < length self.old) }
@@ -105,7 +105,7 @@ impl Roster {
         Some(process)
     }
 
-    /// A process that was not ready stands so from now on; where it is ready, it goes to the end of
+    /// A process that was not ready stands so from now on; if it is ready, it goes to the end of
     /// the queue.
     pub fn update(&mut self, process: usize, next: Standing)
         requires process { process < length self.old }
@@ -142,7 +142,7 @@ fn stopped_weight(standing: &Standing) -> usize
     }
 }
 
-/// A process that now stands so goes to the end of the queue where it is ready.
+/// A process that now stands so goes to the end of the queue if it is ready.
 fn enqueue(queue: &mut HeapCircularBuffer<usize>, process: usize, standing: &Standing)
     requires { IsTrue (is_ready standing.now) → length queue.old.items < queue.old.capacity }
     ensures items { queue.new.items ≡ queue_after queue.old.items process standing.now }

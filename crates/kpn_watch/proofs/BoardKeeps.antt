@@ -23,7 +23,7 @@ fits_set views id w published others mine by v at =
     (λ (x : (by ≢ id) × (get_elem? views by ≡ some v)). others by v x.0 x.1)
     (at_set views id by w v at)
 
--- what is published does not change where each seat that publishes keeps what it saw
+-- what is published does not change if each seat that publishes keeps what it saw
 first_set : (views : List View) (id : ℕ) (w : View) (published : Seen) → (v : View) × (get_elem? views 0 ≡ some v) × (v.seen ≡ published) → w.seen ≡ published
     → (v : View) × (get_elem? (set views id w) 0 ≡ some v) × (v.seen ≡ published)
 first_set [] id w published h same = absurd (some-ne-none h.0 (sym h.1))

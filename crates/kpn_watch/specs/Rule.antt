@@ -18,7 +18,7 @@ view_of seen = record { seen = seen; note = nothing }
 abbrev pub noted : View → Seen → View
 noted v note = record { seen = v.seen; note = note }
 
--- the one goes on from the other, and where the other had ended, it is the other
+-- the one goes on from the other, and if the other had ended, it is the other
 pub record ContinuesSeen (old new : Seen) : Type 0 where
   pub front : IsPrefix old.entries new.entries
   pub ended : old.phase ≢ Running → new ≡ old

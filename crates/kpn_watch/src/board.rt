@@ -88,7 +88,7 @@ impl Board {
     }
 
     /// Shows a history, its number of growths and its phase, by one store. The history goes on from
-    /// the published one, and is the published one, with its phase, where that had ended.
+    /// the published one, and is the published one, with its phase, if that had ended.
     pub fn publish(&self, publisher: &mut Publisher, history: &[Entry], growths: u32, phase: Phase)
         requires board { publisher.old.board ≡ self.now }
         requires goes_on { IsPrefix publisher.old.entries history.now }
@@ -143,7 +143,7 @@ impl Board {
     }
 
     /// Sees what is published, by one load: a history that goes on from the one seen before, and the
-    /// same where that had ended. It takes no lock and no memory, and waits for nobody.
+    /// same if that had ended. It takes no lock and no memory, and waits for nobody.
     pub fn look(&self, watcher: &mut Watcher) -> Progress
         requires { watcher.old.board ≡ self.now }
         ensures board { watcher.new.board ≡ watcher.old.board }
@@ -155,7 +155,7 @@ impl Board {
         Progress::of_word(word)
     }
 
-    /// Ends a watcher. What is published goes on from what it had seen, and is that where it had seen
+    /// Ends a watcher. What is published goes on from what it had seen, and is that if it had seen
     /// an end.
     pub fn join(&self, watcher: Watcher, publisher: &mut Publisher)
         requires watcher { watcher.board ≡ self.now }

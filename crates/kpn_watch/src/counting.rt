@@ -56,7 +56,7 @@ impl CountingPublisher {
     }
 
     /// Shows a history with its end. It goes on from the published one, and is the published one, with
-    /// its phase, where that had ended.
+    /// its phase, if that had ended.
     pub fn publish(&mut self, board: &Board, history: &[Entry], ended: Option<End>)
         requires board { self.old.board ≡ board.now }
         requires goes_on { IsPrefix self.old.entries history.now }
@@ -83,7 +83,7 @@ impl CountingPublisher {
     }
 
     /// Ends a watcher, and tells what is published: it goes on from what the watcher had seen, and is
-    /// that where the watcher had seen an end.
+    /// that if the watcher had seen an end.
     pub fn settle(&mut self, board: &Board, watcher: Watcher) -> Progress
         requires board { self.old.board ≡ board.now }
         requires watcher { watcher.board ≡ board.now }

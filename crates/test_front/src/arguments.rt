@@ -66,7 +66,7 @@ fn says_how_many_workers(rt: HostRuntime) -> Result<(), Fail> {
     Ok(())
 }
 
-/// Where memory is refused, it is the fault, and nothing else changes: to be run with each
+/// If memory is refused, it is the fault, and nothing else changes: to be run with each
 /// allocation failing in turn.
 #[test]
 fn tells_refused_memory_of_arguments(rt: HostRuntime) {

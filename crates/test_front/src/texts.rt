@@ -83,7 +83,7 @@ to = \"snk\"
 capacity = 1
 ";
 
-/// The number of the fault of a text, or 0 where it is accepted.
+/// The number of the fault of a text, or 0 if it is accepted.
 fn number_of(alloc: Global, text: &[u8]) -> u8 {
     let mut source = text;
     let net: Result<Net<CountAndSink>, NetFault> = load(alloc, &mut source);
@@ -277,7 +277,7 @@ fn text_of(alloc: Global, sinks: u16, channels: u16) -> Result<String, AllocErro
     Ok(text)
 }
 
-/// Numbers of processes and of channels to both sides of what a network may have: where they are not
+/// Numbers of processes and of channels to both sides of what a network may have: if they are not
 /// too many, the ports' faults come.
 static COUNTS: [(u16, u16, u8); 5] = [
     (1, 0, 10),
@@ -420,7 +420,7 @@ fn writes_lines(rt: HostRuntime) -> Result<(), Fail> {
     Ok(())
 }
 
-/// Where memory is refused, it is the fault, and nothing else changes: to be run with each
+/// If memory is refused, it is the fault, and nothing else changes: to be run with each
 /// allocation failing in turn.
 #[test]
 fn answers_refused_memory_by_its_fault(rt: HostRuntime) {

@@ -10,7 +10,7 @@ use Rattle.kpn_standard.specs.Standard.{standard}
 use Rattle.kpn_laws.specs.Sufficient.{Suffices}
 use Rattle.test_laws.specs.ChangedRules.{RunBy}
 
--- where b places suffice, a growth by this rule is from fewer
+-- if b places suffice, a growth by this rule is from fewer
 abbrev pub GrowsBelowBy : (Network → State → Entry → State → Type 0) → Type 0
 GrowsBelowBy rule =
     (net : Network) (b : ℕ) → Suffices standard net b → (E : List Entry) (M N : State) (c to : ℕ)
@@ -27,18 +27,18 @@ pub record GrowsGreatest (net : Network) (M : State) (c to : ℕ) (N : State) : 
   pub to_is : to ≡ min (capacity M c + net.step) net.ceiling
   pub leaves : N ≡ with_channel M c (tokens M c) to
 
--- a step, where growths are such
+-- a step, if growths are such
 abbrev pub GreatestGrows : Network → State → Entry → State → Type 0
 GreatestGrows net M (Did p d) N = Does standard net M p d N
 GreatestGrows net M (Grew c to) N = GrowsGreatest net M c to N
 
--- where some capacities suffice, the chosen channel of an artificial deadlock has fewer places than it has among them
+-- if some capacities suffice, the chosen channel of an artificial deadlock has fewer places than it has among them
 abbrev pub EachBelowItsOwn : Type 0
 EachBelowItsOwn =
     (net : Network) (sizes : ℕ → ℕ) (F : List Entry) (N : State) (a : End) → IsFinal standard (resized net sizes) F N a → IsNatural a
     → (E : List Entry) (M : State) (c : ℕ) → IsRun standard net E M → IsArtificial standard net M → IsChosen standard net M c → capacity M c < capacity N c
 
--- where b places suffice, each channel has its starting capacity, or no more than b places, whatever the step
+-- if b places suffice, each channel has its starting capacity, or no more than b places, whatever the step
 abbrev pub StaysUpTo : Type 0
 StaysUpTo =
     (net : Network) (b : ℕ) → Suffices standard net b → (E : List Entry) (M : State) → IsRun standard net E M

@@ -96,7 +96,7 @@ full_channel_of_stopped_writer_digest =
 abbrev pub FullChannelOfStoppedWriter : Type 0
 FullChannelOfStoppedWriter = HasDigest standard full_channel_of_stopped_writer full_channel_of_stopped_writer_digest
 
--- the same network where a growth adds four places: one growth each is enough
+-- the same network if a growth adds four places: one growth each is enough
 abbrev pub growth_step : Network
 growth_step =
     record smallest_full_channel_grows { step = 4 }

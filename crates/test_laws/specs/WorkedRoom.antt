@@ -17,7 +17,7 @@ process_named name p = record p { name = name }
 abbrev pub with_name : List ℕ → Channel → Channel
 with_name name c = record c { name = name }
 
--- Parks's case with a counter of five: where both the counter and the copy are blocked, one more place
+-- Parks's case with a counter of five: if both the counter and the copy are blocked, one more place
 -- for the copy is enough, and more room for the counter is of no help
 abbrev pub longer_parks_case : Network
 longer_parks_case =

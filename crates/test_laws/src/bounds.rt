@@ -5,9 +5,9 @@ ghost use Rattle.test_laws.specs.ChangedBounds.{GrowsBelowBy, GreatestGrows, Eac
 /// The bound of `least_room` changed in four ways, each of which fails, of networks of the standard
 /// kinds.
 ///
-/// `greatest_first`: where of the full channels the greatest grows, one may grow from as many places as
-/// suffice. `early`: so it is where a growth does not wait until no process can go on. `each_its_own`:
-/// the chosen channel may have as many places as suffice for it, where the others have as many as
+/// `greatest_first`: if of the full channels the greatest grows, one may grow from as many places as
+/// suffice. `early`: so it is if a growth does not wait until no process can go on. `each_its_own`:
+/// the chosen channel may have as many places as suffice for it, if the others have as many as
 /// suffice for them. `no_step`: with a step above one a channel may grow to more places than suffice.
 pub fn changed_bounds()
     ensures greatest_first { GrowsBelowBy GreatestGrows → ⊥ }

@@ -20,7 +20,7 @@ enum Refused {
     Growth,
 }
 
-/// What is handed back where memory is refused.
+/// What is handed back if memory is refused.
 const NO_MEMORY: Misfit = Misfit {
     name: "no memory",
     fault: OpenFault::Memory,
@@ -34,7 +34,7 @@ const NO_MEMORY: Misfit = Misfit {
     ],
 };
 
-/// Opens a machine, again with what came back where it is refused memory.
+/// Opens a machine, again with what came back if it is refused memory.
 fn open_again<R: Abort>(
     rt: &R,
     alloc: Global,
@@ -85,7 +85,7 @@ fn grow<R: Abort>(
     Ok(Refused::Nothing)
 }
 
-/// Compares a machine that ended where its growth was refused.
+/// Compares a machine that ended because its growth was refused.
 fn assert_ended<R: Abort>(rt: &R, machine: &mut CardMachine) {
     let entries = [PUT_1, TOOK_1, PUT_2, SINK_STOPPED];
     assert_eq!(rt; machine.history(), entries.as_slice());

@@ -80,7 +80,7 @@ fn accept_first<R: Abort>(rt: &R, machine: &mut CardMachine, finished: CardFinis
     assert_eq!(rt; machine.commits(), 1);
 }
 
-/// Commits the counter's first answer where the counter is not out, which comes back and changes
+/// Commits the counter's first answer if the counter is not out, which comes back and changes
 /// nothing.
 fn refuse_fresh<R: Abort>(
     rt: &R,
@@ -126,8 +126,8 @@ fn an_answer_that_was_not_asked_for_is_handed_back(rt: HostRuntime) -> Result<()
     Ok(())
 }
 
-/// The counter's answer in the one machine comes to the other, where the counter is not out: it is
-/// handed back, and accepted where it was asked for.
+/// The counter's answer in the one machine comes to the other, if the counter is not out: it is
+/// handed back, and accepted if it was asked for.
 #[test]
 fn an_answer_of_another_machine_is_handed_back(rt: HostRuntime) -> Result<(), Fail> {
     let mut one = machine_of(&rt, rt.alloc(), SINK_OF_THREE)?;
@@ -150,7 +150,7 @@ fn park_second<R: Abort>(
     Ok(())
 }
 
-/// Where both machines ask the same, the answer of the one is as good as that of the other; the one
+/// If both machines ask the same, the answer of the one is as good as that of the other; the one
 /// that comes second is handed back.
 #[test]
 fn an_answer_to_the_same_question_is_taken_once(rt: HostRuntime) -> Result<(), Fail> {

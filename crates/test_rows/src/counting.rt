@@ -81,7 +81,7 @@ fn network_of(alloc: Global, text: &str) -> Result<Net<Standard>, NetFault> {
 }
 
 /// What is shown, the exit status, what is written, and how often the bodies are called: in the run
-/// once for each of its deeds, and not at all where no channel has the name to show.
+/// once for each of its deeds, and not at all if no channel has the name to show.
 static SHOWN: [(&str, u8, &str, u64); 2] = [
     (
         "c0",

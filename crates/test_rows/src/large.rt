@@ -19,7 +19,7 @@ fn counter_into_nothing(
     Ok(description)
 }
 
-/// What is written of it, where `capacity` is less than `tokens` and the ceiling is not reached: the
+/// What is written of it, if `capacity` is less than `tokens` and the ceiling is not reached: the
 /// channel grows by one place for each token that it has no room for.
 fn grown_lines(alloc: Global, tokens: usize, capacity: usize) -> Result<String, Fail> {
     let mut lines = String::new(alloc);

@@ -21,7 +21,7 @@ const ROOM: usize = 16384;
 /// How many workers run each description: what is written is the same.
 pub(crate) const WORKERS: [&str; 3] = ["1", "2", "16"];
 
-/// The outcome of `kpn run` on a description by so many workers, with the stream of a channel where one
+/// The outcome of `kpn run` on a description by so many workers, with the stream of a channel if one
 /// is named.
 pub(crate) fn outcome_of<R: Threads + Wait + Clock + Sync>(
     rt: &R,
@@ -401,7 +401,7 @@ fn words_choose_what_is_done(rt: HostRuntime) -> Result<(), Fail> {
     Ok(())
 }
 
-/// Where a request for memory is refused, that is all that is told, and the status is 4. With ample
+/// If a request for memory is refused, that is all that is told, and the status is 4. With ample
 /// memory the run is told; `tests/refuse_each_allocation` refuses each request in turn.
 #[test]
 fn tells_a_refusal_or_the_run(rt: HostRuntime) -> Result<(), Fail> {

@@ -101,7 +101,7 @@ struct Edited {
 /// How many workers run each description.
 const WORKERS: [&str; 2] = ["1", "4"];
 
-/// The outcome of a description with edits, by so many workers, with the stream of a channel where
+/// The outcome of a description with edits, by so many workers, with the stream of a channel if
 /// one is named.
 fn outcome<R: Threads + Wait + Clock + Sync>(
     rt: &R,
@@ -314,7 +314,7 @@ fn channels_grow_to_the_higher_ceiling(rt: HostRuntime) -> Result<(), Fail> {
     Ok(())
 }
 
-/// A description with edits, and what is written where it is refused.
+/// A description with edits, and what is written if it is refused.
 static REFUSED: [(Edited, &str); 16] = [
     (
         Edited {

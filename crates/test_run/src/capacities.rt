@@ -32,7 +32,7 @@ fn with_capacities(alloc: Global, text: &str, capacities: &[usize]) -> Result<St
 }
 
 /// The report of Parks's case: nothing but capacities, growths and the number of entries depends on
-/// where the capacities start, and the third channel grows where it starts at one place.
+/// where the capacities start, and the third channel grows if it starts at one place.
 fn woven_lines(alloc: Global, capacities: [usize; 4]) -> Result<String, Fail> {
     let [c0, c1, c2, c3] = capacities;
     let (grown, growth, entries) = match c2 {

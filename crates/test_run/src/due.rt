@@ -135,7 +135,7 @@ fn stopped_in(standings: &[Standing]) -> usize {
         .count()
 }
 
-/// The text of a run's report, with the stream of a channel where one is to be shown.
+/// The text of a run's report, with the stream of a channel if one is to be shown.
 pub(crate) fn text_of<K: Kinds>(
     alloc: Global,
     finish: &Finish<K>,

@@ -57,7 +57,7 @@ impl Refused {
     }
 }
 
-/// Loads a description, again from its beginning where memory was refused.
+/// Loads a description, again from its beginning if memory was refused.
 fn load_again<R: Abort>(rt: &R, alloc: Global, text: &str) -> (Net<Standard>, Refused) {
     match load_text(alloc, text) {
         Ok(net) => return (net, Refused::Nothing),
@@ -74,7 +74,7 @@ fn load_text(alloc: Global, text: &str) -> Result<Net<Standard>, NetFault> {
     load(alloc, &mut source)
 }
 
-/// Runs Parks's case, again with what came back where memory was refused.
+/// Runs Parks's case, again with what came back if memory was refused.
 fn finish_again<B: Body, R: Threads + Wait + Clock + Abort + Sync>(
     rt: &R,
     alloc: Global,
@@ -95,7 +95,7 @@ fn finish_again<B: Body, R: Threads + Wait + Clock + Abort + Sync>(
     }
 }
 
-/// Reports, again where memory was refused.
+/// Reports, again if memory was refused.
 fn report_again<K: Kinds, R: Abort>(
     rt: &R,
     alloc: Global,
@@ -110,7 +110,7 @@ fn report_again<K: Kinds, R: Abort>(
     (report, Refused::Report)
 }
 
-/// The stream of the last channel, again where memory was refused.
+/// The stream of the last channel, again if memory was refused.
 fn stream_again<K: Kinds, R: Abort>(
     rt: &R,
     alloc: Global,
@@ -192,7 +192,7 @@ fn run_refused<R: Threads + Wait + Clock + Abort + Sync>(
     Ok(first_refused(&[load, run, told]))
 }
 
-/// Opens a machine of a counter and a sink, again with what came back where memory was refused.
+/// Opens a machine of a counter and a sink, again with what came back if memory was refused.
 fn machine_again<B: Body, R: Abort>(
     rt: &R,
     alloc: Global,
@@ -214,7 +214,7 @@ fn machine_again<B: Body, R: Abort>(
     }
 }
 
-/// Puts a machine under a lock, again with the machine that came back where memory was refused.
+/// Puts a machine under a lock, again with the machine that came back if memory was refused.
 fn opening_again<B: Body, R: Abort>(
     rt: &R,
     alloc: Global,
@@ -252,21 +252,21 @@ fn work_to_the_end<B: Body, E: EntryLedger, O: Ledger, R: Wait + Abort>(
     Ok(growth_refused(rt, ended_of(&closed), seen))
 }
 
-/// What stands where the growth was refused its memory: two puts, a take and a stop.
+/// What stands if the growth was refused its memory: two puts, a take and a stop.
 const BEFORE_THE_GROWTH: Progress = Progress {
     entries: 4,
     growths: 0,
     phase: Phase::Memory,
 };
 
-/// What stands where it wasn't.
+/// What stands if it wasn't.
 const AFTER_ALL: Progress = Progress {
     entries: 7,
     growths: 1,
     phase: Phase::Terminated,
 };
 
-/// Whether the growth was refused its memory, where the run is over.
+/// Whether the growth was refused its memory, if the run is over.
 fn growth_refused<R: Abort>(rt: &R, ended: Ended, seen: Progress) -> Refused {
     assert_eq!(rt; ended.receipts, ended.entries as u64);
     if ended.end == Some(End::Memory) {

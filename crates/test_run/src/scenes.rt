@@ -257,7 +257,7 @@ fn answer_once<B: Body, E: EntryLedger, O: Ledger, R: Wait + Abort>(
     }
 }
 
-/// No end stands, and no entry where the one task was dropped.
+/// No end stands, and no entry if the one task was dropped.
 fn has_no_end<R: Abort>(rt: &R, ended: Ended, dropped: bool) {
     assert!(rt; ended.end.is_none());
     assert_eq!(rt; ended.entries as u64, ended.receipts);

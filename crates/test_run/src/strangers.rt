@@ -105,8 +105,8 @@ fn close_after_one<B: Body, E: EntryLedger, O: Ledger, R: Abort>(
     Ok(())
 }
 
-/// The counter's answer in the one monitor comes to the other, where the counter isn't out: it is
-/// handed back, and accepted where it was asked for.
+/// The counter's answer in the one monitor comes to the other, if the counter isn't out: it is
+/// handed back, and accepted if it was asked for.
 fn stranger_between<B: Body, E: EntryLedger, O: Ledger, F: EntryLedger, P: Ledger, R: Wait + Abort>(
     rt: &R,
     alloc: Global,

@@ -1,4 +1,4 @@
--- Runs of valid networks of lawful kinds are well_typed.
+-- Runs of valid networks of lawful kinds are well-typed.
 use Rattle.kpn_laws.proofs.WellTyped.{always_sorted}
 use Rattle.kpn_laws.proofs.run.typed_runs.Goals as goal
 

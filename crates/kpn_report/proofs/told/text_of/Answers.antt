@@ -1,4 +1,4 @@
--- The first line, and the lines of the history where there is a detail.
+-- The first line, and the lines of the history if there is a detail.
 use Rattle.std.proofs.Common.{◌≡◌, ◌++◌, true, string_bytes, sym, ap, ◌∙◌}
 use Rattle.kpn_model.specs.declared.history.End.TheVariants.{Terminated}
 use Rattle.kpn_model.specs.History.{digest}

@@ -1,4 +1,4 @@
--- What is built is the network of the sketch, which is valid where the sketch has no fault.
+-- What is built is the network of the sketch, which is valid if the sketch has no fault.
 use Rattle.std.proofs.Common.{◌≡◌, None, rules, subst}
 use Rattle.std.specs.List.{All}
 use Rattle.kpn_net.specs.Faults.{first_fault}

@@ -1,4 +1,4 @@
--- A channel that is found is there.
+-- A channel that is found is one of the network's.
 use Rattle.std.proofs.Common.{arith}
 use Rattle.std.proofs.lemmas.Grind.{common_steps}
 use Rattle.kpn_net.proofs.PortsWithin.{found_within}

@@ -1,4 +1,4 @@
--- What is read of a table with the keys of its version is the channel of that table.
+-- The channel that is read from a table, if it has only the keys of its version, is the channel of that table.
 use Rattle.std.proofs.Common.{rules, ◌≡◌, true, Some}
 use Rattle.toml.specs.Data.{as_table}
 use Rattle.toml.specs.View.{view, table_view}

@@ -1,4 +1,4 @@
--- Some process is ready or out where one is counted.
+-- Some process is ready or out if one is counted.
 use Rattle.std.proofs.Common.{◌≡◌, ◌+◌, sym, ap, ◌∙◌, arith}
 use Rattle.std.specs.List.{count_by}
 use Rattle.std.specs.Prelude.{nat_lt}
