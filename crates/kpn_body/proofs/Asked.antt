@@ -1,4 +1,4 @@
--- What the tests ask is admitted.
+-- The inputs of the tests are admitted.
 use Rattle.std.proofs.Common.{◌≡◌, ◌∷◌, [], Some, None, arith, sym, subst}
 use Rattle.kpn_model.specs.declared.kinds.Card.{Card}
 use Rattle.kpn_model.specs.declared.token.Token.TheVariants.{Word}

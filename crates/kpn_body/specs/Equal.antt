@@ -1,4 +1,4 @@
--- Two answers are equal in at most one way.
+-- There is at most one proof that two answers are equal.
 use Rattle.std.specs.Prelude.{◌≡◌, ◌⊎◌, ℕ, Bool, List}
 use Rattle.std.specs.Coded.{Coded, Coded-set, code_by, coded×, coded⊎, coded_ℕ, coded_bool, coded_list}
 use base.Stored.{coded_unit}
@@ -25,7 +25,7 @@ token_of-plain (Flag f) = λ i. Flag f
 abbrev coded_token : Coded Token
 coded_token = code_by (ℕ ⊎ Bool) (coded⊎ coded_ℕ coded_bool) plain_token token_of token_of-plain
 
--- an act as one of its parts, and back
+-- an act as a sum of its variants, and back
 abbrev plain_act : Act → ℕ ⊎ ((ℕ × Token) ⊎ Unit {0})
 plain_act (Read k) = inl k
 plain_act (Write k t) = inr (inl (k, t))
@@ -47,6 +47,6 @@ coded_act = code_by (ℕ ⊎ ((ℕ × Token) ⊎ Unit {0})) (coded⊎ coded_ℕ 
 abbrev coded_answer : Coded Answer
 coded_answer = code_by (List ℕ × Act) (coded× (coded_list coded_ℕ) coded_act) (λ a. (a.next, a.act)) (λ p. record { next = p.0; act = p.1 }) (λ a i. a)
 
--- two answers are equal in at most one way
+-- there is at most one proof that two answers are equal
 pub answer_set : (a b : Answer) → IsProp (a ≡ b)
 answer_set a b = Coded-set coded_answer a b

@@ -20,7 +20,7 @@ input process card local last = record { process = process; card = card; local =
 abbrev pub answer_to : Family → Input → Answer
 answer_to family asked = family.answer asked.card asked.local asked.last
 
--- the answer is the family's, to an input that it admits, of a card that has a signature
+-- the answer is the family's, to an input that it admits, of a card with a signature
 pub record IsAnswerTo (signature : Card → Option Signature) (admits : Card → List ℕ → Option Token → Type 0) (family : Family) (asked : Input) (answer : Answer) : Type 0 where
   pub signed : IsSome (signature asked.card)
   pub admitted : admits asked.card asked.local asked.last

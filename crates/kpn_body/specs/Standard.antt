@@ -1,4 +1,4 @@
--- What the contracts of standard bodies speak of, for crates that use this one alone.
+-- The definitions that the contracts of standard bodies use, for crates that use this one alone.
 pub use Rattle.kpn_standard.specs.Standard.{standard}
 pub use Rattle.kpn_standard.specs.Signatures.{card, signature}
 pub use Rattle.kpn_standard.specs.Locals.{one, two, three}

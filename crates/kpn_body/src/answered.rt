@@ -5,9 +5,9 @@ ghost use Rattle.kpn_body.specs.Input.{input, answer_to, IsAnswerTo};
 use kpn_model::{Answer, Card, Kinds, Local, Token};
 use std::marker::{Model, PhantomData};
 
-/// What a process was asked, and the answer that its card gives for it.
+/// What a process was asked, and the answer that its card gives to it.
 ///
-/// It is made of a task alone, and can't be copied.
+/// Only a task makes one, and it can't be copied.
 #[derive(Drop)]
 pub struct Answered<K: Kinds> {
     process: usize,
@@ -29,7 +29,7 @@ impl<K: Kinds> Model for Answered<K> {
 }
 
 impl<K: Kinds> Answered<K> {
-    /// The answer of a process that was asked so.
+    /// The answer of a process to this input.
     pub(crate) fn new(
         process: usize,
         card: Card,
@@ -50,14 +50,14 @@ impl<K: Kinds> Answered<K> {
         }
     }
 
-    /// The number of the process.
+    /// Returns the number of the process.
     pub fn process(&self) -> usize
         ensures { result ≡ self.now.process }
     {
         self.process
     }
 
-    /// The card, which has a signature.
+    /// Returns the card, which has a signature.
     pub fn card(&self) -> Card
         ensures card { result ≡ self.now.card }
         ensures signed { IsSome (K.signature_of self.now.card) }
@@ -65,7 +65,7 @@ impl<K: Kinds> Answered<K> {
         self.card
     }
 
-    /// The local state in which the process was asked, which is admitted with the last token.
+    /// Returns the local state in which the process was asked, which is admitted with the last token.
     pub fn local(&self) -> Local
         ensures local { result ≡ self.now.local }
         ensures admitted { K.admits self.now.card self.now.local self.now.last }
@@ -73,14 +73,15 @@ impl<K: Kinds> Answered<K> {
         self.local
     }
 
-    /// The token of the read just done, when the process was asked.
+    /// Returns the token of the read just done when the process was asked; `None` if its last act was
+    /// no read.
     pub fn last(&self) -> Option<Token>
         ensures { result ≡ self.now.last }
     {
         self.last
     }
 
-    /// The answer: the card's for this local state and last token.
+    /// Returns the answer: the card's for this local state and last token.
     pub fn answer(&self) -> Answer
         ensures { result ≡ answer_to K.family self.now }
     {

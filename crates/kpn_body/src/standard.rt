@@ -23,8 +23,8 @@ pub struct StandardBody {
 }
 
 impl StandardBody {
-    /// A body of a card that has a signature: `call` may be called on all that the card admits, and
-    /// its answer is then the card's.
+    /// Makes a body of a card that has a signature. It must be allowed to call `call` with whatever the
+    /// card admits, and `call` must then return the card's answer.
     pub fn new(card: Card, call: Call) -> Self
         requires signed { IsSome (signature card) }
         requires callable { IsCallable (Admitted card) (pre call) }

@@ -7,8 +7,8 @@ use crate::body::Body;
 use kpn_model::{Answer, Card, Kinds, Local, Token};
 use std::marker::Model;
 
-/// A process that is asked for its next act, with the body that answers for it: the family admits
-/// its local state and last token for the body's card.
+/// A process that is asked for its next act, with the body that answers for it. The family admits its
+/// local state and last token for the body's card.
 ///
 /// A task can't be copied, and `call` calls its body once.
 #[derive(Drop)]
@@ -30,7 +30,8 @@ impl<B: Body> Model for Task<B> {
 }
 
 impl<B: Body> Task<B> {
-    /// A task of the process of this number, in this local state, if it has just read `last`.
+    /// Makes a task of process `process`, in this local state, after it has just read `last` (`None` if
+    /// its last act was no read). The body's card must admit the two.
     pub fn new(process: usize, body: B, local: Local, last: Option<Token>) -> Self
         requires { B.Kinds.admits (B.card body) local last }
         ensures { result ≡ input process (B.card body) local last }
@@ -43,14 +44,14 @@ impl<B: Body> Task<B> {
         }
     }
 
-    /// The number of the process.
+    /// Returns the number of the process.
     pub fn process(&self) -> usize
         ensures { result ≡ self.now.process }
     {
         self.process
     }
 
-    /// The body's card, which has a signature.
+    /// Returns the body's card, which has a signature.
     pub fn card(&self) -> Card
         ensures card { result ≡ self.now.card }
         ensures signed { IsSome (B.Kinds.signature_of self.now.card) }
@@ -58,7 +59,7 @@ impl<B: Body> Task<B> {
         self.body.card()
     }
 
-    /// The local state, which is admitted with the last token.
+    /// Returns the local state, which is admitted with the last token.
     pub fn local(&self) -> Local
         ensures local { result ≡ self.now.local }
         ensures admitted { B.Kinds.admits self.now.card self.now.local self.now.last }
@@ -66,14 +67,14 @@ impl<B: Body> Task<B> {
         self.local
     }
 
-    /// The token of the read just done.
+    /// Returns the token of the read just done; `None` if the last act was no read.
     pub fn last(&self) -> Option<Token>
         ensures { result ≡ self.now.last }
     {
         self.last
     }
 
-    /// Calls the body, and keeps its answer with what it was asked. Takes no lock and no memory.
+    /// Calls the body, and returns its answer with what it was asked. Takes no lock and no memory.
     #[inline]
     pub fn call(self) -> Finished<B>
         ensures { result ≡ self }
@@ -82,8 +83,8 @@ impl<B: Body> Task<B> {
         self.answered(answer)
     }
 
-    /// Calls the body, and leaves the task where it lies: `answered` puts the two together. Whoever asks
-    /// twice calls the body twice. Takes no lock and no memory.
+    /// Calls the body and returns its answer, and leaves the task where it is: `answered` puts the two
+    /// together. Each call calls the body. Takes no lock and no memory.
     #[inline]
     pub fn ask(&self) -> Answer
         ensures { result ≡ answer_to B.Kinds.family self.now }
@@ -91,7 +92,7 @@ impl<B: Body> Task<B> {
         self.body.answer(self.local, self.last)
     }
 
-    /// Keeps the answer that `ask` gave with what was asked.
+    /// Puts the answer that `ask` returned together with the task.
     #[inline]
     pub fn answered(self, answer: Answer) -> Finished<B>
         requires { answer ≡ answer_to B.Kinds.family self }
@@ -111,7 +112,7 @@ impl<B: Body> Task<B> {
 
 /// A task that was called: its answer, beside the body.
 ///
-/// It is made of a task alone, by `Task::call` or `Task::answered`, and can't be copied. Its card is the
+/// Only a task makes one, by `Task::call` or `Task::answered`, and it can't be copied. Its card is the
 /// body's, and its answer is the card's for the local state and the last token that it holds.
 #[derive(Drop)]
 pub struct Finished<B: Body> {
@@ -131,14 +132,14 @@ impl<B: Body> Model for Finished<B> {
 }
 
 impl<B: Body> Finished<B> {
-    /// The number of the process.
+    /// Returns the number of the process.
     pub fn process(&self) -> usize
         ensures { result ≡ self.now.process }
     {
         self.answered.process()
     }
 
-    /// The body's card, which has a signature.
+    /// Returns the body's card, which has a signature.
     pub fn card(&self) -> Card
         ensures card { result ≡ self.now.card }
         ensures signed { IsSome (B.Kinds.signature_of self.now.card) }
@@ -146,7 +147,7 @@ impl<B: Body> Finished<B> {
         self.answered.card()
     }
 
-    /// The local state in which the process was asked, which is admitted with the last token.
+    /// Returns the local state in which the process was asked, which is admitted with the last token.
     pub fn local(&self) -> Local
         ensures local { result ≡ self.now.local }
         ensures admitted { B.Kinds.admits self.now.card self.now.local self.now.last }
@@ -154,21 +155,22 @@ impl<B: Body> Finished<B> {
         self.answered.local()
     }
 
-    /// The token of the read just done, when the process was asked.
+    /// Returns the token of the read just done when the process was asked; `None` if its last act was
+    /// no read.
     pub fn last(&self) -> Option<Token>
         ensures { result ≡ self.now.last }
     {
         self.answered.last()
     }
 
-    /// The answer: the card's for this local state and last token.
+    /// Returns the answer: the card's for this local state and last token.
     pub fn answer(&self) -> Answer
         ensures { result ≡ answer_to B.Kinds.family self.now }
     {
         self.answered.answer()
     }
 
-    /// The body alone, whose card is the one that it had.
+    /// Returns the body alone; its card is unchanged.
     pub fn into_body(self) -> B
         ensures { B.card result ≡ self.card }
     {
@@ -176,7 +178,7 @@ impl<B: Body> Finished<B> {
         body
     }
 
-    /// The answer with what was asked, and the body, whose card is the one that it had.
+    /// Returns the answer with what was asked, and the body, whose card is unchanged.
     pub fn into_parts(self) -> (Answered<B::Kinds>, B)
         ensures answered { result.0 ≡ self }
         ensures card { B.card result.1 ≡ self.card }

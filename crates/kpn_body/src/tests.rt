@@ -11,7 +11,7 @@ use kpn_model::{Answer, Card, Kinds, Local, Token};
 use std::process::Abort;
 use std::test::Fail;
 
-/// Process 5 is asked so: its readers before and after the call, its answer, and the body back.
+/// Asks process 5: its readers before and after the call, its answer, and the body back.
 fn asked<B: Body>(
     rt: &impl Abort,
     body: B,
@@ -37,8 +37,7 @@ fn asked<B: Body>(
     Ok(finished.into_body())
 }
 
-/// The same by a task that is asked where it lies, and by the answer alone, which a caller may keep
-/// beside the body.
+/// The same with `ask`, and with the answer alone, which a caller may keep beside the body.
 fn asked_in_parts<B: Body>(
     rt: &impl Abort,
     body: B,

@@ -1,4 +1,4 @@
--- What a deed enables: the process at the other end of its channel alone.
+-- A deed enables at most the process at the other end of its channel.
 use Rattle.std.proofs.Common.{◌≡◌, ◌≢◌, ⊎_elim, List, [], ◌∷◌, length, refl, sym, ap, ◌∙◌, arith, ℕ, ◌<◌, Some, None, subst}
 use Rattle.std.proofs.lemmas.Bool.{cases_eq}
 use Rattle.kpn_model.specs.declared.token.Token.{Token}
@@ -22,7 +22,7 @@ module _ (kinds : Family) (net : Network) where
   Touches (Put b t) c = c ≡ b
   Touches Stopped c = ⊥
 
-  -- a channel that a deed is not on holds what it held
+  -- a channel that the deed is not on keeps its tokens
   untouched : (M : State) (p : ℕ) (next : List ℕ) (d : Deed) (c : ℕ) → (Touches d c → ⊥) → tokens (after_deed kinds net M p next d) c ≡ tokens M c
   untouched M p next Stopped c h = refl
   untouched M p next (Took b t) c h = tokens_set_other (with_status M p (Live next (Some t))) b c _ _ h
@@ -33,7 +33,7 @@ module _ (kinds : Family) (net : Network) where
   touched (Put b t) c on off = ⊎_elim on off (cases_eq c b)
   touched Stopped c on off = off (λ h. h)
 
-  -- a reader of the deed's channel is the doer or its partner
+  -- a reader of the deed's channel is the process of the deed or its partner
   reader_is : (M : State) (p : ℕ) (a : Act) (d : Deed) (q k c : ℕ) → IsDeed kinds net M p a d → in_of net q k ≡ Some c → Touches d c → q ≢ p → partner net d ≢ Some q → ⊥
   reader_is M p a Stopped q k c is at on ne np = on
   reader_is M p a (Took b t) q k c is at on ne np =
@@ -64,7 +64,7 @@ module _ (kinds : Family) (net : Network) where
       let same_length = ap (λ (l : List Token). length l) same in
       (can.0, can.1, omega arith)
 
-  -- a token in front
+  -- a list with a first token is not empty
   some_token : (t : Token) (ts xs : List Token) → xs ≡ t ∷ ts → xs ≢ []
   some_token t ts xs e f = cc
 

@@ -16,7 +16,7 @@ use Rattle.kpn_commit.specs.Works.{end_after}
 use Rattle.kpn_state.proofs.Contradictions.{true_false}
 
 module _ (kinds : Family) (net : Network) where
-  -- if a growth is due, the run has no end but for want of memory
+  -- if a growth is due, the run can only end because memory was refused
   due_memory : (M : State) (end : End) → EndsBy kinds net M end → CanGrow kinds net M → end ≡ Memory
   due_memory M Terminated h can = absurd (over_grows_not kinds net M Terminated can.channel can.to can.next h can.grows)
   due_memory M Deadlock h can = absurd (over_grows_not kinds net M Deadlock can.channel can.to can.next h can.grows)

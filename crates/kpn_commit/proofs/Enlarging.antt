@@ -1,4 +1,4 @@
--- The growth of the chosen channel and its writer's put, as the definitions' steps.
+-- The growth of the chosen channel and its writer's put are steps of the definitions.
 use Rattle.std.proofs.Common.{◌≡◌, List, length, refl, sym, ap, ◌∙◌, arith, ℕ, ◌<◌, ◌≤◌, ◌+◌, min, false, Some, None, Option, set, subst}
 use Rattle.std.proofs.lemmas.Option.{same_Some}
 use Rattle.std.specs.List.{list_any}
@@ -52,7 +52,7 @@ module _ (kinds : Family) (admits : Card → List ℕ → Option Token → Type 
       let some = k.smallest c (out_of-writer net w x.0 c x.3).0 in
       omega arith
 
-  -- after the growth none but the writer may go on
+  -- after the growth no parked process but the writer can go on
   pub keeps_enlarged : (s1 : StateAndHistory) → s1 ≡ more s after_growth (Grew c to) → capacity s.state c ≤ to → to ≤ net.ceiling → StandingsFit kinds admits net (Some w) s1.state standings
   keeps_enlarged s1 first more few = subst (λ (x : StateAndHistory). StandingsFit kinds admits net (Some w) x.state standings) (sym first) (keeps_grown kinds admits net s.state c to within standings w k is_writer more few)
 
@@ -76,7 +76,7 @@ module _ (kinds : Family) (admits : Card → List ℕ → Option Token → Type 
       (keeps_put kinds admits net s.state c to within standings w a.next put.0 moved k is_writer holds there (moves ∙ ap (λ (x : Deed). set standings w (place_after x)) put.1) by_put)
 
   module _ (idle : list_any is_busy standings ≡ false) (best : IsSmallest net s.state standings (length standings) (Some (c, w))) (below : capacity s.state c < net.ceiling) (to_is : to ≡ min (capacity s.state c + net.step) net.ceiling) where
-    -- the growth is the definition's
+    -- the growth is that of the definitions
     pub growth : Grows kinds net s.state c to after_growth
     growth =
         record {

@@ -32,7 +32,7 @@ module _ (kinds : Family) (admits : Card → List ℕ → Option Token → Type 
   same_tokens d =
       ⊎_elim (λ (e : d ≡ c). ap (λ x. tokens grown x) e ∙ tokens_set_same M c (tokens M c) to within ∙ ap (λ x. tokens M x) (sym e)) (λ ne. tokens_set_other M c d (tokens M c) to ne) (cases_eq d c)
 
-  -- what another than the channel's writer can do after the growth, it could do before
+  -- what a process other than the channel's writer can do after the growth, it could do before
   possible_ungrown : (w q : ℕ) (x : Act) → (channel_of net c).writer ≡ w → q ≢ w → IsPossible kinds net grown q x → IsPossible kinds net M q x
   possible_ungrown w q Stop writer ne can = tt
   possible_ungrown w q (Read k) writer ne can = (can.0, can.1, λ e. can.2 (same_tokens can.0 ∙ e))
@@ -43,7 +43,7 @@ module _ (kinds : Family) (admits : Card → List ℕ → Option Token → Type 
       let short : length (tokens grown can.0) < capacity grown can.0 = can.2 in
       (can.0, can.1, omega arith)
 
-  -- after the growth none but the channel's writer may go on
+  -- after the growth no parked process but the channel's writer can go on
   pub keeps_grown :
       (standings : List Standing) (w : ℕ) → StandingsFit kinds admits net None M standings → (channel_of net c).writer ≡ w → capacity M c ≤ to → to ≤ net.ceiling
       → StandingsFit kinds admits net (Some w) grown standings

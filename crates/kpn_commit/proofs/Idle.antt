@@ -1,4 +1,4 @@
--- If no process is ready or out, the parked ones decide.
+-- If no process is ready or out, the parked ones decide how the run goes on.
 use Rattle.std.proofs.Common.{◌≡◌, ◌≢◌, ⊎_elim, List, length, refl, sym, ap, ◌∙◌, arith, ℕ, ◌<◌, Bool, true, false, Some, None, Option, subst}
 use Rattle.std.proofs.lemmas.Bool.{cases_lt}
 use Rattle.std.proofs.lemmas.Option.{same_Some}
@@ -19,7 +19,7 @@ use Rattle.kpn_commit.specs.Choice.{written_by, awaited_by, awaited, IsSmallest}
 use Rattle.kpn_state.proofs.Placed.{idle_at, stopped_at, one_live}
 use Rattle.kpn_state.proofs.Contradictions.{none_some, true_false}
 
--- what is awaited, is awaited by a parked process
+-- a process for which a channel is awaited is parked with a write to it
 awaiting : (net : Network) (p c : ℕ) (x : Standing) → awaited_by net p x ≡ Some c → (a : Answer) × (x ≡ Parked a) × (written_by net p a.act ≡ Some c)
 awaiting net p c Ready e = cc
 awaiting net p c Out e = cc
@@ -61,7 +61,7 @@ module _ (kinds : Family) (admits : Card → List ℕ → Option Token → Type 
     blocked_awaits p c b =
         ap (λ x. awaited_by net p x) (wants_parked p b.answer (idle_at standings p idle) b.wanted) ∙ ap (λ x. written_by net p x) b.act ∙ b.at
 
-  -- who awaits a channel is a blocked writer
+  -- a process that awaits a channel is a blocked writer
   pub awaits_blocked : (p c : ℕ) → awaited net standings p ≡ Some c → IsBlocked kinds net M p c
   awaits_blocked p c e =
       let at = awaiting net p c (standing standings p) e in
@@ -77,7 +77,7 @@ module _ (kinds : Family) (admits : Card → List ℕ → Option Token → Type 
         full = ⊎_elim (λ room. absurd (cant (subst (λ x. IsPossible kinds net M p x) (sym act.2) (c, act.3, room)))) (λ full. full) (cases_lt (length (tokens M c)) (capacity M c));
       }
 
-  -- it is there
+  -- it is a process of the network
   pub awaits_within : (p c : ℕ) → awaited net standings p ≡ Some c → p < length standings
   awaits_within p c e =
       let b = awaits_blocked p c e in
@@ -105,7 +105,7 @@ module _ (kinds : Family) (admits : Card → List ℕ → Option Token → Type 
     pub smallest_artificial : (c w : ℕ) → IsSmallest net M standings (length standings) (Some (c, w)) → IsArtificial kinds net M
     smallest_artificial c w best = record { quiet = idle_quiet idle; writer = w; channel = c; blocked = awaits_blocked w c best.0 }
 
-    -- if none waits to write, none is blocked on a write
+    -- if no process waits to write, none is blocked on a write
     pub none_blocked : IsSmallest net M standings (length standings) None → (p c : ℕ) → IsBlocked kinds net M p c → ⊥
     none_blocked none p c b =
         let waits = blocked_awaits idle p c b in

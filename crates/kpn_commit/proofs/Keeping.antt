@@ -1,4 +1,4 @@
--- What the machine keeps of its state through deeds and moves.
+-- The invariant of the machine's state is kept by deeds and moves.
 use Rattle.std.proofs.Common.{◌≡◌, ◌≢◌, ⊎_elim, List, length, refl, sym, ap, ◌∙◌, ℕ, ◌<◌, ◌≤◌, Some, None, Option, set, length-set, subst}
 use Rattle.std.proofs.lemmas.Bool.{cases_eq}
 use Rattle.kpn_model.specs.declared.token.Token.{Token}
@@ -21,7 +21,7 @@ use Rattle.kpn_state.proofs.Placed.{place_set_same, place_set_other, acted_not_p
 use Rattle.kpn_state.proofs.Contradictions.{none_some}
 use Rattle.kpn_commit.proofs.Deeds.{possible_before, partner_back}
 
--- a process after its deed has stopped exactly where it stands so
+-- a process has stopped after its deed exactly when its standing says so
 ended_after : (a : Answer) (d : Deed) → place_after d ≡ Ended → after (Some a) d ≡ Done
 ended_after a (Took c t) e = cc
 ended_after a (Put c t) e = cc
@@ -36,12 +36,12 @@ some_same : (p q : ℕ) → Some p ≡ Some q → p ≡ q
 some_same p q e = cc
 
 module _ (kinds : Family) (admits : Card → List ℕ → Option Token → Type 0) (net : Network) where
-  -- who may be spared, though none need be
+  -- one process may be spared, even if none need be
   pub keeps_sparing : (M : State) (standings : List Standing) (p : ℕ) → StandingsFit kinds admits net None M standings → StandingsFit kinds admits net (Some p) M standings
   keeps_sparing M standings p k =
       record { processes = k.processes; channels = k.channels; standing = k.standing; well_typed = k.well_typed; smallest = k.smallest; greatest = k.greatest; stopped = k.stopped; done = k.done; wanted = k.wanted; blocked = λ q a ne e. k.blocked q a (λ f. none_some q f) e }
 
-  -- where the spared process is not parked, or can't go on either, none was spared
+  -- if the spared process is not parked, or can't go on either, none need be spared
   pub keeps_all :
       (M : State) (standings : List Standing) (spared : Option ℕ) → StandingsFit kinds admits net spared M standings
       → ((q : ℕ) (a : Answer) → spared ≡ Some q → standing standings q ≡ Parked a → IsPossible kinds net M q a.act → ⊥) → StandingsFit kinds admits net None M standings
@@ -49,7 +49,7 @@ module _ (kinds : Family) (admits : Card → List ℕ → Option Token → Type 
   keeps_all M standings (Some p) k h =
       record { processes = k.processes; channels = k.channels; standing = k.standing; well_typed = k.well_typed; smallest = k.smallest; greatest = k.greatest; stopped = k.stopped; done = k.done; wanted = k.wanted; blocked = λ q a ne e. ⊎_elim (λ (x : q ≡ p). h q a (ap Some (sym x)) e) (λ y. k.blocked q a (λ f. y (sym (some_same p q f))) e) (cases_eq q p) }
 
-  -- a live process may be moved, if what it is parked with is wanted and can't be done
+  -- a live process may be parked, if it wants its answer and can't do it
   pub keeps_moved :
       (M : State) (standings : List Standing) (p : ℕ) (x : Standing) → StandingsFit kinds admits net None M standings → p < length standings → x ≢ Ended → status M p ≢ Done
       → ((a : Answer) → x ≡ Parked a → (wants kinds net M p ≡ Some a) × (IsPossible kinds net M p a.act → ⊥)) → StandingsFit kinds admits net None M (set standings p x)
@@ -80,7 +80,7 @@ module _ (kinds : Family) (admits : Card → List ℕ → Option Token → Type 
       }
 
   module _ (signature : Card → Option Signature) (valid : IsValid signature net) where
-    -- a deed moves its process on, and may enable the process at the other end of its channel alone
+    -- a deed moves its process on, and enables at most the process at the other end of its channel
     pub keeps_deed :
         (M : State) (standings : List Standing) (p : ℕ) (a : Answer) (d : Deed) → StandingsFit kinds admits net (Some p) M standings → p < length standings
         → wants kinds net M p ≡ Some a → IsDeed kinds net M p a.act d → NamesPort signature (card_of net p) a.act → LeadsOn signature admits (card_of net p) a (read_by d)

@@ -1,4 +1,4 @@
--- The machine's own steps, as the definitions' steps.
+-- The machine's own steps are steps of the definitions.
 use Rattle.std.proofs.Common.{◌≡◌, List, sym, ap, ◌∙◌, ℕ, Some, Option, set, subst}
 use Rattle.std.proofs.lemmas.Option.{same_Some}
 use Rattle.kpn_model.specs.declared.token.Token.{Token}
@@ -21,7 +21,7 @@ module _ (kinds : Family) (net : Network) where
       let same : e.answer ≡ a = same_Some _ _ (sym e.wanted ∙ w) in
       cant (subst (λ (x : Answer). IsPossible kinds net M p x.act) same e.possible)
 
-  -- a deed of what a process wants is one of its own
+  -- a deed of what a process wants is a step of that process
   pub acted :
       (s : StateAndHistory) (standings : List Standing) (p : ℕ) (a : Answer) (d : Deed) (t : StateAndHistory) (moved : List Standing)
       → wants kinds net s.state p ≡ Some a → IsDeed kinds net s.state p a.act d → t ≡ more s (after_deed kinds net s.state p a.next d) (Did p d) → moved ≡ set standings p (place_after d)

@@ -22,7 +22,7 @@ use Rattle.kpn_state.proofs.Contradictions.{true_false}
 pub longer : (s t : StateAndHistory) (M : State) (e : Entry) → t ≡ more s M e → (length t.history ≡ length s.history + 1) × (t.room ≡ s.room)
 longer s t M e is = (ap (λ (x : StateAndHistory). length x.history) is ∙ length-append s.history (e ∷ []), ap (λ (x : StateAndHistory). x.room) is)
 
--- a deed with a process at the other end leaves its own ready
+-- a process whose deed has a process at its other end is ready afterwards
 partner_ready : (net : Network) (d : Deed) (q : ℕ) → partner net d ≡ Some q → place_after d ≡ Ready
 partner_ready net (Took c t) q e = refl
 partner_ready net (Put c t) q e = refl
@@ -37,7 +37,7 @@ module _ (kinds : Family) (net : Network) where
       let still : standing moved p ≡ Ready = ap (λ (l : List Standing). standing l p) h.second.moves ∙ place_set_other h.places_between h.other p (place_after h.handed) other ∙ here ∙ partner_ready net h.deed h.other h.at_other_end in
       busy_at moved p (ap is_busy still)
 
-  -- if none is ready or out after a reaction, it appended at most one entry
+  -- if no process is ready or out after a reaction, the reaction appended at most one entry
   pub reaction_room :
       (s : StateAndHistory) (standings : List Standing) (p : ℕ) (a : Answer) (r : Reaction) (t : StateAndHistory) (moved : List Standing)
       → p < length standings → length s.history + 3 ≤ s.room → Reacts kinds net s standings p a r t moved → list_any is_busy moved ≡ false → length t.history + 2 ≤ t.room

@@ -20,7 +20,7 @@ awaited_by net p Out = None
 awaited_by net p (Parked a) = written_by net p a.act
 awaited_by net p Stopped = None
 
--- the channel to which p, which is parked, waits to write
+-- the channel to which p waits to write, if it is parked with a write
 abbrev pub awaited : Network → List Standing → ℕ → Option ℕ
 awaited net standings p = awaited_by net p (standing standings p)
 
@@ -28,8 +28,8 @@ awaited net standings p = awaited_by net p (standing standings p)
 abbrev pub IsNoLater : State → ℕ → ℕ → Type 0
 IsNoLater M c d = (capacity M c < capacity M d) ⊎ ((capacity M c ≡ capacity M d) × (c ≤ d))
 
--- of the first processes none waits to write; or this one does, to the smallest such channel, and of
--- equal ones to the one of least number
+-- none of the first `count` processes waits to write; or this process does, to the smallest such channel, and among equals to the
+-- one of least number
 abbrev pub IsSmallest : Network → State → List Standing → ℕ → Option (ℕ × ℕ) → Type 0
 IsSmallest net M standings count None = (q : ℕ) → q < count → awaited net standings q ≡ None
 IsSmallest net M standings count (Some best) =

@@ -31,7 +31,8 @@ pub record Handed (kinds : Family) (net : Network) (s : StateAndHistory) (standi
   pub handed : Deed
   pub second : Acted kinds net between places_between other handed t moved
 
--- p, which answered a, can't do it and is parked; or it does it; or it also hands on
+-- p answered a: it can't do it and is parked; or it does it; or it does it and the parked process at the other end of the channel
+-- goes on too
 abbrev pub Reacts : Family → Network → StateAndHistory → List Standing → ℕ → Answer → Reaction → StateAndHistory → List Standing → Type 0
 Reacts kinds net s standings p a Waits t moved = (IsEnabled kinds net s.state p → ⊥) × (t ≡ s) × (moved ≡ set standings p (Parked a))
 Reacts kinds net s standings p a Acts t moved = (d : Deed) × Acted kinds net s standings p d t moved

@@ -24,7 +24,7 @@ pub record CanGrow (kinds : Family) (net : Network) (M : State) : Type 0 where
   pub next : State
   pub grows : Grows kinds net M channel to next
 
--- the run is over for this cause; of want of memory, that a growth is due
+-- the run is over for this cause; for `Memory`, a growth is due
 abbrev pub EndsBy : Family → Network → State → End → Type 0
 EndsBy kinds net M Terminated = IsOver kinds net M Terminated
 EndsBy kinds net M Deadlock = IsOver kinds net M Deadlock
@@ -44,7 +44,7 @@ pub record GrowsAndPuts (kinds : Family) (net : Network) (s : StateAndHistory) (
   pub token : Token
   pub puts : Acted kinds net (more s grown (Grew channel to)) standings writer (Put channel token) t moved
 
--- some process is ready or out; or none is, and the run ends or the chosen channel grows
+-- some process is ready or out; or none is, and the run ends, or the chosen channel grows
 abbrev pub Settles : Family → Network → StateAndHistory → List Standing → Settled → StateAndHistory → List Standing → Type 0
 Settles kinds net s standings Busy t moved = (list_any is_busy standings ≡ true) × (t ≡ s) × (moved ≡ standings)
 Settles kinds net s standings (Ended end) t moved = (list_any is_busy standings ≡ false) × (t ≡ s) × (moved ≡ standings) × EndsBy kinds net s.state end

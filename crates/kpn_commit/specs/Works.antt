@@ -1,4 +1,4 @@
--- The work of a commit: a reaction, and what follows when no process is then ready or out.
+-- The work of a commit: a reaction, and what follows if no process is then ready or out.
 use Rattle.std.specs.Prelude.{◌≡◌, ℕ, ◌+◌, List, Option, Some, None, length, nat_le, if◌then◌else◌}
 use Rattle.kpn_model.specs.declared.kinds.Answer.{Answer}
 use Rattle.kpn_model.specs.declared.history.End.{End}
@@ -31,7 +31,7 @@ outcome_of Waits settled = Parked (settled_entries settled)
 outcome_of Acts settled = Done (1 + settled_entries settled)
 outcome_of HandsOn settled = Done (2 + settled_entries settled)
 
--- how the run ends: by a cause that was found, or else if the budget is spent
+-- how the run ends: by the cause that was found; else by its budget, if it is spent
 abbrev pub end_after : Settled → ℕ → ℕ → Option End
 end_after Busy budget entries = if nat_le budget entries then Some Budget else None
 end_after (Ended end) budget entries = Some end

@@ -1,4 +1,4 @@
-//! Doing what a process wants, if it can be done.
+//! Does what a process wants, if it can be done.
 ghost use Rattle.std.specs.Prelude.{◌≡◌, ◌≢◌, ◌<◌, length, set, Some, IfSome, IfNone, IsSome};
 ghost use Rattle.kpn_model.specs.Network.{card_of};
 ghost use Rattle.kpn_model.specs.Lawful.{NamesPort, LeadsOn, read_by};
@@ -12,7 +12,7 @@ use kpn_net::{Act, Answer, Card, Deed, Kinds, Local, Net, Status, Token};
 use kpn_state::standing::place_after;
 use kpn_state::{Roster, Store};
 
-/// Reads, where the channel holds a token.
+/// Reads, if the channel holds a token; otherwise returns `None`, and nothing changes.
 #[inline(always)]
 fn read<K: Kinds>(
     net: &Net<K>,
@@ -38,7 +38,8 @@ fn read<K: Kinds>(
     Some(Deed::Took { channel, token })
 }
 
-/// Writes, where the channel holds fewer tokens than it may.
+/// Writes, if the channel holds fewer tokens than its capacity; otherwise returns `None`, and nothing
+/// changes.
 #[inline(always)]
 fn write<K: Kinds>(
     net: &Net<K>,
@@ -65,7 +66,7 @@ fn write<K: Kinds>(
     Some(Deed::Put { channel, token })
 }
 
-/// Does what a process answered, if it can be done.
+/// Does what a process answered, if it can be done; otherwise returns `None`, and nothing changes.
 #[inline(always)]
 fn perform<K: Kinds>(
     net: &Net<K>,
@@ -91,7 +92,8 @@ fn perform<K: Kinds>(
     }
 }
 
-/// The laws of the family at one answer, and the deed that it led to.
+/// Does nothing: a caller knows from here on the laws of the family for one answer and the deed that it
+/// led to.
 fn obey<K: Kinds>(card: Card, local: Local, last: Option<Token>, deed: Deed)
     requires signed { IsSome (K.signature_of card) }
     requires admitted { K.admits card local last }
@@ -106,7 +108,8 @@ fn obey<K: Kinds>(card: Card, local: Local, last: Option<Token>, deed: Deed)
     K::leads_on(card, local, last, token);
 }
 
-/// Does what a process answered, if it can be done, and moves the process on.
+/// Does what a process answered and moves the process on, if it can be done; otherwise returns `None`,
+/// and nothing changes.
 #[inline(always)]
 pub fn advance<K: Kinds>(
     net: &Net<K>,

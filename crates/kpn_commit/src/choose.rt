@@ -17,7 +17,7 @@ fn awaited<K: Kinds>(net: &Net<K>, standings: &[Standing], process: usize) -> Op
     }
 }
 
-/// Whether a channel is smaller than another, or as small and of less number.
+/// Whether a channel has less capacity than another, or the same and no greater number.
 fn is_before(store: &Store, channel: usize, other: usize) -> bool
     requires channel { channel < length store.now.state.channels }
     requires other { other < length store.now.state.channels }
@@ -29,8 +29,9 @@ fn is_before(store: &Store, channel: usize, other: usize) -> bool
     capacity < other_capacity || (capacity == other_capacity && channel < other)
 }
 
-/// The smallest channel to which a parked process waits to write, of equal ones the one of least
-/// number, and that process (Parks 1995: the smallest full channel grows).
+/// Returns the smallest channel to which a parked process waits to write (among equals the one of least
+/// number), and that process; `None` if there is none. It is the smallest full channel, which grows
+/// (Parks 1995).
 pub fn choose<K: Kinds>(
     net: &Net<K>,
     store: &Store,

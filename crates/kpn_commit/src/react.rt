@@ -1,4 +1,5 @@
-//! What follows an answer: a deed or a wait, and the deed of the parked process that it enables.
+//! What an answer does at once: a deed, or the process is parked; and the deed of the parked process
+//! that it enables.
 ghost use Rattle.std.specs.Prelude.{◌≡◌, ◌≢◌, ◌<◌, ◌≤◌, ◌+◌, length, Some, None};
 ghost use Rattle.kpn_model.specs.Semantics.{wants, status};
 ghost use Rattle.kpn_model.specs.declared.history.Status.TheVariants.{Done};
@@ -11,8 +12,9 @@ use kpn_net::{Answer, Kinds, Net};
 use kpn_state::standing::{parked, partner};
 use kpn_state::{Roster, Standing, Store};
 
-/// What a process's answer led to: it could not be done and waits; it was done; or it was done, and
-/// then the parked process at the other end of the channel did what it had answered.
+/// What a process's answer led to. `Waits`: it could not be done, and the process is parked. `Acts`: it
+/// was done. `HandsOn`: it was done, and then the parked process at the other end of the channel did
+/// what it had answered.
 #[derive(Clone, Copy, Debug, PartialEq, Eq)]
 pub enum Reaction {
     Waits,
@@ -20,8 +22,8 @@ pub enum Reaction {
     HandsOn,
 }
 
-/// Does the answer of a process that is out or parks it with it, and does the deed of the parked
-/// process that it enables.
+/// Does the answer of a process that is out, or parks the process with it; then does the deed of the
+/// parked process that this enables. The history must have room for two entries.
 #[inline(always)]
 pub fn react<K: Kinds>(
     net: &Net<K>,

@@ -10,8 +10,8 @@ use kpn_net::{End, Kinds, Net};
 use kpn_state::standing::parked;
 use kpn_state::{Roster, Store};
 
-/// What was found: some process is ready or out; or none is, and the run ended, or a channel grew
-/// and its writer's token was put.
+/// How the run goes on. `Busy`: some process is ready or out. `Ended`: none is, and the run ended.
+/// `Enlarged`: none was, a channel grew, and its writer's token was put.
 #[derive(Clone, Copy, Debug, PartialEq, Eq)]
 pub enum Settled {
     Busy,
@@ -31,8 +31,8 @@ fn enlarged(capacity: usize, step: usize, ceiling: usize) -> usize
     }
 }
 
-/// Ends the run or lets the chosen channel grow and its writer put its token. If the growth is
-/// refused memory, the run ends.
+/// Ends the run, or lets the chosen channel grow and its writer put its token. The run also ends if the
+/// growth is refused memory.
 #[cold]
 #[inline(never)]
 fn settle_idle<K: Kinds>(net: &Net<K>, store: &mut Store, standings: &mut Roster) -> Settled
@@ -66,8 +66,9 @@ fn settle_idle<K: Kinds>(net: &Net<K>, store: &mut Store, standings: &mut Roster
     Settled::Enlarged
 }
 
-/// If no process is ready or out, ends the run or lets the chosen channel grow and its writer put
-/// its token. If the growth is refused memory, the run ends.
+/// If no process is ready or out, ends the run, or lets the chosen channel grow and its writer put its
+/// token (Parks 1995). The run also ends if the growth is refused memory. In this case the history must
+/// have room for two entries.
 #[inline(always)]
 pub fn settle<K: Kinds>(net: &Net<K>, store: &mut Store, standings: &mut Roster) -> Settled
     requires keeps { StandingsFit K.family K.admits net.now None store.old.state standings.old }

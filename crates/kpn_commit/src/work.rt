@@ -11,7 +11,7 @@ use crate::settle::{Settled, settle};
 use kpn_net::{Answer, End, Kinds, Net};
 use kpn_state::{Roster, Store};
 
-/// How many entries were appended if no process was ready or out.
+/// How many entries were appended after the reaction.
 fn settled_entries(settled: Settled) -> usize
     ensures value { result ≡ settled_entries settled }
     ensures few { result ≤ 2 }
@@ -22,7 +22,7 @@ fn settled_entries(settled: Settled) -> usize
     }
 }
 
-/// The outcome, with the number of all entries.
+/// The outcome, with the number of all entries appended.
 fn outcome_of(reaction: Reaction, settled: Settled) -> Outcome
     ensures { result ≡ outcome_of reaction settled }
 {
@@ -34,7 +34,7 @@ fn outcome_of(reaction: Reaction, settled: Settled) -> Outcome
     }
 }
 
-/// How the run ends, by a cause that was found or by its budget.
+/// How the run ends, if it does: by the cause that was found, or else by its budget.
 fn end_after(settled: Settled, budget: u64, entries: u64) -> Option<End>
     ensures { result ≡ end_after settled budget entries }
 {
@@ -50,7 +50,8 @@ fn end_after(settled: Settled, budget: u64, entries: u64) -> Option<End>
     }
 }
 
-/// Takes the answer of a process that is out, if no end stands: the outcome, and the end.
+/// Works on the answer of a process that is out, in a run that has not ended. Returns the outcome, and
+/// how the run ended, if it did. The history must have room for three entries.
 #[inline(always)]
 pub fn work<K: Kinds>(
     net: &Net<K>,

@@ -22,7 +22,7 @@ follows_same s t a b c d next Stop token e admits after = after
 follows_same s t a b c d next (Read k) token e admits after = λ sort fits. admits (Some token) (after (ap (λ ports. option_and_then (λ (p : Signature). port_at p.ins k) ports) e ∙ sort) fits)
 follows_same s t a b c d next (Write k written) token e admits after = admits None after
 
--- a card fits if it does in both
+-- a card that fits has a fitting card in its own family
 own_fits : (card : Card) → CardFits card → CardFits (own_card card)
 own_fits card fits = record { kind = omega (arith, fits.kind); three = fits.three; args = fits.args }
 
@@ -57,7 +57,7 @@ module _ (s t : Card → Option Signature) (a b : Card → List ℕ → Option T
   starts card true e fits signed = admitted_by card true _ None e (first.starts (own_card card) (own_fits card fits) (own_signed card true e signed))
   starts card false e fits signed = admitted_by card false _ None e (second.starts (own_card card) (own_fits card fits) (own_signed card false e signed))
 
-  -- two lawful families are one
+  -- two lawful families are lawful together
   pub both_lawful : AreLawful (both_ports s t) (BothAdmit a b) (both_family f g)
   both_lawful =
       record {

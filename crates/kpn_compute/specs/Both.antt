@@ -1,5 +1,4 @@
--- Two families as one: kind 2k is the first's kind k, and kind 2k + 1 the second's; the greatest number is
--- no kind's.
+-- Two families as one: kind 2k is the first's kind k, and kind 2k + 1 the second's; the greatest number belongs to no kind.
 use Rattle.std.specs.Prelude.{◌≡◌, ◌≢◌, ℕ, ◌+◌, ◌-◌, ◌*◌, ◌/◌, ◌%◌, ◌^◌, ◌==◌, nat_lt, if◌then◌else◌, Bool, true, false, List, Option, Some, None, IfSome}
 use Rattle.kpn_model.specs.declared.token.Token.{Token}
 use Rattle.kpn_model.specs.declared.kinds.Card.{Card}
@@ -15,7 +14,7 @@ is_first card = card.kind % 2 == 0
 abbrev pub own_card : Card → Card
 own_card card = record { kind = card.kind / 2; args = card.args }
 
--- the number in both of a kind of the family of this place, by its number there
+-- the number in both families of a kind, by its number in its own; `place` is 0 for the first family and 1 for the second
 abbrev pub number_in_both : ℕ → ℕ → ℕ
 number_in_both place kind = if nat_lt kind (2 ^ 15 - 1) then 2 * kind + place else NO_KIND
 
@@ -36,8 +35,8 @@ both_ports first second card = if card.kind == NO_KIND then None else (if is_fir
 abbrev pub IsNameRefused : (Card → Option Signature) → Option (ℕ × ℕ) → Type 0
 IsNameRefused ports meant = IfSome meant (λ kind. (args : List ℕ) → ports (record { kind = kind.0; args = args }) ≡ None)
 
--- a name means this kind of one of the families: a card of its kind has the ports that the card of the
--- own kind has there, and is that card there
+-- a name means this kind of one of the families: each card of the number that it means has the same ports as the card of the own
+-- kind, and stands for that card
 abbrev pub MeansOwn : Bool → ℕ × ℕ → Option (ℕ × ℕ) → Type 0
 MeansOwn first own None = ⊥
 MeansOwn first own (Some meant) =
@@ -50,7 +49,7 @@ both_family first second =
       answer = λ card local last. (if is_first card then first else second).answer (own_card card) local last;
     }
 
--- the fact that the test picks
+-- one of two facts, as the test chooses
 abbrev pub picked : Bool → Type 0 → Type 0 → Type 0
 picked true p q = p
 picked false p q = q

@@ -21,7 +21,7 @@ ports_if accepted = if accepted then Some (record { ins = one_word; outs = one_w
 abbrev pub filter_ports : (Card → Bool) → Card → Option Signature
 filter_ports accepts card = ports_if (accepts card)
 
--- with no word it reads one; with one it steps and writes
+-- with no word it reads one; with a word it steps and writes
 abbrev pub filter_answer : (List ℕ → ℕ → List ℕ × ℕ) → List ℕ → Option Token → Answer
 filter_answer step kept (Some (Word w)) = record { next = (step kept w).0; act = Write 0 (Word (step kept w).1) }
 filter_answer step kept _ = record { next = kept; act = Read 0 }
@@ -43,11 +43,11 @@ FilterAdmits kept None = AreKept kept
 FilterAdmits kept (Some (Word w)) = AreKept kept × IsWord w
 FilterAdmits kept (Some (Flag f)) = ⊥
 
--- it holds of each card: a number of 16 bits and three words
+-- P holds of each card: a number of 16 bits and three words
 abbrev pub OfEachCard : (Card → Type 0) → Type 0
 OfEachCard P = (kind x y z : ℕ) → kind < 2 ^ 16 → IsWord x → IsWord y → IsWord z → P (record { kind = kind; args = x ∷ y ∷ z ∷ [] })
 
--- it holds of all that may be kept
+-- P holds of whatever may be kept
 abbrev pub OfAllKept : (List ℕ → Type 0) → Type 0
 OfAllKept P = (a b c d : ℕ) → IsWord a → IsWord b → IsWord c → IsWord d → P (a ∷ b ∷ c ∷ d ∷ [])
 

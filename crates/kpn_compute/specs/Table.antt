@@ -1,4 +1,4 @@
--- The words of a table of kinds, for crates that bring kinds of their own.
+-- The definitions that a table of kinds uses, for crates that bring kinds of their own.
 pub use Rattle.kpn_model.specs.declared.token.Sort.{Sort}
 pub use Rattle.kpn_model.specs.declared.token.Sort.TheVariants.{Words, Flags}
 pub use Rattle.kpn_model.specs.declared.token.Token.{Token}

@@ -8,7 +8,8 @@ use kpn_net::{Answer, Card, Local, Net, Token};
 use std::alloc::{AllocError, Global};
 use std::marker::{Model, PhantomData};
 
-/// A card that has a signature, for which its family's function answers. Contracts see the card.
+/// A body that is a card alone: its family's function answers for it. The card has a signature.
+/// Contracts see the card.
 #[derive(Drop)]
 pub struct CardBody<K: Computes> {
     card: Card,
@@ -27,7 +28,7 @@ impl<K: Computes> Model for CardBody<K> {
 }
 
 impl<K: Computes> CardBody<K> {
-    /// The body of a card that has a signature.
+    /// Makes the body of a card that has a signature.
     pub fn new(card: Card) -> Self
         requires { IsSome (K.signature_of card) }
         ensures { result ≡ card }
@@ -53,9 +54,9 @@ impl<K: Computes> Body for CardBody<K> {
     }
 }
 
-/// A body for each process of a network, in order, as an engine wants them.
+/// Makes a body for each process of a network, in order, as an engine wants them.
 ///
-/// The error is want of memory.
+/// Errors: memory was refused.
 pub fn bodies_of<K: Computes>(alloc: Global, net: &Net<K>) -> Result<Vec<CardBody<K>>, AllocError>
     ensures { IfOk result (λ bodies. map ⟦<CardBody<K> as Body>⟧.card bodies.items ≡ map (λ p. p.card) net.now.processes) }
 {

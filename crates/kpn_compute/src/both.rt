@@ -6,13 +6,13 @@ use crate::computes::Computes;
 use kpn_net::{Answer, Card, Kinds, Local, Signature, Token};
 use std::marker::PhantomData;
 
-/// The number that no kind has in two families together: what a name means that is refused.
+/// The number that a refused name means: no kind of two joined families has it.
 pub const NO_KIND: u16 = 65535;
 
 /// The family of all kinds of two families. `Both` may itself be one of the two.
 ///
-/// Kind k of the first is kind 2k here, and kind k of the second is 2k + 1, so only kinds of numbers
-/// below 2^15 - 1 have a place.
+/// Kind k of the first is kind 2k here, and kind k of the second is 2k + 1. So a kind has a number here
+/// only if its own is below 2^15 - 1.
 pub struct Both<A: Kinds, B: Kinds> {
     first: PhantomData<A>,
     second: PhantomData<B>,
@@ -25,7 +25,7 @@ fn is_first(card: Card) -> bool
     card.kind % 2 == 0
 }
 
-/// The card as its own family has it.
+/// The card of the own family that this card stands for.
 fn own_card(card: Card) -> Card
     ensures { result ≡ own_card card }
 {
@@ -36,7 +36,7 @@ fn own_card(card: Card) -> Card
     }
 }
 
-/// The number in both of a kind, by its number in its own family: `place` is 0 for the first, and 1
+/// The number here of a kind, by its number in its own family: `place` is 0 for the first family, and 1
 /// for the second.
 fn number_in_both(place: u16, kind: u16) -> u16
     requires { place < 2 }
@@ -58,10 +58,12 @@ impl<A: Kinds, B: Kinds> Kinds for Both<A, B> {
 
     ghost admits = { BothAdmit A.admits B.admits };
 
-    /// A name that both families have is refused, so a description that uses it is no network: its
-    /// kind takes no arguments, not even none. That holds of `Both` in `Both` too, however many of
-    /// the families have the name. A name that one family alone has means the kind that it means
-    /// there, if the kind's number there is below 2^15 - 1, and else it is refused as well.
+    /// Returns what a name means; `None` if neither family has it.
+    ///
+    /// A name that only one family has means its kind there, if that kind's number is below 2^15 - 1.
+    /// Every other name is refused: no card of the kind that it means has ports, whatever its
+    /// arguments, so a description that uses it is no network. This holds of a name that both families
+    /// have, also if `Both` is joined with `Both` and however many of the families have it.
     fn named(name: &str) -> Option<(u16, usize)>
         ensures is { result ≡ both_named A.named B.named name.now }
         ensures known { IsSome result ↔ (IsSome (A.named name.now) ⊎ IsSome (B.named name.now)) }

@@ -7,7 +7,8 @@ use kpn_standard::{Standard, answer};
 /// A family with a function that answers for all its cards. Its bodies are then cards alone
 /// (`CardBody`), and `bodies_of` makes those of a network.
 pub trait Computes: Kinds {
-    /// What a process of a card answers, in a local state, if it has just read `last`.
+    /// Returns what a process of this card answers in this local state, after it has just read `last`
+    /// (`None` if its last act was no read). The card must have a signature, and must admit the two.
     fn answer(card: Card, local: Local, last: Option<Token>) -> Answer
         requires signed { IsSome (Self.signature_of card) }
         requires admitted { Self.admits card local last }

@@ -7,7 +7,7 @@ use kpn_net::{Act, Answer, Card, Kinds, Local, Signature, Sort, Token};
 use std::marker::PhantomData;
 
 /// Kinds that read a word and write a word, for ever, and keep four words between. A type that
-/// implements this trait makes the family `Filtered` of itself, with its table and its laws.
+/// implements this trait makes `Filtered` of itself a family, with its table and its laws.
 ///
 /// `named` says which kind a name means and how many arguments it takes, `accepts` which cards there
 /// are, `start` what a process keeps at first, and `step` what it keeps and writes after a word.
@@ -24,33 +24,34 @@ pub trait Filters: Send + Sync {
 
     ghost step: { Card → List ℕ → ℕ → List ℕ × ℕ };
 
-    /// The number of the kind of a name, and how many arguments it takes; `None` if no kind has
-    /// this name.
+    /// Returns the number of the kind with this name, and how many arguments it takes; `None` if no
+    /// kind has this name.
     fn named(name: &str) -> Option<(u16, usize)>
         ensures { result ≡ named name.now };
 
-    /// Whether the family has this kind with these arguments.
+    /// Returns whether the family has this kind with these arguments.
     fn accepts(card: &Card) -> bool
         ensures { result ≡ accepts card.now };
 
-    /// What a process of a card keeps at first.
+    /// Returns what a process of a card keeps at first.
     fn start(card: &Card) -> Local
         requires { accepts card.now ≡ true }
         ensures { result ≡ start card.now };
 
-    /// What a process of a card that kept `kept` and read `word` keeps then, and what it writes.
+    /// Returns what a process of a card that kept `kept` and has read `word` keeps from then on, and
+    /// what it writes.
     fn step(card: Card, kept: Local, word: u64) -> (Local, u64)
         requires { accepts card ≡ true }
         ensures { result ≡ step card kept word };
 
-    /// The law of filters: of each card that is accepted, the start keeps four words, and a step
-    /// that begins with words keeps four and writes one. Each implementation proves it here.
+    /// The law of filters. For each card that is accepted, the start keeps four words, and a step from
+    /// words keeps four words and writes one. Each implementation proves it here.
     fn lawful()
         ensures { KeepWords accepts start step };
 }
 
-/// The family of such kinds: a process reads input 0, steps, and writes to output 0. What it keeps
-/// is its local state.
+/// The family of the kinds of `F`: a process reads input 0, steps, and writes to output 0. What it
+/// keeps is its local state.
 pub struct Filtered<F: Filters> {
     filters: PhantomData<F>,
 }

@@ -1,5 +1,5 @@
-//! Families of kinds that a plain function answers for: their bodies, which need no closure; kinds
-//! that are one step; and the family of two families together.
+//! Families of kinds for which a plain function answers: their bodies, which need no closure; kinds
+//! that are one step; and two families joined into one.
 #![tactic(auto)]
 
 pub mod bodies;

@@ -24,7 +24,7 @@ use Rattle.kpn_state.proofs.Placed.{place_set_same, place_within, busy_at}
 use Rattle.kpn_state.proofs.Contradictions.{true_false}
 use Rattle.kpn_state.specs.Standings.{standing}
 
--- the budget is no cause
+-- an end by the budget is no cause
 budget_no_cause : (b : Bool) (cause : End) → IsCause cause → (if b then Some Budget else None) ≡ Some cause → ⊥
 budget_no_cause true Terminated h e = cc
 budget_no_cause true Deadlock h e = cc
@@ -33,7 +33,7 @@ budget_no_cause true Budget h e = h
 budget_no_cause true Memory h e = h
 budget_no_cause false cause h e = cc
 
--- nor want of memory
+-- nor is it refused memory
 budget_no_memory : (b : Bool) → (if b then Some Budget else None) ≡ Some Memory → ⊥
 budget_no_memory true e = cc
 budget_no_memory false e = cc
@@ -42,7 +42,7 @@ same_end : (a b : End) → Some a ≡ Some b → a ≡ b
 same_end a b e = cc
 
 module _ (kinds : Family) (net : Network) where
-  -- a cause that was found is the definitions'
+  -- a cause that was found is that of the definitions
   found_over : (M : State) (end : End) → IsCause end → EndsBy kinds net M end → IsOver kinds net M end
   found_over M Terminated c h = h
   found_over M Deadlock c h = h
@@ -120,7 +120,7 @@ module _ (kinds : Family) where
         none = λ x. ends_none kinds n w.between w.places_between (state_and_history_of t) t.standings n.budget (length t.history) w.settled (sym is ∙ x);
       })
 
-  -- if no end stood, a commit was worked on
+  -- if the run had not ended, a commit works on the answer
   pub commits_end : (s : MachineView) (i : Input) (o : Outcome) (t : MachineView) → Commits kinds s i o t → s.end ≡ None → EndsAs kinds t
   commits_end s i (Done n) t h e = works_end s i (Done n) t h
   commits_end s i (Parks n) t h e = works_end s i (Parks n) t h

@@ -22,11 +22,11 @@ use Rattle.kpn_machine.proofs.Entries.{run_both}
 abbrev weight : Standing → ℕ
 weight x = cond (is_out x) 1 0
 
--- a process that is out counts
+-- a process that is out is counted
 out_counts : (x : Standing) → x ≡ Out → weight x ≡ 1
 out_counts x e = ap weight e
 
--- and each other does not
+-- and no other is
 others_count : (x : Standing) → x ≢ Out → weight x ≤ 0
 others_count Ready n = omega arith
 others_count Out n = absurd (n refl)
@@ -43,7 +43,7 @@ none_is_out standings h p e =
     (λ within. let one = out_counts (standing standings p) e in let most = get_or-le-sum_by weight standings p Stopped within in omega arith)
     (λ past. ended_not_out (sym (get_or_past standings p Stopped past) ∙ e)) (cases_lt p (length standings))
 
--- and the other way round
+-- and the converse
 pub none_counted : (standings : List Standing) → ((p : ℕ) → standing standings p ≢ Out) → count_by is_out standings ≡ 0
 none_counted standings h =
     let all = sum_by-le weight 0 standings (λ i d within. others_count _ (λ e. h i (same_default standings i d within ∙ e))) in omega arith
@@ -63,7 +63,7 @@ all_idle : (standings : List Standing) → ((p : ℕ) → is_busy (standing stan
 all_idle [] h = refl
 all_idle (x ∷ xs) h = rw (h 0) (all_idle xs (λ p. h (suc p)))
 
--- some process is ready if one is ready or out and none is out
+-- if some process is ready or out, and none is out, some is ready
 pub some_ready : (standings : List Standing) → list_any is_busy standings ≡ true → ((p : ℕ) → standing standings p ≢ Out) → ((p : ℕ) → standing standings p ≢ Ready) → ⊥
 some_ready standings busy out ready = true_false _ busy (all_idle standings (λ p. idle (standing standings p) (ready p) (out p)))
 
@@ -74,7 +74,7 @@ module _ (kinds : Family) where
   commits_network s i (Parks n) t h = h.network
   commits_network s i LaidBack t h = ap (λ (x : MachineView). x.network) h.1
 
-  -- and is one more
+  -- and the machine has taken one answer more
   pub commits_more : (s : MachineView) (i : Input) (o : Outcome) (t : MachineView) → Commits kinds s i o t → t.commits ≡ s.commits + 1
   commits_more s i (Done n) t h = h.commits
   commits_more s i (Parks n) t h = h.commits
@@ -100,7 +100,7 @@ module _ (kinds : Family) where
               (subst (λ (M : State). Run kinds first.network M appends.entries t.state) state (subst (λ (net : Network). Run kinds net mid.state appends.entries t.state) same appends.run));
         }
 
-    -- and leaves nobody out
+    -- and leaves no process out
     pub round_none_out :
         ((p : ℕ) → standing s.standings p ≢ Out) → standing t.standings i.process ≢ Out → ((p : ℕ) → p ≢ i.process → (standing t.standings p ≡ Out) ↔ (standing mid.standings p ≡ Out)) → (p : ℕ) → standing t.standings p ≢ Out
     round_none_out none back others p e =

@@ -1,4 +1,4 @@
--- Where a commit leaves the processes.
+-- The standings of the processes after a commit.
 use Rattle.std.proofs.Common.{◌≡◌, ◌≢◌, ◌↔◌, ⊎_elim, ◌⊎◌, inl, inr, List, length, refl, sym, ap, ◌∙◌, arith, ℕ, ◌+◌, ◌<◌, ◌≤◌, Option, set, length-set}
 use Rattle.std.proofs.lemmas.Bool.{cases_eq}
 use Rattle.std.specs.List.{sum_by}
@@ -36,16 +36,16 @@ out_or_not Out = inl refl
 out_or_not (Parked a) = inr (λ e. cc)
 out_or_not Ended = inr (λ e. cc)
 
--- who is not out, and is not moved out, is not out
+-- a process that is not out, and is not sent out, is not out
 stays_not_out : (standings : List Standing) (p q : ℕ) (x : Standing) → p < length standings → x ≢ Out → standing standings q ≢ Out → standing (set standings p x) q ≢ Out
 stays_not_out standings p q x within nx ny e =
     ⊎_elim (λ (s : q ≡ p). nx (sym (place_set_same standings p x within) ∙ ap (λ y. standing (set standings p x) y) (sym s) ∙ e)) (λ o. ny (sym (place_set_other standings p q x o) ∙ e)) (cases_eq q p)
 
--- who is out and not moved is out
+-- a process that is out and not moved stays out
 stays_out : (standings : List Standing) (p q : ℕ) (x : Standing) → standing standings p ≢ Out → standing standings q ≡ Out → standing (set standings p x) q ≡ Out
 stays_out standings p q x np e = place_set_other standings p q x (λ s. np (ap (λ y. standing standings y) (sym s) ∙ e)) ∙ e
 
--- what a move changes in a count
+-- how a move changes a count
 moved_count : (f : Standing → ℕ) (standings : List Standing) (p : ℕ) (x : Standing) → p < length standings → sum_by f (set standings p x) + f (standing standings p) ≡ sum_by f standings + f x
 moved_count f standings p x within = sum_by-set f standings p x Ended within
 
@@ -55,7 +55,7 @@ acted_waits (Took c t) = refl
 acted_waits (Put c t) = refl
 acted_waits Stopped = refl
 
--- no more wait than are not out
+-- at most those that are not out wait
 waits_within : (x : Standing) → waits x ≤ stays_in x
 waits_within Ready = omega arith
 waits_within Out = omega arith
@@ -71,12 +71,12 @@ one_each Out = omega arith
 one_each (Parked a) = omega arith
 one_each Ended = omega arith
 
--- no more are in than there are
+-- at most all processes are not out
 pub in_within : (standings : List Standing) → sum_by stays_in standings ≤ length standings
 in_within standings = let all = sum_by-le stays_in 1 standings (λ i d h. one_each _) in omega arith
 
 module _ (kinds : Family) (net : Network) where
-  -- a reaction leaves as many places
+  -- a reaction leaves the number of standings
   same_length : (s : StateAndHistory) (standings : List Standing) (p : ℕ) (a : Answer) (r : Reaction) (t : StateAndHistory) (moved : List Standing) → Reacts kinds net s standings p a r t moved → length moved ≡ length standings
   same_length s standings p a Waits t moved h = ap length h.2 ∙ length-set standings p (Parked a)
   same_length s standings p a Acts t moved h = ap length h.1.moves ∙ length-set standings p (place_after h.0)
@@ -94,7 +94,7 @@ module _ (kinds : Family) (net : Network) where
       let first : standing h.places_between p ≢ Out = λ f. acted_not_out h.deed (sym (place_set_same standings p (place_after h.deed) within) ∙ ap (λ (l : List Standing). standing l p) (sym h.first.moves) ∙ f) in
       stays_not_out h.places_between h.other p (place_after h.handed) (other_within s standings p t moved h) (acted_not_out h.handed) first (ap (λ (l : List Standing). standing l p) (sym h.second.moves) ∙ e)
 
-  -- each other that was out is out
+  -- each other process that was out is still out
   reaction_out : (s : StateAndHistory) (standings : List Standing) (p : ℕ) (a : Answer) (r : Reaction) (t : StateAndHistory) (moved : List Standing) (q : ℕ) → q ≢ p → Reacts kinds net s standings p a r t moved → standing standings q ≡ Out → standing moved q ≡ Out
   reaction_out s standings p a Waits t moved q ne h e = ap (λ (l : List Standing). standing l q) h.2 ∙ place_set_other standings p q (Parked a) ne ∙ e
   reaction_out s standings p a Acts t moved q ne h e = ap (λ (l : List Standing). standing l q) h.1.moves ∙ place_set_other standings p q (place_after h.0) ne ∙ e
@@ -102,7 +102,7 @@ module _ (kinds : Family) (net : Network) where
       let first : standing h.places_between q ≡ Out = ap (λ (l : List Standing). standing l q) h.first.moves ∙ place_set_other standings p q (place_after h.deed) ne ∙ e in
       ap (λ (l : List Standing). standing l q) h.second.moves ∙ stays_out h.places_between h.other q (place_after h.handed) (λ f. parked_not_out h.wanted (sym h.parked ∙ f)) first
 
-  -- and nobody else goes out
+  -- and no other process goes out
   reaction_in : (s : StateAndHistory) (standings : List Standing) (p : ℕ) (a : Answer) (r : Reaction) (t : StateAndHistory) (moved : List Standing) (q : ℕ) → p < length standings → Reacts kinds net s standings p a r t moved → standing standings q ≢ Out → standing moved q ≢ Out
   reaction_in s standings p a Waits t moved q within h n e = stays_not_out standings p q (Parked a) within (parked_not_out a) n (ap (λ (l : List Standing). standing l q) (sym h.2) ∙ e)
   reaction_in s standings p a Acts t moved q within h n e = stays_not_out standings p q (place_after h.0) within (acted_not_out h.0) n (ap (λ (l : List Standing). standing l q) (sym h.1.moves) ∙ e)
@@ -110,7 +110,7 @@ module _ (kinds : Family) (net : Network) where
       let first : standing h.places_between q ≢ Out = λ f. stays_not_out standings p q (place_after h.deed) within (acted_not_out h.deed) n (ap (λ (l : List Standing). standing l q) (sym h.first.moves) ∙ f) in
       stays_not_out h.places_between h.other q (place_after h.handed) (other_within s standings p t moved h) (acted_not_out h.handed) first (ap (λ (l : List Standing). standing l q) (sym h.second.moves) ∙ e)
 
-  -- entries and waiting processes grow together by one at least
+  -- entries and waiting processes together grow by at least one
   reaction_count :
       (s : StateAndHistory) (standings : List Standing) (p : ℕ) (a : Answer) (r : Reaction) (t : StateAndHistory) (moved : List Standing) → p < length standings → standing standings p ≡ Out → Reacts kinds net s standings p a r t moved
       → sum_by waits standings + 1 ≤ acted_entries r + sum_by waits moved
@@ -139,27 +139,27 @@ module _ (kinds : Family) (net : Network) where
   writer_within : (s : StateAndHistory) (standings : List Standing) (t : StateAndHistory) (moved : List Standing) (h : GrowsAndPuts kinds net s standings t moved) → h.writer < length standings
   writer_within s standings t moved h = place_within standings h.writer (λ e. parked_not_ended h.wanted (sym h.parked ∙ e))
 
-  -- what follows a reaction leaves as many places
+  -- what follows a reaction leaves the number of standings
   settled_length : (s : StateAndHistory) (standings : List Standing) (x : Settled) (t : StateAndHistory) (moved : List Standing) → Settles kinds net s standings x t moved → length moved ≡ length standings
   settled_length s standings Busy t moved h = ap length h.2
   settled_length s standings (Over end) t moved h = ap length h.2
   settled_length s standings Enlarged t moved h = ap length h.1.puts.moves ∙ length-set standings h.1.writer Ready
 
-  -- and puts nobody out
+  -- and sends no process out
   settled_back : (s : StateAndHistory) (standings : List Standing) (x : Settled) (t : StateAndHistory) (moved : List Standing) (q : ℕ) → Settles kinds net s standings x t moved → standing standings q ≢ Out → standing moved q ≢ Out
   settled_back s standings Busy t moved q h n e = n (ap (λ (l : List Standing). standing l q) (sym h.2) ∙ e)
   settled_back s standings (Over end) t moved q h n e = n (ap (λ (l : List Standing). standing l q) (sym h.2) ∙ e)
   settled_back s standings Enlarged t moved q h n e =
       stays_not_out standings h.1.writer q Ready (writer_within s standings t moved h.1) ready_not_out n (ap (λ (l : List Standing). standing l q) (sym h.1.puts.moves) ∙ e)
 
-  -- nor takes anybody back
+  -- nor brings one back
   settled_out : (s : StateAndHistory) (standings : List Standing) (x : Settled) (t : StateAndHistory) (moved : List Standing) (q : ℕ) → Settles kinds net s standings x t moved → standing standings q ≡ Out → standing moved q ≡ Out
   settled_out s standings Busy t moved q h e = ap (λ (l : List Standing). standing l q) h.2 ∙ e
   settled_out s standings (Over end) t moved q h e = ap (λ (l : List Standing). standing l q) h.2 ∙ e
   settled_out s standings Enlarged t moved q h e =
       ap (λ (l : List Standing). standing l q) h.1.puts.moves ∙ stays_out standings h.1.writer q Ready (λ f. parked_not_out h.1.wanted (sym h.1.parked ∙ f)) e
 
-  -- a growth's put takes a waiting process, for two entries
+  -- a growth's put takes one waiting process away and appends two entries
   settled_count : (s : StateAndHistory) (standings : List Standing) (x : Settled) (t : StateAndHistory) (moved : List Standing) → Settles kinds net s standings x t moved → sum_by waits standings ≤ settled_entries x + sum_by waits moved
   settled_count s standings Busy t moved h = let e = ap (sum_by waits) h.2 in omega arith
   settled_count s standings (Over end) t moved h = let e = ap (sum_by waits) h.2 in omega arith
@@ -170,7 +170,7 @@ module _ (kinds : Family) (net : Network) where
       omega arith
 
   module _ (s : StateAndHistory) (standings : List Standing) (p : ℕ) (a : Answer) (o : Outcome) (t : StateAndHistory) (moved : List Standing) (end : Option End) (w : Works kinds net s standings p a o t moved end) where
-    -- a commit leaves as many places
+    -- a commit leaves the number of standings
     pub works_length : length moved ≡ length standings
     works_length = settled_length w.between w.places_between w.settled t moved w.settles ∙ same_length s standings p a w.reaction w.between w.places_between w.reacts
 
@@ -178,25 +178,25 @@ module _ (kinds : Family) (net : Network) where
     pub works_back : p < length standings → standing moved p ≢ Out
     works_back within = settled_back w.between w.places_between w.settled t moved p w.settles (reaction_back s standings p a w.reaction w.between w.places_between within w.reacts)
 
-    -- each other that was out is out
+    -- each other process that was out is still out
     pub works_out : (q : ℕ) → q ≢ p → standing standings q ≡ Out → standing moved q ≡ Out
     works_out q ne e = settled_out w.between w.places_between w.settled t moved q w.settles (reaction_out s standings p a w.reaction w.between w.places_between q ne w.reacts e)
 
-    -- and those alone
+    -- and no other is out
     pub works_others : (q : ℕ) → p < length standings → q ≢ p → (standing moved q ≡ Out) ↔ (standing standings q ≡ Out)
     works_others q within ne = (
       λ e. ⊎_elim (λ o. o) (λ n. absurd (settled_back w.between w.places_between w.settled t moved q w.settles (reaction_in s standings p a w.reaction w.between w.places_between q within w.reacts n) e)) (out_or_not (standing standings q)),
       works_out q ne,
     )
 
-    -- entries and waiting processes grow together by one at least
+    -- entries and waiting processes together grow by at least one
     pub works_count : p < length standings → standing standings p ≡ Out → sum_by waits standings + 1 ≤ acted_entries w.reaction + settled_entries w.settled + sum_by waits moved
     works_count within out =
         let x = reaction_count s standings p a w.reaction w.between w.places_between within out w.reacts in
         let y = settled_count w.between w.places_between w.settled t moved w.settles in
         omega arith
 
--- a process that is moved counts as what it was and is
+-- how moving a process changes the number of those that wait
 pub waits_moved : (standings : List Standing) (p : ℕ) (x : Standing) → p < length standings → sum_by waits (set standings p x) + waits (standing standings p) ≡ sum_by waits standings + waits x
 waits_moved standings p x within = moved_count waits standings p x within
 

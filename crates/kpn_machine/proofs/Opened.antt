@@ -1,4 +1,4 @@
--- A machine that was just opened keeps what it is to keep.
+-- A machine that was just opened meets its invariant.
 use Rattle.std.proofs.Common.{◌≡◌, ◌≢◌, ⊎_elim, List, [], ◌∷◌, length, map, replicate, refl, sym, ap, ◌∙◌, arith, ℕ, zero, suc, ◌+◌, ◌<◌, ◌≤◌, Some, None, Option, get_or, subst}
 use Rattle.std.proofs.lemmas.Bool.{cases_lt}
 use Rattle.std.proofs.lemmas.List.{get_or_past, length-map, length-replicate}
@@ -26,7 +26,7 @@ ready_at zero p h = absurd (omega arith)
 ready_at (suc n) zero h = refl
 ready_at (suc n) (suc p) h = ready_at n p (omega arith)
 
--- and none else is there
+-- and there is no other
 ended_past : (n p : ℕ) → n ≤ p → standing (replicate n Ready) p ≡ Stopped
 ended_past n p h = let many = length-replicate n Ready in get_or_past (replicate n Ready) p Stopped (omega arith)
 

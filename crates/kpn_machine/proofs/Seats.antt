@@ -50,7 +50,7 @@ module _ {X : Type 0} (f : X → Card) where
     old_cards : map f old ≡ map f new ++ f b ∷ []
     old_cards = ap (map f) is ∙ map_push new b
 
-    -- those that are left stay
+    -- the bodies that are left keep their cards
     pub left_stays : (p : ℕ) → p < length new → get_or (map f new) p no_process.card ≡ get_or cs p no_process.card
     left_stays p h =
         let many = length-map new f in
@@ -64,7 +64,7 @@ module _ {X : Type 0} (f : X → Card) where
         let more = old_length in
         sym (at_end (map f new) (f b)) ∙ ap (λ n. get_or (map f new ++ f b ∷ []) n no_process.card) many ∙ ap (λ l. get_or l (length new) no_process.card) (sym old_cards) ∙ left (length new) (omega arith)
 
-    -- and takes its place
+    -- and goes into its slot
     pub seat_taken :
         (slots : List (Option X)) (n : ℕ) → length slots ≡ n → length old ≤ n → ((p : ℕ) → length old ≤ p → p < n → get_or (map (option_map f) slots) p None ≡ Some (get_or cs p no_process.card))
         → (p : ℕ) → length new ≤ p → p < n → get_or (map (option_map f) (set slots (length new) (Some b))) p None ≡ Some (get_or cs p no_process.card)
@@ -80,13 +80,13 @@ module _ {X : Type 0} (f : X → Card) where
         above : (a p : ℕ) → a ≤ p → p ≢ a → (b : ℕ) → b ≡ a + 1 → b ≤ p
         above a p l ne b e = omega arith
 
-  -- the card of what is in a place
+  -- the card of what is in a slot
   pub slot_at : (slots : List (Option X)) (p : ℕ) (x : Option X) → p < length slots → x ≡ get_or slots p x → get_or (map (option_map f) slots) p None ≡ option_map f x
   slot_at [] p x h e = absurd (omega arith)
   slot_at (y ∷ ys) zero x h e = ap (option_map f) (sym e)
   slot_at (y ∷ ys) (suc p) x h e = slot_at ys p x (omega arith) e
 
-  -- a place that is emptied changes no later one
+  -- emptying a slot changes no later one
   pub kept_later :
       (slots : List (Option X)) (p n : ℕ) (x : Option X) (cs : List Card) → ((q : ℕ) → p ≤ q → q < n → get_or (map (option_map f) slots) q None ≡ Some (get_or cs q no_process.card))
       → (q : ℕ) → p + 1 ≤ q → q < n → get_or (map (option_map f) (set slots p x)) q None ≡ Some (get_or cs q no_process.card)
@@ -94,7 +94,7 @@ module _ {X : Type 0} (f : X → Card) where
       ap (λ l. get_or l q None) (map-set (option_map f) slots p x)
       ∙ get_or-set_other (map (option_map f) slots) p q (option_map f x) None (λ e. omega arith) ∙ kept q (omega arith) below
 
-  -- one more body that came back
+  -- one more body that was taken back
   pub back_more :
       (spare new : List X) (b : X) (cs : List Card) (p : ℕ) → new ≡ spare ++ b ∷ [] → length spare ≡ p → f b ≡ get_or cs p no_process.card
       → ((q : ℕ) → q < p → get_or (map f spare) q no_process.card ≡ get_or cs q no_process.card) → (q : ℕ) → q < p + 1 → get_or (map f new) q no_process.card ≡ get_or cs q no_process.card

@@ -1,4 +1,4 @@
--- What a machine keeps while processes go out and come back.
+-- The machine's invariant is kept while processes go out and come back.
 use Rattle.std.proofs.Common.{◌≡◌, ◌≢◌, ◌↔◌, ⊎_elim, inl, inr, List, length, length-append, refl, sym, ap, ◌∙◌, arith, ℕ, ◌+◌, ◌<◌, ◌≤◌, Bool, true, false, Some, None, Option, set, subst, get_or, length-set, get_or-set_same, get_or-set_other, nat_le, if◌then◌else◌}
 use Rattle.std.proofs.lemmas.Grind.{common_steps}
 use Rattle.std.proofs.lemmas.Bool.{cases_eq}
@@ -45,7 +45,7 @@ use Rattle.kpn_commit.proofs.Due.{grows_exactly}
 use Rattle.kpn_machine.proofs.Entries.{GoesOn, run_both, number_is, works_goes}
 use Rattle.kpn_machine.proofs.Moves.{waiting_in, in_within, waits_moved, in_moved, out_or_not, works_back, works_out, works_others, works_count}
 
--- an end by the budget alone is the budget's
+-- an end by the budget alone is the end `Budget`
 spent : (b : Bool) (cause : End) → (if b then Some Budget else None) ≡ Some cause → cause ≡ Budget
 spent true cause e = cc
 spent false cause e = cc
@@ -57,7 +57,7 @@ ready_not_parked : (a : Answer) → Ready ≡ Parked a → ⊥
 ready_not_parked a e = cc
 
 module _ (kinds : Family) (net : Network) where
-  -- an end is bound
+  -- an end is justified
   end_holds : (M : State) (E : List Entry) (end : Option End) → length E ≤ net.budget + 2 → EndIs kinds net M E end → EndHolds kinds net E M end
   end_holds M E None few h = tt
   end_holds M E (Some Terminated) few h = h
@@ -77,13 +77,13 @@ module _ (kinds : Family) (net : Network) where
   by_cause M E Budget h = absurd h
   by_cause M E Memory h = h
 
-  -- the end that follows is bound
+  -- the end that follows is justified
   end_follows : (s : StateAndHistory) (standings : List Standing) (x : Settled) (t : StateAndHistory) (moved : List Standing) → Settles kinds net s standings x t moved → EndIs kinds net t.state t.history (end_after x net.budget (length t.history))
   end_follows s standings Busy t moved h = by_budget t.state t.history _ refl
   end_follows s standings (Over end) t moved h = by_cause t.state t.history end (subst (λ (y : StateAndHistory). EndsBy kinds net y.state end) (sym h.1) h.3)
   end_follows s standings Enlarged t moved h = by_budget t.state t.history _ refl
 
-  -- and without one some process is ready or out
+  -- if there is none, some process is ready or out
   busy_follows : (s : StateAndHistory) (standings : List Standing) (x : Settled) (t : StateAndHistory) (moved : List Standing) (budget entries : ℕ) → Settles kinds net s standings x t moved → end_after x budget entries ≡ None → list_any is_busy moved ≡ true
   busy_follows s standings Busy t moved budget entries h e = ap (list_any is_busy) h.2 ∙ h.0
   busy_follows s standings (Over end) t moved budget entries h e = cc
@@ -95,13 +95,13 @@ module _ (kinds : Family) (net : Network) where
       parked_ended : (a : Answer) → Parked a ≡ Stopped → ⊥
       parked_ended a f = cc
 
-  -- and with one that isn't the budget's none is
+  -- if there is one other than `Budget`, no process is
   idle_follows : (s : StateAndHistory) (standings : List Standing) (x : Settled) (t : StateAndHistory) (moved : List Standing) (budget entries : ℕ) (cause : End) → Settles kinds net s standings x t moved → end_after x budget entries ≡ Some cause → cause ≢ Budget → list_any is_busy moved ≡ false
   idle_follows s standings Busy t moved budget entries cause h e not = absurd (not (spent _ cause e))
   idle_follows s standings (Over end) t moved budget entries cause h e not = ap (list_any is_busy) h.2 ∙ h.0
   idle_follows s standings Enlarged t moved budget entries cause h e not = absurd (not (spent _ cause e))
 
-  -- done with 1 to 3 entries where the process could go on, parked with 0 or 2 if it couldn't
+  -- done with 1 to 3 entries if the process could go on, parked with 0 or 2 if it couldn't
   tells :
       (M : State) (E : List Entry) (room : ℕ) (standings : List Standing) (end : Option End) (commits : ℕ) (m : StateAndHistory) (mid : List Standing) (t : StateAndHistory) (moved : List Standing) (p : ℕ) (a : Answer) (r : Reaction) (x : Settled)
       → p < length standings → Reacts kinds net (state_and_history M E room) standings p a r m mid → Settles kinds net m mid x t moved → TellsEnabled kinds (machine_view net M E standings end commits) p (outcome_of r x)
@@ -122,7 +122,7 @@ few_entries kinds s p (Parks n) h = ⊎_elim (λ e. omega arith) (λ e. omega ar
 few_entries kinds s p LaidBack h = omega arith
 
 module _ (kinds : Family) (admits : Card → List ℕ → Option Token → Type 0) where
-  -- who is neither ready nor out wants what it answered
+  -- a live process that is neither ready nor out wants what it answered
   idle_wants :
       (net : Network) (M : State) (standings : List Standing) (p : ℕ) (x : Standing) → StandingsFit kinds admits net None M standings → standing standings p ≡ x → is_busy x ≡ false
       → wants kinds net M p ≡ parked_answer x
@@ -157,7 +157,7 @@ module _ (kinds : Family) (admits : Card → List ℕ → Option Token → Type 
         few_commits = omega arith;
       }
 
-  -- a body that comes back stands with the others
+  -- a body that comes back joins the others
   bodies_back :
       (net : Network) (standings moved : List Standing) (bodies : List (Option Card)) (p : ℕ) (card : Card) → p < length bodies → card_of net p ≡ card → HasBodies net standings bodies
       → ((q : ℕ) → q ≢ p → standing standings q ≡ Out → standing moved q ≡ Out) → HasBodies net moved (set bodies p (Some card))
@@ -235,7 +235,7 @@ module _ (kinds : Family) (admits : Card → List ℕ → Option Token → Type 
         goes : GoesOn kinds net (state_and_history M E room) (state_and_history N F left) (number o)
         goes = works_goes kinds net (state_and_history M E room) standings i.process (answer_to kinds i) o (state_and_history N F left) moved stop w
 
-        -- the machine before and after
+        -- the machine before, and after
         abbrev old : MachineView
         old = machine_view net M E standings end commits
 
@@ -301,12 +301,12 @@ module _ (kinds : Family) (admits : Card → List ℕ → Option Token → Type 
               laid = omega arith;
             }
 
--- an option that is not some is none
+-- an option that is not `Some` is `None`
 pub none_of : (o : Option End) → is_some o ≡ false → o ≡ None
 none_of None e = refl
 none_of (Some x) e = cc
 
--- one that is some is not none
+-- an option that is `Some` is not `None`
 pub some_of : (o : Option End) → is_some o ≡ true → o ≢ None
 some_of None e f = cc
 some_of (Some x) e f = cc

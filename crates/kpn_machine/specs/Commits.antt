@@ -28,7 +28,7 @@ pub record Appends (kinds : Family) (s t : MachineView) (n : ℕ) : Type 0 where
   pub run : Run kinds s.network s.state entries t.state
   pub count : length entries ≡ n
 
--- the history goes on as a run, in the same network, and no fewer answers were taken
+-- the history goes on as a run, in the same network, and no answers were taken back
 pub record ContinuesRun (kinds : Family) (s t : MachineView) : Type 0 where
   pub network : t.network ≡ s.network
   pub commits : s.commits ≤ t.commits
@@ -36,8 +36,8 @@ pub record ContinuesRun (kinds : Family) (s t : MachineView) : Type 0 where
   pub history : t.history ≡ s.history ++ entries
   pub run : Run kinds s.network s.state entries t.state
 
--- the answer was worked on, in a machine whose run goes on; a growth follows the deeds exactly when
--- no process is then ready or out and one is due, unless its memory is refused
+-- the answer was worked on, in a run that had not ended; a growth follows the deeds exactly when no process is then ready or out
+-- and a growth is due, unless its memory is refused
 pub record WorksOn (kinds : Family) (s : MachineView) (i : Input) (o : Outcome) (t : MachineView) : Type 0 where
   pub before : s.end ≡ None
   pub network : t.network ≡ s.network
@@ -45,14 +45,14 @@ pub record WorksOn (kinds : Family) (s : MachineView) (i : Input) (o : Outcome) 
   pub works : Works kinds s.network (state_and_history_of s) s.standings i.process (answer_to kinds i) o (state_and_history_of t) t.standings t.end
   pub grows : t.end ≢ Some Memory → (works.settled ≡ Enlarged) ↔ ((list_any is_busy works.places_between ≡ false) × CanGrow kinds s.network works.between.state)
 
--- an end stood, and the process is ready again; or the answer was worked on
+-- the run had ended, and the process is ready again; or the answer was worked on
 abbrev pub Commits : Family → MachineView → Input → Outcome → MachineView → Type 0
 Commits kinds s i LaidBack t = (s.end ≢ None) × (t ≡ record s { standings = set s.standings i.process Ready; commits = s.commits + 1 })
 Commits kinds s i (Done n) t = WorksOn kinds s i (Done n) t
 Commits kinds s i (Parked n) t = WorksOn kinds s i (Parked n) t
 
--- done exactly where the process could go on, with 1 to 3 entries; parked exactly when it could
--- not, with none or with a growth and a put
+-- done exactly when the process could go on, with 1 to 3 entries; parked exactly when it could not, with no entry or with a
+-- growth and a put
 abbrev pub TellsEnabled : Family → MachineView → ℕ → Outcome → Type 0
 TellsEnabled kinds s p (Done n) = IsEnabled kinds s.network s.state p × (1 ≤ n) × (n ≤ 3)
 TellsEnabled kinds s p (Parked n) = (IsEnabled kinds s.network s.state p → ⊥) × ((n ≡ 0) ⊎ (n ≡ 2))
@@ -66,9 +66,8 @@ IsCause Ceiling = Unit {0}
 IsCause Budget = ⊥
 IsCause Memory = ⊥
 
--- the end of a run that went on until now: a cause exactly when no process is ready or out and the
--- run is over for it; want of memory only if a growth is due; else the budget exactly when it is
--- spent; else none
+-- the end of a run that had not ended before: a cause exactly when no process is ready or out and the run is over for it;
+-- `Memory` only if a growth is due; otherwise `Budget` exactly when it is spent; otherwise none
 pub record EndsAs (kinds : Family) (t : MachineView) : Type 0 where
   pub over : (cause : End) → IsCause cause → (t.end ≡ Some cause) ↔ ((list_any is_busy t.standings ≡ false) × IsOver kinds t.network t.state cause)
   pub memory : t.end ≡ Some Memory → (list_any is_busy t.standings ≡ false) × CanGrow kinds t.network t.state

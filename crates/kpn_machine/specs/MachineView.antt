@@ -19,8 +19,8 @@ use Rattle.kpn_state.specs.declared.standing.Standing.TheVariants.{Ready, Out, P
 use Rattle.kpn_state.specs.Standings.{standing, is_busy, is_ready, parked_answer, StandingsFit}
 use Rattle.kpn_commit.specs.Settling.{EndsBy}
 
--- the network, its state, the entries that led to it, where each process stands, how the run ended,
--- and how many answers were taken
+-- the network, its state, the entries that led to it, the standing of each process, how the run ended, and how many answers were
+-- taken
 pub record MachineView : Type 0 where
   pub network : Network
   pub state : State
@@ -45,7 +45,7 @@ pub record IsOutAt (net : Network) (M : State) (standings : List Standing) (i : 
 abbrev pub IsOut : MachineView → Input → Type 0
 IsOut s i = IsOutAt s.network s.state s.standings i
 
--- a ready process goes out, asked with what it has
+-- a ready process goes out, asked with its local state and last token
 pub record TakesOut (s : MachineView) (i : Input) (t : MachineView) : Type 0 where
   pub ready : standing s.standings i.process ≡ Ready
   pub card : card_of s.network i.process ≡ i.card
@@ -56,12 +56,12 @@ pub record TakesOut (s : MachineView) (i : Input) (t : MachineView) : Type 0 whe
 abbrev pub HasBodies : Network → List Standing → List (Option Card) → Type 0
 HasBodies net standings bodies = (p : ℕ) → p < length net.processes → standing standings p ≢ Out → get_or bodies p None ≡ Some (card_of net p)
 
--- the emptied vector of the bodies has room for them all
+-- the emptied vector of the bodies has capacity for all of them
 pub record HasRoom {X : Type 0} (net : Network) (spare : List X) (room : ℕ) : Type 0 where
   pub emptied : spare ≡ []
   pub enough : length net.processes ≤ room
 
--- how the end is bound: before one, the budget is not spent
+-- what holds at an end; before one, the budget is not spent
 abbrev pub EndIs : Family → Network → State → List Entry → Option End → Type 0
 EndIs kinds net M E None = length E < net.budget
 EndIs kinds net M E (Some Terminated) = EndsBy kinds net M Terminated
@@ -84,8 +84,8 @@ stays_in Out = 0
 stays_in (Parked a) = 1
 stays_in Stopped = 1
 
--- the history is a run to the state, and all else fits; answers are taken at most once for each entry
--- and each process that waits, and if an end stands for each that is not out
+-- the history is a run to the state, and all else fits; at most as many answers were taken as there are entries and waiting
+-- processes, and once the run has ended one more for each process that is not out
 pub record IsSound (kinds : Family) (admits : Card → List ℕ → Option Token → Type 0) (s : MachineView) (room : ℕ) (bodies : List (Option Card)) : Type 0 where
   pub run : IsRun kinds s.network s.history s.state
   pub keeps : StandingsFit kinds admits s.network None s.state s.standings
@@ -103,12 +103,11 @@ abbrev pub EndHolds : Family → Network → List Entry → State → Option End
 EndHolds kinds net E M None = Unit {0}
 EndHolds kinds net E M (Some end) = IsBound kinds net E M end
 
--- what holds of each machine at each time: its history is a run from the start to its state, which at
--- each moment has no channel above its capacity and is well-typed; an end that stands is bound; who
--- can go on is ready or out, and who is neither wants what it answered; while no end stands some
--- process is ready or out, and none is where one stands that isn't the budget's; there are at most
--- two entries more than the budget, and at most as many answers were taken as there are entries and
--- processes
+-- what holds of each machine at each time: its history is a run from the start to its state, and at each moment of it no channel
+-- is above its capacity and the state is well-typed; an end is justified; a process that can go on is ready or out, and one that
+-- is neither wants what it answered; while the run has not ended some process is ready or out, and once it has ended, other than
+-- by its budget, none is; there are at most two entries more than the budget, and at most as many answers were taken as there are
+-- entries and processes
 pub record IsFaithful (kinds : Family) (admits : Card → List ℕ → Option Token → Type 0) (s : MachineView) : Type 0 where
   pub run : IsRun kinds s.network s.history s.state
   pub within : AtEachMoment kinds s.network s.history IsWithin

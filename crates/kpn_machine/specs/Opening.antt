@@ -22,12 +22,12 @@ filled c = record { tokens = c.tokens; capacity = c.capacity }
 abbrev pub cards_of : List Process → List Card
 cards_of ps = map (λ p. p.card) ps
 
--- what is wrong with the bodies of these cards; of want of memory, nothing
+-- what is wrong with the bodies, which have these cards; for `Memory`, nothing is
 abbrev pub IsOpenFault : List Process → List Card → OpenFault → Type 0
 IsOpenFault ps cards Bodies = length cards ≢ length ps
 IsOpenFault ps cards WrongCard = (length cards ≡ length ps) × (cards ≢ cards_of ps)
 IsOpenFault ps cards Memory = cards ≡ cards_of ps
 
--- each place has the body of its number
+-- each slot has the body of its number
 abbrev pub AreSeated : List Card → List (Option Card) → Type 0
 AreSeated cards slots = (p : ℕ) → p < length cards → get_or slots p None ≡ Some (get_or cards p no_process.card)

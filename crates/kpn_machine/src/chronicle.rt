@@ -6,11 +6,11 @@ use kpn_net::{End, Entry, Kinds, Net};
 use kpn_state::{Roster, Standing, Store};
 use std::marker::Model;
 
-/// A machine without its bodies: its network, its history, where it left the processes, and how the
-/// run ended, if it did. Its type names no body, so it outlives the bodies and can be named if
+/// A machine without its bodies: its network, its history, the standing of each process, and how the
+/// run ended, if it did. Its type names no body, so it outlives the bodies, and it can be named even if
 /// they can't.
 ///
-/// It is made by `Machine::into_chronicle` alone. Contracts see what they see of the machine.
+/// Only `Machine::into_chronicle` makes one. Contracts see what they see of the machine.
 #[derive(Drop)]
 pub struct Chronicle<K: Kinds> {
     net: Net<K>,
@@ -50,28 +50,28 @@ impl<K: Kinds> Chronicle<K> {
         }
     }
 
-    /// The network.
+    /// Returns the network.
     pub fn net(&self) -> &Net<K>
         ensures { result.now ≡ self.now.network }
     {
         &self.net
     }
 
-    /// The entries.
+    /// Returns the entries, in order.
     pub fn history(&self) -> &[Entry]
         ensures { result.now ≡ self.now.history }
     {
         self.store.history()
     }
 
-    /// Where each process stands, in order.
+    /// Returns the standing of each process, in order.
     pub fn standings(&self) -> &[Standing]
         ensures { result.now ≡ self.now.standings }
     {
         self.standings.as_slice()
     }
 
-    /// How the run ended, if it did.
+    /// Returns how the run ended; `None` if it did not.
     pub fn end(&self) -> Option<End>
         ensures end { result ≡ self.now.end }
         ensures faithful { IsFaithful K.family K.admits self.now }

@@ -24,8 +24,8 @@ use kpn_state::{Roster, Standing, Store};
 use std::alloc::Global;
 use std::marker::Model;
 
-/// A network at work: its processes are taken one at a time, called elsewhere, and their answers
-/// committed.
+/// A network at work: its processes are taken one at a time, called outside the machine, and their
+/// answers committed.
 #[derive(Drop)]
 pub struct Machine<B: Body> {
     net: Net<B::Kinds>,
@@ -49,7 +49,7 @@ impl<B: Body> Model for Machine<B> {
     ghost invariant = { λ m. IsSound B.Kinds.family B.Kinds.admits (machine_view m.net m.store.state m.store.history m.standings m.end m.commits) m.store.room (map (option_map B.card) m.bodies.items) × HasRoom m.net m.spare.items (vec_capacity m.spare) };
 }
 
-/// What a machine was to be opened with, handed back, and why it was not.
+/// Why a machine was not opened, with the network and the bodies handed back.
 #[derive(Drop)]
 pub struct OpenRefused<B: Body> {
     pub net: Net<B::Kinds>,
@@ -64,10 +64,12 @@ pub struct Stranger<B: Body> {
 }
 
 impl<B: Body> Machine<B> {
-    /// A machine at the start of a network, with a body for each process, in order: all processes are
-    /// ready, and the channels hold their start tokens. All memory but that of growths is taken here.
+    /// Opens a machine at the start of a network, with a body for each process, in order: all processes
+    /// are ready, and the channels hold their start tokens. All memory except that of growths is taken
+    /// here.
     ///
-    /// The error is the first fault that applies, with the network and the bodies as they were.
+    /// Errors: the first of `Bodies`, `Card` and `Memory` that applies, with the network and the bodies
+    /// unchanged.
     pub fn open(
         alloc: Global,
         net: Net<B::Kinds>,
@@ -108,7 +110,7 @@ impl<B: Body> Machine<B> {
         })
     }
 
-    /// How the run ended, if it did.
+    /// Returns how the run ended; `None` if it did not.
     pub fn end(&self) -> Option<End>
         ensures end { result ≡ self.now.end }
         ensures faithful { IsFaithful B.Kinds.family B.Kinds.admits self.now }
@@ -117,7 +119,7 @@ impl<B: Body> Machine<B> {
         self.end
     }
 
-    /// Does nothing: a caller knows from here on what is true of each machine at each time.
+    /// Does nothing: a caller knows from here on what holds of each machine at each time.
     pub fn assure_faithful(&self)
         ensures faithful { IsFaithful B.Kinds.family B.Kinds.admits self.now }
     {
@@ -126,42 +128,43 @@ impl<B: Body> Machine<B> {
         typed_runs::<B::Kinds>();
     }
 
-    /// The entries so far.
+    /// Returns the entries so far, in order.
     pub fn history(&self) -> &[Entry]
         ensures { result.now ≡ self.now.history }
     {
         self.store.history()
     }
 
-    /// The network.
+    /// Returns the network.
     pub fn net(&self) -> &Net<B::Kinds>
         ensures { result.now ≡ self.now.network }
     {
         &self.net
     }
 
-    /// Where each process stands, in order.
+    /// Returns the standing of each process, in order.
     pub fn standings(&self) -> &[Standing]
         ensures { result.now ≡ self.now.standings }
     {
         self.standings.as_slice()
     }
 
-    /// How many processes are ready.
+    /// Returns how many processes are ready.
     pub fn ready(&self) -> usize
         ensures { result ≡ count_by is_ready self.now.standings }
     {
         self.standings.ready()
     }
 
-    /// How many processes are out.
+    /// Returns how many processes are out.
     pub fn out(&self) -> usize
         ensures { result ≡ count_by is_out self.now.standings }
     {
         self.standings.out()
     }
 
-    /// Whether the machine is as it was opened: no entry, no commit, no end, and every process ready.
+    /// Returns whether the machine is as it was opened: no entry, no commit, no end, and every process
+    /// ready.
     pub fn is_fresh(&self) -> bool
         ensures { IsTrue result ↔ IsFresh self.now }
     {
@@ -171,7 +174,7 @@ impl<B: Body> Machine<B> {
             && all_ready(self.standings.as_slice())
     }
 
-    /// How many answers were taken.
+    /// Returns how many answers were taken.
     pub fn commits(&self) -> u64
         ensures { result ≡ self.now.commits }
     {
@@ -180,7 +183,8 @@ impl<B: Body> Machine<B> {
 }
 
 impl<B: Body> Machine<B> {
-    /// A ready process goes out, unless the run ended or none is ready. Which one is not fixed.
+    /// Sends a ready process out and returns its task; `None` if the run has ended or no process is
+    /// ready, and nothing changes then. No contract says which ready process is taken.
     #[inline(always)]
     pub fn take(&mut self) -> Option<Task<B>>
         ensures some { IfSome result (λ task. (self.old.end ≡ None) × TakesOut self.old task self.new) }
@@ -251,7 +255,7 @@ fn is_out<B: Body>(
 }
 
 impl<B: Body> Machine<B> {
-    /// Whether the process of an answer is out, with this card, local state and last token.
+    /// Returns whether the process of an answer is out, with this card, local state and last token.
     #[inline(always)]
     pub fn has_asked(&self, finished: &Finished<B>) -> bool
         ensures { IsTrue result ↔ IsOut self.now finished.now }
@@ -259,14 +263,16 @@ impl<B: Body> Machine<B> {
         is_out(&self.net, &self.store, self.standings.as_slice(), finished)
     }
 
-    /// Takes the answer of a process that is out.
+    /// Takes the answer of a process that is out, and returns what it did.
     ///
-    /// If an end stands, the process is laid back: ready again, as it was. Otherwise its act is
-    /// done if it can be, or the process is parked with its answer; a deed that lets the parked
-    /// process at the other end of the channel go on is followed by that one's deed. If no process
-    /// is then ready or out, the run ends, or the chosen channel grows and its writer's put is done.
-    /// Takes no memory but that of a growth. The error is an answer of a process that is not out, or
-    /// not with this card, local state and last token: nothing changed, and it is handed back.
+    /// If the run has ended, the process is ready again, as it was. Otherwise its act is done if it can
+    /// be, or else the process is parked with its answer. If the deed lets the parked process at the
+    /// other end of the channel go on, that process does its deed next. If no process is then ready or
+    /// out, the run ends, or the chosen channel grows and its writer's put is done (Parks 1995). Takes
+    /// no memory except that of a growth.
+    ///
+    /// Errors: the process of the answer is not out, or not with this card, local state and last token.
+    /// The answer is handed back, and nothing changes.
     #[inline(always)]
     pub fn commit(&mut self, finished: Finished<B>) -> Result<Outcome, Stranger<B>>
         ensures stranger { IfErr result (λ stranger. (stranger.finished ≡ finished) × (self.new ≡ self.old)) }
@@ -285,8 +291,8 @@ impl<B: Body> Machine<B> {
         Ok(self.commit_asked(finished))
     }
 
-    /// Takes the answer of a process that is out, as `commit` does, if it is known to be out, with this
-    /// card, local state and last token.
+    /// Takes the answer of a process that is out, as `commit` does. The process must be out with this
+    /// card, local state and last token, as `has_asked` tests.
     #[inline(always)]
     pub fn commit_asked(&mut self, finished: Finished<B>) -> Outcome
         requires { IsOut self.old finished }
@@ -319,8 +325,8 @@ impl<B: Body> Machine<B> {
 }
 
 impl<B: Body> Machine<B> {
-    /// The network and the bodies, in order, of a machine that is fresh: what it was opened with. Takes
-    /// no memory.
+    /// Returns the network and, in order, bodies of the right cards, of a machine that is as it was
+    /// opened. Takes no memory.
     pub fn into_parts(self) -> (Net<B::Kinds>, Vec<B>)
         requires { IsFresh self }
         ensures net { result.0 ≡ self.network }
@@ -346,7 +352,7 @@ impl<B: Body> Machine<B> {
 }
 
 impl<B: Body> Machine<B> {
-    /// The machine without its bodies, as it stands. Takes no memory.
+    /// Returns the machine without its bodies. Takes no memory.
     pub fn into_chronicle(self) -> Chronicle<B::Kinds>
         ensures { result ≡ self }
     {
@@ -365,8 +371,8 @@ impl<B: Body> Machine<B> {
 }
 
 impl<B: Body> Machine<B> {
-    /// Runs to an end in the calling thread, if no process is out. Whatever number of places a channel
-    /// suffices for the network, the run takes no more (Parks 1995).
+    /// Runs to an end in the calling thread. No process may be out. If some number of places a channel
+    /// suffices for the network, the run takes no more, but for the step of a growth (Parks 1995).
     pub fn finish_alone(&mut self)
         requires { count_by is_out self.old.standings ≡ 0 }
         ensures goes { ContinuesRun B.Kinds.family self.old self.new }

@@ -14,8 +14,8 @@ use kpn_net::{Card, Kinds, Net, Status};
 use kpn_state::{Ring, Roster, Store};
 use std::alloc::{AllocError, Global};
 
-/// Why a machine was not opened, the first that applies: the bodies are not as many as the
-/// processes; a body has not the card of its process; memory was refused.
+/// Why a machine was not opened. `Bodies`: there are not as many bodies as processes. `Card`: a body
+/// does not have the card of its process. `Memory`: memory was refused.
 #[derive(Clone, Copy, Debug, PartialEq, Eq)]
 pub enum OpenFault {
     Bodies,
@@ -24,7 +24,7 @@ pub enum OpenFault {
 }
 
 impl OpenFault {
-    /// The number of a fault, by which programs tell it: 1 to 3, in the order above.
+    /// Returns the number of a fault, as programs print it: 1 to 3, in the order above.
     pub fn number(&self) -> u8
         ensures { result ≡ number_of_open_fault self.now }
     {
@@ -36,9 +36,10 @@ impl OpenFault {
     }
 }
 
-/// The cards of a network's processes, in order: those of the bodies with which a machine is opened.
+/// Returns the cards of a network's processes, in order; a machine is opened with bodies of these
+/// cards. Each has a signature.
 ///
-/// Each has a signature. The error is want of memory.
+/// Errors: memory was refused.
 pub fn cards_of<K: Kinds>(alloc: Global, net: &Net<K>) -> Result<Vec<Card>, AllocError>
     ensures cards { IfOk result (λ v. v.items ≡ cards_of net.now.processes) }
     ensures signed { IfOk result (λ v. All (λ card. IsSome (K.signature_of card)) v.items) }
@@ -50,7 +51,7 @@ pub fn cards_of<K: Kinds>(alloc: Global, net: &Net<K>) -> Result<Vec<Card>, Allo
     Ok(cards)
 }
 
-/// What is wrong with the bodies, if anything is.
+/// What is wrong with the bodies; `None` if nothing is.
 pub(crate) fn misfit<B: Body>(net: &Net<B::Kinds>, bodies: &[B]) -> Option<OpenFault>
     ensures some { IfSome result (IsOpenFault net.now.processes (map B.card bodies.now)) }
     ensures none { IfNone result (map B.card bodies.now ≡ cards_of net.now.processes) }
@@ -95,7 +96,7 @@ fn start_rings<K: Kinds>(alloc: Global, net: &Net<K>) -> Result<Vec<Ring>, Alloc
     Ok(rings)
 }
 
-/// The start of a network, with room for its budget and two entries more.
+/// The start of a network, with room for two entries more than its budget.
 fn start_store<K: Kinds>(alloc: Global, net: &Net<K>) -> Result<Store, AllocError>
     ensures store { IfOk result (λ s. s ≡ state_and_history (start K.family net.now) [] (net.now.budget + 2)) }
     ensures admitted { OnOk result ((p : ℕ) → p < length net.now.processes → K.admits (card_of net.now p) (K.family.start (card_of net.now p)) None) }
@@ -108,7 +109,7 @@ fn start_store<K: Kinds>(alloc: Global, net: &Net<K>) -> Result<Store, AllocErro
     Ok(Store::new(statuses, rings, history, room))
 }
 
-/// A place for each body.
+/// An empty slot for each body.
 fn empty_slots<B: Body>(alloc: Global, count: usize) -> Result<Vec<Option<B>>, AllocError>
     ensures { IfOk result (λ v. length v.items ≡ count) }
 {
@@ -119,8 +120,8 @@ fn empty_slots<B: Body>(alloc: Global, count: usize) -> Result<Vec<Option<B>>, A
     Ok(slots)
 }
 
-/// All that a machine begins with, but its network and its bodies: the state, where the processes
-/// stand, and a place for each body.
+/// What a machine begins with, except its network and its bodies: the state, the standings of the
+/// processes, and a slot for each body.
 #[derive(Drop)]
 pub(crate) struct Start<B: Body> {
     pub(crate) store: Store,
@@ -142,7 +143,7 @@ pub(crate) fn prepare<B: Body>(alloc: Global, net: &Net<B::Kinds>) -> Result<Sta
     })
 }
 
-/// Puts each body in its place.
+/// Moves each body into the slot of its number.
 pub(crate) fn seat_all<B: Body>(bodies: &mut Vec<B>, slots: &mut Vec<Option<B>>)
     requires { length slots.old.items ≡ length bodies.old.items }
     ensures seated { AreSeated (map B.card bodies.old.items) (map (option_map B.card) slots.new.items) }

@@ -1,4 +1,4 @@
-//! Whether two of a kind are equal.
+//! Whether two cards, local states or last tokens are equal.
 ghost use Rattle.std.specs.Prelude.{◌≡◌, ◌↔◌, IsTrue};
 
 use kpn_net::{Card, Local, Token};

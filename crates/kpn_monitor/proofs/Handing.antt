@@ -1,4 +1,4 @@
--- A hand's tasks and answers, one more and one less.
+-- A hand's tasks and answers, with one more and one less.
 use Rattle.std.proofs.Common.{◌≡◌, ℕ, ◌+◌, ◌<◌, zero, suc, List, [], ◌∷◌, ◌++◌, length, drop, refl, ap, sym, subst, ◌∙◌, arith, length-append}
 use Rattle.std.specs.Prelude.{◌≢◌, Option, Some, None, IsSome, MatchOption, slice_get, slice_index_or}
 use mathlib.Core.List.{IsPrefix}
@@ -19,7 +19,7 @@ use Rattle.kpn_monitor.specs.Names.{Shares, Holding}
 use Rattle.kpn_monitor.specs.Kept.{WasCommitted}
 use Rattle.kpn_monitor.specs.Hands.{AreAnswers, TakesOutAll, CommitsAll, WereCommitted}
 
--- one task more
+-- one more task
 pub answers_put : (kinds : Family) (tasks : List Input) (answers : List Answer) (i : Input) → AreAnswers kinds tasks answers → AreAnswers kinds (tasks ++ i ∷ []) answers
 answers_put kinds tasks [] i are = tt
 answers_put kinds [] (a ∷ answers) i are = absurd are
@@ -28,7 +28,7 @@ answers_put kinds (t ∷ tasks) (a ∷ answers) i are = (are.0, answers_put kind
 some_same : {X : Type 0} (x y : X) → Some x ≡ Some y → x ≡ y
 some_same x y is = cc
 
--- one answer more, to the first task that had none
+-- one more answer, to the first task that had none
 pub answers_called : (kinds : Family) (tasks : List Input) (answers : List Answer) (i : Input) (a : Answer) → slice_get tasks (length answers) ≡ Some i → a ≡ answer_to kinds i
     → AreAnswers kinds tasks answers → AreAnswers kinds tasks (answers ++ a ∷ [])
 answers_called kinds [] [] i a at is are = absurd (cc)
@@ -61,12 +61,12 @@ pub no_item : {X : Type 0} (xs : List X) → length xs ≡ 0 → xs ≡ []
 no_item [] none = refl
 no_item (x ∷ xs) none = absurd (omega (arith, none))
 
--- one task more went out
+-- one more task went out
 pub takes_more : (s : MachineView) (tasks : List Input) (m : MachineView) (i : Input) (t : MachineView) → TakesOutAll s tasks m → TakesOut m i t → TakesOutAll s (tasks ++ i ∷ []) t
 takes_more s [] m i t all one = (t, subst (λ (x : MachineView). TakesOut x i t) all one, refl)
 takes_more s (j ∷ tasks) m i t all one = (all.0, all.1, takes_more all.0 tasks m i t all.2 one)
 
--- one answer more was taken
+-- one more answer was taken
 pub commits_more : (kinds : Family) (s : MachineView) (tasks : List Input) (outcomes : List Outcome) (m : MachineView) (i : Input) (left : List Input) (o : Outcome) (t : MachineView) → CommitsAll kinds s tasks outcomes m (i ∷ left) → Commits kinds m i o t → Appends kinds m t (number o)
     → CommitsAll kinds s tasks (outcomes ++ o ∷ []) t left
 commits_more kinds s [] [] m i left o t all one more = absurd (let e = all.1 in cc)
@@ -82,7 +82,7 @@ committed_more kinds admits net (j ∷ tasks) [] i left o all one = subst (λ (l
 committed_more kinds admits net [] (p ∷ outcomes) i left o all one = absurd all
 committed_more kinds admits net (j ∷ tasks) (p ∷ outcomes) i left o all one = (all.0, committed_more kinds admits net tasks outcomes i left o all.1 one)
 
--- a hand gave its first task, and noted what came of it
+-- a hand gave its first answer, and noted the outcome
 pub gave_machine : (kinds : Family) (s : MachineView) (tasks : List Input) (before between after : Holding) (m t : MachineView) (i : Input) (o : Outcome)
     → before.tasks ≡ i ∷ between.tasks → between.outcomes ≡ before.outcomes → after ≡ record between { outcomes = between.outcomes ++ o ∷ [] }
     → CommitsAll kinds s tasks before.outcomes m before.tasks → Commits kinds m i o t → Appends kinds m t (number o) → CommitsAll kinds s tasks after.outcomes t after.tasks
@@ -109,7 +109,7 @@ gave_many before between after i o first same noted =
       ap (sum_by number) outs ∙ sum_more number before.outcomes o,
     )
 
--- a hand was dealt a task more
+-- a hand was dealt one more task
 pub dealt_out : (s : MachineView) (before after : Holding) (m : MachineView) (i : Input) (t : MachineView) → after ≡ record before { tasks = before.tasks ++ i ∷ [] } → TakesOut m i t → TakesOutAll s before.tasks m → TakesOutAll s after.tasks t
 dealt_out s before after m i t is one all = subst (λ (h : Holding). TakesOutAll s h.tasks t) (sym is) (takes_more s before.tasks m i t all one)
 
@@ -123,7 +123,7 @@ all_one P xs y is p = rw is (one_at P y p)
 pub all_more : {X : Type 0} (P : X → Type 0) (xs ys : List X) (y : X) → ys ≡ xs ++ y ∷ [] → All P xs → P y → All P ys
 all_more P xs ys y is all p = rw is (All-append P xs (y ∷ []) all (one_at P y p))
 
--- the history went on by so many entries; if an end stood, by none, and the end stays
+-- the history went on by n entries; if the run had ended, by none, and the end stays
 pub record WentOn (s t : MachineView) (n : ℕ) : Type 0 where
   pub history : IsPrefix s.history t.history
   pub count : length t.history ≡ length s.history + n

@@ -21,15 +21,14 @@ abbrev pub TakesOutAll : MachineView → List Input → MachineView → Type 0
 TakesOutAll s [] t = t ≡ s
 TakesOutAll s (i ∷ tasks) t = (m : MachineView) × TakesOut s i m × TakesOutAll m tasks t
 
--- the answers to the first of the tasks are taken, one after the other, each with the outcome at its
--- place and with its number of entries; these tasks are left
+-- the answers to the first of the tasks are taken, one after the other, each with the corresponding outcome and its number of
+-- entries; the tasks `left` remain
 abbrev pub CommitsAll : Family → MachineView → List Input → List Outcome → MachineView → List Input → Type 0
 CommitsAll kinds s tasks [] t left = (t ≡ s) × (left ≡ tasks)
 CommitsAll kinds s [] (o ∷ outcomes) t left = ⊥
 CommitsAll kinds s (i ∷ tasks) (o ∷ outcomes) t left = (m : MachineView) × Commits kinds s i o m × Appends kinds s m (number o) × CommitsAll kinds m tasks outcomes t left
 
--- the answers to the first of the tasks were committed, each with the outcome at its place; these
--- tasks are left
+-- the answers to the first of the tasks were committed, each with the corresponding outcome; the tasks `left` remain
 abbrev pub WereCommitted : Family → (Card → List ℕ → Option Token → Type 0) → Network → List Input → List Outcome → List Input → Type 0
 WereCommitted kinds admits net tasks [] left = left ≡ tasks
 WereCommitted kinds admits net [] (o ∷ outcomes) left = ⊥

@@ -24,7 +24,7 @@ pub enum CloseFault {
     SeatsMissing = 1,
 }
 
-/// What `close` refuses, handed back as it was.
+/// What `close` hands back if it fails: the reason, the monitor and the seats.
 #[derive(Drop)]
 pub struct Unclosed<B: Body, E: EntryLedger, O: Ledger> {
     pub monitor: Monitor<B, E, O>,
@@ -32,10 +32,10 @@ pub struct Unclosed<B: Body, E: EntryLedger, O: Ledger> {
     pub fault: CloseFault,
 }
 
-/// A monitor that was closed: what its machine left behind, and the receipts, which are what the
-/// seats' shares of entries add up to. There are as many receipts as entries.
+/// A monitor that was closed: what its machine left behind, and the receipts, which are the sum of the
+/// seats' shares of entries. There are as many receipts as entries.
 ///
-/// It is made by `Monitor::close` alone.
+/// Only `Monitor::close` makes one.
 #[derive(Drop)]
 pub struct Closed<K: Kinds, E: EntryLedger> {
     chronicle: Chronicle<K>,
@@ -80,21 +80,21 @@ impl<K: Kinds, E: EntryLedger> Closed<K, E> {
         }
     }
 
-    /// The network that the monitor's type names.
+    /// Returns the network, which is the one that the monitor's type names.
     pub fn net(&self) -> &Net<K>
         ensures { result.now ≡ self.now.machine.network }
     {
         self.chronicle.net()
     }
 
-    /// The entries, in order.
+    /// Returns the entries, in order.
     pub fn history(&self) -> &[Entry]
         ensures { result.now ≡ self.now.machine.history }
     {
         self.chronicle.history()
     }
 
-    /// What the seats' shares of entries add up to.
+    /// Returns the sum of the seats' shares of entries, which is the number of entries.
     pub fn receipts(&self) -> u64
         ensures receipts { result ≡ self.now.receipts }
         ensures entries { result ≡ length self.now.machine.history }
@@ -102,7 +102,7 @@ impl<K: Kinds, E: EntryLedger> Closed<K, E> {
         self.receipts
     }
 
-    /// How the run ended, if it did.
+    /// Returns how the run ended; `None` if it did not.
     pub fn end(&self) -> Option<End>
         ensures end { result ≡ self.now.machine.end }
         ensures faithful { IsFaithful K.family K.admits self.now.machine }
@@ -110,9 +110,9 @@ impl<K: Kinds, E: EntryLedger> Closed<K, E> {
         self.chronicle.end()
     }
 
-    /// Ends a watcher, and tells how long the whole history is and how it ended. The history goes on from
-    /// what the watcher had seen, and is that if it had seen an end. Takes no memory, and waits for
-    /// nobody.
+    /// Ends a watcher, and returns the number of entries and of growths of the whole history and how it
+    /// ended. The history goes on from what the watcher had seen, and is the same if the watcher had
+    /// seen an end. Takes no memory, and waits for nobody.
     pub fn settle(&mut self, watcher: Watcher) -> Progress
         requires { watcher.board ≡ E.board }
         ensures goes_on { IsPrefix watcher.entries self.old.machine.history }
@@ -123,7 +123,7 @@ impl<K: Kinds, E: EntryLedger> Closed<K, E> {
         self.publisher.settle(&self.board, watcher)
     }
 
-    /// What the machine left behind: network, history, standings and end.
+    /// Returns what the machine left behind: network, history, standings and end.
     pub fn into_chronicle(self) -> Chronicle<K>
         ensures { result ≡ self.machine }
     {

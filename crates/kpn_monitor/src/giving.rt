@@ -22,8 +22,8 @@ pub(crate) fn give_one<B: Body>(machine: &mut Machine<B>, finished: Finished<B>)
     machine.commit_asked(finished)
 }
 
-/// Gives the answers of a hand to a machine, one after the other. It stops at an answer that the machine
-/// did not ask for, and hands it back.
+/// Gives the answers of a hand to a machine, one after the other. Stops at an answer that the machine
+/// did not ask for, and returns it.
 pub(crate) fn give_all<B: Body>(machine: &mut Machine<B>, hand: &mut Hand<B>) -> Option<Finished<B>>
     requires none { hand.old.outcomes ≡ [] }
     requires few { length hand.old.tasks ≤ 16 }

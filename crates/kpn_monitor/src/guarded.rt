@@ -1,8 +1,8 @@
 //! What the lock guards.
 //!
-//! Each time the lock is free, the history is a run of the network from its start, an end that stands
-//! is bound and stays, the book of entries holds as many as the history has, an end stands if the
-//! book of overs is not empty, and what is published is the history with the phase of its end.
+//! Whenever the lock is free, the history is a run of the network from its start; an end is justified
+//! and stays; the total of the book of entries is the length of the history; the run has ended if the
+//! book of overs is not empty; and what is published is the history with the phase of its end.
 ghost use Rattle.std.specs.Prelude.{◌≡◌, ◌+◌, ◌<◌, ◌≤◌, ◌↔◌, [], ◌∷◌, ◌++◌, true, false, length, Some, IfNone, Ok, IfSome, IfOk, IfErr, IsErr, OnOk, OnErr, IsSome, MatchOption, MatchResult};
 ghost use Rattle.std.specs.List.{All, sum_by};
 ghost use Rattle.kpn_model.specs.declared.history.End.{End as EndV};
@@ -27,10 +27,10 @@ use kpn_watch::{Board, CountingPublisher, Publisher, WatchFault, Watcher};
 use std::marker::Model;
 use std::sync::ledger::{Book, Ledger, Share};
 
-/// What a worker is given: a task, or the end that stands.
+/// What a worker is given: a task, or the end of the run.
 #[derive(Drop)]
 pub enum Taken<B: Body> {
-    /// A process that is now out, with what its body is to be called on.
+    /// A process that is now out, with the input for its body.
     Task(Task<B>),
     /// The run is over.
     Over(End),
@@ -39,9 +39,9 @@ pub enum Taken<B: Body> {
 /// What a hand was given.
 #[derive(Clone, Copy, Debug, PartialEq, Eq)]
 pub enum Next {
-    /// Tasks, one at least.
+    /// At least one task.
     Tasks,
-    /// Nothing, since no process was ready, or none was asked for.
+    /// Nothing, since no process was ready, or no task was asked for.
     Nothing,
     /// The run is over.
     Over(End),
@@ -103,8 +103,8 @@ impl<B: Body, E: EntryLedger, O: Ledger> Guarded<B, E, O> {
         }
     }
 
-    /// A task, or the end that stands, which the seat then has met. None if there is neither, or no
-    /// room to book the meeting.
+    /// Takes a task, or meets the end of the run and notes it in the seat. `None` if there is neither,
+    /// or if the book of overs is full.
     pub(crate) fn take(&mut self, seat: &mut Seat<E, O>) -> Option<Taken<B>>
         ensures none { IfNone result ((seat.new ≡ seat.old) × (self.new ≡ self.old)) }
         ensures nothing { IfNone result (FoundNothing B.Kinds.family B.Kinds.admits E.net) }
@@ -154,8 +154,8 @@ impl<B: Body, E: EntryLedger, O: Ledger> Guarded<B, E, O> {
         Ok(outcome)
     }
 
-    /// Gives the answers of a hand to the machine, one after the other, then publishes and books what they
-    /// appended. It stops at an answer that the machine did not ask for, and hands it back.
+    /// Gives the answers of a hand to the machine, one after the other, then publishes and books what
+    /// they appended. Stops at an answer that the machine did not ask for, and returns it.
     pub(crate) fn give(
         &mut self,
         board: &Board,
@@ -180,8 +180,8 @@ impl<B: Body, E: EntryLedger, O: Ledger> Guarded<B, E, O> {
         refused
     }
 
-    /// Tasks for a hand that has none, at most so many; or the end that stands, which the seat then has
-    /// met. Nothing, if none are asked for.
+    /// Takes at most `most` tasks for a hand that has none; or meets the end of the run and notes it in
+    /// the seat. Takes nothing if `most` is 0.
     pub(crate) fn deal(&mut self, hand: &mut Hand<B>, seat: &mut Seat<E, O>, most: usize) -> Next
         requires tasks { hand.old.tasks ≡ [] }
         requires called { hand.old.called ≡ 0 }
@@ -210,7 +210,7 @@ impl<B: Body, E: EntryLedger, O: Ledger> Guarded<B, E, O> {
         }
     }
 
-    /// Gives the answers of a hand, which were all called, and deals tasks to it if some are asked for.
+    /// Gives the answers of a hand, all of whose tasks were called, and takes at most `most` new tasks.
     pub(crate) fn exchange(
         &mut self,
         board: &Board,
@@ -238,7 +238,7 @@ impl<B: Body, E: EntryLedger, O: Ledger> Guarded<B, E, O> {
         }
     }
 
-    // More tasks, so that there are as many as are wanted, or no process is ready.
+    // Takes more tasks, until there are as many as are wanted or no process is ready.
     fn deal_more(&mut self, hand: &mut Hand<B>, wanted: usize)
         requires one { length hand.old.tasks ≡ 1 }
         requires room { wanted ≤ 16 }
@@ -254,7 +254,7 @@ impl<B: Body, E: EntryLedger, O: Ledger> Guarded<B, E, O> {
         }
     }
 
-    // One task more. False if no process is ready.
+    // Takes one more task. False if no process is ready.
     fn deal_one(&mut self, hand: &mut Hand<B>) -> bool
         requires { length hand.old.tasks < 16 }
         ensures more { result ≡ true → (i : Input) × (hand.new ≡ record hand.old { tasks = hand.old.tasks ++ i ∷ [] }) × TakesOut self.old.machine i self.new.machine × WasTaken B.Kinds.family B.Kinds.admits E.net i }
@@ -271,27 +271,27 @@ impl<B: Body, E: EntryLedger, O: Ledger> Guarded<B, E, O> {
         }
     }
 
-    /// Whether a thread that takes would be given something.
+    /// Whether `take` would return something.
     pub(crate) fn has_work(&self) -> bool {
         self.machine.ready() > 0 || self.machine.end().is_some()
     }
 
-    /// A thread is about to wait.
+    /// Counts a thread that is about to wait.
     pub(crate) fn begin_waiting(&mut self)
         ensures { self.new ≡ self.old }
     {
         self.waiting = self.waiting.saturating_add(1);
     }
 
-    /// A thread no longer waits.
+    /// Counts a thread that no longer waits.
     pub(crate) fn end_waiting(&mut self)
         ensures { self.new ≡ self.old }
     {
         self.waiting = self.waiting.saturating_sub(1);
     }
 
-    /// Which waiting threads have something to do: all if an end stands, else no more than there are
-    /// ready processes. Nothing is claimed of waking.
+    /// Which waiting threads have something to do: all if the run has ended, else at most as many as
+    /// there are ready processes. Nothing is claimed about waking.
     pub(crate) fn wakes(&self) -> Wakes {
         if self.waiting == 0 {
             return Wakes::AtMost(0);
@@ -313,7 +313,7 @@ impl<B: Body, E: EntryLedger, O: Ledger> Guarded<B, E, O> {
         (self.machine.history().len() as u64, self.over_count)
     }
 
-    /// A watcher of the history so far, which is a run.
+    /// Makes a watcher that has seen the history so far, which is a run.
     pub(crate) fn watch(&mut self, board: &Board) -> Result<Watcher, WatchFault>
         requires { board.now ≡ E.board }
         ensures seen { IfOk result (λ w. w ≡ record { board = E.board; entries = self.old.machine.history; phase = phase_of self.old.machine.end }) }
@@ -326,7 +326,7 @@ impl<B: Body, E: EntryLedger, O: Ledger> Guarded<B, E, O> {
         self.publisher.watch(board)
     }
 
-    /// What shares that have all parts hold is what the books hold.
+    /// Does nothing: a caller learns that the shares of all parts add up to the books.
     pub(crate) fn audit(&mut self, entries: &mut Share<E>, overs: &mut Share<O>)
         requires { (entries.old.parts ≡ 65536) × (overs.old.parts ≡ 65536) }
         ensures entries { entries.old.amount ≡ length self.old.machine.history }
@@ -336,7 +336,7 @@ impl<B: Body, E: EntryLedger, O: Ledger> Guarded<B, E, O> {
         self.overs.audit(overs);
     }
 
-    /// The machine without its bodies, and what is published of it.
+    /// The machine without its bodies, and its publisher.
     pub(crate) fn into_chronicle(self) -> (Chronicle<B::Kinds>, CountingPublisher)
         ensures is { result.0 ≡ self.machine }
         ensures network { result.0.network ≡ E.net }

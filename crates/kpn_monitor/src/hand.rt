@@ -10,14 +10,14 @@ use kpn_net::Answer;
 use std::alloc::{AllocError, Global};
 use std::marker::Model;
 
-/// How many tasks a hand holds at most.
+/// The greatest number of tasks in a hand.
 const ROOM: usize = 16;
 
-/// The tasks that a worker holds, at most 16, and what came of the answers that it gave last.
+/// The tasks that a worker holds, at most 16, and the outcomes of the answers that it gave last.
 ///
-/// The tasks stay in their place from the taking to the commit, each with its answer beside it once it
-/// is called. All memory is taken at the start. Into how many parts the ready processes are shared out
-/// (`sharers`) is told by no contract.
+/// The tasks stay in their place from the take to the commit, each with its answer beside it once it is
+/// called. All memory is taken at the start. No contract speaks of the number of workers that share the
+/// ready processes (`sharers`).
 #[derive(Drop)]
 pub struct Hand<B: Body> {
     tasks: HeapCircularBuffer<Task<B>>,
@@ -40,8 +40,8 @@ impl<B: Body> Model for Hand<B> {
 }
 
 impl<B: Body> Hand<B> {
-    /// An empty hand, of a worker that shares the ready processes with others: of that many workers in
-    /// all, of which 0 counts as 1. The error is want of memory.
+    /// Makes an empty hand. Its worker is one of `sharers` workers that share the ready processes; 0
+    /// counts as 1. Fails if memory was refused.
     pub fn new(alloc: Global, sharers: usize) -> Result<Hand<B>, AllocError>
         ensures { IfOk result (λ h. h ≡ record { tasks = []; called = 0; outcomes = [] }) }
     {
@@ -54,8 +54,8 @@ impl<B: Body> Hand<B> {
         })
     }
 
-    /// Calls the first task that was not called yet, and tells its process. `None` exactly when all
-    /// were called, and nothing changes. Takes no lock and no memory.
+    /// Calls the first task that was not called yet, and returns the number of its process. `None`
+    /// exactly if all were called, and nothing changes then. Takes no lock and no memory.
     #[inline]
     pub fn call(&mut self) -> Option<usize>
         ensures none { IfNone result ((self.old.called ≡ length self.old.tasks) × (self.new ≡ self.old)) }
@@ -69,14 +69,14 @@ impl<B: Body> Hand<B> {
         Some(process)
     }
 
-    /// What came of the answers that were given last, in the order of their tasks.
+    /// Returns the outcomes of the answers that were given last, in the order of their tasks.
     pub fn outcomes(&self) -> &[Outcome]
         ensures { result.now ≡ self.now.outcomes }
     {
         self.outcomes.as_slice()
     }
 
-    /// Forgets what came of earlier answers.
+    /// Forgets the outcomes of earlier answers.
     pub(crate) fn forget(&mut self)
         ensures forgotten { self.new ≡ record self.old { outcomes = [] } }
         ensures few { length self.old.tasks ≤ 16 }
@@ -85,7 +85,7 @@ impl<B: Body> Hand<B> {
         self.outcomes.clear();
     }
 
-    /// The first task with its answer, if it was called.
+    /// Removes the first task and returns it with its answer, if it was called.
     #[inline]
     pub(crate) fn give(&mut self) -> Option<Finished<B>>
         ensures none { IfNone result ((self.old.called ≡ 0) × (self.new ≡ self.old)) }
@@ -100,7 +100,7 @@ impl<B: Body> Hand<B> {
         Some(task.answered(answer))
     }
 
-    /// Keeps what came of an answer.
+    /// Keeps the outcome of an answer.
     #[inline]
     pub(crate) fn note(&mut self, outcome: Outcome)
         requires { length self.old.outcomes < 16 }
@@ -109,7 +109,7 @@ impl<B: Body> Hand<B> {
         self.outcomes.push_reserved(outcome);
     }
 
-    /// Takes a task.
+    /// Appends a task.
     #[inline]
     pub(crate) fn put(&mut self, task: Task<B>)
         requires { length self.old.tasks < 16 }
@@ -118,8 +118,8 @@ impl<B: Body> Hand<B> {
         append(&mut self.tasks, task);
     }
 
-    /// How many tasks to take if so many are ready, and at most so many are wanted: its share, but
-    /// one at least.
+    /// How many tasks to take if `ready` processes are ready and at most `most` tasks are wanted: the
+    /// worker's share, but at least one.
     pub(crate) fn wanted(&self, ready: usize, most: usize) -> usize
         ensures { (1 ≤ result) × (result ≤ 16) }
     {

@@ -1,8 +1,9 @@
 //! A Parks machine that threads share: under one lock, with a ledger of the entries that each worker
 //! brought about, and with a board that watchers read without the lock.
 //!
-//! A worker has a `Seat`. It takes a task from the `Monitor`, calls it outside the lock, and commits the
-//! answer. After the work `Monitor::close` compares the seats with the books, and gives the history.
+//! A worker has a `Seat`. It takes a task from the `Monitor`, calls it outside the lock, and commits
+//! the answer. After the work `Monitor::close` compares the seats with the books, and returns the
+//! history.
 #![tactic(auto)]
 
 mod closed;

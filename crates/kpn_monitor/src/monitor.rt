@@ -29,7 +29,7 @@ use std::sync::ledger::Ledger;
 use std::sync::{Condvar, Mutex, MutexGuard, Wait};
 use std::time::Duration;
 
-/// The parts of a ledger.
+/// The parts of each ledger.
 const PARTS: u32 = 65536;
 
 /// How often a thread looks whether the lock is free before it sleeps, and how long it pauses between.
@@ -37,12 +37,12 @@ const LOOKS: u32 = 250;
 
 const PAUSES: u32 = 8;
 
-/// A machine that threads share, under a lock, with a board beside the lock on which each commit shows
-/// how far the history has come. Its type names the network, the board and two ledgers, so the type of
-/// a seat says which monitor it belongs to.
+/// A machine that threads share, under a lock. Beside the lock there is a board on which each commit
+/// shows how far the history has come. The monitor's type names the network, the board and two ledgers,
+/// so the type of a seat says which monitor it belongs to.
 ///
-/// Two ledgers are kept: of the entries that were appended, and of the ends that were met ("overs").
-/// Each seat has a share of both, and a book under the lock holds each ledger's total.
+/// The two ledgers are of the entries that were appended, and of the ends that were met ("overs"). Each
+/// seat has a share of both, and a book under the lock holds each ledger's total.
 #[derive(Drop)]
 pub struct Monitor<B: Body, E: EntryLedger, O: Ledger> {
     state: Mutex<Guarded<B, E, O>>,
@@ -54,8 +54,8 @@ pub struct Monitor<B: Body, E: EntryLedger, O: Ledger> {
 }
 
 impl<B: Body, E: EntryLedger, O: Ledger> Monitor<B, E, O> {
-    /// The monitor of an opening whose network, board and ledgers the types name, and a seat that has all
-    /// parts and empty shares. Takes no memory.
+    /// Makes the monitor of an opening, and a seat with all parts and empty shares. The types must name
+    /// the network, the board and the ledgers of the opening. Takes no memory.
     pub fn open(opening: Opening<B>) -> (Monitor<B, E, O>, Seat<E, O>)
         requires network { opening.machine.network ≡ E.net }
         requires board { opening.board ≡ E.board }
@@ -82,9 +82,9 @@ impl<B: Body, E: EntryLedger, O: Ledger> Monitor<B, E, O> {
         (monitor, Seat::whole(PARTS, entry_share, over_share))
     }
 
-    /// A process goes out as a task, and the seat stays as it is; or the run is over, and the seat has
-    /// then met the end: its share of overs is 1. It waits while no process is ready and no end stands.
-    /// A task that is dropped leaves its process out for good.
+    /// Takes a process out as a task; or, if the run is over, returns its end and notes in the seat
+    /// that it has met it (its share of overs is then 1). A task leaves the seat unchanged. Waits while
+    /// no process is ready and the run goes on. If a task is dropped, its process stays out for good.
     pub fn take<R: Wait>(&self, rt: &R, seat: &mut Seat<E, O>) -> Taken<B>
         ensures task { (t : Input) → result ≡ Taken.Task t → seat.new ≡ seat.old }
         ensures over { (e : EndV) → result ≡ Taken.Over e → seat.new ≡ record seat.old { overs = 1 } }
@@ -104,9 +104,10 @@ impl<B: Body, E: EntryLedger, O: Ledger> Monitor<B, E, O> {
     }
 
     /// Gives an answer to the machine, and shows what it appended on the board, in one holding of the
-    /// lock. The seat's share grows by as many entries as were appended. The seat need not be the one
-    /// that took the task. The error is an answer that the machine did not ask for: it is handed back,
-    /// and the seat stays as it is.
+    /// lock. The seat's share grows by the number of entries appended. The seat need not be the one
+    /// that took the task.
+    ///
+    /// Errors: the machine did not ask for this answer. It is handed back, and the seat is unchanged.
     pub fn commit<R: Wait>(
         &self,
         rt: &R,
@@ -125,13 +126,16 @@ impl<B: Body, E: EntryLedger, O: Ledger> Monitor<B, E, O> {
         answer
     }
 
-    /// Gives the answers of a hand to the machine, each as `commit` does, and takes tasks as `take` does,
-    /// at most `most` of them, in one holding of the lock. Waits for nobody but the lock.
+    /// Gives the answers of a hand to the machine, each as `commit` does, and then takes at most `most`
+    /// tasks as `take` does, in one holding of the lock. All tasks of the hand must have been called.
+    /// Waits only for the lock.
     ///
-    /// The seat's share of entries grows by what the answers appended. The hand then has tasks, one at
-    /// least; or nothing, if no process was ready or `most` is 0; or the run is over, and the seat has
-    /// met the end: its share of overs is 1. The error is an answer that the machine did not ask for, with
-    /// the answers before it committed and those after it left in the hand.
+    /// The seat's share of entries grows by the number of entries that the answers appended. Afterwards
+    /// the hand has at least one task; or it has none, since no process was ready or `most` is 0; or
+    /// the run is over, and the seat has met its end: its share of overs is 1.
+    ///
+    /// Errors: the machine did not ask for an answer, which is handed back. The answers before it are
+    /// committed, and those after it are left in the hand.
     pub fn exchange<R: Wait>(
         &self,
         rt: &R,
@@ -163,11 +167,11 @@ impl<B: Body, E: EntryLedger, O: Ledger> Monitor<B, E, O> {
         answer
     }
 
-    /// Rests until the run is over, or so long, and tells whether it did. A thread doesn't rest if the
-    /// run is over; nor, being idle, where a process is ready; nor, being spare, if all others that ever
-    /// wanted to rest do. Of all that rest one looks out: it alone rests for so long, and has another look
-    /// out once it goes on; the others rest until then. They rest beside another lock than the machine's.
-    /// Nothing is claimed of it.
+    /// Rests until the run is over, or at most for `limit`, and returns whether it rested. A thread
+    /// doesn't rest if the run is over; nor, if it is idle, when a process is ready; nor, if it is
+    /// spare, when all others that ever wanted to rest do. One of the threads that rest is the lookout:
+    /// it alone wakes after `limit`, and makes another the lookout when it goes on; the others rest
+    /// until then. They wait at another lock than the machine's. No contract claims any of this.
     pub fn rest<R: Wait + Clock>(
         &self,
         rt: &R,
@@ -201,7 +205,7 @@ impl<B: Body, E: EntryLedger, O: Ledger> Monitor<B, E, O> {
         true
     }
 
-    // The run is over: nobody rests any more.
+    // The run is over: wakes all that rest.
     fn rouse<R: Wait>(&self, rt: &R) {
         let mut resters = self.resters.lock(rt);
         let some = resters.finish();
@@ -211,7 +215,7 @@ impl<B: Body, E: EntryLedger, O: Ledger> Monitor<B, E, O> {
         }
     }
 
-    // The lock. Holdings are short, so it looks for a while before it sleeps.
+    // Takes the lock. It is held for short times only, so a thread looks for a while before it sleeps.
     fn lock<R: Wait>(&self, rt: &R) -> MutexGuard<'_, Guarded<B, E, O>> {
         for _ in 0..LOOKS {
             if let Some(guarded) = self.state.try_lock() {
@@ -224,7 +228,7 @@ impl<B: Body, E: EntryLedger, O: Ledger> Monitor<B, E, O> {
         self.state.lock(rt)
     }
 
-    // Wakes as many waiting threads as are told. Nothing is claimed of it.
+    // Wakes as many waiting threads as `wakes` says. Nothing is claimed about it.
     fn wake(&self, wakes: Wakes) {
         match wakes {
             Wakes::All => self.changed.notify_all(),
@@ -236,8 +240,8 @@ impl<B: Body, E: EntryLedger, O: Ledger> Monitor<B, E, O> {
         }
     }
 
-    /// A watcher that has seen the history so far, which is a run from the start of the network. The
-    /// error is that 64 watchers were made.
+    /// Makes a watcher that has seen the history so far, which is a run from the start of the network.
+    /// Fails if 64 watchers were made.
     pub fn watch<R: Wait>(&self, rt: &R) -> Result<Watcher, WatchFault>
         ensures board { IfOk result (λ w. w.board ≡ E.board) }
         ensures run { IfOk result (λ w. (M : State) × IsRun B.Kinds.family E.net w.entries M) }
@@ -245,8 +249,9 @@ impl<B: Body, E: EntryLedger, O: Ledger> Monitor<B, E, O> {
         self.state.lock(rt).watch(&self.board)
     }
 
-    /// Sees how far the history has come: what is now seen goes on from what this watcher saw before, and
-    /// is the same if it had seen an end. Takes no lock and no memory, and waits for nobody.
+    /// Shows the watcher how far the history has come, and returns its numbers. The history goes on
+    /// from what this watcher saw before, and is the same if it had seen an end. Takes no lock and no
+    /// memory, and waits for nobody.
     pub fn look(&self, watcher: &mut Watcher) -> Progress
         requires { watcher.old.board ≡ E.board }
         ensures board { watcher.new.board ≡ E.board }
@@ -260,9 +265,10 @@ impl<B: Body, E: EntryLedger, O: Ledger> Monitor<B, E, O> {
 
 impl<B: Body, E: EntryLedger, O: Ledger> Monitor<B, E, O> {
     /// Closes the monitor if the shares of these seats add up to the books, as they do if the seats
-    /// have all parts: the history is a run with as many entries as the seats have receipts, and an end
-    /// stands if one of them met one. The error hands back the monitor and the seats. It waits for
-    /// nobody; a process may still be out.
+    /// have all parts. The history is then a run with as many entries as the seats have receipts, and
+    /// the run has ended if one of the seats met its end. A process may still be out. Waits for nobody.
+    ///
+    /// Errors: the shares do not add up to the books. The monitor and the seats are handed back.
     pub fn close(self, seats: Vec<Seat<E, O>>) -> Result<Closed<B::Kinds, E>, Unclosed<B, E, O>>
         ensures account { IfOk result (λ c. IsAccount B.Kinds.family B.Kinds.admits E.net c) }
         ensures receipts { IfOk result (λ c. c.receipts ≡ sum_by (λ (s : Shares). s.entries) seats.items) }

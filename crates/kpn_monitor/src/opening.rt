@@ -35,8 +35,9 @@ impl<B: Body> Model for Opening<B> {
 }
 
 impl<B: Body> Opening<B> {
-    /// The machine with a new board and with ledgers of 65,536 parts. The error is want of memory, with
-    /// the machine as it was.
+    /// Makes an opening of a fresh machine, with a new board and with ledgers of 65,536 parts.
+    ///
+    /// Errors: memory was refused. The machine is handed back unchanged.
     pub fn new(alloc: Global, machine: Machine<B>) -> Result<Opening<B>, Machine<B>>
         requires { IsFresh machine }
         ensures { MatchResult result (λ o. (o.machine ≡ machine) × (o.entries.parts ≡ 65536) × (o.overs.parts ≡ 65536)) (λ m. m ≡ machine) }
@@ -53,7 +54,7 @@ impl<B: Body> Opening<B> {
         })
     }
 
-    /// The machine alone, as it was handed in.
+    /// Returns the machine, unchanged.
     pub fn into_machine(self) -> Machine<B>
         ensures machine { result ≡ self.machine }
         ensures fresh { IsFresh result }

@@ -1,6 +1,6 @@
-//! Who rests, and when.
+//! Which threads rest, and when.
 //!
-//! No contract rests on what is told here.
+//! No contract depends on this.
 
 /// Why a thread rests.
 #[derive(Clone, Copy, Debug, PartialEq, Eq)]
@@ -11,8 +11,8 @@ pub enum Rest {
     Spare,
 }
 
-/// How many threads ever wanted to rest, how many do, how many of these look out for the others, and
-/// whether the run is over.
+/// How many threads ever wanted to rest, how many rest now, how many of these are lookouts for the
+/// others, and whether the run is over.
 #[derive(Drop)]
 pub(crate) struct Resters {
     known: usize,
@@ -32,8 +32,8 @@ impl Resters {
         }
     }
 
-    /// A thread wants to rest, perhaps for the first time. False if it is not to: the run is over, or
-    /// it is spare and all others rest.
+    /// Counts a thread that wants to rest, perhaps for the first time. Returns false if it should not:
+    /// the run is over, or it is spare and all others rest.
     pub(crate) fn begin(&mut self, is_new: bool, why: Rest) -> bool {
         if is_new {
             self.known = self.known.saturating_add(1);
@@ -46,28 +46,28 @@ impl Resters {
         true
     }
 
-    /// Whether a thread that rests has to look out: nobody does, and the run is not over.
+    /// Whether a thread that rests should be the lookout: there is none, and the run is not over.
     pub(crate) fn want_lookout(&self) -> bool {
         self.looking_out == 0 && !self.over
     }
 
-    /// A thread that rests looks out.
+    /// A thread that rests becomes the lookout.
     pub(crate) fn begin_looking_out(&mut self) {
         self.looking_out = self.looking_out.saturating_add(1);
     }
 
-    /// It no longer does.
+    /// The lookout no longer is one.
     pub(crate) fn end_looking_out(&mut self) {
         self.looking_out = self.looking_out.saturating_sub(1);
     }
 
-    /// A thread no longer rests. Whether another that does is to look out in its place.
+    /// A thread no longer rests. Returns whether another that rests should be the lookout in its place.
     pub(crate) fn end(&mut self) -> bool {
         self.resting = self.resting.saturating_sub(1);
         self.resting > 0 && self.want_lookout()
     }
 
-    /// The run is over. Whether some thread still rests.
+    /// The run is over. Returns whether some thread still rests.
     pub(crate) fn finish(&mut self) -> bool {
         self.over = true;
         self.resting > 0

@@ -44,8 +44,8 @@ impl<E: EntryLedger, O: Ledger> Seat<E, O> {
         }
     }
 
-    /// A seat of one part, with empty shares. `None` exactly when one part is left, and nothing changes.
-    /// Takes no lock.
+    /// Splits off a seat of one part, with empty shares. `None` exactly if only one part is left, and
+    /// nothing changes then. Takes no lock.
     pub fn split(&mut self) -> Option<Seat<E, O>>
         ensures { MatchOption result ((self.old.parts ≡ 1) × (self.new ≡ self.old)) (λ s. (s ≡ record { parts = 1; entries = 0; overs = 0 }) × (1 < self.old.parts) × (self.new ≡ record self.old { parts = self.old.parts - 1 })) }
     {
@@ -80,7 +80,7 @@ impl<E: EntryLedger, O: Ledger> Seat<E, O> {
         (entry_share, over_share)
     }
 
-    /// Books entries.
+    /// Adds `count` entries to the seat's share and to the book.
     pub(crate) fn add_entries(&mut self, book: &mut Book<E>, count: u64)
         requires { book.old.total + count < 2 ^ 64 }
         ensures seat { self.new ≡ record self.old { entries = self.old.entries + count } }
@@ -91,7 +91,8 @@ impl<E: EntryLedger, O: Ledger> Seat<E, O> {
         self.entries += count;
     }
 
-    /// Books that an end was met, once for each seat. False if the book is full.
+    /// Books that the seat has met an end, once for each seat. False if the book is full, and nothing
+    /// changes then.
     pub(crate) fn meet_end(&mut self, book: &mut Book<O>, overs: &mut u64) -> bool
         requires { book.old.total ≡ overs.old }
         ensures book { book.new.total ≡ overs.new }
@@ -127,7 +128,7 @@ pub(crate) fn totals_of<E: EntryLedger, O: Ledger>(seats: &[Seat<E, O>]) -> (u12
     (parts, entries, overs)
 }
 
-// All shares in one. None if there is no seat.
+// The shares of all seats added up; `None` if there is no seat.
 pub(crate) fn merge<E: EntryLedger, O: Ledger>(
     mut seats: Vec<Seat<E, O>>,
 ) -> Option<(Share<E>, Share<O>)>

@@ -1,4 +1,4 @@
--- The lines that are made of the counts are those of the digest.
+-- The lines that are made from the counts are those of the digest.
 use Rattle.std.proofs.Common.{◌≡◌, ◌<◌, ◌+◌, ◌-◌, ℕ, zero, suc, true, false, List, [], ◌++◌, Option, Some, None, length, drop, refl, sym, ap, ◌∙◌, arith, append_assoc, length-append, length-drop}
 use Rattle.std.proofs.lemmas.List.FromFn.{get_or-map-range_with_len}
 use Rattle.std.specs.Prelude.{slice_index}
@@ -16,7 +16,7 @@ use Rattle.kpn_report.specs.Text.{end_line, lines_upto, channel_line, put_count,
 use Rattle.kpn_report.specs.Counted.{counted_line, counted_text, shown_of}
 use Rattle.kpn_report.specs.Digested.{has_detail}
 
--- what is pushed in two parts
+-- two appended parts are one appended whole
 pub pushed : (old mid new counted shown whole : List ℕ) → mid ≡ old ++ counted → new ≡ mid ++ shown → counted ++ shown ≡ whole → new ≡ old ++ whole
 pushed old mid new counted shown whole first second is = second ∙ ap (λ xs. xs ++ shown) first ∙ append_assoc old counted shown ∙ ap (λ xs. old ++ xs) is
 
@@ -55,7 +55,7 @@ module _ (kinds : Family) (net : Network) (cause : End) (E : List Entry) (M : St
   pub counted_lines : lines_upto (counted_line net accounts) (length net.channels) ≡ lines_upto (digest_line net (digest kinds net cause E M)) (length net.channels)
   counted_lines = lines_same _ _ (length net.channels) line_is
 
-  -- the text that is made of the counts is that of the digest
+  -- the text that is made from the counts is that of the digest
   pub counted_all :
       (places : List Place) (steps : List ℕ) (grew : List (ℕ × ℕ)) (show : Option ℕ) → places ≡ (digest kinds net cause E M).places → steps ≡ (digest kinds net cause E M).steps → grew ≡ growths E
       → counted_text net places steps accounts grew (length E) ++ shown_of net E show ≡ digest_text net (digest kinds net cause E M) show

@@ -1,4 +1,4 @@
--- What one more entry adds to what is kept of a history.
+-- What one more entry adds to what is counted of a history.
 use Rattle.std.proofs.Common.{◌≡◌, ◌≢◌, ◌<◌, ◌≤◌, ◌+◌, ◌==◌, Bool, suc, map, ⊎_elim, ℕ, true, false, cond, List, [], ◌∷◌, ◌++◌, length, get_or, set, refl, sym, ap, ◌∙◌, arith, append-nil, length-append, add-zero, eq-eqb, ne_eqb, get_or-set_same, get_or-set_other}
 use Rattle.std.proofs.lemmas.Bool.{cases_eq, cases_lt}
 use Rattle.std.proofs.lemmas.List.{get_or_past}
@@ -17,7 +17,7 @@ use Rattle.kpn_laws.proofs.Views.{deeds_push_same, deeds_push_other, deeds_push_
 use Rattle.kpn_report.specs.declared.account.Account.{Account}
 use Rattle.kpn_report.specs.Tally.{account, no_account, account_at, with_put, with_taken, with_capacity, CountsSteps, KeepsAccounts}
 
--- a list that is f place by place, of which one place is written, is f' place by place
+-- if item i of a list is f i for each i, and one item is set to what f' gives, then item i is f' i for each i
 pub places_set : {X : Type 0} (xs : List X) (d : X) (f f' : ℕ → X) (n c : ℕ) (x : X) → length xs ≡ n → ((b : ℕ) → b < n → get_or xs b d ≡ f b) → (c < n → x ≡ f' c) → ((b : ℕ) → b ≢ c → f' b ≡ f b) → (b : ℕ) → b < n → get_or (set xs c x) b d ≡ f' b
 places_set xs d f f' n c x count each here others b within =
     ⊎_elim
@@ -58,7 +58,7 @@ module _ (net : Network) (E : List Entry) where
   grew_other c to b ne = account_more (Grew c to) b ∙ rw (add-zero, add-zero, grown_push (growths E) (channel_of net b).capacity c to b, flip b c ne)
 
   module _ (accounts : List Account) (k : KeepsAccounts net E accounts) where
-    -- the account at a channel that is there
+    -- the account of a channel of the network
     here : (c : ℕ) → c < length net.channels → account_at accounts c ≡ account net E c
     here c within = k.each c within
 
@@ -100,13 +100,13 @@ fewer_of_choice : {X : Type 0} (b : Bool) (x : X) (xs : List X) (n : ℕ) → le
 fewer_of_choice true x xs n h = omega arith
 fewer_of_choice false x xs n h = omega arith
 
--- a process does no more deeds than there are entries
+-- a process does at most as many deeds as there are entries
 deeds_fewer : (E : List Entry) (p : ℕ) → length (deeds E p) ≤ length E
 deeds_fewer [] p = omega arith
 deeds_fewer (Did q d ∷ es) p = fewer_of_choice (q == p) d (deeds es p) (length es) (deeds_fewer es p)
 deeds_fewer (Grew c to ∷ es) p = omega (arith, deeds_fewer es p)
 
--- no more tokens are taken from a channel than there are entries
+-- at most as many tokens are taken from a channel as there are entries
 taken_fewer : (E : List Entry) (c : ℕ) → length (taken E c) ≤ length E
 taken_fewer [] c = omega arith
 taken_fewer (Did p (Took b t) ∷ es) c = fewer_of_choice (b == c) t (taken es c) (length es) (taken_fewer es c)
@@ -114,7 +114,7 @@ taken_fewer (Did p (Put b t) ∷ es) c = omega (arith, taken_fewer es c)
 taken_fewer (Did p Stopped ∷ es) c = omega (arith, taken_fewer es c)
 taken_fewer (Grew b to ∷ es) c = omega (arith, taken_fewer es c)
 
--- nor are more put on it
+-- and at most as many are put on it
 put_fewer : (E : List Entry) (c : ℕ) → length (put_on E c) ≤ length E
 put_fewer [] c = omega arith
 put_fewer (Did p (Put b t) ∷ es) c = fewer_of_choice (b == c) t (put_on es c) (length es) (put_fewer es c)
@@ -122,7 +122,7 @@ put_fewer (Did p (Took b t) ∷ es) c = omega (arith, put_fewer es c)
 put_fewer (Did p Stopped ∷ es) c = omega (arith, put_fewer es c)
 put_fewer (Grew b to ∷ es) c = omega (arith, put_fewer es c)
 
--- so no count is more than the number of entries
+-- so no count is greater than the number of entries
 pub few_deeds : (net : Network) (E : List Entry) (steps : List ℕ) → CountsSteps net E steps → (p : ℕ) → get_or steps p 0 ≤ length E
 few_deeds net E steps k p =
     ⊎_elim

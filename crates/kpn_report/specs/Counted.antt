@@ -9,18 +9,18 @@ use Rattle.kpn_report.specs.declared.account.Account.{Account}
 use Rattle.kpn_report.specs.Tally.{account_at}
 use Rattle.kpn_report.specs.Text.{lines_upto, process_line, channel_line, growth_line, stream_line}
 
--- the line of channel c: what is left are its start tokens and those put on it without those taken
+-- the line of channel c: what is left are its start tokens and those put on it, without those taken
 abbrev pub counted_line : Network → List Account → ℕ → List ℕ
 counted_line net accounts c =
     let a = account_at accounts c in channel_line net a.put (length (channel_of net c).tokens + a.put - a.taken) a.capacity c
 
--- all lines but the first and that of the channel that is to be shown
+-- all lines except the first and that of the channel to show
 abbrev pub counted_text : Network → List Place → List ℕ → List Account → List (ℕ × ℕ) → ℕ → List ℕ
 counted_text net places steps accounts growths entries =
     lines_upto (process_line net places steps) (length net.processes) ++ lines_upto (counted_line net accounts) (length net.channels)
     ++ flat_map (growth_line net) growths ++ codes "entries " ++ decimal entries ++ codes "\n"
 
--- the line of the channel that is to be shown, if any is
+-- the line of the channel to show, if there is one
 abbrev pub shown_of : Network → List Entry → Option ℕ → List ℕ
 shown_of net E None = []
 shown_of net E (Some c) = stream_line net (slice_index_or (each_channel net (λ b. stream net E b)) c []) c

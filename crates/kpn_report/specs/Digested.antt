@@ -22,7 +22,7 @@ digest_with cause d = record {
   entries = d.entries;
 }
 
--- the digest of a detail, of which no line tells the cause
+-- the digest of a detail; the lines made of it do not depend on the cause
 abbrev pub digest_of : Detail → Digest
 digest_of = digest_with Terminated
 
@@ -31,7 +31,7 @@ abbrev pub report_text : Network → End → Option Detail → Option ℕ → Li
 report_text net end None show = end_line end
 report_text net end (Some d) show = end_line end ++ digest_text net (digest_of d) show
 
--- a run that ended so came to its own end
+-- whether a run with this end came to its own end
 abbrev pub has_detail : End → Bool
 has_detail Budget = false
 has_detail Memory = false

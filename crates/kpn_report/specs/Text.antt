@@ -13,7 +13,7 @@ use Rattle.kpn_model.specs.Network.{Family, Network, channel_of}
 use Rattle.kpn_model.specs.Semantics.{State}
 use Rattle.kpn_model.specs.History.{Digest, digest}
 
--- the texts of line 0 up to line n, without it
+-- the texts of the first n lines
 abbrev pub lines_upto : (ℕ → List ℕ) → ℕ → List ℕ
 lines_upto line zero = []
 lines_upto line (suc n) = lines_upto line n ++ line n
@@ -75,7 +75,7 @@ module _ (net : Network) where
     abbrev pub digest_line : ℕ → List ℕ
     digest_line c = channel_line (put_count c) (left_count c) (slice_index d.capacities c) c
 
-    -- the line of the channel that is to be shown, if any is
+    -- the line of the channel to show, if there is one
     abbrev pub shown_line : Option ℕ → List ℕ
     shown_line None = []
     shown_line (Some c) = stream_line (slice_index_or d.streams c []) c
@@ -85,7 +85,7 @@ module _ (net : Network) where
         lines_upto (process_line d.places d.steps) (length net.processes) ++ lines_upto digest_line (length net.channels)
         ++ flat_map growth_line d.growths ++ codes "entries " ++ decimal d.entries ++ codes "\n" ++ shown_line show
 
--- the text of a run to M that ended for this cause: after a spent budget and after want of memory the cause alone
+-- the text of a run to M that ended for this cause; if its budget was spent or memory was refused, only the first line
 abbrev pub text : Family → Network → End → List Entry → State → Option ℕ → List ℕ
 text kinds net Budget E M show = end_line Budget
 text kinds net Memory E M show = end_line Memory

@@ -13,21 +13,21 @@ use crate::tally::tally_of;
 use kpn_net::{End, Entry, Kinds, Listed, Net, Place, Token};
 use std::alloc::{AllocError, Global};
 
-/// Where each process stands.
+/// The place of each process, in order.
 pub type Places = Listed<Place>;
 
-/// How many deeds each process did.
+/// The number of deeds of each process, in order.
 pub type Steps = Listed<u64>;
 
-/// A number of tokens for each channel.
+/// A number of tokens for each channel, in order.
 pub type Sizes = Listed<usize>;
 
 /// A channel and its new capacity for each growth, in order.
 pub type Growths = Listed<(usize, usize)>;
 
-/// What a run did, of one that is over: for each process where it stands and how many deeds it did;
-/// for each channel its last capacity, its stream and what it still holds; the growths; and how many
-/// entries the history has.
+/// What a run that is over did: for each process its place and the number of its deeds; for each
+/// channel its last capacity, its stream and what it still holds; the growths; and the number of
+/// entries.
 #[derive(Drop)]
 pub struct Detail {
     pub places: Places,
@@ -39,7 +39,7 @@ pub struct Detail {
     pub entries: u64,
 }
 
-/// A stream without its first tokens, so many of which were taken.
+/// A stream without its first `taken` tokens.
 fn rest(alloc: Global, stream: &[Token], taken: usize) -> Result<Stream, AllocError>
     ensures { IfOk result (λ r. r ≡ drop taken stream.now) }
 {
@@ -70,9 +70,9 @@ fn capacities(alloc: Global, accounts: &[Account]) -> Result<Vec<usize>, AllocEr
         .collect(alloc)
 }
 
-/// The detail of a history, of which it is known where it left each process.
+/// Returns the detail of a history. `places` are the places where it left the processes.
 ///
-/// The history is read twice. The error is want of memory.
+/// The history is read twice. Errors: memory was refused.
 pub fn detail_of<K: Kinds>(
     alloc: Global,
     net: &Net<K>,
@@ -103,10 +103,10 @@ pub struct Report {
     pub detail: Option<Detail>,
 }
 
-/// The report of a history that ended so, of which it is known where it left each process, if it has
-/// a detail.
+/// Returns the report of a history with this end. If the end has a detail, `places` are the places
+/// where the history left the processes.
 ///
-/// There is a detail exactly for `Terminated`, `Deadlock` and `Ceiling`. The error is want of memory.
+/// There is a detail exactly for `Terminated`, `Deadlock` and `Ceiling`. Errors: memory was refused.
 pub fn report_of<K: Kinds>(
     alloc: Global,
     net: &Net<K>,
@@ -125,7 +125,7 @@ pub fn report_of<K: Kinds>(
     }
 }
 
-/// Whether a run that ended so came to its own end, and so has a detail.
+/// Whether a run with this end came to its own end, and so has a detail.
 pub(crate) fn has_detail(end: End) -> bool
     ensures { result ≡ has_detail end }
 {

@@ -1,4 +1,4 @@
-//! The report of a run: what each process did, what went through each channel, and the text of it.
+//! The report of a run: what each process did, what went through each channel, and its text.
 #![tactic(auto)]
 
 mod account;

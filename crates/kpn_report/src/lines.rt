@@ -42,7 +42,7 @@ fn push_process<K: Kinds>(
     }
 }
 
-/// Where each process stands, and how many deeds it did.
+/// Appends the line of each process: its place, and the number of its deeds.
 pub(crate) fn push_processes<K: Kinds>(
     out: &mut String,
     net: &Net<K>,
@@ -57,7 +57,7 @@ pub(crate) fn push_processes<K: Kinds>(
     Ok(())
 }
 
-/// How many tokens were put on a channel and are left, and its capacity.
+/// Appends the line of a channel: how many tokens were put on it and are left, and its capacity.
 pub(crate) fn push_channel<K: Kinds>(
     out: &mut String,
     net: &Net<K>,
@@ -75,7 +75,7 @@ pub(crate) fn push_channel<K: Kinds>(
     )
 }
 
-/// Each growth, in order.
+/// Appends a line for each growth, in order.
 pub(crate) fn push_growths<K: Kinds>(
     out: &mut String,
     net: &Net<K>,
@@ -109,7 +109,7 @@ fn push_tokens(out: &mut String, tokens: &[Token]) -> Result<(), AllocError>
     Ok(())
 }
 
-/// The tokens that went through a channel.
+/// Appends the line of the tokens that went through a channel.
 pub(crate) fn push_stream<K: Kinds>(
     out: &mut String,
     net: &Net<K>,

@@ -25,11 +25,11 @@ fn place<K: Kinds>(net: &Net<K>, process: usize, wanted: Option<Answer>) -> Plac
     }
 }
 
-/// The place of each process in a network at rest: a parked process reads or writes the channel for
-/// which it waits, and each other counts as stopped.
+/// Returns the place of each process, from the standings: a parked process reads or writes the channel
+/// for which it waits, and every other process counts as stopped.
 ///
-/// If no process is ready or out, these are the places that a report of the run tells. The error
-/// is want of memory.
+/// If no process is ready or out, these are the places in the report of the run. Errors: memory was
+/// refused.
 pub fn places_of<K: Kinds>(
     alloc: Global,
     net: &Net<K>,

@@ -25,7 +25,7 @@ fn first_streams<K: Kinds>(alloc: Global, net: &Net<K>) -> Result<Vec<Stream>, A
     Ok(streams)
 }
 
-/// The token that an entry puts, at the end of its channel's stream.
+/// Appends the token that an entry puts to its channel's stream.
 fn push_put(streams: &mut Vec<Stream>, entry: Entry) -> Result<(), AllocError>
     ensures { OnOk result (streams.new.items ≡ streams_after streams.old.items entry) }
 {
@@ -42,7 +42,7 @@ fn push_put(streams: &mut Vec<Stream>, entry: Entry) -> Result<(), AllocError>
     Ok(())
 }
 
-/// What one more entry changes. The error is want of memory.
+/// Notes one more entry in the streams. Fails if memory was refused.
 fn note_put(streams: &mut Vec<Stream>, entry: Entry) -> Result<(), AllocError>
     ensures { OnOk result ((net : Network) (E : List EntryV) → KeepsStreams net E streams.old.items → KeepsStreams net (E ++ entry ∷ []) streams.new.items) }
 {
@@ -50,7 +50,7 @@ fn note_put(streams: &mut Vec<Stream>, entry: Entry) -> Result<(), AllocError>
     Ok(())
 }
 
-/// The streams of a history, which is read once. The error is want of memory.
+/// The streams of a history, which is read once. Fails if memory was refused.
 pub(crate) fn streams_of<K: Kinds>(
     alloc: Global,
     net: &Net<K>,
@@ -65,7 +65,7 @@ pub(crate) fn streams_of<K: Kinds>(
     Ok(streams)
 }
 
-/// The token that an entry puts on this channel, at the end of its stream.
+/// Appends the token that an entry puts on this channel to its stream.
 fn push_shown(stream: &mut Stream, channel: usize, entry: Entry) -> Result<(), AllocError>
     ensures { OnOk result (stream.new ≡ stream.old ++ put_on (entry ∷ []) channel) }
 {
@@ -78,7 +78,7 @@ fn push_shown(stream: &mut Stream, channel: usize, entry: Entry) -> Result<(), A
     }
 }
 
-/// What one more entry changes in the stream of this channel. The error is want of memory.
+/// Notes one more entry in the stream of this channel. Fails if memory was refused.
 fn note_shown(stream: &mut Stream, channel: usize, entry: Entry) -> Result<(), AllocError>
     ensures { OnOk result ((net : Network) (E : List EntryV) → stream.old ≡ stream_in net E channel → stream.new ≡ stream_in net (E ++ entry ∷ []) channel) }
 {
@@ -86,7 +86,7 @@ fn note_shown(stream: &mut Stream, channel: usize, entry: Entry) -> Result<(), A
     Ok(())
 }
 
-/// The stream of one channel of a history, which is read once. The error is want of memory.
+/// The stream of one channel of a history, which is read once. Fails if memory was refused.
 pub(crate) fn stream_of<K: Kinds>(
     alloc: Global,
     net: &Net<K>,

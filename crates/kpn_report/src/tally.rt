@@ -18,7 +18,7 @@ pub(crate) struct Tally {
     pub(crate) growths: Vec<(usize, usize)>,
 }
 
-/// One more deed of a process.
+/// Counts one more deed of a process.
 fn count_deed(steps: &mut Vec<u64>, process: usize)
     requires { get_or steps.old.items process 0 + 1 < 2 ^ 64 }
     ensures { steps.new.items ≡ set steps.old.items process (get_or steps.old.items process 0 + 1) }
@@ -28,7 +28,7 @@ fn count_deed(steps: &mut Vec<u64>, process: usize)
     }
 }
 
-/// One more token put on a channel.
+/// Counts one more token put on a channel.
 fn count_put(accounts: &mut Vec<Account>, channel: usize)
     requires { (account_at accounts.old.items channel).put + 1 < 2 ^ 64 }
     ensures { accounts.new.items ≡ set accounts.old.items channel (with_put (account_at accounts.old.items channel)) }
@@ -39,7 +39,7 @@ fn count_put(accounts: &mut Vec<Account>, channel: usize)
     }
 }
 
-/// One more token taken from a channel.
+/// Counts one more token taken from a channel.
 fn count_taken(accounts: &mut Vec<Account>, channel: usize)
     requires { (account_at accounts.old.items channel).taken + 1 < 2 ^ 64 }
     ensures { accounts.new.items ≡ set accounts.old.items channel (with_taken (account_at accounts.old.items channel)) }
@@ -50,7 +50,7 @@ fn count_taken(accounts: &mut Vec<Account>, channel: usize)
     }
 }
 
-/// A new capacity of a channel.
+/// Notes the new capacity of a channel.
 fn note_capacity(accounts: &mut Vec<Account>, channel: usize, to: usize)
     ensures { accounts.new.items ≡ set accounts.old.items channel (with_capacity (account_at accounts.old.items channel) to) }
 {
@@ -60,7 +60,7 @@ fn note_capacity(accounts: &mut Vec<Account>, channel: usize, to: usize)
     }
 }
 
-/// What a deed puts or takes.
+/// Counts what a deed puts or takes.
 fn note_deed(accounts: &mut Vec<Account>, process: usize, deed: Deed)
     requires few_put { (c : ℕ) → (account_at accounts.old.items c).put + 1 < 2 ^ 64 }
     requires few_taken { (c : ℕ) → (account_at accounts.old.items c).taken + 1 < 2 ^ 64 }
@@ -73,7 +73,7 @@ fn note_deed(accounts: &mut Vec<Account>, process: usize, deed: Deed)
     }
 }
 
-/// What one more entry changes. The error is want of memory.
+/// Counts one more entry. Fails if memory was refused.
 fn note(
     steps: &mut Vec<u64>,
     accounts: &mut Vec<Account>,
@@ -101,7 +101,7 @@ fn note(
     }
 }
 
-/// No deed of any process yet.
+/// The counts of deeds before any entry: 0 for each process.
 fn no_steps<K: Kinds>(alloc: Global, net: &Net<K>) -> Result<Vec<u64>, AllocError>
     ensures { IfOk result (λ v. CountsSteps net.now [] v.items) }
 {
@@ -123,7 +123,7 @@ fn first_accounts<K: Kinds>(alloc: Global, net: &Net<K>) -> Result<Vec<Account>,
     Ok(accounts)
 }
 
-/// Counts a history, which is read once. The error is want of memory.
+/// Counts a history, which is read once. Fails if memory was refused.
 pub(crate) fn tally_of<K: Kinds>(
     alloc: Global,
     net: &Net<K>,

@@ -76,12 +76,13 @@ fn push_detail<K: Kinds>(
     }
 }
 
-/// The text of a report, with the stream of a channel if one is to be shown.
+/// Returns the text of a report, with the stream of channel `show` if it is given.
 ///
-/// Each line ends in a line feed, and numbers are decimal: `end` and the cause; for each process
-/// its name, where it stands and its steps; for each channel its name, how many tokens were put on
-/// it and are left, and its capacity; each growth; the number of entries; and the stream. After a
-/// spent budget and after want of memory the first line stands alone. The error is want of memory.
+/// Each line ends in a line feed, and numbers are decimal. The lines are `end` and the cause; for each
+/// process its name, its place and the number of its deeds; for each channel its name, how many tokens
+/// were put on it and are left, and its capacity; each growth; the number of entries; and the stream.
+/// If the budget was spent or memory was refused, there is only the first line. Errors: memory was
+/// refused.
 pub fn report_text<K: Kinds>(
     alloc: Global,
     net: &Net<K>,

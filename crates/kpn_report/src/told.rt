@@ -18,7 +18,7 @@ use kpn_net::{End, Entry, Kinds, Listed, Net, Place};
 use std::alloc::{AllocError, Global};
 use std::fmt::Write;
 
-/// The line of a channel, from what was counted of it.
+/// Appends the line of a channel, from what was counted of it.
 fn push_counted<K: Kinds>(
     out: &mut String,
     net: &Net<K>,
@@ -35,7 +35,7 @@ fn push_counted<K: Kinds>(
     push_channel(out, net, account.put, left, account.capacity, c)
 }
 
-/// The lines of the channels, from what was counted of them.
+/// Appends the lines of the channels, from what was counted of them.
 fn push_channels<K: Kinds>(
     out: &mut String,
     net: &Net<K>,
@@ -51,7 +51,7 @@ fn push_channels<K: Kinds>(
     Ok(())
 }
 
-/// The stream of a channel that is to be shown; no tokens if there is no such channel.
+/// The stream of a channel to show; no tokens if there is no such channel.
 fn shown_stream<K: Kinds>(
     alloc: Global,
     net: &Net<K>,
@@ -67,7 +67,7 @@ fn shown_stream<K: Kinds>(
     }
 }
 
-/// The line of the channel that is to be shown, if any is.
+/// Appends the line of the channel to show, if there is one.
 fn push_shown<K: Kinds>(
     alloc: Global,
     out: &mut String,
@@ -84,7 +84,7 @@ fn push_shown<K: Kinds>(
     Ok(())
 }
 
-/// The lines of what was counted of a history of so many entries.
+/// Appends the lines of what was counted of a history with this number of entries.
 fn push_tally<K: Kinds>(
     out: &mut String,
     net: &Net<K>,
@@ -102,7 +102,7 @@ fn push_tally<K: Kinds>(
     write!(out, "entries {entries}\n")
 }
 
-/// The lines of a history after the first.
+/// Appends the lines of a history after the first line.
 fn push_history<K: Kinds>(
     alloc: Global,
     out: &mut String,
@@ -120,11 +120,11 @@ fn push_history<K: Kinds>(
     Ok(())
 }
 
-/// The text of the report of a history that ended so, of which it is known where it left each process
-/// if it has a detail: what `report_text` gives of the report of that history.
+/// Returns the text of the report of a history with this end: what `report_text` returns for that
+/// report. If the end has a detail, `places` are the places where the history left the processes.
 ///
-/// The history is counted in one pass, and no stream is kept but that of the channel that is to be
-/// shown, which takes one pass more. The error is want of memory.
+/// The history is counted in one pass, and no stream is kept except that of the channel to show, which
+/// takes one pass more. Errors: memory was refused.
 pub fn text_of<K: Kinds>(
     alloc: Global,
     net: &Net<K>,

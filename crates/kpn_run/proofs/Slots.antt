@@ -1,4 +1,4 @@
--- Lists of slots and of seats, taken from the back.
+-- Lists of slots and of seats, read from the back.
 use Rattle.std.proofs.Common.{◌≡◌, ℕ, ◌+◌, ◌<◌, zero, suc, List, [], ◌∷◌, ◌++◌, length, take, drop, refl, subst, arith, length-append}
 use Rattle.std.specs.Prelude.{slice_index_or, slice_get, Option, Some, None, IfNone, IsSome, IsNone, Result, Err, IsOk}
 use Rattle.std.specs.List.{All, sum_by}
@@ -34,7 +34,7 @@ length_more xs ys y is = rw is (omega (arith, length-append ys (y ∷ [])))
 pub all_more : (seats more : List Shares) (s : Shares) → more ≡ seats ++ s ∷ [] → All (λ (x : Shares). x.overs ≡ 1) seats → s.overs ≡ 1 → All (λ (x : Shares). x.overs ≡ 1) more
 all_more seats more s is all one = rw is (All-append (λ (x : Shares). x.overs ≡ 1) seats (s ∷ []) all (one_at (λ (x : Shares). x.overs ≡ 1) s one))
 
--- one seat more, of a worker that lost no answer
+-- one more seat, of a worker that lost no answer
 pub none_more : {F : Type 0} (lost : Option F) (seats more : List Shares) (s : Shares) → more ≡ seats ++ s ∷ []
     → IfNone lost (All (λ (x : Shares). x.overs ≡ 1) seats) → s.overs ≡ 1 → IfNone lost (All (λ (x : Shares). x.overs ≡ 1) more)
 none_more None seats more s is all one = all_more seats more s is all one
@@ -49,7 +49,7 @@ sums_same f (x ∷ xs) (y ∷ ys) len each =
     let rest = sums_same f xs ys (omega (arith, len)) (λ k d lt. each (suc k) d (omega arith)) in
     omega (arith, one, rest, sum_by-cons f x xs, sum_by-cons f y ys)
 
--- if somebody sits and each has met an end, somebody has met one
+-- if there is a seat and each has met an end, some seat has met one
 pub some_met : (P : Type 0) (seats : List Shares) → 0 < length seats → All (λ (x : Shares). x.overs ≡ 1) seats
     → ((k : ℕ) (s : Shares) → slice_get seats k ≡ Some s → s.overs ≡ 1 → P) → P
 some_met P [] some all told = absurd (omega arith)

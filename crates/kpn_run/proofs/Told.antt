@@ -1,4 +1,4 @@
--- The report of a run, and the other runs that it tells of.
+-- The report of a run, and what it says of other runs.
 use Rattle.std.proofs.Common.{◌≡◌, ◌≢◌, ◌++◌, ◌∷◌, [], ◌<◌, ◌+◌, get_or, ℕ, true, List, Option, Some, length, take, refl, sym, ap, ◌∙◌, append_assoc}
 use Rattle.std.proofs.Math.Path.{fun_ext}
 use Rattle.std.proofs.lemmas.List.{take_more}
@@ -29,7 +29,7 @@ not_budget Ceiling has e = cc
 not_budget Budget has e = cc
 not_budget Memory has e = cc
 
--- if a run came to its own end, what the parked processes answered is what all want
+-- if a run came to its own end, each process wants what it answered when it was parked
 pub at_rest :
     (kinds : Family) (admits : Card → List ℕ → Option Token → Type 0) (s : MachineView) (cause : End) → IsFaithful kinds admits s → s.end ≡ Some cause → has_detail cause ≡ true
     → each_process s.network (λ p. place_of s.network p (parked_answer (standing s.standings p))) ≡ each_process s.network (λ p. place_of s.network p (wants kinds s.network s.state p))
@@ -37,7 +37,7 @@ at_rest kinds admits s cause faithful ended has =
     let same : (λ (p : ℕ). place_of s.network p (parked_answer (standing s.standings p))) ≡ (λ (p : ℕ). place_of s.network p (wants kinds s.network s.state p)) = fun_ext (λ p. ap (place_of s.network p) (sym (faithful.wanted p (idle_at s.places p (faithful.none_busy cause ended (not_budget cause has)))))) in
     ap (each_process s.network) same
 
--- the report of a run, of which it is known where it left each process
+-- the report of a run, given where it left each process
 pub own_report :
     (kinds : Family) (admits : Card → List ℕ → Option Token → Type 0) (s : MachineView) (cause : End) (places : List Place) (detail : Option Detail) → IsFaithful kinds admits s → s.end ≡ Some cause
     → places ≡ each_process s.network (λ p. place_of s.network p (parked_answer (standing s.standings p)))
@@ -85,7 +85,7 @@ over_of kinds net Memory E M has bound = cc
 pub final_of : (kinds : Family) (net : Network) (f : FinishedRun) → IsFinish kinds net f → has_detail f.cause ≡ true → IsFinal kinds net f.machine.history f.machine.state f.cause
 final_of kinds net f finish has = record { run = finish.run; over = over_of kinds net f.cause f.machine.history f.machine.state has finish.bound }
 
--- one entry more
+-- one more entry
 pub stream_more : (net : Network) (E : List Entry) (e : Entry) (c : ℕ) → stream net (E ++ e ∷ []) c ≡ stream net E c ++ put_on (e ∷ []) c
 stream_more net E e c = ap (λ ts. (channel_of net c).tokens ++ ts) (put_on-append E (e ∷ []) c) ∙ sym (append_assoc (channel_of net c).tokens (put_on E c) (put_on (e ∷ []) c))
 

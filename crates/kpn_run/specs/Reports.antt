@@ -1,4 +1,4 @@
--- What a report tells of other runs.
+-- What a report says of other runs.
 use Rattle.std.specs.Prelude.{◌≡◌, ℕ, true, List, length, Option, Some}
 use Rattle.kpn_model.specs.declared.history.End.{End}
 use Rattle.kpn_model.specs.declared.history.Entry.{Entry}
@@ -21,8 +21,7 @@ pub record HasOutcome (kinds : Family) (net other : Network) (history F : List E
   pub steps : d.steps ≡ each_process net (λ p. length (deeds F p))
   pub streams : d.streams ≡ each_channel net (λ c. stream other F c)
 
--- if the run terminated or ended in a deadlock, so it is for every run that does so, from any
--- starting capacities
+-- if the run terminated or ended in a deadlock, every run that does so, from any starting capacities, has the same outcome
 abbrev pub IsOutcome : Family → Network → End → List Entry → Option Detail → Type 0
 IsOutcome kinds net cause history detail =
     IsNatural cause → (sizes : ℕ → ℕ) (F : List Entry) (N : State) (b : End) → IsFinal kinds (resized net sizes) F N b → IsNatural b

@@ -1,4 +1,4 @@
--- What a run hands out, and what its workers hand back.
+-- What a run returns, and what its workers hand back.
 use Rattle.std.specs.Prelude.{◌≡◌, ◌≢◌, ◌<◌, ℕ, Bool, false, length, List, ◌++◌}
 use Rattle.kpn_model.specs.declared.history.End.{End}
 use Rattle.kpn_model.specs.declared.history.End.TheVariants.{Budget}
@@ -16,24 +16,23 @@ pub record FinishedRun : Type 0 where
   pub receipts : ℕ
   pub cause : End
 
--- the history is a run of this network from its start, so each entry is a transition of the sequential
--- machine; the end that stands is bound; and there are as many entries as receipts
+-- the history is a run of this network from its start, so each entry is a transition of the sequential machine; its end is
+-- justified; and there are as many entries as receipts
 pub record IsFinish (kinds : Family) (net : Network) (f : FinishedRun) : Type 0 where
   pub network : f.machine.network ≡ net
   pub run : IsRun kinds net f.machine.history f.machine.state
   pub bound : IsBound kinds net f.machine.history f.machine.state f.cause
   pub receipts : length f.machine.history ≡ f.receipts
 
--- after each front of the history no channel holds more tokens than its capacity
+-- after each prefix of the history no channel holds more tokens than its capacity
 abbrev pub StaysWithinCapacities : Family → Network → List Entry → Type 0
 StaysWithinCapacities kinds net history = (E F : List Entry) → E ++ F ≡ history → (M : State) × IsRun kinds net E M × IsWithin M
 
--- if some run that is over has fewer entries than the budget, the end is not the budget's
+-- if some run that is over has fewer entries than the budget, the run did not end because of its budget
 abbrev pub SparesBudget : Family → Network → End → Type 0
 SparesBudget kinds net cause = (F : List Entry) (N : State) (b : End) → IsFinal kinds net F N b → length F < net.budget → cause ≢ Budget
 
--- this history and any run of the network, from any starting capacities, have deeds and streams of
--- which one begins with the other
+-- the deeds and the streams of this history and of any run of the network, from any starting capacities, are prefix-comparable
 abbrev pub IsInLine : Family → Network → List Entry → Type 0
 IsInLine kinds net history = (sizes : ℕ → ℕ) (F : List Entry) (N : State) → IsRun kinds (resized net sizes) F N → AreAllPrefixComparable net (resized net sizes) history F
 
@@ -42,6 +41,6 @@ pub record AtSlot : Type 0 where
   pub seat : Shares
   pub lost : Bool
 
--- a worker of which no answer was refused has met an end
+-- a worker none of whose answers was refused has met an end
 abbrev pub HasMet : AtSlot → Type 0
 HasMet b = b.lost ≡ false → b.seat.overs ≡ 1

@@ -26,24 +26,25 @@ use std::thread::Threads;
 /// Why there was no run.
 #[derive(Drop)]
 pub enum RunFault<B: Body> {
-    /// The workers are not 1 to 16. Nothing has run, and all comes back as it was.
+    /// The number of workers is not 1 to 16. Nothing has run, and all is handed back unchanged.
     Workers {
         net: Net<B::Kinds>,
         bodies: Vec<B>,
     },
-    /// The bodies are not one for each process, with its card. Nothing has run, and all comes back as it
-    /// was.
+    /// The bodies are not one for each process, with its card. Nothing has run, and all is handed back
+    /// unchanged.
     Open {
         net: Net<B::Kinds>,
         bodies: Vec<B>,
         fault: OpenFault,
     },
-    /// Memory was refused, though the bodies fit. Nothing has run, and the bodies come back in order.
+    /// Memory was refused, and the bodies fit. Nothing has run, and bodies of the right cards are
+    /// handed back in order.
     Memory {
         net: Net<B::Kinds>,
         bodies: Vec<B>,
     },
-    /// The machine refused a worker's answer. That this never comes is not proved: no contract of the
+    /// The machine refused a worker's answer. That this never happens is not proved: no contract of the
     /// monitor can name what lies under the lock.
     Lost {
         answered: Answered<B::Kinds>,
@@ -51,16 +52,20 @@ pub enum RunFault<B: Body> {
     },
 }
 
-/// Runs a network from its start to an end, by 1 to 16 workers and with a body for each process in order.
+/// Runs a network from its start to an end, by 1 to 16 workers and with a body for each process in
+/// order.
 ///
 /// The history is a run of the sequential machine, with as many entries as the workers have receipts;
-/// after each prefix of it no channel holds more tokens than its capacity. It does not end by Budget
-/// if some run that is over has fewer entries than the budget. Of the deeds of a process, or the
-/// stream of a channel, in this history and in any run from any starting capacities, one is a prefix of
-/// the other. Whatever number of places a channel suffices for the network, the run takes no more.
+/// after each prefix of it no channel holds more tokens than its capacity. It does not end by `Budget`
+/// if some run that is over has fewer entries than the budget. The deeds of each process, and the
+/// streams, in this history and in any run from any starting capacities are prefix-comparable (Kahn
+/// 1974). If some number of places a channel suffices for the network, the run takes no more, but for
+/// the step of a growth (Parks 1995).
 ///
 /// The calling thread is one worker, and each other has a thread of its own; if a thread can't be
-/// started, that worker runs in the calling thread. It returns when all have met the end.
+/// started, that worker runs in the calling thread. The call returns when all workers have met the end.
+///
+/// Errors: see [`RunFault`].
 pub fn run<B: Body, R: Wait + Clock + Threads + Sync, G: Gate>(
     rt: &R,
     alloc: Global,
@@ -99,7 +104,7 @@ pub fn run<B: Body, R: Wait + Clock + Threads + Sync, G: Gate>(
     }
 }
 
-/// The same, of a machine that is open.
+/// The same, for a machine that is open.
 fn run_machine<B: Body, R: Wait + Clock + Threads + Sync, G: Gate>(
     rt: &R,
     alloc: Global,
@@ -131,7 +136,7 @@ fn run_machine<B: Body, R: Wait + Clock + Threads + Sync, G: Gate>(
     }
 }
 
-/// What the laws say of a run that is over.
+/// Does nothing: a caller knows from here on what the laws say of a run that is over.
 fn told_by_laws<K: Kinds>(finish: &Finish<K>)
     ensures within { StaysWithinCapacities K.family finish.now.machine.network finish.now.machine.history }
     ensures budget { SparesBudget K.family finish.now.machine.network finish.now.cause }
@@ -145,7 +150,7 @@ fn told_by_laws<K: Kinds>(finish: &Finish<K>)
     finish.end();
 }
 
-/// Want of memory before anything has run.
+/// The fault of memory that was refused before anything has run.
 fn put_back<B: Body>(machine: Machine<B>) -> RunFault<B>
     requires { IsFresh machine }
     ensures { (n : NetV) × ((bs : _) × (result ≡ RunFault.Memory n bs) × (n ≡ machine.network) × (map B.card bs.items ≡ cards_of machine.network.processes)) }

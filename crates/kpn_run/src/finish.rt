@@ -10,8 +10,8 @@ use std::marker::Model;
 
 /// A run that is over: what its machine left behind, its end, and as many receipts as entries.
 ///
-/// It is made of a `Closed` that has an end, and of nothing else; so its machine was fresh when the
-/// monitor was opened, and each entry was appended by a commit under the lock.
+/// It is made only from a `Closed` that has an end; so its machine was fresh when the monitor was
+/// opened, and each entry was appended by a commit under the lock.
 #[derive(Drop)]
 pub struct Finish<K: Kinds> {
     chronicle: Chronicle<K>,
@@ -31,7 +31,7 @@ impl<K: Kinds> Model for Finish<K> {
 }
 
 impl<K: Kinds> Finish<K> {
-    /// `None` if no end stands.
+    /// `None` if the run has not ended.
     pub(crate) fn of<E: EntryLedger>(closed: Closed<K, E>) -> Option<Finish<K>>
         ensures { MatchOption result (IsNone closed.machine.end) (λ f. (f.machine ≡ closed.machine) × (f.receipts ≡ closed.receipts) × (closed.machine.end ≡ Some f.cause)) }
     {
@@ -45,35 +45,35 @@ impl<K: Kinds> Finish<K> {
         })
     }
 
-    /// The network.
+    /// Returns the network.
     pub fn net(&self) -> &Net<K>
         ensures { result.now ≡ self.now.machine.network }
     {
         self.chronicle.net()
     }
 
-    /// What the machine left behind: network, history, standings and end.
+    /// Returns what the machine left behind: network, history, standings and end.
     pub fn chronicle(&self) -> &Chronicle<K>
         ensures { result.now ≡ self.now.machine }
     {
         &self.chronicle
     }
 
-    /// The entries, in order.
+    /// Returns the entries, in order.
     pub fn history(&self) -> &[Entry]
         ensures { result.now ≡ self.now.machine.history }
     {
         self.chronicle.history()
     }
 
-    /// Where each process stands, in order.
+    /// Returns the standing of each process, in order.
     pub fn standings(&self) -> &[Standing]
         ensures { result.now ≡ self.now.machine.standings }
     {
         self.chronicle.standings()
     }
 
-    /// What the shares of the workers' seats add up to: as many as there are entries.
+    /// Returns the sum of the shares of the workers' seats, which is the number of entries.
     pub fn receipts(&self) -> u64
         ensures receipts { result ≡ self.now.receipts }
         ensures entries { result ≡ length self.now.machine.history }
@@ -81,9 +81,9 @@ impl<K: Kinds> Finish<K> {
         self.receipts
     }
 
-    /// How the run ended. The history is a run from the start of the network, and the end is bound:
-    /// Terminated, Deadlock and Ceiling by the state that is reached, Budget by the number of entries,
-    /// Memory by a growth that was due.
+    /// Returns how the run ended. The history is a run from the start of the network, and the end is
+    /// justified: `Terminated`, `Deadlock` and `Ceiling` by the state that is reached, `Budget` by the
+    /// number of entries, `Memory` by a growth that was due.
     pub fn end(&self) -> End
         ensures end { result ≡ self.now.cause }
         ensures stands { self.now.machine.end ≡ Some self.now.cause }

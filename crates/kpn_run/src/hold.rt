@@ -2,9 +2,9 @@
 use crate::worker::Gate;
 use std::sync::atomic::{AtomicU64, Ordering};
 
-/// A gate that holds the answers of one process up until another process has passed it so many times,
-/// or until it has looked so many times whether it has. A test makes a schedule by it that would come
-/// about by chance alone; no schedule changes what a run tells.
+/// A gate that holds up the answers of one process until another process has passed it a number of
+/// times, or until it has looked a number of times whether it has. With it a test makes a schedule that
+/// would otherwise come about by chance alone; no schedule changes the result of a run.
 ///
 /// Nothing is promised of it but that each call returns.
 #[derive(Drop)]
@@ -18,8 +18,8 @@ pub struct Hold {
 }
 
 impl Hold {
-    /// A gate that holds `process` up until `other` has passed `passes` times, and for at most `turns`
-    /// looks each time. If the two are one process, nothing is held up.
+    /// Makes a gate that holds `process` up until `other` has passed `passes` times, and for at most
+    /// `turns` looks each time. If the two are one process, nothing is held up.
     pub fn new(process: usize, other: usize, passes: u64, turns: u64) -> Hold {
         Hold {
             process,
@@ -42,8 +42,8 @@ impl Hold {
 }
 
 impl Gate for Hold {
-    /// Counts one pass of a process that is one of the two (a count past 2^64 - 1 begins again at 0),
-    /// and then holds it up if it is the one to be held.
+    /// Counts one pass of a process that is one of the two (after 2^64 - 1 the count begins again at
+    /// 0), and then holds it up if it is the one to be held.
     fn before_commit(&self, process: usize) {
         if process == self.other {
             self.other_passed.fetch_add(1, Ordering::SeqCst);

@@ -1,6 +1,6 @@
 //! Workers over a monitor, and the run of a network by 1 to 16 of them.
 //!
-//! Whatever the number of workers and whatever they do when, the history of a `Finish` is a run of the
+//! Whatever the number of workers and their timing, the history of a `Finish` is a run of the
 //! sequential machine from the start of the network (Kahn 1974, Parks 1995).
 #![tactic(auto)]
 

@@ -1,24 +1,25 @@
 //! How a worker goes about its work: how many tasks it takes at a time, and when it rests.
 //!
-//! No contract rests on what is told here. Times are in nanoseconds from any start.
+//! No contract depends on this. Times are in nanoseconds from any start.
 
 use kpn_monitor::{Next, Rest};
 
-/// The most tasks of one round.
+/// The greatest number of tasks of one round.
 const MOST: usize = 16;
-/// If the calls of a round take less than so many of its exchanges, the next round has up to twice as
-/// many tasks.
+/// If the calls of a round take less time than this many of its exchanges, the next round has up to
+/// twice as many tasks.
 const FEW_EXCHANGES: u64 = 8;
-/// If they take longer than so many, it has half as many.
+/// If they take longer than this many, it has half as many.
 const MANY_EXCHANGES: u64 = 16;
-/// After a round whose calls took less, so many rounds go by without a look at the clock.
+/// After a round whose calls took less than `BRIEF`, `UNTIMED_ROUNDS` rounds go by without a look at the
+/// clock.
 const BRIEF: u64 = 1_000;
 
 const UNTIMED_ROUNDS: u32 = 7;
-/// After so many more rounds that weren't worth it than rounds that were, a worker is spare.
+/// A worker is spare after this many more rounds that weren't worth it than rounds that were.
 const PATIENCE: u32 = 8;
-/// A worker that finds nothing to do looks again for as long as its last calls took, and no longer than
-/// this, before it rests.
+/// A worker that finds nothing to do looks again for as long as its last calls took, and at most for
+/// this long, before it rests.
 const LONGEST_LOOK: u64 = 50_000;
 
 /// What a worker does after an exchange.
@@ -29,18 +30,18 @@ pub(crate) enum Step {
     Rest(Rest),
 }
 
-/// What a worker knows of its last rounds. A round is an exchange, and the calls of the tasks that it
-/// gave.
+/// What a worker knows of its last rounds. A round is an exchange and the calls of the tasks that it
+/// took.
 #[derive(Clone, Copy)]
 pub(crate) struct Pace {
     /// How many tasks to take.
     most: usize,
-    /// How long the last calls took, and the last exchange.
+    /// How long the last calls and the last exchange took.
     calling: u64,
     exchanging: u64,
     /// How long the worker has found nothing to do.
     looking: u64,
-    /// How many more rounds weren't worth it than were.
+    /// How many more rounds weren't worth it than rounds that were.
     strain: u32,
     /// When the last calls, exchange or rest ended.
     then: u64,
@@ -49,7 +50,7 @@ pub(crate) struct Pace {
 }
 
 impl Pace {
-    /// A worker begins now.
+    /// The pace of a worker that begins now.
     pub(crate) fn new(now: u64) -> Pace {
         Pace {
             most: 1,
@@ -72,7 +73,7 @@ impl Pace {
         self.most.max(1)
     }
 
-    /// A round that wasn't timed has ended. Whether the next one is.
+    /// A round that wasn't timed has ended. Returns whether the next one is timed.
     pub(crate) fn pass(&mut self) -> bool {
         self.untimed = self.untimed.saturating_sub(1);
         self.untimed == 0
@@ -84,8 +85,8 @@ impl Pace {
         self.then = now;
     }
 
-    /// All tasks that there were have been called, and it is now. How many to take: none if the worker
-    /// is spare, since of late the exchanges took longer than the calls.
+    /// All tasks of the round have been called, at time `now`. Returns how many tasks to take: none if
+    /// the worker is spare, since the exchanges have lately taken longer than the calls.
     pub(crate) fn called(&mut self, some: bool, now: u64) -> usize {
         let took = now.saturating_sub(self.then);
         self.then = now;
@@ -101,7 +102,7 @@ impl Pace {
         }
     }
 
-    /// The calls of a round took so long.
+    /// The calls of a round took this long.
     fn judge(&mut self, took: u64) {
         self.calling = took;
         if took < self.exchanging.saturating_mul(FEW_EXCHANGES) {
@@ -116,7 +117,7 @@ impl Pace {
         }
     }
 
-    /// An exchange has ended, and it is now.
+    /// An exchange has ended, at time `now`. Returns what the worker does next.
     pub(crate) fn exchanged(&mut self, next: Next, now: u64) -> Step {
         self.exchanging = now.saturating_sub(self.then);
         self.then = now;
@@ -143,7 +144,7 @@ impl Pace {
         }
     }
 
-    /// The worker has rested, or was told that it is needed, and it is now. A spare worker that has rested
+    /// The worker has rested, or was found to be needed, at time `now`. A spare worker that has rested
     /// is spare again after one more round that isn't worth it.
     pub(crate) fn rested(&mut self, rested: bool, now: u64) {
         self.looking = 0;

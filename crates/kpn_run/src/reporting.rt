@@ -10,13 +10,13 @@ use kpn_net::{Deed, Entry, Kinds, Net, Token};
 use kpn_report::{Report, places_of, report_of};
 use std::alloc::{AllocError, Global};
 
-/// The report of a run: why it ended, and its detail if it came to its own end, which is exactly
-/// where it ended by Terminated, Deadlock or Ceiling. The error is want of memory.
+/// Returns the report of a run: why it ended, and its detail if it came to its own end, which is
+/// exactly if it ended by `Terminated`, `Deadlock` or `Ceiling`. Errors: memory was refused.
 ///
-/// The detail is that of every run of the network that is over, whatever the schedule and the number
-/// of workers (`every`). If the run terminated or ended in a deadlock, every run that does so too,
-/// from any starting capacities, has the same deeds, streams and places (`any_capacities`; Kahn 1974,
-/// Parks 1995).
+/// The detail is that of every run of the network that is over, whatever the schedule and the number of
+/// workers (`every`). If the run terminated or ended in a deadlock, every run that does so too, from
+/// any starting capacities, has the same deeds, streams and places (`any_capacities`; Kahn 1974, Parks
+/// 1995).
 pub fn report<K: Kinds>(alloc: Global, finish: &Finish<K>) -> Result<Report, AllocError>
     ensures end { IfOk result (λ r. r.end ≡ finish.now.cause) }
     ensures own { IfOk result (λ r. IsReport K.family finish.now.machine.network finish.now.cause finish.now.machine.history finish.now.machine.state r.detail) }
@@ -54,8 +54,8 @@ fn push_put(tokens: &mut Vec<Token>, entry: Entry, channel: usize) -> Result<(),
     Ok(())
 }
 
-/// What went through a channel: its start tokens, and those that the entries put on it, in order. The
-/// error is want of memory.
+/// Returns what went through a channel: its start tokens, and those that the entries put on it, in
+/// order. Errors: memory was refused.
 pub fn stream_of<K: Kinds>(
     alloc: Global,
     net: &Net<K>,

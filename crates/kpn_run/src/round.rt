@@ -12,7 +12,7 @@ use std::sync::Wait;
 use std::sync::ledger::Ledger;
 use std::time::{Duration, Instant};
 
-/// How long a worker rests at a time that is spare, and one that finds nothing to do, in microseconds.
+/// How long a worker rests that is spare, and one that finds nothing to do, in microseconds.
 const SPARE_REST: u64 = 1_000;
 
 const IDLE_REST: u64 = 100;
@@ -20,7 +20,7 @@ const IDLE_REST: u64 = 100;
 /// How often a worker pauses between two looks for something to do.
 const PAUSES: u32 = 64;
 
-/// Tells how many nanoseconds have gone by since it was made.
+/// Measures how many nanoseconds have gone by since it was made.
 #[derive(Clone, Copy)]
 struct Stopwatch {
     start: Option<Instant>,
@@ -33,7 +33,7 @@ impl Stopwatch {
         }
     }
 
-    /// 0 if the clock can't be read.
+    /// The nanoseconds so far; 0 if the clock can't be read.
     fn nanos<R: Clock>(&self, rt: &R) -> u64 {
         let Some(start) = self.start else {
             return 0;
@@ -45,9 +45,9 @@ impl Stopwatch {
     }
 }
 
-/// Calls the tasks of a hand, asks the gate after each, and exchanges the answers for other tasks, again
-/// and again, until the run is over or an answer is refused. If none was, the seat has met an end. It
-/// may wait for other workers.
+/// Calls the tasks of a hand, asks the gate after each, and exchanges the answers for other tasks,
+/// again and again, until the run is over or an answer is refused. Returns the refused answer; if there
+/// is none, the seat has met an end. It may wait for other workers.
 pub(crate) fn work_in_rounds<B: Body, E: EntryLedger, O: Ledger, R: Wait + Clock, G: Gate>(
     rt: &R,
     monitor: &Monitor<B, E, O>,
@@ -98,7 +98,7 @@ fn go_on<B: Body, E: EntryLedger, O: Ledger, R: Wait + Clock>(
     take_step(rt, monitor, hand, watch, pace, step);
 }
 
-// Calls all tasks of a hand, and asks the gate after each. Whether there were any.
+// Calls all tasks of a hand, and asks the gate after each. Returns whether there were any.
 fn call_all<B: Body, G: Gate>(hand: &mut Hand<B>, gate: &G) -> bool
     ensures { hand.new.called ≡ length hand.new.tasks }
 {

@@ -65,14 +65,14 @@ impl<B: Body, E: EntryLedger, O: Ledger> WorkerSlot<B, E, O> {
     }
 }
 
-/// Hands for workers, one at least.
+/// Hands for workers, at least one.
 #[derive(Drop)]
 pub(crate) struct Hands<B: Body> {
     last: Hand<B>,
     others: Vec<Hand<B>>,
 }
 
-/// A hand for each worker, that shares with the others.
+/// Makes a hand for each worker.
 pub(crate) fn hands_for<B: Body>(alloc: Global, workers: usize) -> Result<Hands<B>, AllocError> {
     let mut others = Vec::with_capacity(alloc, workers)?;
     for _ in 1..workers {
@@ -84,7 +84,7 @@ pub(crate) fn hands_for<B: Body>(alloc: Global, workers: usize) -> Result<Hands<
     })
 }
 
-/// Makes a slot for each worker. Each seat has one part, but for the last, which has the others.
+/// Makes a slot for each worker. Each seat has one part, except the last, which has the rest.
 pub(crate) fn seat_all<B: Body, E: EntryLedger, O: Ledger>(
     seat: Seat<E, O>,
     workers: usize,
@@ -104,7 +104,7 @@ pub(crate) fn seat_all<B: Body, E: EntryLedger, O: Ledger>(
     slots.push_reserved(WorkerSlot::new(seat, last));
 }
 
-// A slot more, unless there is no hand for it or the seat has one part left.
+// Adds a slot, unless there is no hand for it or the seat has only one part left.
 fn seat_one<B: Body, E: EntryLedger, O: Ledger>(
     seat: &mut Seat<E, O>,
     hand: Option<Hand<B>>,
@@ -123,7 +123,7 @@ fn seat_one<B: Body, E: EntryLedger, O: Ledger>(
     }
 }
 
-/// Works at all slots. The calling thread is one worker, and the others are started.
+/// Works at all slots. The calling thread is one worker, and the others are started as threads.
 pub(crate) fn work_all<
     B: Body,
     E: EntryLedger + Send + Sync,
@@ -138,7 +138,7 @@ pub(crate) fn work_all<
     work_each(rt, monitor, gate, slots.as_mut_slice());
 }
 
-// As `work_all`, told of each slot.
+// As `work_all`, with the clauses stated slot by slot.
 fn work_each<
     B: Body,
     E: EntryLedger + Send + Sync,
@@ -152,7 +152,7 @@ fn work_each<
     thread::for_each_mut(rt, slots, 16, &|_, slot| slot.work(rt, monitor, gate));
 }
 
-/// The seats of all slots, and an answer that was refused, if there is one.
+/// Takes the seats out of all slots. Returns an answer that was refused, if there is one.
 pub(crate) fn leave_all<B: Body, E: EntryLedger, O: Ledger>(
     mut slots: Vec<WorkerSlot<B, E, O>>,
     seats: &mut Vec<Seat<E, O>>,

@@ -8,9 +8,9 @@ use std::sync::Wait;
 use std::sync::ledger::Ledger;
 
 /// What a worker calls between an answer and its commit, outside the lock. A gate that waits holds its
-/// worker up; it changes no result.
+/// worker up; it does not change the result.
 pub trait Gate: Sync {
-    /// Is called with the number of the process whose answer is about to be committed.
+    /// Called with the number of the process whose answer is about to be committed.
     fn before_commit(&self, process: usize);
 }
 
@@ -29,7 +29,8 @@ pub struct Worked<B: Body, E: EntryLedger, O: Ledger> {
 }
 
 /// Takes a task, calls it, asks the gate and commits the answer, again and again, until the run is over
-/// or an answer is refused. If none was, the seat has met an end. It may wait for other workers.
+/// or an answer is refused. Returns the seat, and the refused answer if there is one; if there is none,
+/// the seat has met an end. It may wait for other workers.
 pub fn work<B: Body, E: EntryLedger, O: Ledger, R: Wait, G: Gate>(
     rt: &R,
     monitor: &Monitor<B, E, O>,
@@ -43,7 +44,7 @@ pub fn work<B: Body, E: EntryLedger, O: Ledger, R: Wait, G: Gate>(
     Worked { seat, stranger }
 }
 
-// As `work`, with a seat that is lent.
+// As `work`, with a borrowed seat.
 fn work_with<B: Body, E: EntryLedger, O: Ledger, R: Wait, G: Gate>(
     rt: &R,
     monitor: &Monitor<B, E, O>,

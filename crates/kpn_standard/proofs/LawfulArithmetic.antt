@@ -8,7 +8,7 @@ use Rattle.kpn_standard.specs.Arithmetic.{Add, Scale, add_reads_first, add_reads
 use Rattle.kpn_standard.proofs.Laws.{IsLawful, AreArguments, has_ports, reads_word, writes}
 
 module _ (args : List ℕ) (small : AreArguments args) (signed : IsSome (signature (card 5 args))) where
-  -- the ports of add, whose arguments are taken
+  -- the ports of add, given that its arguments are accepted
   add_ports : signature (card 5 args) ≡ Some (record { ins = two_words; outs = one_word })
   add_ports = has_ports _ _ _ signed
 
@@ -22,7 +22,7 @@ module _ (args : List ℕ) (small : AreArguments args) (signed : IsSome (signatu
       writes _ _ add_ports _ 0 (omega arith) _ refl (omega arith) (record { local_fits = omega arith; last_fits = tt; line = add_reads_first })
 
 module _ (args : List ℕ) (small : AreArguments args) (signed : IsSome (signature (card 6 args))) where
-  -- the ports of scale, whose arguments are taken
+  -- the ports of scale, given that its arguments are accepted
   scale_ports : signature (card 6 args) ≡ Some (record { ins = one_word; outs = one_word })
   scale_ports = has_ports _ _ _ signed
 

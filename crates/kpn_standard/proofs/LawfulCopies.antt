@@ -9,7 +9,7 @@ use Rattle.kpn_standard.specs.Admitted.{Admitted}
 use Rattle.kpn_standard.proofs.Laws.{IsLawful, AreArguments, has_ports, by_test, below_or_at, stops, reads_word, writes}
 
 module _ (args : List ℕ) (small : AreArguments args) (signed : IsSome (signature (card 2 args))) where
-  -- the ports of take, whose arguments are taken
+  -- the ports of take, given that its arguments are accepted
   take_ports : signature (card 2 args) ≡ Some (record { ins = one_word; outs = one_word })
   take_ports = has_ports _ _ _ signed
 
@@ -34,7 +34,7 @@ module _ (args : List ℕ) (small : AreArguments args) (signed : IsSome (signatu
       by_test (λ a. IsLawful (card 2 args) a) i (at args 0) _ _ (λ below. absurd (omega arith)) (λ above. stops _ _)
 
 module _ (args : List ℕ) (small : AreArguments args) (signed : IsSome (signature (card 3 args))) where
-  -- the ports of copy, whose arguments are taken
+  -- the ports of copy, given that its arguments are accepted
   copy_ports : signature (card 3 args) ≡ Some (record { ins = one_word; outs = two_words })
   copy_ports = has_ports _ _ _ signed
 
@@ -48,7 +48,7 @@ module _ (args : List ℕ) (small : AreArguments args) (signed : IsSome (signatu
       writes _ _ copy_ports _ 1 (omega arith) _ refl (omega arith) (record { local_fits = omega arith; last_fits = tt; line = copy_reads })
 
 module _ (args : List ℕ) (small : AreArguments args) (signed : IsSome (signature (card 4 args))) where
-  -- the ports of prefix, whose arguments are taken
+  -- the ports of prefix, given that its arguments are accepted
   prefix_ports : signature (card 4 args) ≡ Some (record { ins = one_word; outs = one_word })
   prefix_ports = has_ports _ _ _ signed
 

@@ -11,7 +11,7 @@ use Rattle.kpn_standard.specs.Admitted.{Admitted}
 use Rattle.kpn_standard.proofs.Laws.{IsLawful, AreArguments, passes, has_ports, by_test, below_or_at, stops, reads_word, writes}
 
 module _ (args : List ℕ) (small : AreArguments args) (signed : IsSome (signature (card 0 args))) where
-  -- the ports of count, whose arguments are taken
+  -- the ports of count, given that its arguments are accepted
   count_ports : signature (card 0 args) ≡ Some (record { ins = no_port; outs = one_word })
   count_ports = has_ports _ _ _ signed
 
@@ -38,7 +38,7 @@ module _ (args : List ℕ) (small : AreArguments args) (signed : IsSome (signatu
       by_test (λ a. IsLawful (card 0 args) a) i (at args 1) _ _ (λ below. absurd (omega arith)) (λ above. stops _ _)
 
 module _ (args : List ℕ) (small : AreArguments args) (signed : IsSome (signature (card 1 args))) where
-  -- the ports of sink, whose arguments are taken
+  -- the ports of sink, given that its arguments are accepted
   sink_ports : signature (card 1 args) ≡ Some (record { ins = one_word; outs = no_port })
   sink_ports = has_ports _ _ _ signed
 

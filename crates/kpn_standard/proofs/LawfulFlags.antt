@@ -8,7 +8,7 @@ use Rattle.kpn_standard.specs.Flags.{Divides, Switch, Select, divides_reads, div
 use Rattle.kpn_standard.proofs.Laws.{IsLawful, AreArguments, has_ports, by_flag, reads_word, reads_flag, writes}
 
 module _ (args : List ℕ) (small : AreArguments args) (signed : IsSome (signature (card 9 args))) where
-  -- the ports of divides, whose arguments are taken
+  -- the ports of divides, given that its arguments are accepted
   divides_ports : signature (card 9 args) ≡ Some (record { ins = one_word; outs = one_flag })
   divides_ports = has_ports _ _ _ signed
 
@@ -20,7 +20,7 @@ module _ (args : List ℕ) (small : AreArguments args) (signed : IsSome (signatu
       writes _ _ divides_ports _ 0 (omega arith) _ refl tt (record { local_fits = omega arith; last_fits = tt; line = divides_reads })
 
 module _ (args : List ℕ) (small : AreArguments args) (signed : IsSome (signature (card 10 args))) where
-  -- the ports of switch, whose arguments are taken
+  -- the ports of switch, given that its arguments are accepted
   switch_ports : signature (card 10 args) ≡ Some (record { ins = word_and_flag; outs = two_words })
   switch_ports = has_ports _ _ _ signed
 
@@ -38,7 +38,7 @@ module _ (args : List ℕ) (small : AreArguments args) (signed : IsSome (signatu
       writes _ _ switch_ports _ 1 (omega arith) _ refl last_fits (record { local_fits = omega arith; last_fits = tt; line = switch_reads_flag })
 
 module _ (args : List ℕ) (small : AreArguments args) (signed : IsSome (signature (card 11 args))) where
-  -- the ports of select, whose arguments are taken
+  -- the ports of select, given that its arguments are accepted
   select_ports : signature (card 11 args) ≡ Some (record { ins = two_words_and_flag; outs = one_word })
   select_ports = has_ports _ _ _ signed
 

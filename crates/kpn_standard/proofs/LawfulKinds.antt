@@ -20,7 +20,7 @@ use Rattle.kpn_standard.proofs.LawfulArithmetic.{add_lawful, scale_lawful}
 use Rattle.kpn_standard.proofs.LawfulMerging.{weave_lawful, merge_lawful}
 use Rattle.kpn_standard.proofs.LawfulFlags.{divides_lawful, switch_lawful, select_lawful}
 
--- what holds of twelve numbers and of all greater ones holds of every number
+-- what holds of the twelve numbers of kinds, and of all greater ones, holds of every number
 by_kind : (P : ℕ → Type 0) → P 0 → P 1 → P 2 → P 3 → P 4 → P 5 → P 6 → P 7 → P 8 → P 9 → P 10 → P 11 → ((k : ℕ) → 11 < k → P k) → (k : ℕ) → P k
 by_kind P a b c d e f g h i j k l greater zero = a
 by_kind P a b c d e f g h i j k l greater (suc zero) = b
@@ -40,7 +40,7 @@ by_kind P a b c d e f g h i j k l greater (suc (suc (suc (suc (suc (suc (suc (su
 no_signature : (kind : ℕ) (args : List ℕ) → 11 < kind → IsSome (signature (card kind args)) → ⊥
 no_signature kind args h signed = grind arith
 
--- the answers of a kind are lawful, wherever a line of it stands
+-- the answers of a kind are lawful in each state that has a line
 abbrev AnswerWell : List ℕ → ℕ → Type 0
 AnswerWell args kind =
     IsSome (signature (card kind args)) → (local : List ℕ) (last : Option Token) → IsLocal local → LastFits last → HasLine kind args local last → IsLawful (card kind args) (answer_by_number kind args local (got last))

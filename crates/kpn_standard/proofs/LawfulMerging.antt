@@ -10,7 +10,7 @@ use Rattle.kpn_standard.specs.Merging.{Weave, Merge, weave_reads_first, weave_wr
 use Rattle.kpn_standard.proofs.Laws.{IsLawful, AreArguments, passes, has_ports, by_test, below_or_at, reads_word, writes}
 
 module _ (args : List ℕ) (small : AreArguments args) (signed : IsSome (signature (card 7 args))) where
-  -- the ports of weave, whose arguments are taken
+  -- the ports of weave, given that its arguments are accepted
   weave_ports : signature (card 7 args) ≡ Some (record { ins = two_words; outs = one_word })
   weave_ports = has_ports _ _ _ signed
 
@@ -18,11 +18,11 @@ module _ (args : List ℕ) (small : AreArguments args) (signed : IsSome (signatu
   weave_counts : (nat_lt 0 (at args 0) && nat_lt 0 (at args 1)) ≡ true
   weave_counts = (and_parts _ _ (passes _ _ _ signed)).1
 
-  -- of input 0
+  -- it copies at least one of input 0
   weave_first : 0 < at args 0
   weave_first = ltb-true _ _ (and_parts _ _ weave_counts).0
 
-  -- of input 1
+  -- and at least one of input 1
   weave_second : 0 < at args 1
   weave_second = ltb-true _ _ (and_parts _ _ weave_counts).1
 
@@ -50,11 +50,11 @@ module _ (args : List ℕ) (small : AreArguments args) (signed : IsSome (signatu
       (λ above. writes _ _ weave_ports _ 0 (omega arith) _ refl last_fits (record { local_fits = omega arith; last_fits = tt; line = weave_reads_first weave_first }))
 
 module _ (args : List ℕ) (small : AreArguments args) (signed : IsSome (signature (card 8 args))) where
-  -- the ports of merge, whose arguments are taken
+  -- the ports of merge, given that its arguments are accepted
   merge_ports : signature (card 8 args) ≡ Some (record { ins = two_words; outs = one_word })
   merge_ports = has_ports _ _ _ signed
 
-  -- to write the lesser of two heads is lawful
+  -- writing the lesser of two heads is lawful
   emit_lawful : (x y : ℕ) → x < 2 ^ 64 → y < 2 ^ 64 → IsLawful (card 8 args) (emit x y)
   emit_lawful x y x_fits y_fits =
       by_test (λ a. IsLawful (card 8 args) a) x y _ _

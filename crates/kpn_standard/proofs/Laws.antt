@@ -1,4 +1,4 @@
--- What the laws ask of an answer, for reads, writes and stops.
+-- What the laws ask of an answer: of a read, a write or a stop.
 use Rattle.std.proofs.Common.{◌≡◌, ℕ, ◌<◌, ◌≤◌, ◌^◌, nat_lt, if◌then◌else◌, Bool, true, false, List, Option, Some, None, IsSome, option_and_then, refl, sym, ◌∙◌, ap, subst, ltb-true, ltb-false, arith}
 use Rattle.kpn_model.specs.declared.token.Token.{Token}
 use Rattle.kpn_model.specs.declared.token.Token.TheVariants.{Word, Flag}
@@ -33,7 +33,7 @@ pub has_ports : (test : Bool) (ins outs : List (Option Sort)) → IsSome (given 
 has_ports true ins outs h = refl
 has_ports false ins outs h = cc
 
--- what holds of both branches holds of the choice
+-- what holds of both branches holds of the conditional
 pub by_test : (P : Answer → Type 0) (m n : ℕ) (a b : Answer) → (m < n → P a) → (n ≤ m → P b) → P (if nat_lt m n then a else b)
 by_test P m n a b below above = go (nat_lt m n) refl
   where
@@ -49,12 +49,12 @@ below_or_at P m n h below at_end = go (nat_lt m n) refl
     go true e = below (ltb-true m n e)
     go false e = let above : n ≤ m = ltb-false m n e in at_end (omega arith)
 
--- and so with a flag for the test
+-- the same with a flag for the test
 pub by_flag : (P : Answer → Type 0) (f : Bool) (a b : Answer) → P a → P b → P (if f then a else b)
 by_flag P true a b p q = p
 by_flag P false a b p q = q
 
--- a port that has a sort is there
+-- a port that has a sort exists
 some_sort : (o : Option Sort) (s : Sort) → o ≡ Some s → IsSome o
 some_sort o s e = subst (λ o. IsSome o) (sym e) refl
 
@@ -67,11 +67,11 @@ module _ (card : Card) (s : Signature) (signed : signature card ≡ Some s) (nex
   in_port : in_sort signature card k ≡ port_at s.ins k
   in_port = ap (λ (o : Option Signature). option_and_then (λ s. port_at s.ins k) o) signed
 
-  -- the outputs too
+  -- and so are the outputs
   out_port : out_sort signature card k ≡ port_at s.outs k
   out_port = ap (λ (o : Option Signature). option_and_then (λ s. port_at s.outs k) o) signed
 
-  -- a read of words is lawful, if each word that may come is admitted
+  -- a read of words is lawful, if it is admitted to go on with each word
   pub reads_word : port_at s.ins k ≡ Some Words → ((w : ℕ) → w < 2 ^ 64 → Admitted card next (Some (Word w))) → IsLawful card (record { next = next; act = Read k })
   reads_word port admitted = record { names_port = (small, some_sort _ _ (in_port ∙ port)); leads_on = λ token is fits. by_token token (sym (in_port ∙ port) ∙ is) fits }
     where
@@ -79,7 +79,7 @@ module _ (card : Card) (s : Signature) (signed : signature card ≡ Some s) (nex
       by_token (Word w) is fits = admitted w fits
       by_token (Flag f) is fits = cc
 
-  -- a read of flags is lawful, if each flag is admitted
+  -- a read of flags is lawful, if it is admitted to go on with each flag
   pub reads_flag : port_at s.ins k ≡ Some Flags → ((f : Bool) → Admitted card next (Some (Flag f))) → IsLawful card (record { next = next; act = Read k })
   reads_flag port admitted = record { names_port = (small, some_sort _ _ (in_port ∙ port)); leads_on = λ token is fits. by_token token (sym (in_port ∙ port) ∙ is) }
     where

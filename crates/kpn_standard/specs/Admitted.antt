@@ -10,7 +10,7 @@ use Rattle.kpn_standard.specs.Arithmetic.{Add, Scale}
 use Rattle.kpn_standard.specs.Merging.{Weave, Merge}
 use Rattle.kpn_standard.specs.Flags.{Divides, Switch, Select}
 
--- the fact that the test picks
+-- one of two facts, as the test chooses
 infix 5 when◌then◌else◌
 abbrev pub when◌then◌else◌ : Bool → Type 0 → Type 0 → Type 0
 when true then p else q = p
@@ -33,7 +33,7 @@ HasLine kind args local last =
     when kind == 11 then Select local last else
     ⊥
 
--- a line of the kind stands for the local state and the last token, and their numbers have 64 bits
+-- the kind has a line for the local state and the last token, and their numbers have 64 bits
 pub record Admitted (card : Card) (local : List ℕ) (last : Option Token) : Type 0 where
   pub local_fits : IsLocal local
   pub last_fits : LastFits last

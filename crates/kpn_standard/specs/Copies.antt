@@ -1,4 +1,4 @@
--- Where a process that writes what it reads may be: a line for each act.
+-- The states of the kinds that write what they read: a line for each act.
 use Rattle.std.specs.Prelude.{◌≡◌, ℕ, ◌<◌, List, Option, Some, None}
 use Rattle.kpn_model.specs.declared.token.Token.{Token}
 use Rattle.kpn_model.specs.declared.token.Token.TheVariants.{Word}

@@ -1,10 +1,10 @@
--- Where a process that writes alone, or reads alone, may be: a line for each act.
+-- The states of the kinds that only write, or only read: a line for each act.
 use Rattle.std.specs.Prelude.{◌≡◌, ℕ, ◌<◌, List, Option, Some, None}
 use Rattle.kpn_model.specs.declared.token.Token.{Token}
 use Rattle.kpn_model.specs.declared.token.Token.TheVariants.{Word}
 use Rattle.kpn_standard.specs.Locals.{one}
 
--- count: writes i tokens, then stops
+-- count: writes n tokens, then stops
 pub data Count (n : ℕ) : List ℕ → Option Token → Type 0 where
   count_writes : {i : ℕ} → i < n → Count n (one i) None
   count_stops : {i : ℕ} → i ≡ n → Count n (one i) None

@@ -1,4 +1,4 @@
--- Where a process that joins two inputs may be: a line for each act.
+-- The states of the kinds that join two inputs: a line for each act.
 use Rattle.std.specs.Prelude.{◌≡◌, ℕ, ◌+◌, ◌<◌, List, Option, Some, None}
 use Rattle.kpn_model.specs.declared.token.Token.{Token}
 use Rattle.kpn_model.specs.declared.token.Token.TheVariants.{Word}
@@ -13,8 +13,8 @@ pub data Weave (a b : ℕ) : List ℕ → Option Token → Type 0 where
   weave_writes_second : {i t : ℕ} → i + 1 < b → Weave a b (two 3 i) (Some (Word t))
   weave_turns_to_first : {i t : ℕ} → i + 1 ≡ b → Weave a b (two 3 i) (Some (Word t))
 
--- merge: writes the lesser of the two inputs' heads, and reads the next of that input; of equal
--- heads it writes one, and reads both
+-- merge: writes the lesser of the two inputs' heads and reads the next of that input; if the heads are equal, it writes one and
+-- reads both inputs
 pub data Merge : List ℕ → Option Token → Type 0 where
   merge_reads_first : Merge (one 0) None
   merge_reads_second : {x : ℕ} → Merge (one 1) (Some (Word x))

@@ -2,7 +2,7 @@
 use Rattle.std.specs.Prelude.{ℕ, if◌then◌else◌, List, Option, Some, None, codes}
 use Rattle.std.specs.Str.{bytes_eq}
 
--- the number of the kind of a name, and how many arguments it takes
+-- the number of the kind with this name, and how many arguments it takes
 abbrev pub named : List ℕ → Option (ℕ × ℕ)
 named name =
     if bytes_eq name (codes "count") then Some (0, 2) else

@@ -10,7 +10,7 @@ use Rattle.kpn_standard.specs.Standard.{at}
 abbrev pub card : ℕ → List ℕ → Card
 card kind args = record { kind = kind; args = args }
 
--- the sorts of three ports, of which some aren't there
+-- the sorts of three ports, some of them absent
 abbrev pub no_port : List (Option Sort)
 no_port = None ∷ None ∷ None ∷ []
 
@@ -29,11 +29,11 @@ word_and_flag = Some Words ∷ Some Flags ∷ None ∷ []
 abbrev pub two_words_and_flag : List (Option Sort)
 two_words_and_flag = Some Words ∷ Some Words ∷ Some Flags ∷ []
 
--- the inputs and outputs, if the arguments are taken
+-- the inputs and outputs, if the arguments are accepted
 abbrev pub given : Bool → List (Option Sort) → List (Option Sort) → Option Signature
 given taken ins outs = if taken then Some (record { ins = ins; outs = outs }) else None
 
--- the arguments after the first two, after the first, and all are 0
+-- all arguments after the first two are 0; after the first; all
 abbrev pub two_used : List ℕ → Bool
 two_used args = at args 2 == 0
 

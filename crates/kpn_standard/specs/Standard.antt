@@ -16,7 +16,7 @@ says a b c act = record { next = a ∷ b ∷ c ∷ 0 ∷ []; act = act }
 abbrev pub stays : List ℕ → Answer
 stays local = record { next = local; act = Stop }
 
--- the token of the read just done, and what it is
+-- the token of the read just done, and as a word or a flag
 abbrev pub got : Option Token → Token
 got None = Word 0
 got (Some t) = t

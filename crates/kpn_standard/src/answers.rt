@@ -12,7 +12,8 @@ use crate::merging::{merge, weave};
 use crate::numbers::*;
 use kpn_model::{Answer, Card, Local, Token};
 
-/// What a process of a card answers, in a local state, if it has just read `last`.
+/// Returns the answer of a process of a standard card, in this local state and after it has just read
+/// `last` (`None` if its last act was no read). The card must have a signature, and must admit the two.
 pub fn answer(card: Card, local: Local, last: Option<Token>) -> Answer
     requires signed { IsSome (signature card) }
     requires admitted { Admitted card local last }

@@ -1,4 +1,5 @@
-//! The kinds that compute words.
+//! The kinds that compute words: each function returns the next answer of its kind, for an admitted
+//! local state and last token.
 ghost use Rattle.std.specs.Prelude.{◌≡◌, IsSome};
 ghost use Rattle.kpn_standard.specs.Standard.{standard};
 ghost use Rattle.kpn_standard.specs.Signatures.{card, signature};

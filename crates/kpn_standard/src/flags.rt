@@ -1,4 +1,5 @@
-//! The kinds that write flags, or go by them.
+//! The kinds that write or read flags: each function returns the next answer of its kind, for an
+//! admitted local state and last token.
 ghost use Rattle.std.specs.Prelude.{◌≡◌, IsSome};
 ghost use Rattle.kpn_standard.specs.Standard.{standard};
 ghost use Rattle.kpn_standard.specs.Signatures.{card, signature};
@@ -23,8 +24,8 @@ pub fn divides(args: [u64; 3], local: Local, last: Option<Token>) -> Answer
     }
 }
 
-/// Reads a flag of input 1 and then a word of input 0, and writes the word to output 1 if the
-/// flag is true, else to output 0, for ever.
+/// Reads a flag of input 1 and then a word of input 0, and writes the word to output 1 if the flag is
+/// true and else to output 0, for ever.
 pub fn switch(args: [u64; 3], local: Local, last: Option<Token>) -> Answer
     requires signed { IsSome (signature (card SWITCH args)) }
     requires admitted { Admitted (card SWITCH args) local last }
@@ -39,8 +40,8 @@ pub fn switch(args: [u64; 3], local: Local, last: Option<Token>) -> Answer
     }
 }
 
-/// Reads a flag of input 2 and then a word, of input 1 if the flag is true, else of input 0,
-/// and writes the word, for ever.
+/// Reads a flag of input 2 and then a word, of input 1 if the flag is true and else of input 0, and
+/// writes the word, for ever.
 pub fn select(args: [u64; 3], local: Local, last: Option<Token>) -> Answer
     requires signed { IsSome (signature (card SELECT args)) }
     requires admitted { Admitted (card SELECT args) local last }

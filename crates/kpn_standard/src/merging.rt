@@ -1,4 +1,5 @@
-//! The kinds that join two inputs.
+//! The kinds that join two inputs: each function returns the next answer of its kind, for an admitted
+//! local state and last token.
 ghost use Rattle.std.specs.Prelude.{◌≡◌, IsSome};
 ghost use Rattle.kpn_standard.specs.Standard.{standard, emit};
 ghost use Rattle.kpn_standard.specs.Signatures.{card, signature};
@@ -29,7 +30,7 @@ pub fn weave(args: [u64; 3], local: Local, last: Option<Token>) -> Answer
 
 /// Keeps the next word of each input, writes the lesser, and reads that input again, for ever.
 ///
-/// Of equal words it writes one, and reads both inputs again, input 0 first.
+/// If the two are equal, it writes one and reads both inputs again, input 0 first.
 pub fn merge(args: [u64; 3], local: Local, last: Option<Token>) -> Answer
     requires signed { IsSome (signature (card MERGE args)) }
     requires admitted { Admitted (card MERGE args) local last }

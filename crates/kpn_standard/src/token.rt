@@ -4,6 +4,7 @@ ghost use Rattle.kpn_standard.specs.Standard.{got as got_token, word as word_of,
 
 use kpn_model::{Act, Answer, Local, Token};
 
+/// Returns the answer that reads input `port`.
 pub fn reads(next: Local, port: u8) -> Answer
     ensures { result ≡ record { next = next; act = Act.Read port } }
 {
@@ -13,6 +14,7 @@ pub fn reads(next: Local, port: u8) -> Answer
     }
 }
 
+/// Returns the answer that writes a token to output `port`.
 pub fn writes(next: Local, port: u8, token: Token) -> Answer
     ensures { result ≡ record { next = next; act = Act.Write port token } }
 {
@@ -22,6 +24,7 @@ pub fn writes(next: Local, port: u8, token: Token) -> Answer
     }
 }
 
+/// Returns the answer that stops.
 pub fn stops(local: Local) -> Answer
     ensures { result ≡ record { next = local; act = Act.Stop } }
 {
@@ -31,14 +34,14 @@ pub fn stops(local: Local) -> Answer
     }
 }
 
-/// The token of the read just done, or the word 0 if none was.
+/// Returns the token of the read just done, or the word 0 if there was none.
 pub fn got(last: Option<Token>) -> Token
     ensures { result ≡ got_token last }
 {
     last.unwrap_or(Token::Word(0))
 }
 
-/// The word of the read just done, or 0.
+/// Returns the word of the read just done, or 0 if it was no word.
 pub fn word(last: Option<Token>) -> u64
     ensures { result ≡ word_of (got_token last) }
 {
@@ -48,7 +51,7 @@ pub fn word(last: Option<Token>) -> u64
     }
 }
 
-/// The flag of the read just done, or false.
+/// Returns the flag of the read just done, or false if it was no flag.
 pub fn flag(last: Option<Token>) -> bool
     ensures { result ≡ flag_of (got_token last) }
 {

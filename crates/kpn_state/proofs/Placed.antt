@@ -1,4 +1,4 @@
--- Where processes stand, one moved and the others as before.
+-- The standings of the processes when one is moved and the others stay.
 use Rattle.std.proofs.Common.{◌≡◌, ◌≢◌, ⊎_elim, List, [], ◌∷◌, length, refl, sym, ◌∙◌, ℕ, zero, suc, ◌<◌, ◌||◌, ◌&&◌, Bool, true, false, set, get_or-set_same, get_or-set_other}
 use Rattle.std.proofs.lemmas.Bool.{cases_lt}
 use Rattle.std.proofs.lemmas.List.{get_or_past}
@@ -11,19 +11,19 @@ use Rattle.kpn_state.specs.declared.standing.Standing.TheVariants.{Ready, Out, P
 use Rattle.kpn_state.specs.Standings.{standing, is_busy, is_ready, has_stopped, place_after}
 use Rattle.kpn_state.proofs.Contradictions.{true_false}
 
--- a process that is moved stands where it was moved to
+-- the process that is moved has its new standing
 pub place_set_same : (standings : List Standing) (p : ℕ) (x : Standing) → p < length standings → standing (set standings p x) p ≡ x
 place_set_same standings p x h = get_or-set_same standings p x Ended h
 
--- and each other where it stood
+-- and each other its old one
 pub place_set_other : (standings : List Standing) (p q : ℕ) (x : Standing) → q ≢ p → standing (set standings p x) q ≡ standing standings q
 place_set_other standings p q x h = get_or-set_other standings p q x Ended h
 
--- a process that has not stopped is there
+-- a process that has not stopped is one of the list
 pub place_within : (standings : List Standing) (p : ℕ) → standing standings p ≢ Ended → p < length standings
 place_within standings p h = ⊎_elim (λ within. within) (λ past. absurd (h (get_or_past standings p Ended past))) (cases_lt p (length standings))
 
--- a process that is not there isn't ready
+-- what no process of the list has, none has
 pub none_past : (standings : List Standing) (p : ℕ) (x : Standing) → x ≢ Ended → ((q : ℕ) → q < length standings → standing standings q ≢ x) → standing standings p ≢ x
 none_past standings p x other h e = h p (place_within standings p (λ f. other (sym e ∙ f))) e
 
@@ -48,7 +48,7 @@ acted_not_out (Took c t) e = cc
 acted_not_out (Put c t) e = cc
 acted_not_out Stopped e = cc
 
--- an answer with which a process is parked is the only one
+-- the answer of a parked process is determined by its standing
 pub parked_same : (a b : Answer) → Parked a ≡ Parked b → a ≡ b
 parked_same a b e = cc
 
@@ -68,13 +68,13 @@ and_right : (a b : Bool) → (a && b) ≡ true → b ≡ true
 and_right true b e = e
 and_right false b e = cc
 
--- if none is busy, this one isn't
+-- if no process is busy, this one isn't
 pub idle_at : (standings : List Standing) (p : ℕ) → list_any is_busy standings ≡ false → is_busy (standing standings p) ≡ false
 idle_at [] p h = refl
 idle_at (x ∷ xs) zero h = or_left (is_busy x) _ h
 idle_at (x ∷ xs) (suc p) h = idle_at xs p (or_right (is_busy x) _ h)
 
--- if one is busy, some is
+-- if this process is busy, some is
 pub busy_at : (standings : List Standing) (p : ℕ) → is_busy (standing standings p) ≡ true → list_any is_busy standings ≡ true
 busy_at standings p h = by_cases _ refl
   where

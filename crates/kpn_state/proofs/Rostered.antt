@@ -1,4 +1,4 @@
--- What is queued and counted while processes are moved.
+-- The queue and the counts while processes are moved.
 use Rattle.std.proofs.Common.{◌≡◌, ◌≢◌, ⊎_elim, List, [], ◌∷◌, ◌++◌, length, length-set, length-append, refl, sym, ap, ◌∙◌, arith, ℕ, zero, suc, ◌+◌, ◌<◌, ◌≤◌, Bool, true, false, cond, Some, None, set, drop, slice_get}
 use Rattle.std.specs.List.{list_any, list_all, count_by}
 use Rattle.std.proofs.lemmas.Bool.{cases_eq, eq-eqb, ne_eqb, lt-ltb, eqb-true, eqb-false}
@@ -13,7 +13,7 @@ use Rattle.kpn_state.proofs.Placed.{place_set_same, place_set_other, place_withi
 abbrev one_if : Bool → ℕ
 one_if b = cond b 1 0
 
--- 1 for a process that passes
+-- 1 for a process that passes the test
 abbrev weight : (Standing → Bool) → Standing → ℕ
 weight f x = cond (f x) 1 0
 
@@ -42,7 +42,7 @@ one_here p q e = ap one_if (eq-eqb p q e)
 none_there : (p q : ℕ) → p ≢ q → one_if (nat_eq p q) ≡ 0
 none_there p q n = ap one_if (ne_eqb p q n)
 
--- who passes is counted
+-- a process that passes the test is counted
 counted : (f : Standing → Bool) (standings : List Standing) (p : ℕ) (x : Standing) → p < length standings → count_by f (set standings p x) + weight f (standing standings p) ≡ count_by f standings + weight f x
 counted f standings p x within = sum_by-set (weight f) standings p x Stopped within
 
@@ -73,7 +73,7 @@ eq_suc a b = by_test (nat_eq a b) refl
     by_test true e = e ∙ sym (eq-eqb (suc a) (suc b) (ap suc (eqb-true a b e)))
     by_test false e = e ∙ sym (ne_eqb (suc a) (suc b) (λ s. eqb-false a b e (omega arith)))
 
--- all have stopped if as many are counted
+-- all have stopped if as many are counted as there are
 pub stopped_counted : (standings : List Standing) → list_all has_stopped standings ≡ nat_eq (count_by has_stopped standings) (length standings)
 stopped_counted [] = refl
 stopped_counted (Stopped ∷ xs) =
@@ -93,7 +93,7 @@ stopped_counted (Parked a ∷ xs) =
     let few = count_by-le-length has_stopped xs in
     sym (ne_eqb (count_by has_stopped (Parked a ∷ xs)) (suc (length xs)) (λ e. omega arith))
 
--- one process more, which is ready
+-- the list with one more process
 place_last : (standings : List Standing) (p : ℕ) (x : Standing) → p ≡ length standings → standing (standings ++ x ∷ []) p ≡ x
 place_last [] zero x e = refl
 place_last [] (suc p) x e = absurd (omega arith)
@@ -136,7 +136,7 @@ kept_more standings queue room out stopped n is k below =
     }
 
 module _ (standings : List Standing) (queue : List ℕ) (room out stopped : ℕ) (k : Agrees standings queue room out stopped) where
-  -- who is out is counted
+  -- a process that is out is counted
   pub out_within : (p : ℕ) → p < length standings → weight is_out (standing standings p) ≤ out
   out_within p within = let o = k.out_is in let l = get_or-le-sum_by (weight is_out) standings p Stopped within in omega arith
 
@@ -161,7 +161,7 @@ module _ (standings : List Standing) (queue : List ℕ) (room out stopped : ℕ)
       empty (x ∷ xs) e h = cc
 
   module _ (p : ℕ) (within : p < length standings) (idle : standing standings p ≢ Ready) where
-    -- a process that isn't ready has a place in the queue
+    -- there is room in the queue for a process that isn't ready
     pub queue_room : length queue < room
     queue_room =
         let c = counted is_ready standings p Ready within in
@@ -199,7 +199,7 @@ module _ (standings : List Standing) (queue : List ℕ) (room out stopped : ℕ)
     longer x true r = let l = length-append queue (p ∷ []) in let w : weight is_ready x ≡ 1 = ap one_if r in omega arith
     longer x false r = let w : weight is_ready x ≡ 0 = ap one_if r in omega arith
 
-    -- moving it keeps what is kept
+    -- moving it keeps the invariant
     pub kept_moved :
         (x : Standing) (out_new stopped_new : ℕ) → out_new + weight is_out (standing standings p) ≡ out + weight is_out x → stopped_new + weight has_stopped (standing standings p) ≡ stopped + weight has_stopped x
         → Agrees (set standings p x) (queue_after queue p x) room out_new stopped_new
@@ -216,7 +216,7 @@ module _ (standings : List Standing) (queue : List ℕ) (room out stopped : ℕ)
       stopped_is = let c = counted has_stopped standings p x within in let e = k.stopped_is in omega arith;
     }
 
-  -- the process in front is ready, and leaves the queue as it goes out
+  -- the process at the head of the queue is ready, and leaves the queue as it goes out
   pub front_ready : (p : ℕ) → slice_get queue 0 ≡ Some p → standing standings p ≡ Ready
   front_ready p e = is_ready_ready _ (passes (is_ready (standing standings p)) refl)
     where

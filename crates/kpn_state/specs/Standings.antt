@@ -1,4 +1,4 @@
--- Where each process stands, and how that fits the state.
+-- The standing of each process, and how the standings fit the state.
 use Rattle.std.specs.Prelude.{◌≡◌, ◌≢◌, ℕ, ◌<◌, ◌≤◌, Bool, true, false, List, Option, Some, None, length, get_or}
 use Rattle.kpn_model.specs.declared.token.Token.{Token}
 use Rattle.kpn_model.specs.declared.kinds.Card.{Card}
@@ -12,7 +12,7 @@ use Rattle.kpn_model.specs.Valid.{IsWellTyped}
 use Rattle.kpn_state.specs.declared.standing.Standing.{Standing}
 use Rattle.kpn_state.specs.declared.standing.Standing.TheVariants.{Ready, Out, Parked, Stopped as Ended}
 
--- where process p stands; a process that is not there has stopped
+-- the standing of process p; a number that is no process's counts as stopped
 abbrev pub standing : List Standing → ℕ → Standing
 standing standings p = get_or standings p Ended
 
@@ -48,7 +48,7 @@ has_stopped Out = false
 has_stopped (Parked a) = false
 has_stopped Ended = true
 
--- where a process stands after its deed
+-- the standing of a process after its deed
 abbrev pub place_after : Deed → Standing
 place_after (Took c t) = Ready
 place_after (Put c t) = Ready
@@ -60,14 +60,14 @@ partner net (Took c t) = Some (channel_of net c).writer
 partner net (Put c t) = Some (channel_of net c).reader
 partner net Stopped = None
 
--- the deed's channel is there
+-- the deed's channel is one of the network's
 abbrev pub HasChannel : Network → Deed → Type 0
 HasChannel net (Took c t) = c < length net.channels
 HasChannel net (Put c t) = c < length net.channels
 HasChannel net Stopped = Unit {0}
 
--- the state is one of the network, with tokens of their sorts; each process stands where its status
--- says; each parked process wants what it answered and, but for the spared one, can't do it
+-- the state is one of the network, with tokens of their sorts; the standing of each process fits its status; each parked process
+-- wants what it answered and, except for the spared one, can't do it
 pub record StandingsFit (kinds : Family) (admits : Card → List ℕ → Option Token → Type 0) (net : Network) (spared : Option ℕ) (M : State) (standings : List Standing) : Type 0 where
   pub processes : length M.processes ≡ length net.processes
   pub channels : length M.channels ≡ length net.channels

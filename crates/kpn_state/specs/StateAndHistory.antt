@@ -20,6 +20,6 @@ pub record StateAndHistory : Type 0 where
 abbrev pub state_and_history : State → List Entry → ℕ → StateAndHistory
 state_and_history M E room = record { state = M; history = E; room = room }
 
--- one more entry, and the state after it
+-- the state and history after one more entry
 abbrev pub more : StateAndHistory → State → Entry → StateAndHistory
 more s M e = state_and_history M (s.history ++ e ∷ []) s.room

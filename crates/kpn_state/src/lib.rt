@@ -1,5 +1,5 @@
-//! The state of a network, with its channels as rings; the history that led to it; and where each
-//! process stands.
+//! The state of a network, with its channels as rings; the history that led to it; and the standing of
+//! each process.
 #![tactic(auto)]
 
 pub mod ring;

@@ -7,9 +7,9 @@ use kpn_net::Token;
 use std::alloc::{AllocError, Global};
 use std::marker::Model;
 
-/// A channel: the tokens that it holds, the first token first, and how many it may hold.
+/// A channel: the tokens that it holds, in the order in which they will be read, and its capacity.
 ///
-/// There may be room for more than its capacity, so that not each growth copies its tokens.
+/// The buffer may have room for more than the capacity, so that not every growth copies the tokens.
 #[derive(Drop)]
 pub struct Ring {
     buffer: HeapCircularBuffer<Token>,
@@ -29,7 +29,8 @@ impl Model for Ring {
 }
 
 impl Ring {
-    /// A channel that holds these tokens, with room for its capacity.
+    /// Makes a channel that holds these tokens, with room for its capacity. Fails if memory was
+    /// refused.
     pub fn new(alloc: Global, tokens: &[Token], capacity: usize) -> Result<Ring, AllocError>
         requires { length tokens.now ≤ capacity }
         ensures { IfOk result (λ r. r ≡ held tokens.now capacity) }
@@ -39,7 +40,7 @@ impl Ring {
         Ok(Ring { buffer, capacity })
     }
 
-    /// How many tokens it holds, and how many it may hold.
+    /// Returns how many tokens the channel holds, and its capacity.
     pub fn filling(&self) -> (usize, usize)
         ensures tokens { result.0 ≡ length self.now.tokens }
         ensures capacity { result.1 ≡ self.now.capacity }
@@ -48,7 +49,7 @@ impl Ring {
         (self.buffer.len(), self.capacity)
     }
 
-    /// The first token leaves.
+    /// Removes and returns the first token. The channel must hold one.
     pub fn take(&mut self) -> Token
         requires { 0 < length self.old.tokens }
         ensures first { self.old.tokens ≡ result ∷ drop 1 self.old.tokens }
@@ -60,7 +61,7 @@ impl Ring {
         }
     }
 
-    /// A token goes to the end.
+    /// Appends a token. The channel must hold fewer than its capacity.
     pub fn put(&mut self, token: Token)
         requires { length self.old.tokens < self.old.capacity }
         ensures { self.new ≡ held (self.old.tokens ++ token ∷ []) self.old.capacity }
@@ -70,7 +71,9 @@ impl Ring {
         }
     }
 
-    /// It may hold so many tokens. The error is want of memory, and it is then as it was.
+    /// Sets the capacity to `to` tokens, and makes room for them.
+    ///
+    /// Errors: memory was refused. The channel is then unchanged.
     pub fn grow(&mut self, to: usize) -> Result<(), AllocError>
         requires { length self.old.tokens ≤ to }
         ensures ok { OnOk result (self.new ≡ held self.old.tokens to) }
@@ -84,9 +87,10 @@ impl Ring {
     }
 }
 
-/// Makes room for so many tokens: twice the room that there was, if that is more and is granted,
-/// so that a growth by n places, one at a time, copies no more than 2n tokens. The error is want of
-/// memory, and the buffer is then as it was.
+/// Makes room for `needed` tokens. It asks for twice the old room if that is more, and for exactly
+/// `needed` if that is refused; so a growth by n places, one at a time, copies no more than 2n tokens.
+///
+/// Errors: memory was refused. The buffer is then unchanged.
 fn make_room(buffer: &mut HeapCircularBuffer<Token>, needed: usize) -> Result<(), AllocError>
     requires { buffer.old.capacity < needed }
     ensures items { OnOk result (buffer.new.items ≡ buffer.old.items) }

@@ -1,4 +1,4 @@
-//! Where each process stands, with the ready ones in a queue.
+//! The standings of the processes, with the ready ones in a queue.
 ghost use Rattle.std.specs.Prelude.{◌≡◌, ◌≢◌, ◌<◌, ◌≤◌, ℕ, length, set, replicate, if◌then◌else◌, count_by, IsTrue, IfOk, IfSome, IfNone};
 ghost use Rattle.std.specs.List.{list_any, list_all};
 ghost use Rattle.kpn_state.specs.declared.standing.Standing.TheVariants.{Ready, Out};
@@ -10,16 +10,16 @@ use circular_buffer::HeapCircularBuffer;
 use std::alloc::{AllocError, Global};
 use std::marker::Model;
 
-/// Where each process stands, in order.
+/// The standing of each process, in order.
 ///
-/// The numbers of the ready processes stand in a queue, first in, first out, and those that are out
-/// and those that have stopped are counted; so no call but `new` goes through all processes. All
+/// The numbers of the ready processes are in a queue, first in, first out, and the processes that are
+/// out and that have stopped are counted; so no call except `new` goes through all processes. All
 /// memory is taken by `new`.
 #[derive(Drop)]
 pub struct Roster {
     standings: Vec<Standing>,
-    // The two counts stand apart: side by side they are loaded and stored as one value of 16 bytes,
-    // and such a load waits if one of them was stored alone just before.
+    // The two counts are kept apart: side by side they would be loaded and stored as one value of 16
+    // bytes, and such a load stalls if one of them was stored alone just before.
     out: usize,
     queue: HeapCircularBuffer<usize>,
     stopped: usize,
@@ -38,7 +38,8 @@ impl Model for Roster {
 }
 
 impl Roster {
-    /// So many processes, all ready, queued in order. The error is want of memory.
+    /// Makes the standings of `count` processes, all ready and queued in order. Fails if memory was
+    /// refused.
     pub fn new(alloc: Global, count: usize) -> Result<Roster, AllocError>
         ensures { IfOk result (λ r. r ≡ replicate count Ready) }
     {
@@ -56,42 +57,43 @@ impl Roster {
         })
     }
 
-    /// Where each process stands.
+    /// Returns the standing of each process, in order.
     pub fn as_slice(&self) -> &[Standing]
         ensures value { result.now ≡ self.now }
     {
         self.standings.as_slice()
     }
 
-    /// Whether a process is ready or out.
+    /// Returns whether some process is ready or out.
     pub fn any_busy(&self) -> bool
         ensures { result ≡ list_any is_busy self.now }
     {
         self.ready() + self.out > 0
     }
 
-    /// Whether all processes have stopped.
+    /// Returns whether all processes have stopped.
     pub fn all_stopped(&self) -> bool
         ensures { result ≡ list_all has_stopped self.now }
     {
         self.stopped == self.standings.len()
     }
 
-    /// How many processes are ready.
+    /// Returns how many processes are ready.
     pub fn ready(&self) -> usize
         ensures { result ≡ count_by is_ready self.now }
     {
         self.queue.len()
     }
 
-    /// How many processes are out.
+    /// Returns how many processes are out.
     pub fn out(&self) -> usize
         ensures { result ≡ count_by is_out self.now }
     {
         self.out
     }
 
-    /// The process that has been ready for the longest time goes out; `None` if none is ready.
+    /// Takes the first process of the queue, which has been ready for the longest time, and sends it
+    /// out. Returns its number; `None` if no process is ready.
     pub fn send_out(&mut self) -> Option<usize>
         ensures some { IfSome result (λ p. standing self.old p ≡ Ready) }
         ensures within { IfSome result (λ p. p < length self.old) }
@@ -105,8 +107,8 @@ impl Roster {
         Some(process)
     }
 
-    /// A process that was not ready stands so from now on; if it is ready, it goes to the end of
-    /// the queue.
+    /// Sets the standing of a process that is not ready. If it becomes ready, it goes to the end of the
+    /// queue.
     pub fn update(&mut self, process: usize, next: Standing)
         requires process { process < length self.old }
         requires idle { standing self.old process ≢ Ready }
@@ -120,7 +122,7 @@ impl Roster {
     }
 }
 
-/// How much a process that stands so adds to the count of those that are out.
+/// How much a process with this standing adds to the count of those that are out.
 fn out_weight(standing: &Standing) -> usize
     ensures value { result ≡ if is_out standing.now then 1 else 0 }
     ensures few { result ≤ 1 }
@@ -131,7 +133,7 @@ fn out_weight(standing: &Standing) -> usize
     }
 }
 
-/// How much a process that stands so adds to the count of those that have stopped.
+/// How much a process with this standing adds to the count of those that have stopped.
 fn stopped_weight(standing: &Standing) -> usize
     ensures value { result ≡ if has_stopped standing.now then 1 else 0 }
     ensures few { result ≤ 1 }
@@ -142,7 +144,7 @@ fn stopped_weight(standing: &Standing) -> usize
     }
 }
 
-/// A process that now stands so goes to the end of the queue if it is ready.
+/// Appends a process to the queue if its new standing is ready.
 fn enqueue(queue: &mut HeapCircularBuffer<usize>, process: usize, standing: &Standing)
     requires { IsTrue (is_ready standing.now) → length queue.old.items < queue.old.capacity }
     ensures items { queue.new.items ≡ queue_after queue.old.items process standing.now }

@@ -1,4 +1,4 @@
-//! Where each process stands.
+//! Where a process stands in the machine.
 ghost use Rattle.std.specs.Prelude.{◌≡◌, ◌≢◌, ◌<◌, length, IfSome, IfNone};
 ghost use Rattle.std.specs.List.{list_all};
 ghost use Rattle.kpn_model.specs.declared.kinds.Answer.{Answer as AnswerV};
@@ -7,7 +7,7 @@ ghost use Rattle.kpn_state.specs.Standings.{standing, is_ready, parked_answer, p
 
 use kpn_net::{Answer, Deed, Kinds, Net};
 
-/// Where a process stands: it may be taken; it was taken and its answer has not come back; its
+/// The standing of a process: it may be taken; it was taken and its answer has not come back; its
 /// answer came back and could not be done; or it has stopped.
 #[derive(Clone, Copy, Debug, PartialEq, Eq)]
 pub enum Standing {
@@ -17,7 +17,7 @@ pub enum Standing {
     Stopped,
 }
 
-/// Where a process stands after its deed.
+/// Returns the standing of a process after its deed.
 pub fn place_after(deed: Deed) -> Standing
     ensures { result ≡ place_after deed }
 {
@@ -27,7 +27,7 @@ pub fn place_after(deed: Deed) -> Standing
     }
 }
 
-/// The process at the other end of the deed's channel.
+/// Returns the process at the other end of the deed's channel; `None` if the deed is a stop.
 pub fn partner<K: Kinds>(net: &Net<K>, deed: Deed) -> Option<usize>
     requires { HasChannel net.now deed }
     ensures { result ≡ partner net.now deed }
@@ -39,7 +39,7 @@ pub fn partner<K: Kinds>(net: &Net<K>, deed: Deed) -> Option<usize>
     }
 }
 
-/// What a process that is parked wants.
+/// Returns what a parked process answered; `None` if the process is not parked.
 pub fn parked(standings: &[Standing], process: usize) -> Option<Answer>
     ensures is { result ≡ parked_answer (standing standings.now process) }
     ensures some { IfSome result (λ a. standing standings.now process ≡ Parked a) }
@@ -52,7 +52,7 @@ pub fn parked(standings: &[Standing], process: usize) -> Option<Answer>
     }
 }
 
-/// Whether all processes are ready.
+/// Returns whether all processes are ready.
 pub fn all_ready(standings: &[Standing]) -> bool
     ensures { result ≡ list_all is_ready standings.now }
 {

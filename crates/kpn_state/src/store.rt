@@ -12,7 +12,8 @@ use kpn_net::{Deed, Entry, Local, Status, Token};
 use std::alloc::AllocError;
 use std::marker::Model;
 
-/// Each process, each channel, and the history, which has room for so many entries.
+/// The status of each process, each channel, and the history, which has room for a fixed number of
+/// entries.
 #[derive(Drop)]
 pub struct Store {
     statuses: Vec<Status>,
@@ -34,7 +35,8 @@ impl Model for Store {
 }
 
 impl Store {
-    /// These processes and channels, with this history and room for so many entries.
+    /// Makes a store of these processes, channels and entries. The history may have up to `room`
+    /// entries, and its vector must have that capacity.
     pub fn new(statuses: Vec<Status>, rings: Vec<Ring>, history: Vec<Entry>, room: usize) -> Self
         requires { room ≤ vec_capacity history }
         ensures { result ≡ state_and_history (state statuses.items rings.items) history.items room }
@@ -47,13 +49,14 @@ impl Store {
         }
     }
 
-    /// The entries so far.
+    /// Returns the entries so far.
     pub fn history(&self) -> &[Entry]
         ensures { result.now ≡ self.now.history }
     {
         self.history.as_slice()
     }
 
+    /// Returns the status of a process: live with its local state and last token, or done.
     pub fn status(&self, process: usize) -> Status
         requires { process < length self.now.state.processes }
         ensures { result ≡ status self.now.state process }
@@ -61,7 +64,7 @@ impl Store {
         self.statuses[process]
     }
 
-    /// How many tokens a channel holds, and how many it may hold.
+    /// Returns how many tokens a channel holds, and its capacity.
     pub fn filling(&self, channel: usize) -> (usize, usize)
         requires { channel < length self.now.state.channels }
         ensures tokens { result.0 ≡ length (tokens self.now.state channel) }
@@ -83,7 +86,7 @@ impl Store {
 }
 
 impl Store {
-    /// A process stops.
+    /// Stops a process, and appends the entry. There must be room for it.
     pub fn stop(&mut self, process: usize)
         requires process { process < length self.old.state.processes }
         requires room { length self.old.history < self.old.room }
@@ -96,7 +99,9 @@ impl Store {
         });
     }
 
-    /// A process reads the first token of a channel.
+    /// Removes the first token of a channel, gives it to the process that reads it, and appends the
+    /// entry. Returns the token. The channel must hold one, and there must be room for the entry.
+    /// `next` is the process's local state from then on.
     #[inline(always)]
     pub fn take(&mut self, process: usize, channel: usize, next: Local) -> Token
         requires process { process < length self.old.state.processes }
@@ -119,7 +124,9 @@ impl Store {
         token
     }
 
-    /// A process writes a token to a channel.
+    /// Appends the token that a process writes to a channel, and appends the entry. The channel must
+    /// hold fewer tokens than its capacity, and there must be room for the entry. `next` is the
+    /// process's local state from then on.
     #[inline(always)]
     pub fn put(&mut self, process: usize, channel: usize, next: Local, token: Token)
         requires process { process < length self.old.state.processes }
@@ -140,7 +147,9 @@ impl Store {
         });
     }
 
-    /// A channel grows. The error is want of memory, and all is then as it was.
+    /// Sets the capacity of a channel to `to` tokens, and appends the entry. There must be room for it.
+    ///
+    /// Errors: memory was refused. Nothing has then changed.
     pub fn grow(&mut self, channel: usize, to: usize) -> Result<(), AllocError>
         requires channel { channel < length self.old.state.channels }
         requires within { length (tokens self.old.state channel) ≤ to }

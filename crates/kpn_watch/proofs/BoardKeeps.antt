@@ -14,7 +14,7 @@ use Rattle.kpn_watch.proofs.Fronts.{goes_on_self, goes_on_trans, goes_on_from_no
 abbrev Fits : Seen → View → Type 0
 Fits published v = ContinuesSeen v.seen published × ContinuesSeen v.note published
 
--- one seat's view becomes w, and the others' still fit
+-- if one seat's view becomes w, the others' still fit
 fits_set : (views : List View) (id : ℕ) (w : View) (published : Seen) → ((by : ℕ) (v : View) → by ≢ id → get_elem? views by ≡ some v → Fits published v) → Fits published w
     → (by : ℕ) (v : View) → get_elem? (set views id w) by ≡ some v → Fits published v
 fits_set views id w published others mine by v at =

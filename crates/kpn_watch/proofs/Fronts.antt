@@ -11,7 +11,7 @@ prefix_self (x ∷ xs) = let r = prefix_self xs in (r.0, ap (λ ys. x ∷ ys) r.
 pub prefix_trans : {A : Type 0} (xs ys zs : List A) → IsPrefix xs ys → IsPrefix ys zs → IsPrefix xs zs
 prefix_trans xs ys zs p q = (p.0 ++ q.0, sym (append_assoc xs p.0 q.0) ∙ (ap (λ w. w ++ q.0) p.1 ∙ q.1))
 
--- a list begins with whatever equals its front
+-- a list equal to a prefix is a prefix
 pub prefix_of_front : {A : Type 0} (old front rest : List A) → old ≡ front → IsPrefix old (front ++ rest)
 prefix_of_front old front rest same = (rest, ap (λ xs. xs ++ rest) same)
 

@@ -1,4 +1,4 @@
--- The rule between the word and what the seats have seen, and what each step tells.
+-- The rule between the word and what the seats have seen, and what each step shows.
 use Rattle.std.specs.Prelude.{◌≡◌, ◌≢◌, ℕ, ◌^◌, ◌<◌, [], ◌∷◌, length}
 use mathlib.Core.Option.{some}
 use mathlib.Core.List.{IsPrefix}
@@ -18,12 +18,13 @@ view_of seen = record { seen = seen; note = nothing }
 abbrev pub noted : View → Seen → View
 noted v note = record { seen = v.seen; note = note }
 
--- the one goes on from the other, and if the other had ended, it is the other
+-- the new goes on from the old, and is the old if that had ended
 pub record ContinuesSeen (old new : Seen) : Type 0 where
   pub front : IsPrefix old.entries new.entries
   pub ended : old.phase ≢ Running → new ≡ old
 
--- the first seat's view shows what is published, the word tells it, and it goes on from what any seat has seen or was handed
+-- the first seat's view is what is published, the word shows it, and it goes on from what any seat has seen or was given as a
+-- note
 pub record WordIsTrue (s : State (Unit {0}) View) : Type 0 where
   pub published : Seen
   pub first : (v : View) × (get_elem? s.views 0 ≡ some v) × (v.seen ≡ published)
@@ -34,14 +35,14 @@ pub record WordIsTrue (s : State (Unit {0}) View) : Type 0 where
 abbrev pub It : Type 0
 It = Me (Unit {0}) View
 
--- the word tells what is seen now, which goes on from what was seen
+-- the word shows what is seen now, which goes on from what was seen
 abbrev pub Looks : Step (Unit {0}) → It → ℕ → It → Type 0
 Looks s me found now = (found ≡ word_of now.0.seen.entries now.0.seen.phase) × (length now.0.seen.entries < 2 ^ 22) × ContinuesSeen me.0.seen now.0.seen × (now.0.note ≡ me.0.note) × (now.1 ≡ me.1)
 
--- what the seat has seen is now this
+-- the seat has now seen this
 abbrev pub Publishes : Seen → Step (Unit {0}) → It → ℕ → It → Type 0
 Publishes news s me stored now = now ≡ (record { seen = news; note = me.0.note }, me.1)
 
--- what was seen goes on from the note, and the note is taken off
+-- what was seen goes on from the note, and the note is removed
 abbrev pub Compares : Step (Unit {0}) → It → ℕ → It → Type 0
 Compares s me found now = (now ≡ (view_of me.0.seen, me.1)) × ContinuesSeen me.0.note me.0.seen

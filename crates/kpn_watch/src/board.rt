@@ -11,10 +11,10 @@ use kpn_model::Entry;
 use std::alloc::{AllocError, Global};
 use std::marker::{Brand, Model};
 
-/// As many watchers as a board gives.
+/// The greatest number of watchers of a board.
 const MOST_WATCHERS: u32 = 64;
 
-/// The published word, which tells how far a history has come. Contracts see which board it is.
+/// The published word, which shows how far a history has come. Contracts see which board it is.
 #[derive(Drop)]
 pub struct Board {
     table: Table<(), View, (), WordRule, Global>,
@@ -33,8 +33,8 @@ impl Model for Board {
     ghost invariant = { λ b. b.table.shared.table_id.words ≡ 1 };
 }
 
-/// The right to publish on a board, of which there is one. Contracts see its board, the history and
-/// the phase that it published last, and how many watchers were made.
+/// The right to publish on a board. There is one for each board. Contracts see its board, the history
+/// and the phase that it published last, and how many watchers were made.
 #[derive(Drop)]
 pub struct Publisher {
     seat: Seat<(), View>,
@@ -74,12 +74,13 @@ impl Model for Watcher {
 /// Why there is no watcher.
 #[derive(Clone, Copy, PartialEq, Eq, Debug)]
 pub enum WatchFault {
-    /// 64 watchers were made. One that has ended counts too.
+    /// 64 watchers were made, those that have ended included.
     Full = 1,
 }
 
 impl Board {
-    /// A board of the empty history that goes on, and its publisher. The error is want of memory.
+    /// Makes a board, which shows the empty history of a run that goes on, and its publisher. Fails if
+    /// memory was refused.
     pub fn new(alloc: Global) -> Result<(Board, Publisher), AllocError>
         ensures { IfOk result (λ r. r.1 ≡ record { board = r.0; entries = []; phase = Phase.Running; watchers = 0 }) }
     {
@@ -87,8 +88,9 @@ impl Board {
         Ok((Board { table }, Publisher { seat, watchers: 0 }))
     }
 
-    /// Shows a history, its number of growths and its phase, by one store. The history goes on from
-    /// the published one, and is the published one, with its phase, if that had ended.
+    /// Publishes a history, its number of growths and its phase, by one store. The history must go on
+    /// from the published one, and if that had ended, it must be the same with the same phase. It must
+    /// have fewer than 2^22 entries.
     pub fn publish(&self, publisher: &mut Publisher, history: &[Entry], growths: u32, phase: Phase)
         requires board { publisher.old.board ≡ self.now }
         requires goes_on { IsPrefix publisher.old.entries history.now }
@@ -100,7 +102,7 @@ impl Board {
         self.publish_as::<Brand>(publisher, history, growths, phase);
     }
 
-    // A step's `Play` sees no argument, so what is to be published comes to it by the type N.
+    // A step's `Play` sees no argument, so what to publish is passed to it by the type N.
     fn publish_as<N: News>(
         &self,
         publisher: &mut Publisher,
@@ -126,7 +128,8 @@ impl Board {
             .store::<Publish<N>>(&mut publisher.seat, 0, progress.to_word());
     }
 
-    /// A watcher that has seen what is published. The error is exactly that 64 were made.
+    /// Makes a watcher that has seen what is published. Fails exactly if 64 were made before; nothing
+    /// changes then.
     pub fn split(&self, publisher: &mut Publisher) -> Result<Watcher, WatchFault>
         requires { publisher.old.board ≡ self.now }
         ensures seen { IfOk result (λ w. w ≡ record { board = publisher.old.board; entries = publisher.old.entries; phase = publisher.old.phase }) }
@@ -142,8 +145,9 @@ impl Board {
         Ok(Watcher { seat })
     }
 
-    /// Sees what is published, by one load: a history that goes on from the one seen before, and the
-    /// same if that had ended. It takes no lock and no memory, and waits for nobody.
+    /// Shows the watcher what is published, by one load, and returns its numbers. The history goes on
+    /// from the one that the watcher saw before, and is the same if that had ended. Takes no lock and
+    /// no memory, and waits for nobody.
     pub fn look(&self, watcher: &mut Watcher) -> Progress
         requires { watcher.old.board ≡ self.now }
         ensures board { watcher.new.board ≡ watcher.old.board }
@@ -155,8 +159,8 @@ impl Board {
         Progress::of_word(word)
     }
 
-    /// Ends a watcher. What is published goes on from what it had seen, and is that if it had seen
-    /// an end.
+    /// Ends a watcher. What is published goes on from what the watcher had seen, and is the same if the
+    /// watcher had seen an end.
     pub fn join(&self, watcher: Watcher, publisher: &mut Publisher)
         requires watcher { watcher.board ≡ self.now }
         requires publisher { publisher.old.board ≡ self.now }

@@ -9,8 +9,8 @@ use crate::progress::{Phase, Progress};
 use kpn_model::{End, Entry};
 use std::marker::Model;
 
-/// A publisher that keeps how many entries and growths it published, so that a history that goes on is
-/// published by counting its new entries alone. Contracts see what they see of the publisher.
+/// A publisher that keeps how many entries and growths it published, so that it counts only the new
+/// entries of a history that goes on. Contracts see what they see of the publisher.
 #[derive(Drop)]
 pub struct CountingPublisher {
     publisher: Publisher,
@@ -42,7 +42,7 @@ fn growths_in(entries: &[Entry]) -> usize
 }
 
 impl CountingPublisher {
-    /// The publisher of an empty history that goes on.
+    /// Makes the counting publisher of a board that shows the empty history.
     pub fn new(publisher: Publisher) -> CountingPublisher
         requires { (publisher.entries ≡ []) × (publisher.phase ≡ Phase.Running) }
         ensures { result ≡ publisher }
@@ -55,8 +55,9 @@ impl CountingPublisher {
         }
     }
 
-    /// Shows a history with its end. It goes on from the published one, and is the published one, with
-    /// its phase, if that had ended.
+    /// Publishes a history with its end, if it has one. The history must go on from the published one,
+    /// and if that had ended, it must be the same with the same end. It must have fewer than 2^22
+    /// entries.
     pub fn publish(&mut self, board: &Board, history: &[Entry], ended: Option<End>)
         requires board { self.old.board ≡ board.now }
         requires goes_on { IsPrefix self.old.entries history.now }
@@ -71,7 +72,8 @@ impl CountingPublisher {
         board.publish(&mut self.publisher, history, self.growths, self.phase);
     }
 
-    /// A watcher that has seen what is published. The error is exactly that 64 were made.
+    /// Makes a watcher that has seen what is published. Fails exactly if 64 were made before; nothing
+    /// changes then.
     pub fn watch(&mut self, board: &Board) -> Result<Watcher, WatchFault>
         requires { self.old.board ≡ board.now }
         ensures seen { IfOk result (λ w. w ≡ record { board = self.old.board; entries = self.old.entries; phase = self.old.phase }) }
@@ -82,8 +84,8 @@ impl CountingPublisher {
         board.split(&mut self.publisher)
     }
 
-    /// Ends a watcher, and tells what is published: it goes on from what the watcher had seen, and is
-    /// that if the watcher had seen an end.
+    /// Ends a watcher, and returns what is published. The history goes on from what the watcher had
+    /// seen, and is the same if the watcher had seen an end.
     pub fn settle(&mut self, board: &Board, watcher: Watcher) -> Progress
         requires board { self.old.board ≡ board.now }
         requires watcher { watcher.board ≡ board.now }

@@ -1,9 +1,9 @@
 //! How far a history has come, published in one word that watchers read without a lock.
 //!
-//! A `Board` holds the word. A history grows by appending alone, so one number tells which prefix of
-//! it is meant: the word is `entries * 2^25 + growths * 8 + phase`, where the phase is 0 while the run
-//! goes on and else the number of its end. There is one `Publisher` for each board, and there are at
-//! most 64 `Watcher`s. What a watcher sees goes on from all that it saw before.
+//! A `Board` holds the word. A history only grows at its end, so one number says which prefix of it is
+//! meant: the word is `entries * 2^25 + growths * 8 + phase`, where the phase is 0 while the run goes
+//! on and else the number of its end. There is one `Publisher` for each board, and there are at most 64
+//! `Watcher`s. What a watcher sees goes on from all that it saw before.
 #![tactic(auto)]
 
 mod board;

@@ -4,7 +4,7 @@ ghost use Rattle.kpn_watch.specs.Phases.{number_of_phase, phase_of};
 
 use kpn_model::End;
 
-/// Whether a run goes on, or how it ended: the end of the same name.
+/// Whether a run goes on, or how it ended: `Running`, or the name of its end.
 #[derive(Clone, Copy, PartialEq, Eq, Debug)]
 pub enum Phase {
     Running,
@@ -24,7 +24,7 @@ pub struct Progress {
 }
 
 impl Phase {
-    /// The phase of a run with this end, or with none.
+    /// Returns the phase of a run with this end; `Running` if it has none.
     pub fn of_end(end: Option<End>) -> Phase
         ensures { result ≡ phase_of end }
     {
@@ -38,8 +38,8 @@ impl Phase {
         }
     }
 
-    /// The phase's number in the published word: 0 while the run goes on, else 1 to 5 in the order of
-    /// the variants.
+    /// Returns the phase's number in the published word: 0 while the run goes on, else 1 to 5 in the
+    /// order of the variants.
     pub fn number(self) -> u64
         ensures { result ≡ number_of_phase self }
     {
@@ -78,7 +78,7 @@ impl Progress {
         (u64::from(self.entries) << 25) + (u64::from(self.growths) << 3) + self.phase.number()
     }
 
-    // The numbers that a published word is made of.
+    // The numbers from which a published word was made.
     pub(crate) fn of_word(word: u64) -> Progress
         requires size { word < 2 ^ 47 }
         requires phase { word % 8 < 6 }

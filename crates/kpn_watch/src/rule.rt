@@ -1,26 +1,27 @@
-//! What the seats at a board have seen, the rule that ties it to the word, and their steps.
+//! What the seats at a board have seen, the rule that relates it to the word, and their steps.
 //!
-//! The publisher has the first seat, and each watcher has one. The rule: the word tells what the first
-//! seat has seen, and that goes on from what each other has seen.
+//! The publisher has the first seat, and each watcher has one. The rule: the word shows what the first
+//! seat has seen, and that goes on from what each other seat has seen.
 use crate::progress::Phase;
 use atomic_table::{Join, Play, Split, TableRule};
 use kpn_model::Entry;
 use std::collections::LinkedList;
 use std::marker::{Brand, PhantomData};
 
-/// A history and its phase, as they were seen. No value of it is made.
+/// A history and its phase, as a seat has seen them. No value of this type is ever made.
 pub struct Seen {
     pub entries: LinkedList<Entry>,
     pub phase: Phase,
 }
 
-/// What a seat has seen, and what another has seen that is to be compared with it. No value of it is made.
+/// What a seat has seen, and what another has seen that is to be compared with it. No value of this
+/// type is ever made.
 pub struct View {
     pub seen: Seen,
     pub note: Seen,
 }
 
-/// The word tells what the first seat has seen, and the others have seen a beginning of that.
+/// The rule: the word shows what the first seat has seen, and the others have seen a prefix of that.
 pub struct WordRule;
 
 impl TableRule<(), View, ()> for WordRule {
@@ -31,7 +32,7 @@ impl TableRule<(), View, ()> for WordRule {
     ghost first = { λ _. view_of nothing };
 }
 
-/// A load by which a seat sees what is published.
+/// The load by which a seat sees what is published.
 pub struct Look;
 
 impl Play<(), View> for Look {
@@ -40,7 +41,7 @@ impl Play<(), View> for Look {
     ghost then = { Looks };
 }
 
-/// What is to be published. Each call picks it.
+/// What is to be published. Each call chooses it.
 pub trait News {
     ghost use Rattle.kpn_watch.specs.declared.rule.Seen.{Seen};
 
@@ -62,7 +63,7 @@ impl<N: News> Play<(), View> for Publish<N> {
     ghost then = { Publishes N.news };
 }
 
-/// A load by which the first seat compares what it was handed.
+/// The load by which the first seat compares what it was given as a note.
 pub struct Compare;
 
 impl Play<(), View> for Compare {
@@ -71,7 +72,8 @@ impl Play<(), View> for Compare {
     ghost then = { Compares };
 }
 
-/// What the first seat has seen goes to a new seat, and comes back as a note.
+/// The step that gives what the first seat has seen to a new seat, and takes a seat's view back as a
+/// note.
 pub struct Note;
 
 impl Split<View> for Note {

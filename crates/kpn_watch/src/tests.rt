@@ -58,7 +58,7 @@ fn a_watcher_sees_what_is_published(rt: HostRuntime) -> Result<(), Fail> {
     Ok(())
 }
 
-// How many watchers a board gives.
+// How many watchers a board allows.
 fn watchers(board: &Board, publisher: &mut Publisher) -> usize
     requires { publisher.old.board ≡ board.now }
 {
@@ -91,7 +91,7 @@ struct Display {
     ghost watched: { watcher.board ≡ board },
 }
 
-/// What a look is to tell, and the word that it is to be read from.
+/// What a look must return, and the word from which it is read.
 #[derive(Clone, Copy)]
 struct Due {
     progress: Progress,
@@ -132,7 +132,7 @@ impl Display {
         self.board.look(&mut self.watcher)
     }
 
-    /// Publishes the history with these entries more, and looks.
+    /// Publishes the history with these entries appended, and looks.
     fn append<R: Abort>(
         &mut self,
         rt: &R,

@@ -1,4 +1,4 @@
--- The laws of the family at the answer keep the state one of the network.
+-- By the laws of the family for this answer the state stays one of the network.
 use Rattle.std.proofs.Common.{◌≡◌, sym, ap, ◌∙◌}
 use Rattle.std.proofs.lemmas.Option.{same_Some}
 use Rattle.kpn_model.specs.declared.history.Status.{Status}

@@ -1,4 +1,4 @@
--- If none is ready or out, the run ends as the definitions say, or the chosen channel grows.
+-- If no process is ready or out, the run ends as the definitions say, or the chosen channel grows.
 use Rattle.std.proofs.Common.{◌≡◌, ◌<◌, ◌+◌, min, length, sym, ◌∙◌, arith, refl, false}
 use Rattle.std.specs.List.{list_any}
 use Rattle.kpn_model.specs.Semantics.{capacity}

@@ -1,4 +1,4 @@
--- If none is ready or out after the reaction, there is room for a growth and a put.
+-- If no process is ready or out after the reaction, there is room for a growth and a put.
 use Rattle.kpn_commit.proofs.Working.{reaction_room}
 use Rattle.kpn_commit.proofs.work.work.Goals as goal
 

@@ -1,4 +1,4 @@
--- One card more; and each has a signature, since the network is valid.
+-- One more card; and each card has a signature, since the network is valid.
 use Rattle.std.proofs.Common.{◌≤◌, ◌∙◌, ◌∷◌, ◌++◌, [], length, arith, ap}
 use Rattle.std.proofs.lemmas.List.{length-map, take_all}
 use Rattle.kpn_model.specs.declared.parts.Process.{Process}

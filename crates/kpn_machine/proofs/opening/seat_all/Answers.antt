@@ -1,4 +1,4 @@
--- The last body takes its place.
+-- The last body goes into its slot.
 use Rattle.std.proofs.Common.{◌≡◌, ◌∙◌, arith, length, length-set}
 use Rattle.kpn_machine.proofs.Seats.{left_stays, seat_taken}
 use Rattle.kpn_machine.proofs.opening.seat_all.Goals as goal

@@ -1,4 +1,4 @@
--- One answer more was given, and what came of it was noted.
+-- One more answer was given, and its outcome was noted.
 use Rattle.std.proofs.Common.{◌∙◌, arith, subst}
 use Rattle.kpn_model.specs.Network.{Network}
 use Rattle.kpn_monitor.specs.Kept.{WasCommitted}

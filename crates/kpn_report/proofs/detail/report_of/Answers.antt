@@ -1,4 +1,4 @@
--- A run that came to its own end has a detail, which is the digest's.
+-- A run that came to its own end has a detail, which is that of the digest.
 use Rattle.std.proofs.Common.{◌≡◌, true, refl, rules}
 use Rattle.kpn_report.specs.Digested.{has_detail}
 use Rattle.kpn_report.proofs.detail.report_of.Goals as goal

@@ -1,4 +1,4 @@
--- One entry more.
+-- One more entry.
 use Rattle.std.proofs.Common.{◌≡◌, ◌<◌, List, subst, sym, arith, take, length}
 use Rattle.std.proofs.lemmas.List.{take_more}
 use Rattle.kpn_model.specs.declared.history.Entry.{Entry}

@@ -1,4 +1,4 @@
--- An entry's part in what is kept.
+-- What an entry adds to the counts.
 use Rattle.std.proofs.Common.{◌++◌, ◌∷◌, [], sym, ap, ◌∙◌}
 use Rattle.kpn_model.specs.History.{growths}
 use Rattle.kpn_laws.proofs.Views.{growths_push_did, growths_push_grew}

@@ -1,4 +1,4 @@
--- A deed's part in the accounts.
+-- What a deed adds to the accounts.
 use Rattle.kpn_report.proofs.Tallies.{keeps_put, keeps_took, keeps_stopped}
 use Rattle.kpn_report.proofs.tally.note_deed.Goals as goal
 

@@ -1,4 +1,4 @@
--- One entry more, and no count is more than the number of entries.
+-- One more entry; and no count is greater than the number of entries.
 use Rattle.std.proofs.Common.{◌≡◌, ◌<◌, List, subst, sym, arith, take, length}
 use Rattle.std.proofs.lemmas.List.{take_more, length-take-le}
 use Rattle.kpn_model.specs.declared.history.Entry.{Entry}

@@ -1,4 +1,4 @@
--- The channel's stream is the one in the digest's list, which has none past its end.
+-- The channel's stream is the one in the digest's list, which has no item past its end.
 use Rattle.std.proofs.Common.{◌<◌, ◌≤◌, length, [], sym, ◌∙◌, arith}
 use Rattle.std.proofs.lemmas.List.{get_or_past}
 use Rattle.std.proofs.lemmas.List.FromFn.{get_or-map-range_with_len, length-map-range_with_len}

@@ -1,4 +1,4 @@
--- Each front of the history is a run of a valid network.
+-- Each prefix of the history is a run of a valid network.
 use Rattle.std.proofs.Common.{sym, subst}
 use Rattle.kpn_model.specs.Network.{Network}
 use Rattle.kpn_model.specs.Semantics.{start}

@@ -1,4 +1,4 @@
--- One entry more.
+-- One more entry.
 use Rattle.std.proofs.Common.{arith}
 use Rattle.kpn_run.proofs.Told.{stream_next}
 use Rattle.kpn_run.proofs.reporting.stream_of.Goals as goal

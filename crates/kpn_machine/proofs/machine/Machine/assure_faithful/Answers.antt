@@ -1,4 +1,4 @@
--- What a machine keeps says all this.
+-- This follows from the machine's invariant.
 use Rattle.kpn_machine.proofs.Sound.{sound_faithful}
 use Rattle.kpn_machine.proofs.machine.Machine.assure_faithful.Goals as goal
 

@@ -1,4 +1,4 @@
--- A commit keeps what the machine keeps, and does what is said.
+-- A commit keeps the machine's invariant, and does what its clauses say.
 use Rattle.std.proofs.Common.{[], append-nil, sym, ◌∙◌, arith, refl}
 use Rattle.std.proofs.lemmas.List.{map-set}
 use Rattle.kpn_machine.specs.MachineView.{IsOutAt}

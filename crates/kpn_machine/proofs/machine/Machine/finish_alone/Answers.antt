@@ -1,4 +1,4 @@
--- While no end stands and nobody is out, some process is ready, and its answer is taken.
+-- While the run has not ended and no process is out, some process is ready, and its answer is taken.
 use Rattle.std.proofs.Common.{◌≡◌, sym, ◌∙◌, None}
 use Rattle.kpn_machine.proofs.Sound.{none_of}
 use Rattle.kpn_machine.proofs.Finishing.{none_is_out, none_counted, some_ready, round_goes, round_none_out}

@@ -1,4 +1,4 @@
--- Each place of a fresh machine has its body.
+-- Each slot of a fresh machine has its body.
 use Rattle.std.proofs.Common.{◌≡◌, ◌<◌, ◌+◌, length, get_or, sym, ap, ◌∙◌, arith, length-set, length-append}
 use Rattle.std.specs.Option.{option_map}
 use Rattle.std.proofs.lemmas.List.{length-map}

@@ -1,4 +1,4 @@
--- A machine that was just opened keeps what it is to keep.
+-- A machine that was just opened meets its invariant.
 use Rattle.std.proofs.Common.{◌≡◌, length, map, ap, ◌∙◌, arith, rules}
 use Rattle.std.proofs.lemmas.List.{length-map}
 use Rattle.kpn_model.specs.declared.parts.Process.{Process}

@@ -1,4 +1,4 @@
--- One task more was dealt.
+-- One more task was dealt.
 use Rattle.std.proofs.Common.{◌∙◌, ap, arith, length}
 use Rattle.kpn_monitor.specs.Names.{Holding}
 use Rattle.kpn_monitor.specs.Kept.{WasTaken}

@@ -1,4 +1,4 @@
--- One task more, which has no answer yet.
+-- One more task, which has no answer yet.
 use Rattle.std.proofs.Common.{◌<◌, arith, length}
 use Rattle.kpn_monitor.proofs.Handing.{answers_put, length_more}
 use Rattle.kpn_monitor.proofs.hand.Hand.put.Goals as goal

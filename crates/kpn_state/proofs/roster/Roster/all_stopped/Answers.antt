@@ -1,4 +1,4 @@
--- All have stopped if as many are counted.
+-- All have stopped if as many are counted as there are.
 use Rattle.std.proofs.Common.{◌≡◌, length, sym, ap, ◌∙◌, arith}
 use Rattle.std.specs.List.{count_by}
 use Rattle.std.specs.Prelude.{nat_eq}

@@ -1,4 +1,4 @@
--- One process more, which is ready.
+-- One more process, which is ready.
 use Rattle.std.proofs.Common.{◌≡◌, ◌∙◌, ◌++◌, ◌∷◌, [], sym, ap, arith, length}
 use Rattle.std.proofs.lemmas.List.{length-replicate, replicate_more}
 use Rattle.kpn_state.specs.declared.standing.Standing.TheVariants.{Ready}

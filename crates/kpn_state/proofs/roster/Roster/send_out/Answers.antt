@@ -1,4 +1,4 @@
--- The process in front of the queue is ready.
+-- The process at the head of the queue is ready.
 use Rattle.std.proofs.Common.{◌∙◌, sym, arith}
 use Rattle.kpn_state.proofs.Rostered.{front_within, kept_sent}
 use Rattle.kpn_state.proofs.roster.Roster.send_out.Goals as goal

@@ -1,4 +1,4 @@
--- Moving a process keeps what is kept.
+-- Moving a process keeps the invariant.
 use Rattle.kpn_state.proofs.Rostered.{queue_room}
 use Rattle.kpn_state.proofs.roster.Roster.update.Goals as goal
 
