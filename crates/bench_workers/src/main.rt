@@ -1,6 +1,6 @@
 //! Times one run of a network that is described on standard input, from the opening of its machine to
-//! its end. The words are how many workers there are, 0 for the calling thread without a lock, and how
-//! many numbers each body computes before it answers. Another use is refused with status 1.
+//! its end. The arguments are how many workers there are (0 for the calling thread without a lock) and
+//! how many numbers each body computes before it answers. Any other use is refused with status 1.
 #![tactic(auto)]
 
 use kpn_body::{Body, Standard, answer};
@@ -19,7 +19,8 @@ use std::sync::Wait;
 use std::thread::Threads;
 use std::time::Instant;
 
-/// A card that has a signature, for which the standard family answers after so many numbers.
+/// A card that has a signature, for which the standard family answers after computing a number of
+/// random numbers.
 #[derive(Drop)]
 struct Burning {
     card: Card,
@@ -55,9 +56,9 @@ impl Body for Burning {
     }
 }
 
-/// Computes so many random numbers (Marsaglia's xorshift), each of the one before it; what comes out is
-/// used, so that the compiler leaves none out. A loop of pauses would say little: on a virtual machine
-/// several at once keep each other back.
+/// Computes random numbers (Marsaglia's xorshift), each from the one before it. The result is used, so
+/// that the compiler leaves none out. A loop of pauses would say little: on a virtual machine several
+/// such loops at once slow each other down.
 fn burn(numbers: u32) -> u64 {
     let mut number: u64 = 1;
     for _ in 0..numbers {
@@ -68,7 +69,7 @@ fn burn(numbers: u32) -> u64 {
     number
 }
 
-/// What is asked for.
+/// What the arguments ask for.
 #[derive(Clone, Copy)]
 struct Asked {
     workers: usize,

@@ -27,13 +27,13 @@ counted_more (Grew c to) E = omega arith
 pub counted : (E : List Entry) → count_by entry_grows E ≡ length (growths E)
 counted E = sym (is_count_by (λ E. length (growths E)) entry_grows refl counted_more E)
 
--- the law at this network
+-- the law for this network
 at_the_case :
     (kinds : Family) (net : Network) (E : List Entry) (M : State) → kinds ≡ standard → net ≡ longer_parks_case → TakesLeastRoom kinds net E M
     → TakesLeastRoom standard longer_parks_case E M
 at_the_case kinds net E M family is room = subst (λ n. TakesLeastRoom standard n E M) is (subst (λ k. TakesLeastRoom k net E M) family room)
 
--- each channel begins with one place at most
+-- each channel begins with at most one place
 begins_with_one : (c : ℕ) → (channel_of longer_parks_case c).capacity ≤ 1
 begins_with_one zero = omega arith
 begins_with_one (suc zero) = omega arith
@@ -53,11 +53,11 @@ module _ (s : MachineView) (two : TwoPlacesSuffice) (room : TakesLeastRoom stand
       (λ few. few)
       (within_two.capacities_below c)
 
-  -- two growths for each channel at most
+  -- at most two growths for each channel
   eight_growths : length (growths s.history) ≤ 8
   eight_growths = within_two.few_growths (omega arith)
 
-  -- the entries of the run that ends in two places, and those growths
+  -- at most the entries of the run that ends in two places, and those growths
   all_entries : length s.history ≤ 54
   all_entries = let few = room.few_entries 2 two.0 (omega arith) in let is = two.1 in omega arith
 
@@ -74,7 +74,7 @@ module _ (kinds : Family) (admits : Card → List ℕ → Option Token → Type 
   pub few_entries : length s.history ≤ 54
   few_entries = all_entries s two here
 
-  -- the cause of an end binds the run
+  -- the cause of an end justifies it
   bound_by : (cause : End) → s.end ≡ Some cause → IsBound kinds s.network s.history s.state cause
   bound_by cause ended = subst (EndHolds kinds s.network s.history s.state) ended faithful.bound
 

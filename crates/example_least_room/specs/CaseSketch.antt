@@ -5,7 +5,7 @@ use Rattle.kpn_net.specs.declared.sketch.ProcessSketch.{ProcessSketch}
 use Rattle.kpn_net.specs.declared.sketch.ChannelSketch.{ChannelSketch}
 use Rattle.kpn_net.specs.declared.sketch.Sketch.{Sketch}
 
--- a process of a name and a kind, with these arguments
+-- a process with this name, kind and arguments
 abbrev pub process_sketch : List ℕ → List ℕ → List ℤ → ProcessSketch
 process_sketch name kind args = record { name = name; kind = kind; args = args }
 

@@ -7,11 +7,11 @@ use kpn_net::{ChannelSketch, Listed, Net, NetFault, ProcessSketch, Sketch, Sort,
 use kpn_standard::Standard;
 use std::alloc::{AllocError, Global};
 
-/// Parks's case (Parks 1995) with a counter of five: a counter is copied to both inputs of a weave, which
-/// takes three tokens of the one and then three of the other, into a sink of eight. Each channel
-/// begins with one place, and grows by one.
+/// Makes Parks's case (Parks 1995) with a counter of five. A counter is copied to both inputs of a
+/// weave, which takes three tokens of the one and then three of the other, into a sink of eight. Each
+/// channel begins with one place, and grows by one.
 ///
-/// The error is want of memory.
+/// Fails if memory was refused.
 pub fn longer_parks_case(alloc: Global) -> Result<Net<Standard>, AllocError>
     ensures { IfOk result (λ net. net ≡ the_case) }
 {
@@ -58,7 +58,7 @@ fn channels(alloc: Global) -> Result<Listed<ChannelSketch>, AllocError>
     Ok(channels)
 }
 
-/// A process of a name and a kind, with these arguments.
+/// A process with this name, kind and arguments.
 fn process(
     alloc: Global,
     name: &str,

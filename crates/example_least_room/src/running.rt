@@ -13,13 +13,13 @@ use kpn_machine::Machine;
 use kpn_net::Entry;
 use test_laws::worked_room;
 
-/// Runs Parks's case with a counter of five to its end in the calling thread, if no process is out,
-/// and tells how often a channel grew.
+/// Runs Parks's case with a counter of five to its end in the calling thread, and returns how often a
+/// channel grew. No process may be out.
 ///
 /// Two places a channel suffice for it, in a run of 46 entries. So, by what `finish_alone` ensures, no
 /// channel ever has three; there are at most eight growths, two for each of the four channels, and 54
-/// entries; and neither the ceiling nor the budget ends the run. What ends it is that all have stopped,
-/// that none can go on, or that memory for a growth was refused.
+/// entries; and neither the ceiling nor the budget ends the run. It ends because all have stopped,
+/// because none can go on, or because memory for a growth was refused.
 pub fn finish<B: Body>(machine: &mut Machine<B>) -> usize
     requires standard { B.Kinds.family ≡ standard }
     requires network { machine.old.network ≡ longer_parks_case }

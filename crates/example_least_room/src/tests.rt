@@ -21,11 +21,12 @@ const GROWTHS: &[Entry] = &[
 ];
 
 /// Runs the network, and compares. By hand: the counter fills channel 0 while the copy waits to put its
-/// second token on channel 2, from which the weave reads only after three tokens of channel 1. Of the two
-/// full channels of one place channel 0 grows; it is filled, and then channel 2, which has one, grows.
-/// From there on nobody has to wait for room. The counter puts 5 tokens and stops, the copy takes 5 and
-/// puts 10, the weave takes 8 and puts 8, the sink takes 8 and stops; the copy and the weave then wait
-/// for more. With the two growths these are 6 + 15 + 16 + 9 + 2 entries.
+/// second token on channel 2, from which the weave reads only after three tokens of channel 1. Channels
+/// 0 and 2 are full with one place each, and channel 0 grows first, having the lesser number; it is
+/// filled, and then channel 2, which has one place, grows. From then on no process has to wait for
+/// room. The counter puts 5 tokens and stops, the copy takes 5 and puts 10, the weave takes 8 and puts
+/// 8, the sink takes 8 and stops; the copy and the weave then wait for more. With the two growths these
+/// are 6 + 15 + 16 + 9 + 2 entries.
 fn compare<R: Abort, B: Body>(
     rt: &R,
     alloc: Global,
@@ -55,8 +56,8 @@ fn compare<R: Abort, B: Body>(
     Ok(())
 }
 
-/// Makes a body for each card, and compares the run of the network. It comes in an `Option`, since beside a
-/// `Net` that is held by value the check finds no proof of a loop that makes closures.
+/// Makes a body for each card, and compares the run of the network. The network is passed in an
+/// `Option`: with a `Net` held by value the check finds no proof of a loop that makes closures.
 fn compare_with_bodies<R: Abort>(
     rt: &R,
     alloc: Global,

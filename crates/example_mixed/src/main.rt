@@ -1,4 +1,5 @@
-//! Checks and runs networks of the standard kinds, `gain` and `moving_sum`, by the words of `kpn`.
+//! Checks and runs networks of the standard kinds, `gain` and `moving_sum`, with the arguments of
+//! `kpn`.
 #![tactic(auto)]
 
 use example_signals::{Gains, MovingSums};

@@ -7,7 +7,7 @@ module _ {X : Type 0} where
   pub record IsFront (xs ys : List X) (p : ℕ) : Type 0 where
     pub is : xs ≡ take p ys
 
-  -- the front of a list, and the item after it
+  -- one more item of a list is its prefix and the item after it
   take_one_more : (xs : List X) (p : ℕ) (x : X) → slice_get xs p ≡ Some x → take (suc p) xs ≡ take p xs ++ x ∷ []
   take_one_more [] p x e = cc
   take_one_more (y ∷ ys) zero x e = cc

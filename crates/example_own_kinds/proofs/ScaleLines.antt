@@ -1,4 +1,4 @@
--- What a scale is asked is admitted.
+-- The input of a scale is admitted.
 use Rattle.std.proofs.Common.{◌≡◌, ℕ, ◌<◌, ◌^◌, List, Some, arith, sym, subst}
 use Rattle.kpn_model.specs.declared.kinds.Card.{Card}
 use Rattle.kpn_model.specs.declared.token.Token.TheVariants.{Word}

@@ -12,7 +12,7 @@ use Rattle.kpn_model.specs.declared.kinds.Answer.{Answer}
 use Rattle.kpn_model.specs.Network.{Family}
 use Rattle.kpn_standard.specs.Standard.{at}
 
--- the number of the kind of a name, and how many arguments it takes
+-- the number of the kind with this name, and how many arguments it takes
 abbrev pub number_named : List ℕ → Option (ℕ × ℕ)
 number_named name = if bytes_eq name (codes "flip") then Some (0, 0) else None
 
@@ -43,7 +43,7 @@ HasLine local None = local ≡ before_read
 HasLine local (Some (Flag f)) = local ≡ after_read
 HasLine local (Some (Word n)) = ⊥
 
--- what stands in each line: the next local state, and the act
+-- the answer of each line: the next local state, and the act
 abbrev pub answer : Option Token → Answer
 answer (Some (Flag f)) = record { next = before_read; act = Write 0 (Flag (not f)) }
 answer _ = record { next = after_read; act = Read 0 }

@@ -4,7 +4,7 @@ ghost use Rattle.std.specs.Prelude.{◌≡◌, None};
 use kpn_body::{Body, Task};
 use kpn_net::{Answer, Kinds, Local, Token};
 
-/// What a body answers, asked as the task of process 0.
+/// Returns what a body answers as the task of process 0.
 pub fn answer_of<B: Body>(body: B, local: Local, last: Option<Token>) -> Answer
     requires { B.Kinds.admits (B.card body) local last }
     ensures { result ≡ B.Kinds.family.answer (B.card body) local last }
@@ -12,7 +12,7 @@ pub fn answer_of<B: Body>(body: B, local: Local, last: Option<Token>) -> Answer
     Task::new(0, body, local, last).call().answer()
 }
 
-/// What a body answers at the start of its process.
+/// Returns what a body answers at the start of its process.
 pub fn first_answer<B: Body>(body: B) -> Answer
     ensures { result ≡ B.Kinds.family.answer (B.card body) (B.Kinds.family.start (B.card body)) None }
 {

@@ -9,11 +9,11 @@ use kpn_body::{Body, Call, Standard, StandardBody, answer};
 use kpn_net::{Answer, Card, Local, Net, Token};
 use std::alloc::{AllocError, Global};
 
-/// What each process of a network answers first, in the order of the processes: a body is made for
-/// each, with a closure of its own, and asked once.
+/// Returns what each process of a network answers first, in the order of the processes. A body is made
+/// for each, with a closure of its own, and asked once.
 ///
-/// The closure captures the card, and its clauses name nothing else; so one serves all kinds. The
-/// error is want of memory; nothing was then asked.
+/// The closure captures the card, and its clauses name nothing else; so one closure serves all kinds.
+/// Fails if memory was refused.
 pub fn first_answers(alloc: Global, net: &Net<Standard>) -> Result<Vec<Answer>, AllocError>
     ensures { IfOk result (λ answers. answers.items ≡ map (λ card. standard.answer card (standard.start card) None) (map (λ p. p.card) net.now.processes)) }
 {

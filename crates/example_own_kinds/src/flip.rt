@@ -49,7 +49,7 @@ impl Kinds for Flips {
     fn lawful() {}
 }
 
-/// What stands in a line of the table, by the token of the read just done.
+/// The answer in a line of the table, by the token of the read just done.
 pub(crate) fn line_of(last: Option<Token>) -> Answer
     ensures { result ≡ answer last }
 {
@@ -76,8 +76,8 @@ pub struct FlipBody {
 }
 
 impl FlipBody {
-    /// A body of a card that has a signature: `call` may be called on each line of the table, and
-    /// its answer is then the line's.
+    /// Makes a body of a card that has a signature. It must be allowed to call `call` on each line of
+    /// the table, and `call` must then return the line's answer.
     pub fn new(card: Card, call: Call) -> Self
         requires signed { IsSome (ports card) }
         requires callable { IsCallable HasLine (pre call) }
@@ -102,7 +102,8 @@ impl Body for FlipBody {
     }
 }
 
-/// What a flip answers before it has read, or if it has just read a flag.
+/// Returns what a flip answers before it has read, or after it has read a flag. Fails if memory was
+/// refused.
 pub fn flip_answer(alloc: Global, read: Option<bool>) -> Result<Answer, AllocError>
     ensures { IfOk result (λ a. a ≡ answer (option_map Token.Flag read)) }
 {

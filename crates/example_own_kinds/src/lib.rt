@@ -1,8 +1,7 @@
-//! How a caller brings kinds of processes of its own, and closures of its own for the standard ones.
+//! How a caller brings kinds of processes, and closures for the standard ones.
 //!
-//! `flip` holds a family with one kind, from the table of its lines to its bodies, which store
-//! closures, and `runs`, beside the tests, runs a network of it; the last section of
-//! `docs/own-kinds.md` explains them.
+//! `flip` has a family with one kind, from the table of its lines to its bodies, which store closures.
+//! `runs` runs a network of it, for the tests. The last section of `docs/own-kinds.md` explains them.
 #![tactic(auto)]
 
 pub mod asked;

@@ -15,11 +15,9 @@ use std::rt::Clock;
 use std::sync::Wait;
 use std::thread::Threads;
 
-/// Runs a network of flips by 1 to 16 workers, and writes the report of the run, with the stream
-/// of a channel if `show` names one.
-///
-/// The answer is the exit status, as `execute` gives it. The error is want of memory for the
-/// bodies; nothing was then written.
+/// Runs a network of flips by 1 to 16 workers, and writes the report of the run, with the stream of the
+/// channel that `show` names. Returns the exit status, as `execute` does. Fails if memory for the
+/// bodies was refused; nothing is then written.
 pub(crate) fn run_flips<S: Sink, R: Wait + Clock + Threads + Sync>(
     rt: &R,
     alloc: Global,
@@ -36,8 +34,8 @@ pub(crate) fn run_flips<S: Sink, R: Wait + Clock + Threads + Sync>(
     run_with_cards(rt, alloc, cards.as_slice(), Some(net), workers, show, sink)
 }
 
-/// The same, of a network with these cards. It comes in an `Option`, since beside a `Net` that is
-/// held by value the check finds no proof of a loop that makes closures.
+/// The same, for a network with these cards. The network is passed in an `Option`: with a `Net` held by
+/// value the check finds no proof of a loop that makes closures.
 fn run_with_cards<S: Sink, R: Wait + Clock + Threads + Sync>(
     rt: &R,
     alloc: Global,

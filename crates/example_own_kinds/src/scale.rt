@@ -1,4 +1,4 @@
-//! A closure of a caller's own for a standard kind.
+//! A caller's own closure for a standard kind.
 ghost use Rattle.std.specs.Prelude.{◌≡◌, ◌*◌, ◌%◌, ◌^◌, ◌∷◌, [], IfOk};
 ghost use Rattle.kpn_standard.specs.Standard.{standard, says};
 ghost use Rattle.kpn_body.specs.Standard.{card, Admitted};
@@ -11,8 +11,8 @@ use std::alloc::{AllocError, Global};
 /// The number of the standard kind `scale`, which reads a word and writes its product by a factor.
 const SCALE: u16 = 6;
 
-/// What a scale by this factor answers if it has just read a word: it writes their product modulo
-/// 2^64, and is then in its first local state.
+/// Returns what a scale by this factor answers after it has read a word: it writes their product modulo
+/// 2^64, and goes back to its first local state. Fails if memory was refused.
 pub fn scale_answer(alloc: Global, factor: u64, word: u64) -> Result<Answer, AllocError>
     ensures { IfOk result (λ a. a ≡ says 0 0 0 (Act.Write 0 (Token.Word ((factor * word) % 2 ^ 64)))) }
 {

@@ -1,4 +1,4 @@
--- gain: reads a word and writes its product by a factor, or the greatest word if that is less, for ever.
+-- gain: reads a word and writes its product by a factor, or the greatest word if the product is greater, for ever.
 use Rattle.std.specs.Prelude.{◌≡◌, ℕ, ◌*◌, ◌-◌, ◌^◌, ◌<◌, ◌==◌, ◌&&◌, min, Bool, if◌then◌else◌, List, [], ◌∷◌, Option, Some, None, codes}
 use Rattle.std.specs.Str.{bytes_eq}
 use Rattle.kpn_compute.specs.Table.{Sort, Words, Token, Word, Flag, Card, Signature, Read, Write, Answer, Family, at}
@@ -34,7 +34,7 @@ HasLine local (Some (Flag f)) = ⊥
 abbrev pub amplified : ℕ → ℕ → ℕ
 amplified factor w = min (factor * w) (2 ^ 64 - 1)
 
--- what stands in each line: the next local state, and the act
+-- the answer of each line: the next local state, and the act
 abbrev pub answer : Card → Option Token → Answer
 answer card (Some (Word w)) = record { next = before_read; act = Write 0 (Word (amplified (at card.args 0) w)) }
 answer card _ = record { next = after_read; act = Read 0 }

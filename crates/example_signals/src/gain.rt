@@ -1,5 +1,5 @@
 //! A family from its table: `gain` reads a word and writes its product by a factor, or the greatest
-//! word if that is less, for ever.
+//! word if the product is greater, for ever.
 ghost use Rattle.example_signals.specs.Gain.{number_named, ports, HasLine, gains};
 
 use kpn_compute::Computes;

@@ -1,5 +1,5 @@
-//! Kinds for chains of signals, as a user of the engine brings them: `gain`, from the table of its
-//! lines, and `moving_sum`, a filter. docs/own-kinds.md leads through them.
+//! Kinds for chains of signals, as a user of the engine would write them: `gain`, from the table of its
+//! lines, and `moving_sum`, a filter. docs/own-kinds.md explains them.
 #![tactic(auto)]
 
 pub mod gain;

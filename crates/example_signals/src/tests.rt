@@ -52,7 +52,7 @@ fn moving_sum_adds_four_words(rt: HostRuntime) -> Result<(), Fail> {
     Ok(())
 }
 
-/// The number of the kind of a name, and how many arguments it takes.
+/// The number of the kind with this name, and how many arguments it takes.
 fn named<K: Kinds>(name: &str) -> Option<(u16, usize)> {
     K::named(name)
 }

@@ -11,14 +11,14 @@ use std::sync::Wait;
 use std::thread::Threads;
 use std::{env, io};
 
-/// The exit status if the words are refused.
+/// The exit status if the arguments could not be collected.
 const REFUSED: u8 = 1;
 
 fn main(rt: HostRuntime) -> ExitCode {
     ExitCode::from(status_of(&rt))
 }
 
-/// Reads the words, does what they ask for, and answers the exit status.
+/// Reads the arguments, does what they ask for, and returns the exit status.
 fn status_of<R: Env + Input + Print + Eprint + AllocGlobal + Wait + Clock + Threads + Sync>(
     rt: &R,
 ) -> u8 {
@@ -41,7 +41,7 @@ fn status_of<R: Env + Input + Print + Eprint + AllocGlobal + Wait + Clock + Thre
     }
 }
 
-/// The words could not be collected, for want of memory.
+/// Says that the arguments could not be collected, since memory was refused.
 fn say_no_memory<R: Eprint>(rt: &R) -> u8 {
     let _ = eprintln!(rt; "kpn: memory was refused while the words were read");
     REFUSED
@@ -60,7 +60,7 @@ fn texts_of<'a>(rt: &impl AllocGlobal, words: &'a Vec<String>) -> io::Result<Vec
     Ok(texts)
 }
 
-/// Help goes to standard output, and what is wrong with the words to standard error.
+/// Writes help to standard output, and a fault of the arguments to standard error.
 fn say_words_refused<R: Print + Eprint>(rt: &R, fault: &WordsFault) -> u8 {
     let said = if fault.asks_for_help() {
         print!(rt; "{fault}")

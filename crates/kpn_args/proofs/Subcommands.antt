@@ -1,4 +1,4 @@
--- If the command line takes the words, they name one of its two subcommands.
+-- If the command line accepts the arguments, they name one of its two subcommands.
 use Rattle.std.proofs.Common.{◌≡◌, ◌⊎◌, inl, inr, Bool, true, false, cond, List, [], ◌∷◌, Option, Some, None, IfSome, IsSomeAnd, is_some, option_map, codes, refl, subst}
 use Rattle.std.specs.Str.{bytes_eq}
 use Rattle.clap.specs.Words.{Row, Text, built, is_simple_and_free, subcommand_of}
@@ -9,7 +9,7 @@ use Rattle.clap.specs.Simple.{Shape, argument_words, entered, names_of, rows_at}
 use Rattle.kpn_args.specs.Choices.{AreTaken}
 use Rattle.kpn_args.specs.Command.{kpn}
 
--- the command line is one whose answers clap's clauses tell
+-- the command line is one of those whose parse clap's clauses determine
 pub is_simple : is_simple_and_free kpn ≡ true
 is_simple = refl
 
@@ -18,7 +18,7 @@ last_passes : (first next : Kinds) → or_else first next ≡ [] → next ≡ []
 last_passes [] next h = h
 last_passes (k ∷ ks) next h = cc
 
--- a parse of the top command that passes has a subcommand
+-- a parse of the top command that succeeds has a subcommand
 has_one : (rows : List Row) (has : Bool) → check_fault (built kpn).top rows has ≡ [] → has ≡ true
 has_one rows true h = refl
 has_one rows false h = cc
@@ -27,7 +27,7 @@ has_one rows false h = cc
 abbrev pub IsCommand : Text × List Row → Type 0
 IsCommand p = (p.0 ≡ codes "check") ⊎ (p.0 ≡ codes "run")
 
--- what is found among two shapes of these names is one of the two
+-- the shape found by name among the two is one of the two
 found_is : (words : List Text) (check run : Shape) (first second : Bool) → check.name ≡ codes "check" → run.name ≡ codes "run"
     → IfSome (option_map (λ s. rows_at s words) (cond first (Some check) (cond second (Some run) None))) IsCommand
 found_is words check run true second c r = inl c
@@ -39,7 +39,7 @@ entered_is : (stop : Option (Text × List Text)) → IfSome (entered (built kpn)
 entered_is None = tt
 entered_is (Some p) = found_is p.1 _ _ _ _ refl refl
 
--- a level whose parse passes has a subcommand
+-- a level whose parse succeeds has a subcommand
 level_has_one : (names : Names) (h : Held) (words : List Text) (has : Bool) (below : Kinds) → level_fault (built kpn).top names h words has below ≡ [] → has ≡ true
 level_has_one names h words has below passes =
     let top = (built kpn).top in
@@ -52,29 +52,29 @@ level_has_one names h words has below passes =
     let after_settle = last_passes settle (or_else defaults last) after_below in
     has_one (finished top.rules end) has (last_passes defaults last after_settle)
 
--- words that are taken name a subcommand
+-- arguments that are accepted name a subcommand
 names_one : (words : List Text) → AreTaken words → is_some (subcommand_of kpn words) ≡ true
 names_one words h =
     let stop = (walk (built kpn).top.rules (names_of (built kpn)) nothing_held (argument_words kpn words)).stopped in
     level_has_one (names_of (built kpn)) nothing_held (argument_words kpn words) (is_some (entered (built kpn) stop)) (entered_fault (built kpn) stop) h
 
--- what is there, and has the form if it is there, has it
+-- an option that is `Some`, and whose value has the form if there is one, has a value of the form
 some_is : (p : Option (Text × List Row)) → is_some p ≡ true → IfSome p IsCommand → IsSomeAnd p IsCommand
 some_is None some is = cc
 some_is (Some p) some is = is
 
--- words that are taken name one of the two subcommands
+-- arguments that are accepted name one of the two subcommands
 pub names_command : (words : List Text) → AreTaken words → IsSomeAnd (subcommand_of kpn words) IsCommand
 names_command words h =
     let stop = (walk (built kpn).top.rules (names_of (built kpn)) nothing_held (argument_words kpn words)).stopped in
     some_is (subcommand_of kpn words) (names_one words h) (entered_is stop)
 
--- what is the value has the form of the value
+-- the value has the form
 at_some : (r : Option (Text × List Row)) (p : Text × List Row) → Some p ≡ r → IsSomeAnd r IsCommand → IsCommand p
 at_some None p e is = absurd is
 at_some (Some q) p e is = let same : q ≡ p = cc in subst IsCommand same is
 
--- if there is a value, there is not none
+-- an option with a value is not `None`
 at_none : (r : Option (Text × List Row)) → None ≡ r → IsSomeAnd r IsCommand → ⊥
 at_none None e is = is
 at_none (Some q) e is = cc
@@ -86,10 +86,10 @@ other_is p check run is = elim is [
   | inr e ↦ let bad : bytes_eq (codes "run") (codes "run") ≡ false = subst (λ t. bytes_eq t (codes "run") ≡ false) e run in cc
 ]
 
--- words that are taken name no other subcommand
+-- arguments that are accepted name no other subcommand
 pub names_no_other : (words : List Text) (p : Text × List Row) → AreTaken words → Some p ≡ subcommand_of kpn words → bytes_eq p.0 (codes "check") ≡ false → bytes_eq p.0 (codes "run") ≡ false → ⊥
 names_no_other words p taken e check run = other_is p check run (at_some (subcommand_of kpn words) p e (names_command words taken))
 
--- words that are taken name some subcommand
+-- arguments that are accepted name some subcommand
 pub names_some : (words : List Text) → AreTaken words → None ≡ subcommand_of kpn words → ⊥
 names_some words taken e = at_none (subcommand_of kpn words) e (names_command words taken)

@@ -1,4 +1,4 @@
--- What the words of the command line ask for, and why they are refused.
+-- What the arguments of the command line ask for, and why they are refused.
 use Rattle.std.specs.Prelude.{◌≡◌, ◌≤◌, ◌++◌, ℕ, decimal, Bool, true, false, codes, List, [], Option, Some, None, option_map}
 use Rattle.std.specs.Str.Parse.{IsNumeral, digits_value, without_leading_plus}
 use Rattle.clap.specs.Words.{HasKind, Row, Text, fault_of, first_of, kind_of, subcommand_of}
@@ -19,7 +19,7 @@ abbrev pub IsWorkers : Text → Option ℕ → Type 0
 IsWorkers text (Some n) = ReadsWorkers text n
 IsWorkers text None = (n : ℕ) → ReadsWorkers text n → ⊥
 
--- the number of workers that the text asks for, or 1
+-- the number of workers that the text asks for; 1 if there is no text
 abbrev pub WorkersFrom : Option Text → ℕ → Type 0
 WorkersFrom None n = n ≡ 1
 WorkersFrom (Some text) n = ReadsWorkers text n
@@ -45,15 +45,15 @@ abbrev pub HasRefusedWorkers : Option (Text × List Row) → Type 0
 HasRefusedWorkers None = ⊥
 HasRefusedWorkers (Some p) = IsRefusedWorkers (first_of (codes "workers") p.1)
 
--- the command line takes the words
+-- the command line accepts the arguments
 abbrev pub AreTaken : List Text → Type 0
 AreTaken words = fault_of kpn words ≡ []
 
 abbrev pub IsChoice : List Text → Choice → Type 0
 IsChoice words choice = AreTaken words × IsChoiceOf (subcommand_of kpn words) choice
 
--- the command line refuses the words by this kind of error, or memory was refused; or it takes them,
--- and the text of `--workers` is no number of workers
+-- the command line refuses the arguments with this kind of error, or memory was refused; or it accepts them, and the text of
+-- `--workers` is no number of workers
 abbrev pub IsWordsFault : List Text → WordsFault → Type 0
 IsWordsFault words (Parser e) = HasKind (fault_of kpn words) e
 IsWordsFault words Workers = AreTaken words × HasRefusedWorkers (subcommand_of kpn words)
@@ -63,12 +63,12 @@ is_text_asked_for DisplayHelp = true
 is_text_asked_for DisplayVersion = true
 is_text_asked_for _ = false
 
--- the words ask for a text, the help or the version
+-- the arguments ask for the help or the version
 abbrev pub asks_for_help : WordsFault → Bool
 asks_for_help (Parser e) = is_text_asked_for (kind_of e)
 asks_for_help Workers = false
 
--- the text for the user, if it is not the parser's own
+-- the text for the user, if it is not clap's own
 abbrev pub text_of : WordsFault → Option Text
 text_of (Parser e) = None
 text_of Workers = Some (codes "error: --workers takes a number from 1 to " ++ (decimal MAX_WORKERS ++ codes "\n\nFor more information, try 'kpn run --help'.\n"))

@@ -1,4 +1,4 @@
-//! The words of the command line.
+//! The arguments of the command line.
 ghost use Rattle.std.specs.Prelude.{◌≡◌, ◌≤◌, IfOk, IfErr, Some, false, map, option_map, codes, if◌then◌else◌};
 ghost use Rattle.clap.specs.Words.{FailsBy, app_of, fault_of, first_of, found_of, rows_of, rule_of, subcommand_of, subcommand_rows_of};
 ghost use Rattle.clap.specs.declared.builder.command.Command.TheViews.{out-Command as fields_of};
@@ -10,10 +10,10 @@ use clap::{Arg, ArgMatches, Command};
 use std::alloc::{AllocError, Global};
 use std::{error, fmt};
 
-/// How many workers a run may have at most.
+/// The greatest number of workers of a run.
 pub const MAX_WORKERS: usize = 16;
 
-/// The statuses that the program exits with, as its help tells them.
+/// The statuses with which the program exits, as its help lists them.
 const STATUSES: &str = "\
 Exit status:
   0  the run terminated, the description was accepted, or help was asked for
@@ -30,23 +30,23 @@ Exit status:
 /// Where the subcommands find the description.
 const INPUT: &str = "The description is TOML, read from standard input.";
 
-/// What the words ask for.
+/// What the arguments ask for.
 #[derive(Debug, Drop)]
 pub enum Choice<'a> {
     /// `kpn check`: whether the description is a network.
     Check,
-    /// `kpn run`: the network run by so many workers, 1 to `MAX_WORKERS`, and the channel whose tokens
-    /// are to be shown.
+    /// `kpn run`: the run of the network by `workers` workers (1 to `MAX_WORKERS`), and the name of the
+    /// channel whose tokens to show.
     Run {
         workers: usize,
         show: Option<&'a str>,
     },
 }
 
-/// Why the words give no choice. Its `Display` is the text for the user, which ends a line.
+/// Why the arguments give no choice. Its `Display` is the text for the user, which ends a line.
 #[derive(Debug, Drop)]
 pub enum WordsFault {
-    /// The command line refuses the words, or they ask for help or the version, or memory was
+    /// The command line refuses the arguments, or they ask for help or the version, or memory was
     /// refused.
     Parser(clap::Error),
     /// The text of `--workers` is no number from 1 to `MAX_WORKERS`.
@@ -54,8 +54,8 @@ pub enum WordsFault {
 }
 
 impl WordsFault {
-    /// Whether the words ask for help or for the version: the text then goes to standard output, and
-    /// else to standard error.
+    /// Returns whether the arguments ask for help or for the version. Their text then goes to standard
+    /// output, otherwise to standard error.
     pub fn asks_for_help(&self) -> bool
         ensures { result ≡ asks_for_help self.now }
     {
@@ -68,7 +68,7 @@ impl WordsFault {
         }
     }
 
-    /// The exit status: 0 where help or the version was asked for, and else 1.
+    /// Returns the exit status: 0 if help or the version was asked for, and otherwise 1.
     pub fn status(&self) -> u8
         ensures { result ≡ (if asks_for_help self.now then 0 else 1) }
     {
@@ -96,12 +96,11 @@ impl fmt::Display for WordsFault {
 
 impl error::Error for WordsFault {}
 
-/// What the words ask for, of which the first is the program's name.
+/// Reads what the arguments ask for. The first of them is the program's name.
 ///
-/// The fault is `Parser` just where the command line refuses the words, with the kind of error that
-/// clap has for them (a call for help or for the version is one), or where memory was refused. It is
-/// `Workers` just where the command line takes the words, and the text of `--workers` is not read as
-/// a number from 1 to `MAX_WORKERS`. The words stay as they were.
+/// Errors: `Parser` if the command line refuses the arguments, with the kind of error that clap has for
+/// them (a call for help or for the version is one), or if memory was refused. `Workers` if the command
+/// line accepts the arguments, but the text of `--workers` is not a number from 1 to `MAX_WORKERS`.
 pub fn read_words<'a>(alloc: Global, words: &'a [&'a str]) -> Result<Choice<'a>, WordsFault>
     ensures ok { IfOk result (IsChoice (map (λ w. w.now) words.entry.now)) }
     ensures workers { IfOk result HasFewWorkers }
@@ -126,7 +125,7 @@ fn run_choice<'a>(entries: &ArgMatches<'a>) -> Result<Choice<'a>, WordsFault>
     Ok(Choice::Run { workers, show })
 }
 
-/// The number of workers that a text asks for, or 1.
+/// The number of workers that a text asks for; 1 if there is no text.
 fn workers_in(text: Option<&str>) -> Result<usize, WordsFault>
     ensures ok { IfOk result (WorkersFrom (option_map (λ s. s.now) text.entry)) }
     ensures few { IfOk result (λ n. (1 ≤ n) × (n ≤ MAX_WORKERS)) }
@@ -138,7 +137,7 @@ fn workers_in(text: Option<&str>) -> Result<usize, WordsFault>
     }
 }
 
-/// The number of workers that a text is.
+/// Reads a text as a number of workers; `None` if it is none.
 fn workers_of(text: &str) -> Option<usize>
     ensures { IsWorkers text.now result }
 {
@@ -162,7 +161,7 @@ fn subcommand_in<'a, 'b>(matches: &'b ArgMatches<'a>) -> Option<(&'a str, &'b Ar
     matches.subcommand()
 }
 
-/// What the command line finds in the words.
+/// Parses the arguments.
 fn matches_of<'a>(alloc: Global, words: &'a [&'a str]) -> Result<ArgMatches<'a>, WordsFault>
     ensures taken { IfOk result (λ m. AreTaken (map (λ w. w.now) words.entry.now)) }
     ensures matches { IfOk result (λ m. subcommand_rows_of m ≡ subcommand_of kpn (map (λ w. w.now) words.entry.now)) }

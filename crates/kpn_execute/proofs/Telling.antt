@@ -1,4 +1,4 @@
--- What is told of a run.
+-- What is written of a run.
 use Rattle.std.proofs.Common.{◌≡◌, ◌≢◌, ◌++◌, ℕ, zero, suc, true, List, length, Option, Some, replicate, refl, sym, ap, ◌∙◌, subst}
 use Rattle.std.proofs.lemmas.List.{length-map}
 use Rattle.std.specs.List.{count_by}
@@ -43,11 +43,11 @@ module _ (kinds : Family) (net : Network) where
   one_text one E F M N a b channel e f =
       over_text a E M channel e.over ∙ ap (text_of channel) (one net E F M N a b e f) ∙ sym (over_text b F N channel f.over)
 
--- an end that stands is bound
+-- an end is justified
 bound_by : (kinds : Family) (admits : Card → List ℕ → Option Token → Type 0) (s : MachineView) (cause : End) → IsFaithful kinds admits s → s.end ≡ Some cause → IsBound kinds s.network s.history s.state cause
 bound_by kinds admits s cause faithful ended = subst (EndHolds kinds s.network s.history s.state) ended faithful.bound
 
--- a run that ended is told by the text of its history
+-- the text of a run that ended is that of its history
 pub run_told :
     (kinds : Family) (admits : Card → List ℕ → Option Token → Type 0) (s : MachineView) (cause : End) (places : List Place) (channel : Option ℕ) (status : ℕ) (bytes : List ℕ) → IsFaithful kinds admits s → TakesLeastRoom kinds s.network s.history s.state → s.end ≡ Some cause
     → places ≡ each_process s.network (λ p. place_of s.network p (parked_answer (standing s.standings p))) → OneDigest kinds
@@ -69,7 +69,7 @@ run_told kinds admits s cause places channel status bytes faithful room ended pl
           told ∙ one_text kinds s.network one s.history F s.state N cause b channel (record { run = faithful.run; over = over_of kinds s.network cause s.history s.state has bound }) final;
     }
 
--- if all are ready, none is out
+-- if all processes are ready, none is out
 pub none_out : (n : ℕ) → count_by is_out (replicate n Ready) ≡ 0
 none_out zero = refl
 none_out (suc n) = none_out n
@@ -82,7 +82,7 @@ status_not_failed Memory e = cc
 status_not_failed Deadlock e = cc
 status_not_failed Ceiling e = cc
 
--- bodies that fit are refused for want of memory alone
+-- bodies that fit are refused only because memory was
 pub not_refused : (ps : List Process) (cards : List Card) (fault : OpenFault) → cards ≡ cards_of ps → fault ≢ OutOfMemory → IsOpenFault ps cards fault → ⊥
 not_refused ps cards Bodies fits other refused = refused (ap length fits ∙ length-map ps _)
 not_refused ps cards WrongCard fits other refused = refused.1 fits

@@ -15,7 +15,7 @@ use Rattle.kpn_report.specs.Text.{text as report_text}
 use Rattle.kpn_report.specs.Digested.{has_detail}
 use Rattle.kpn_front.specs.Lines.{lost_line, refused_line, no_channel_line}
 
--- the exit status of a run that ended for this cause
+-- the exit status of a run with this end
 abbrev pub status_of_end : End → ℕ
 status_of_end Terminated = 0
 status_of_end Budget = 3
@@ -23,11 +23,11 @@ status_of_end Memory = 4
 status_of_end Deadlock = 5
 status_of_end Ceiling = 6
 
--- the number of the channel of a name
+-- the number of the channel with this name
 abbrev pub number_of_channel : Network → List ℕ → Option ℕ
 number_of_channel net name = position (λ c. bytes_eq c.name name) net.channels
 
--- no channel has the name that is to be shown
+-- no channel has the name given by `--show`
 pub record TellsNoChannel (net : Network) (show : Option (List ℕ)) (status : ℕ) (text : List ℕ) : Type 0 where
   pub name : List ℕ
   pub asked : show ≡ Some name
@@ -35,7 +35,7 @@ pub record TellsNoChannel (net : Network) (show : Option (List ℕ)) (status : �
   pub status_is : status ≡ 1
   pub text_is : text ≡ no_channel_line name
 
--- this is the channel that is to be shown, if any is
+-- this is the channel to show, if there is one
 abbrev pub IsChannelToShow : Network → Option (List ℕ) → Option ℕ → Type 0
 IsChannelToShow net None channel = channel ≡ None
 IsChannelToShow net (Some name) channel = (channel ≡ number_of_channel net name) × (channel ≢ None)
@@ -51,11 +51,11 @@ pub record TellsLost (workers : ℕ) (status : ℕ) (text : List ℕ) : Type 0 w
   pub status_is : status ≡ 8
   pub text_is : text ≡ lost_line
 
--- whatever the schedule, each run that is over tells the same
+-- each run that is over has this text, whatever the schedule
 abbrev pub IsSettled : Family → Network → Option ℕ → List ℕ → Type 0
 IsSettled kinds net channel text = (F : List Entry) (N : State) (b : End) → IsFinal kinds net F N b → text ≡ report_text kinds net b F N channel
 
--- a run from the start ended for a cause to which it is bound; it took no more room than the network needs
+-- a run from the start ended for a cause that justifies its end; it took no more room than the network needs
 pub record TellsRun (kinds : Family) (net : Network) (channel : Option ℕ) (status : ℕ) (text : List ℕ) : Type 0 where
   pub history : List Entry
   pub state : State
@@ -67,16 +67,15 @@ pub record TellsRun (kinds : Family) (net : Network) (channel : Option ℕ) (sta
   pub text_is : text ≡ report_text kinds net cause history state channel
   pub settled : has_detail cause ≡ true → IsSettled kinds net channel text
 
--- what is told of a run that ended
+-- what is written of a run that ended
 abbrev pub TellsEnded : Family → Network → Option ℕ → ℕ → List ℕ → Type 0
 TellsEnded kinds net channel status text = TellsRefused status text ⊎ TellsRun kinds net channel status text
 
--- what is told of a network that is run by so many workers, if the name that is to be shown is that of
--- a channel
+-- what is written of a network run by this number of workers, if `--show` names a channel or is absent
 abbrev pub TellsKnown : Family → Network → ℕ → Option ℕ → ℕ → List ℕ → Type 0
 TellsKnown kinds net workers channel status text = TellsLost workers status text ⊎ TellsEnded kinds net channel status text
 
--- what is told of a network that is run by so many workers, and the status
+-- what is written of a network run by this number of workers, and the status
 abbrev pub Tells : Family → Network → ℕ → Option (List ℕ) → ℕ → List ℕ → Type 0
 Tells kinds net workers show status text = TellsNoChannel net show status text ⊎ ((channel : Option ℕ) × IsChannelToShow net show channel × TellsKnown kinds net workers channel status text)
 
@@ -84,8 +83,8 @@ Tells kinds net workers show status text = TellsNoChannel net show status text �
 abbrev pub TellsOfBodies : Family → Network → ℕ → Option (List ℕ) → ℕ → List ℕ → Type 0
 TellsOfBodies kinds net workers show status text = TellsRefused status text ⊎ Tells kinds net workers show status text
 
--- what is told is written, and the status is its own; it is 7 if the write fails, as it does not
--- if the sink takes so many bytes
+-- a text is written, and the status belongs to it; the status is 7 if the write fails, which it does not if the sink takes that
+-- many bytes
 pub record Writes (tells : ℕ → List ℕ → Type 0) (takes : ℕ → Bool) (before after : Option (List ℕ)) (result : ℕ) : Type 0 where
   pub status : ℕ
   pub text : List ℕ
@@ -97,6 +96,6 @@ pub record Writes (tells : ℕ → List ℕ → Type 0) (takes : ℕ → Bool) (
 abbrev pub Executes : Family → Network → ℕ → Option (List ℕ) → (ℕ → Bool) → Option (List ℕ) → Option (List ℕ) → ℕ → Type 0
 Executes kinds net workers show takes before after result = Writes (Tells kinds net workers show) takes before after result
 
--- the same of a program that makes the bodies of the network
+-- the same for a program that makes the bodies of the network
 abbrev pub MakesAndExecutes : Family → Network → ℕ → Option (List ℕ) → (ℕ → Bool) → Option (List ℕ) → Option (List ℕ) → ℕ → Type 0
 MakesAndExecutes kinds net workers show takes before after result = Writes (TellsOfBodies kinds net workers show) takes before after result

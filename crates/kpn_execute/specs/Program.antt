@@ -1,4 +1,4 @@
--- What the program does, from its words and its input to what it writes.
+-- What the program does, from its arguments and its input to what it writes.
 use Rattle.std.specs.Prelude.{◌≡◌, ℕ, Bool, true, false, List, Option, Some, None, IfSome, option_map, Result, Ok, Err}
 use Rattle.kpn_net.specs.declared.fault.NetFault.{NetFault}
 use Rattle.kpn_net.specs.declared.fault.NetFault.TheVariants.{Input}
@@ -17,18 +17,18 @@ abbrev pub fault_of : Result Network NetFault → Option NetFault
 fault_of (Ok net) = None
 fault_of (Err fault) = Some fault
 
--- what is told of a network: that it is one, or how it ran
+-- what is written of a network: that it is one, or how it ran
 abbrev pub TellsOf : Choice → Network → ℕ → List ℕ → Type 0
 TellsOf Check net status text = (status ≡ 0) × (text ≡ checked_line net)
 TellsOf (Run workers show) net status text = TellsOfBodies standard net workers (option_map (λ s. s.now) show) status text
 
--- what is told of a description that was loaded, or refused
+-- what is written of a description that was loaded, or refused
 abbrev pub TellsLoaded : Choice → Result Network NetFault → ℕ → List ℕ → Type 0
 TellsLoaded choice (Ok net) status text = TellsOf choice net status text
 TellsLoaded choice (Err fault) status text = (status ≡ status_of_fault fault) × (text ≡ refused_line fault)
 
--- the input is loaded, and what is told of it by the choice is written; of the input are known its
--- bytes, if they are, and whether a read had failed before and after
+-- the input is loaded, and what the choice asks for is written; known of the input are its bytes, if they are known at all, and
+-- whether a read had failed before and after
 pub record Serves (choice : Choice) (input : Option (List ℕ)) (failed_before failed_after : Bool) (takes : ℕ → Bool) (before after : Option (List ℕ)) (status : ℕ) (fault : Option NetFault) : Type 0 where
   pub loaded : Result Network NetFault
   pub loads : failed_before ≡ false → IfSome input (λ text. Loads named signature failed_after text loaded)

@@ -1,4 +1,4 @@
-//! The program from its words and its input to what it writes, and the run of a network by its workers.
+//! The program from its arguments and its input to what it writes, and the run of a network by workers.
 #![tactic(auto)]
 
 mod computed;

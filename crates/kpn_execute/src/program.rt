@@ -1,4 +1,4 @@
-//! The program, from its words and its input to what it writes.
+//! The program, from its arguments and its input to what it writes.
 ghost use Rattle.std.specs.Prelude.{◌≡◌, ◌+◌, IfOk, IfErr, OnErr, map};
 ghost use Rattle.kpn_args.specs.Choices.{HasFewWorkers, IsChoice, IsWordsFault};
 ghost use Rattle.kpn_front.specs.Loading.{ReadsAtMost, longest};
@@ -17,21 +17,21 @@ use std::rt::Clock;
 use std::sync::Wait;
 use std::thread::Threads;
 
-/// What came of a choice: the exit status, and the fault of the description if it was refused.
+/// The outcome of a choice: the exit status, and the fault of the description if it was refused.
 #[derive(Drop)]
 pub struct Served {
     pub status: u8,
     pub fault: Option<NetFault>,
 }
 
-/// Does what the words ask for, of which the first is the program's name: reads a description from
-/// the source, and writes that it is a network (`check`), or how its run ended (`run`), or that it is
-/// refused.
+/// Does what the arguments ask for; the first of them is the program's name. It reads a description
+/// from the source, and writes that it is a network (`check`), or how its run ended (`run`), or that it
+/// is refused.
 ///
-/// The status is 2 if the description is refused (4 for want of memory), and 7 if a write fails;
-/// else 0 for `check`, and for `run` the one that `execute_standard` answers.
+/// The status is 2 if the description is refused (4 if memory was), and 7 if a write fails; otherwise 0
+/// for `check`, and for `run` the one that `execute_standard` returns.
 ///
-/// The error is the fault of words that ask for neither, as `read_words` finds it: nothing was then
+/// Errors: the arguments ask for neither, with the fault that `read_words` returns. Nothing is then
 /// read or written.
 pub fn serve<'a, I: Source, O: Sink, R: Wait + Clock + Threads + Sync>(
     rt: &R,
@@ -49,7 +49,7 @@ pub fn serve<'a, I: Source, O: Sink, R: Wait + Clock + Threads + Sync>(
     Ok(serve_choice(rt, alloc, choice, source, sink))
 }
 
-/// Does what is chosen.
+/// Does what was chosen.
 fn serve_choice<I: Source, O: Sink, R: Wait + Clock + Threads + Sync>(
     rt: &R,
     alloc: Global,

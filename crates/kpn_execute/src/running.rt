@@ -1,4 +1,4 @@
-//! Running a network and telling of it.
+//! Running a network, and writing the outcome.
 ghost use Rattle.std.specs.Prelude.{◌≡◌, ◌≢◌, ◌<◌, ◌≤◌, Some, None, IfOk, IsSome, map, option_map, string_bytes};
 ghost use Rattle.kpn_machine.specs.Opening.{cards_of};
 ghost use Rattle.kpn_execute.specs.Execution.{status_of_end, Executes, TellsEnded, TellsKnown, TellsRun, Writes};
@@ -16,25 +16,29 @@ use std::rt::Clock;
 use std::sync::Wait;
 use std::thread::Threads;
 
-/// What is told of a run.
+/// What is written of a run, and its status.
 #[derive(Drop)]
 struct Told {
     status: u8,
     text: String,
 }
 
-/// Runs a network by 1 to 16 workers, with a body for each process, and writes what came of it: the
-/// report of the run, with the stream of a channel if `show` names one. One worker is the calling
-/// thread, which then takes no lock.
+/// Runs a network by 1 to 16 workers, with a body for each process, and writes the outcome: the report
+/// of the run, with the stream of the channel that `show` names. A single worker is the calling thread,
+/// which then takes no lock.
 ///
-/// If the run came to its own end, each run of the network that is over tells the same, whatever
-/// the schedule. Whatever number of places a channel suffices for the network, the run takes no more.
+/// If the run came to its own end, each run of the network that is over has the same text, whatever the
+/// schedule. If some number of places a channel suffices for the network, the run takes no more, but
+/// for the step of a growth (Parks 1995).
 ///
-/// The answer is the exit status: 0, 5 or 6 if the run terminated, ended in a deadlock or at the
-/// ceiling, 3 if its budget was spent, 1 if `show` is the name of no channel (nothing is then
-/// run, and `no channel NAME` is written), 4 if memory was refused, before the run or for the
-/// report (`refused 14`) or for a growth (`end memory`), 7 if the write fails, and 8 if the
-/// machine refused an answer of one of several workers (`lost`).
+/// Returns the exit status:
+///
+/// - 0 if the run terminated, 5 if it ended in a deadlock, 6 at the ceiling, 3 if its budget was spent;
+/// - 1 if no channel has the name `show` (nothing is then run, and `no channel NAME` is written);
+/// - 4 if memory was refused, before the run or for the report (`refused 14`), or for a growth (`end
+///   memory`);
+/// - 7 if the write fails;
+/// - 8 if the machine refused an answer of one of several workers (`lost`).
 pub fn execute<B: Body, S: Sink, R: Wait + Clock + Threads + Sync>(
     rt: &R,
     alloc: Global,
@@ -57,7 +61,7 @@ pub fn execute<B: Body, S: Sink, R: Wait + Clock + Threads + Sync>(
     }
 }
 
-/// Runs a network and writes what came of it, with the stream of a channel if one is to be shown.
+/// Runs a network and writes the outcome, with the stream of a channel if one is given.
 fn tell<B: Body, S: Sink, R: Wait + Clock + Threads + Sync>(
     rt: &R,
     alloc: Global,
@@ -120,7 +124,7 @@ fn tell_by_workers<B: Body, S: Sink, R: Wait + Clock + Threads + Sync>(
     }
 }
 
-/// Writes what is told of a run that ended.
+/// Writes what there is to write of a run that ended.
 fn say_told<K: Kinds, S: Sink>(
     alloc: Global,
     chronicle: &Chronicle<K>,
@@ -136,7 +140,7 @@ fn say_told<K: Kinds, S: Sink>(
     }
 }
 
-/// The whole of what is told of a run that ended.
+/// The text of a run that ended, and its status.
 fn told_of<K: Kinds>(
     alloc: Global,
     chronicle: &Chronicle<K>,
@@ -166,7 +170,7 @@ fn told_of<K: Kinds>(
     })
 }
 
-/// The exit status of a run that ended so.
+/// The exit status of a run with this end.
 fn status_of(end: End) -> u8
     ensures { result ≡ status_of_end end }
 {

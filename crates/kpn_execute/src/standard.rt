@@ -16,10 +16,10 @@ use std::rt::Clock;
 use std::sync::Wait;
 use std::thread::Threads;
 
-/// Runs a network of standard kinds by 1 to 16 workers, and writes what came of it, as `execute`
-/// does. A body is made for each process, with a closure of its own.
+/// Runs a network of standard kinds by 1 to 16 workers, and writes the outcome, as `execute` does. A
+/// body is made for each process, with a closure of its own.
 ///
-/// If memory for a body is refused, `refused 14` is written, and the answer is 4.
+/// Returns the exit status of `execute`, or 4 if memory for a body is refused (`refused 14`).
 pub fn execute_standard<S: Sink, R: Wait + Clock + Threads + Sync>(
     rt: &R,
     alloc: Global,
@@ -40,9 +40,9 @@ pub fn execute_standard<S: Sink, R: Wait + Clock + Threads + Sync>(
     }
 }
 
-/// The same, of a network with these cards. The error is want of memory for a body; nothing was then
-/// written. The network comes in an `Option`, since beside a `Net` that is held by value the check
-/// finds no proof of a loop that makes closures.
+/// The same, for a network with these cards. Fails if memory for a body was refused; nothing is then
+/// written. The network is passed in an `Option`: with a `Net` held by value the check finds no proof
+/// of a loop that makes closures.
 fn make_and_execute<S: Sink, R: Wait + Clock + Threads + Sync>(
     rt: &R,
     alloc: Global,

@@ -1,4 +1,4 @@
--- What `Net::check` answers is what is loaded.
+-- What `Net::check` returns is what is loaded.
 use Rattle.std.proofs.Common.{◌≡◌, ◌≢◌, ℕ, Bool, true, false, cond, List, [], ◌∷◌, Option, Some, None, Result, Ok, Err, IfOk, IfErr, IfSome, refl}
 use Rattle.std.specs.List.{find}
 use Rattle.kpn_net.specs.declared.fault.NetFault.{NetFault}
@@ -12,12 +12,12 @@ use Rattle.kpn_model.specs.Network.{Network}
 use Rattle.kpn_net.specs.Sketched.{net_of}
 use Rattle.kpn_front.specs.Loading.{Loads, IsWhole, IsLoadFault}
 
--- if the first item or a later one is found, it passes the test
+-- if an item is found, first or later, it passes the test
 found_at : {A : Type 0} (p : A → Bool) (y x : A) (rest : Option A) (b : Bool) → p y ≡ b → (rest ≡ Some x → p x ≡ true) → cond b (Some y) rest ≡ Some x → p x ≡ true
 found_at p y x rest true e later h = let same : y ≡ x = cc in rw (← same) e
 found_at p y x rest false e later h = later h
 
--- what is found passes the test
+-- an item that is found passes the test
 found_passes : {A : Type 0} (p : A → Bool) (xs : List A) (x : A) → find p xs ≡ Some x → p x ≡ true
 found_passes p [] x h = cc
 found_passes p (y ∷ ys) x h = found_at p y x (find p ys) (p y) refl (found_passes p ys x) h
@@ -47,14 +47,14 @@ module _ (named : List ℕ → Option (ℕ × ℕ)) (signature : Card → Option
   fault_from failed text sketch Tokens short d h = (short, (sketch, d, h (λ x. cc)))
   fault_from failed text sketch Step short d h = (short, (sketch, d, h (λ x. cc)))
 
-  -- the answer of `check`, if this is the whole text
+  -- the result of `check`, if this is the whole text
   loads_from : (failed : Bool) (text : List ℕ) (sketch : Sketch) (r : Result Network NetFault) → IsWhole named signature failed text → Describes text sketch
       → IfOk r (λ n. (first_fault named signature sketch ≡ None) × (n ≡ net_of named sketch))
       → IfErr r (λ e. e ≢ Memory → first_fault named signature sketch ≡ Some e) → Loads named signature failed text r
   loads_from failed text sketch (Ok n) short d ok fault = (short, (sketch, d, ok.0, ok.1))
   loads_from failed text sketch (Err e) short d ok fault = fault_from failed text sketch e short d fault
 
-  -- if the text is all that the source had
+  -- the same, if the text is all that the source had
   pub loads_known : (failed : Bool) (known : Option (List ℕ)) (text : List ℕ) (sketch : Sketch) (r : Result Network NetFault) → IfSome known (λ t. text ≡ t) → IsWhole named signature failed text → Describes text sketch
       → IfOk r (λ n. (first_fault named signature sketch ≡ None) × (n ≡ net_of named sketch))
       → IfErr r (λ e. e ≢ Memory → first_fault named signature sketch ≡ Some e) → IfSome known (λ t. Loads named signature failed t r)

@@ -1,15 +1,15 @@
--- The lines that the program writes of a description, and its exit status.
+-- The lines that the program writes about a description, and its exit status.
 use Rattle.std.specs.Prelude.{ℕ, codes, decimal, List, ◌++◌, length}
 use Rattle.kpn_net.specs.declared.fault.NetFault.{NetFault}
 use Rattle.kpn_net.specs.declared.fault.NetFault.TheVariants.{Memory}
 use Rattle.kpn_net.specs.Fault.{number_of_fault}
 use Rattle.kpn_model.specs.Network.{Network}
 
--- what is written of a network that is accepted
+-- what is written about a network that is accepted
 abbrev pub checked_line : Network → List ℕ
 checked_line net = codes "ok " ++ (decimal (length net.processes) ++ (codes " processes " ++ (decimal (length net.channels) ++ codes " channels\n")))
 
--- what is written of a description that is refused
+-- what is written about a description that is refused
 abbrev pub refused_line : NetFault → List ℕ
 refused_line fault = codes "refused " ++ (decimal (number_of_fault fault) ++ codes "\n")
 
@@ -21,6 +21,6 @@ status_of_fault _ = 2
 abbrev pub lost_line : List ℕ
 lost_line = codes "lost\n"
 
--- what is written if no channel has the name that is to be shown
+-- what is written if no channel has the name given by `--show`
 abbrev pub no_channel_line : List ℕ → List ℕ
 no_channel_line name = codes "no channel " ++ name ++ codes "\n"

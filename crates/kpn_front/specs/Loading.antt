@@ -15,7 +15,7 @@ use Rattle.kpn_net.specs.Sketched.{net_of}
 abbrev pub longest : ℕ
 longest = 1048576
 
--- of the bytes that a source had left, if they are known, at most n are gone
+-- if the bytes that the source had left are known, at most n of them have been consumed
 abbrev pub ReadsAtMost : ℕ → Option (List ℕ) → Option (List ℕ) → Type 0
 ReadsAtMost n old new = (bytes : List ℕ) × Consumes old new bytes × (length bytes ≤ n)
 
@@ -28,8 +28,8 @@ module _ (named : List ℕ → Option (ℕ × ℕ)) (signature : Card → Option
   abbrev pub IsNet : Network → Type 0
   IsNet net = IsWhole × ((sketch : Sketch) × Describes text sketch × (first_fault named signature sketch ≡ None) × (net ≡ net_of named sketch))
 
-  -- nothing is made of a text of which a read failed, nor of one that is too long; another has a fault
-  -- of reading, or the sketch that it describes has
+  -- nothing is made if a read failed or the text is too long; any other text has a fault of reading, or the sketch that it
+  -- describes has a fault
   abbrev pub IsLoadFault : NetFault → Type 0
   IsLoadFault Memory = failed ≡ false
   IsLoadFault Input = (failed ≡ true) ⊎ (longest < length text)
@@ -37,6 +37,6 @@ module _ (named : List ℕ → Option (ℕ × ℕ)) (signature : Card → Option
   IsLoadFault Keys = IsWhole × IsReadFault text Keys
   IsLoadFault e = IsWhole × ((sketch : Sketch) × Describes text sketch × (first_fault named signature sketch ≡ Some e))
 
-  -- what is loaded of a source that has this text, a read of which failed or not
+  -- what is loaded of a source with this text, given whether a read failed
   abbrev pub Loads : Result Network NetFault → Type 0
   Loads result = MatchResult result IsNet IsLoadFault

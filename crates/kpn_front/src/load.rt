@@ -12,14 +12,11 @@ pub const LONGEST_TEXT: usize = 1048576;
 /// How many bytes one turn reads at most.
 const CHUNK: usize = 4096;
 
-/// Reads a description to its end, and makes its network.
+/// Reads a description to its end, and makes its network. Reads at most 1,048,577 bytes.
 ///
-/// Each turn reads at least one byte, and at most 1,048,577 bytes are read in all.
-///
-/// The fault is `Input` if the source gives more than 1,048,576 bytes or a read fails; nothing is
-/// then made of what was read. Otherwise it is the one that `read_sketch` finds in the bytes, or
-/// `Net::check` in what they describe, or `Memory` if memory was refused. After a fault no network
-/// was made, and what was read is gone from the source.
+/// Errors: `Input` if the source has more than 1,048,576 bytes or a read fails, whatever the bytes say.
+/// Otherwise the fault that `read_sketch` finds in the bytes, or that `Net::check` finds in what they
+/// describe; or `Memory` if memory was refused. What was read has then been consumed from the source.
 pub fn load<K: Kinds, S: Source>(alloc: Global, source: &mut S) -> Result<Net<K>, NetFault>
     ensures loads { S.has_failed source.old ≡ false → IfSome (S.remaining source.old) (λ text. Loads K.named K.signature_of (S.has_failed source.new) text result) }
     ensures failed { S.has_failed source.old ≡ false → S.has_failed source.new ≡ true → result ≡ Err NetFault.Input }
@@ -31,7 +28,7 @@ pub fn load<K: Kinds, S: Source>(alloc: Global, source: &mut S) -> Result<Net<K>
     Net::check(alloc, &sketch)
 }
 
-/// The bytes of a source, if they are no more than a description may have.
+/// The bytes of a source, if a description may have that many.
 fn read_text<S: Source>(alloc: Global, source: &mut S) -> Result<Vec<u8>, NetFault>
     ensures ok { IfOk result (λ t. (length t.items ≤ longest) × IfSome (S.remaining source.old) (λ text. t.items ≡ text)) }
     ensures input { result ≡ Err NetFault.Input → (S.has_failed source.new ≡ true) ⊎ IfSome (S.remaining source.old) (λ text. longest < length text) }

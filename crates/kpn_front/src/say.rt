@@ -1,4 +1,4 @@
-//! The lines that the program writes of a description.
+//! The lines that the program writes about a description.
 ghost use Rattle.std.specs.Prelude.{◌≡◌, ◌≢◌, ◌≤◌, ◌+◌, ◌++◌, true, OnOk, IsOk, decimal, length};
 ghost use Rattle.arrayvec.specs.ArrayString.{array_string_len};
 ghost use Rattle.std.specs.Io.KnownBytes.{Appends};
@@ -16,15 +16,16 @@ pub const WRITE_FAILED: u8 = 7;
 /// The exit status if a worker's answer was refused.
 pub const LOST: u8 = 8;
 
-/// The exit status if no channel has the name that is to be shown.
+/// The exit status if no channel has the name given by `--show`.
 pub const NO_CHANNEL: u8 = 1;
 
-/// The room of a line: two numbers and the words around them.
+/// The capacity of a line: two numbers and the text around them.
 const ROOM: usize = 64;
 
-/// Writes a text, and answers `status`, or 7 if the write fails.
+/// Writes a text, and returns `status`, or 7 if the write fails.
 ///
-/// It does not fail if the sink takes so many bytes. After a 7 some of them may have been written.
+/// The write does not fail if the sink takes that many bytes. If it fails, some of them may have been
+/// written. `status` must not be 7.
 pub fn say<S: Sink>(sink: &mut S, text: &str, status: u8) -> u8
     requires { status ≢ 7 }
     ensures said { result ≢ 7 → (result ≡ status) × Appends (S.contents sink.old) (S.contents sink.new) text.now }
@@ -36,10 +37,9 @@ pub fn say<S: Sink>(sink: &mut S, text: &str, status: u8) -> u8
     }
 }
 
-/// Writes that a network was accepted, as the line `ok 2 processes 1 channels` of the counter of
-/// three into a sink.
+/// Writes that a network was accepted, as `ok 2 processes 1 channels` for a counter and a sink.
 ///
-/// The answer is the exit status: 0, or 7 if the write fails. No memory is taken.
+/// Returns the exit status: 0, or 7 if the write fails. Takes no memory.
 pub fn say_checked<K: Kinds, S: Sink>(net: &Net<K>, sink: &mut S) -> u8
     ensures said { result ≢ 7 → (result ≡ 0) × Appends (S.contents sink.old) (S.contents sink.new) (checked_line net.now) }
     ensures room { S.takes sink.old (length (checked_line net.now)) ≡ true → result ≢ 7 }
@@ -47,10 +47,10 @@ pub fn say_checked<K: Kinds, S: Sink>(net: &Net<K>, sink: &mut S) -> u8
     say(sink, checked_text(net).as_str(), 0)
 }
 
-/// Writes that a description was refused, as the line `refused 9` of two channels that share a port.
+/// Writes that a description was refused, as `refused 9` if two channels share a port.
 ///
-/// The answer is the exit status: 4 if memory was refused, 2 of every other fault, and 7 if the
-/// write fails. No memory is taken.
+/// Returns the exit status: 4 if memory was refused, 2 for every other fault, and 7 if the write fails.
+/// Takes no memory.
 pub fn say_refused<S: Sink>(fault: &NetFault, sink: &mut S) -> u8
     ensures said { result ≢ 7 → (result ≡ status_of_fault fault.now) × Appends (S.contents sink.old) (S.contents sink.new) (refused_line fault.now) }
     ensures room { S.takes sink.old (length (refused_line fault.now)) ≡ true → result ≢ 7 }
@@ -58,9 +58,9 @@ pub fn say_refused<S: Sink>(fault: &NetFault, sink: &mut S) -> u8
     say(sink, refused_text(fault).as_str(), status_of(fault))
 }
 
-/// Writes that a run was given up, since the machine refused a worker's answer, as the line `lost`.
+/// Writes the line `lost`: a run was given up, since the machine refused a worker's answer.
 ///
-/// The answer is the exit status: 8, or 7 if the write fails. No memory is taken.
+/// Returns the exit status: 8, or 7 if the write fails. Takes no memory.
 pub fn say_lost<S: Sink>(sink: &mut S) -> u8
     ensures said { result ≢ 7 → (result ≡ 8) × Appends (S.contents sink.old) (S.contents sink.new) lost_line }
     ensures room { S.takes sink.old (length lost_line) ≡ true → result ≢ 7 }
@@ -68,9 +68,9 @@ pub fn say_lost<S: Sink>(sink: &mut S) -> u8
     say(sink, "lost\n", LOST)
 }
 
-/// Writes that no channel has a name, as the line `no channel c9`.
+/// Writes that no channel has this name, as `no channel c9`.
 ///
-/// The answer is the exit status: 1, or 7 if the write fails. No memory is taken.
+/// Returns the exit status: 1, or 7 if the write fails. Takes no memory.
 pub fn say_no_channel<S: Sink>(name: &str, sink: &mut S) -> u8
     ensures said { result ≢ 7 → (result ≡ 1) × Appends (S.contents sink.old) (S.contents sink.new) (no_channel_line name.now) }
     ensures room { S.takes sink.old (length (no_channel_line name.now)) ≡ true → result ≢ 7 }
@@ -81,7 +81,7 @@ pub fn say_no_channel<S: Sink>(name: &str, sink: &mut S) -> u8
     }
 }
 
-/// Writes the three parts of the line, since a name may be of any length.
+/// Writes the line in three parts, since a name may be of any length.
 fn write_no_channel<S: Sink>(name: &str, sink: &mut S) -> io::Result<()>
     ensures bytes { OnOk result (Appends (S.contents sink.old) (S.contents sink.new) (no_channel_line name.now)) }
     ensures room { S.takes sink.old (length (no_channel_line name.now)) ≡ true → IsOk result }

@@ -8,8 +8,8 @@ use std::io::{Read, Write};
 
 /// A source of bytes.
 ///
-/// `remaining` is what is left to read, if that is known, `is_steady` says that no read fails,
-/// and `has_failed` that some read has failed.
+/// `remaining` is what is left to read, if that is known; `is_steady` says that no read fails;
+/// `has_failed` says that some read has failed.
 pub trait Source {
     ghost remaining: { Self → Option (List ℕ) };
 
@@ -17,10 +17,10 @@ pub trait Source {
 
     ghost has_failed: { Self → Bool };
 
-    /// Reads the next bytes into the front of `buf`, and answers how many they are: no more than
+    /// Reads the next bytes into the front of `buf`, and returns how many they are: at most as many as
     /// `buf` has room for, and 0 only at the end or if `buf` is empty.
     ///
-    /// An error takes no byte from the source.
+    /// A read that fails consumes no byte of the source.
     fn read(&mut self, buf: &mut [u8]) -> io::Result<usize>
         ensures bound { ReadsAtMost result buf.new }
         ensures bytes { ReadConsumes (remaining self.old) (remaining self.new) result buf.new }
@@ -30,16 +30,14 @@ pub trait Source {
 
 /// A sink of bytes.
 ///
-/// `contents` is what has been written, if that is known, and `takes` says that so many more
-/// bytes can be written without a failure, in one write or in several.
+/// `contents` is what has been written, if that is known; `takes` says that a number of further bytes
+/// can be written without a failure, in one write or in several.
 pub trait Sink {
     ghost contents: { Self → Option (List ℕ) };
 
     ghost takes: { Self → ℕ → Bool };
 
-    /// Writes all the bytes.
-    ///
-    /// After an error some of them may have been written.
+    /// Writes all the bytes. If it fails, some of them may have been written.
     fn write_all(&mut self, bytes: &[u8]) -> io::Result<()>
         ensures bytes { OnOk result (Appends (contents self.old) (contents self.new) bytes.now) }
         ensures room { takes self.old (length bytes.now) ≡ true → IsOk result }
@@ -55,7 +53,7 @@ pub struct Fallible<S> {
 }
 
 impl<S> Fallible<S> {
-    /// Of a reader or a writer of which no read has failed.
+    /// Wraps a reader or a writer. No read has failed yet.
     pub fn new(inner: S) -> Fallible<S>
         ensures inner { result.inner ≡ inner }
         ensures has_failed { result.has_failed ≡ false }
@@ -91,7 +89,7 @@ impl<W: Write> Sink for Fallible<W> {
     }
 }
 
-/// Bytes in memory, of which a read takes the first; no read of them fails.
+/// Bytes in memory. A read takes the first of them, and never fails.
 impl Source for &[u8] {
     ghost remaining = { λ s. Some s.now };
 
@@ -104,7 +102,7 @@ impl Source for &[u8] {
     }
 }
 
-/// A vector to whose end bytes are written; a write for which it has room does not fail.
+/// A vector, to whose end bytes are written. A write for which it has room does not fail.
 impl Sink for Vec<u8> {
     ghost contents = { λ v. Some v.items };
 

@@ -4,7 +4,7 @@ use kpn_args::{Choice, WordsFault, read_words};
 use std::alloc::{AllocError, Global};
 use std::test::Fail;
 
-/// What the words ask for, as a text.
+/// What the arguments ask for, as a text.
 fn asked_for(alloc: Global, words: &[&str]) -> Result<String, AllocError> {
     match read_words(alloc, words) {
         Ok(Choice::Check) => format!(in alloc; "check"),
@@ -17,8 +17,8 @@ fn asked_for(alloc: Global, words: &[&str]) -> Result<String, AllocError> {
     }
 }
 
-/// Lines of words, and what they ask for: a check, a run by so many workers that shows a channel, or
-/// nothing, with the exit status and whether it is for the number of workers.
+/// Command lines, and what they ask for: a check; a run by a number of workers that shows a channel; or
+/// nothing, with the exit status and whether it is because of the number of workers.
 static WORDS: [(&str, &str); 23] = [
     ("kpn check", "check"),
     ("kpn run", "1 -"),
@@ -66,8 +66,8 @@ fn says_how_many_workers(rt: HostRuntime) -> Result<(), Fail> {
     Ok(())
 }
 
-/// If memory is refused, it is the fault, and nothing else changes: to be run with each
-/// allocation failing in turn.
+/// If memory is refused, that is the fault, and nothing else changes: to be run with each allocation
+/// failing in turn.
 #[test]
 fn tells_refused_memory_of_arguments(rt: HostRuntime) {
     match read_words(rt.alloc(), ["kpn", "run", "--show", "c0"].as_slice()) {

@@ -1,4 +1,4 @@
-//! Texts and command lines with what they come to, from outside; and what no clause says.
+//! Texts with their results, from outside; and what no clause says.
 ghost use Rattle.std.specs.Prelude.{◌≡◌, ◌<◌, ◌+◌, ◌^◌, ◌==◌, ◌&&◌, nat_lt, if◌then◌else◌, codes, [], ◌∷◌, Option, Some, None, slice_index};
 ghost use Rattle.std.specs.Str.{bytes_eq};
 
@@ -12,7 +12,7 @@ use std::io;
 use std::io::{Read, Write};
 use std::test::Fail;
 
-/// A counter and a sink, by their names, arguments and ports. What they do is no matter here: each
+/// A counter and a sink, with their names, arguments and ports. What they do doesn't matter here: each
 /// stops at once.
 struct CountAndSink;
 
@@ -259,7 +259,7 @@ fn refuses_texts_by_number(rt: HostRuntime) -> Result<(), Fail> {
     Ok(())
 }
 
-/// The text of so many sinks, and channels from the first to itself.
+/// The text of a network of `sinks` sinks, and `channels` channels from the first sink to itself.
 fn text_of(alloc: Global, sinks: u16, channels: u16) -> Result<String, AllocError> {
     let mut text = String::from_str(alloc, "version = 1\n")?;
     for i in 0..sinks {
@@ -277,8 +277,8 @@ fn text_of(alloc: Global, sinks: u16, channels: u16) -> Result<String, AllocErro
     Ok(text)
 }
 
-/// Numbers of processes and of channels to both sides of what a network may have: if they are not
-/// too many, the ports' faults come.
+/// Numbers of processes and of channels on both sides of the limits. If they are within the limits, the
+/// faults of the ports come.
 static COUNTS: [(u16, u16, u8); 5] = [
     (1, 0, 10),
     (64, 0, 10),
@@ -326,7 +326,7 @@ fn refuses_every_beginning(rt: HostRuntime) -> Result<(), Fail> {
     Ok(())
 }
 
-/// Gives or takes one byte a call, and fails after so many calls: from then on, or just once.
+/// Gives or takes one byte a call, and fails after a number of calls: from then on, or just once.
 #[derive(Drop)]
 struct Failing<'a> {
     bytes: &'a [u8],
@@ -420,8 +420,8 @@ fn writes_lines(rt: HostRuntime) -> Result<(), Fail> {
     Ok(())
 }
 
-/// If memory is refused, it is the fault, and nothing else changes: to be run with each
-/// allocation failing in turn.
+/// If memory is refused, that is the fault, and nothing else changes: to be run with each allocation
+/// failing in turn.
 #[test]
 fn answers_refused_memory_by_its_fault(rt: HostRuntime) {
     let number = number_of(rt.alloc(), COUNTER.as_bytes());

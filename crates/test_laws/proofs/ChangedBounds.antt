@@ -1,4 +1,4 @@
--- A small network for each changed bound, of which it fails.
+-- For each changed bound a small network for which it fails.
 use Rattle.std.proofs.Common.{◌≡◌, ◌≤◌, ◌<◌, inl, ⊎_elim, ℕ, List, [], ◌∷◌, ◌++◌, refl, subst, arith}
 use Rattle.kpn_model.specs.declared.history.Deed.{Deed}
 use Rattle.kpn_model.specs.declared.history.Entry.{Entry}
@@ -20,7 +20,7 @@ use Rattle.kpn_laws.proofs.Replay.{played_sound, full_sound, chosen_sound, still
 use Rattle.test_laws.proofs.WorkedRoom.{bounded_sound, ends_by, ends_in_two}
 
 module _ (rule : State → Entry → State → Type 0) (net : Network) (allows : (M : State) (p : ℕ) (d : Deed) (N : State) → Does standard net M p d N → rule M (Did p d) N) where
-  -- a run without growths is one by a rule with the same deeds
+  -- a run without growths is a run by any rule with the same deeds
   deeds_by : (M : State) (E : List Entry) (N : State) → growths E ≡ [] → Run standard net M E N → RunBy rule M E N
   deeds_by M [] N e r = r
   deeds_by M (Did p d ∷ E) N e r = (r.0, allows M p d r.0 r.1, deeds_by r.0 E N e r.2)
@@ -29,7 +29,7 @@ module _ (rule : State → Entry → State → Type 0) (net : Network) (allows :
       nil_not : (g : ℕ × ℕ) (gs : List (ℕ × ℕ)) → g ∷ gs ≡ [] → ⊥
       nil_not g gs e = cc
 
-  -- runs by a rule in turn
+  -- runs by a rule one after the other
   then_by : (M : State) (E : List Entry) (K : State) (F : List Entry) (N : State) → RunBy rule M E K → RunBy rule K F N → RunBy rule M (E ++ F) N
   then_by M [] K F N r q = subst (λ x. RunBy rule x F N) r q
   then_by M (e ∷ E) K F N r q = (r.0, r.1, then_by r.0 E K F N r.2 q)
@@ -41,11 +41,11 @@ until_blocked = Go 0 ∷ Go 1 ∷ Go 0 ∷ Go 1 ∷ Go 2 ∷ Go 1 ∷ Go 2 ∷ G
 abbrev both_blocked : List Entry × State
 both_blocked = led longer_parks_case (start standard longer_parks_case) until_blocked
 
--- that is a run
+-- this is a run
 until_blocked_run : Run standard longer_parks_case (start standard longer_parks_case) both_blocked.0 both_blocked.1
 until_blocked_run = played_sound standard longer_parks_case until_blocked (start standard longer_parks_case) both_blocked refl
 
--- there the counter's channel is to grow, of equal capacity and least number
+-- there the counter's channel has to grow: of the blocked ones, which have equal capacities, it has the least number
 blocked_chosen : IsChosen standard longer_parks_case both_blocked.1 0
 blocked_chosen = chosen_sound standard longer_parks_case both_blocked.1 0 0 (full_sound standard longer_parks_case both_blocked.1 0 0 refl) refl
 
@@ -60,7 +60,7 @@ counter_grown = with_channel both_blocked.1 0 (tokens both_blocked.1 0) 2
 abbrev blocked_again : List Entry × State
 blocked_again = led longer_parks_case counter_grown (Go 0 ∷ [])
 
--- greatest first: the channel of the counter, which is of no help, grows from two places if two suffice for all
+-- greatest first: the channel of the counter, where more room does not help, grows from two places although two suffice
 pub greatest_grows_fails : GrowsBelowBy GreatestGrows → ⊥
 greatest_grows_fails h =
     let net = longer_parks_case in
@@ -101,7 +101,7 @@ greatest_grows_fails h =
 abbrev one_put : List Entry × State
 one_put = led counter_into_sink (start standard counter_into_sink) (Go 0 ∷ [])
 
--- a growth that does not wait: the channel of the counter grows from one place, if one suffices
+-- a growth that does not wait: the channel of the counter grows from one place although one suffices
 pub early_growth_fails : GrowsBelowBy EarlyGrowth → ⊥
 early_growth_fails h =
     let net = counter_into_sink in
@@ -113,7 +113,7 @@ early_growth_fails h =
     let one_below_one : 1 < 1 = h net 1 (inl s) one_put.0 K (with_channel K 0 (tokens K 0) 2) 0 2 run grows in
     omega arith
 
--- each below its own: the counter's channel grows from one place, if the others have enough for it to need no more
+-- each below its own: the counter's channel grows from one place, although it needs no more if the others have enough
 pub each_below_its_own_fails : EachBelowItsOwn → ⊥
 unfolding ends_in_two ends_by
 each_below_its_own_fails h =
@@ -125,7 +125,7 @@ each_below_its_own_fails h =
 abbrev grown_by_four : List Entry × State
 grown_by_four = led growth_step (start standard growth_step) (Go 0 ∷ Go 1 ∷ Go 2 ∷ Go 3 ∷ Go 0 ∷ Grow 1 ∷ [])
 
--- a step above one: a channel grows from one place to five, if three suffice
+-- a step above one: a channel grows from one place to five although three suffice
 pub stays_up_to_fails : StaysUpTo → ⊥
 stays_up_to_fails h =
     let net = growth_step in

@@ -1,4 +1,4 @@
--- A small network for each changed definition, of which the law fails.
+-- For each changed definition a small network for which the law fails.
 use Rattle.std.proofs.Common.{◌≡◌, ◌≤◌, ℕ, zero, suc, List, [], ◌∷◌, ◌++◌, refl, sym, ap, ◌∙◌, subst, arith, ◌==◌, false, eq-eqb}
 use Rattle.kpn_model.specs.declared.token.Token.TheVariants.{Word}
 use Rattle.kpn_model.specs.declared.kinds.Act.{Act}
@@ -21,12 +21,12 @@ use Rattle.test_laws.proofs.Led.{led}
 use Rattle.kpn_laws.proofs.Replay.{played_sound, full_sound, chosen_sound, still_sound, over_sound}
 use Rattle.test_laws.proofs.WorkedNetworks.{has_counter_into_sink, has_counter_outlives_sink, has_equal_capacities}
 
--- numbers that a test tells apart are not one
+-- numbers that a test distinguishes are not equal
 different : (m n : ℕ) → m ≡ n → (m == n) ≡ false → ⊥
 different m n e f = let same = eq-eqb m n e in cc
 
 module _ (rule : State → Entry → State → Type 0) (net : Network) (allows : (M : State) (e : Entry) (N : State) → Step standard net M e N → rule M e N) where
-  -- a run is one by a rule that allows its steps
+  -- a run is a run by any rule that allows its steps
   by_rule : (M : State) (E : List Entry) (N : State) → Run standard net M E N → RunBy rule M E N
   by_rule M [] N r = r
   by_rule M (e ∷ E) N r = (r.0, allows M e r.0 r.1, by_rule r.0 E N r.2)
@@ -107,7 +107,7 @@ after_overfilled = led counter_outlives_sink overfilled (Go 0 ∷ [])
 puts_all_the_same : PutIntoFull counter_outlives_sink sink_stopped.1 (Did 0 (Put 0 (Word 3))) overfilled
 puts_all_the_same = record { answer = record { next = 3 ∷ 0 ∷ 0 ∷ 0 ∷ []; act = Write 0 (Word 3) }; wanted = refl; is_deed = (refl, refl); leaves = refl }
 
--- all was by the rules so far
+-- the put that does not ask for room
 before_overfilled : Run standard counter_outlives_sink (start standard counter_outlives_sink) sink_stopped.0 sink_stopped.1
 before_overfilled = played_sound standard counter_outlives_sink (Go 0 ∷ Go 1 ∷ Go 0 ∷ Go 1 ∷ []) (start standard counter_outlives_sink) sink_stopped refl
 
@@ -146,7 +146,7 @@ both_full = led equal_capacities (start standard equal_capacities) (Go 0 ∷ Go 
 abbrev second_grown : State
 second_grown = with_channel both_full.1 1 (tokens both_full.1 1) 2
 
--- what the counters then do, and the growth of the first
+-- what the counters then do, with the growth of the first channel
 abbrev after_second : List Entry × State
 after_second = led equal_capacities second_grown (Go 1 ∷ Go 1 ∷ Grow 0 ∷ Go 0 ∷ Go 0 ∷ [])
 

@@ -1,4 +1,4 @@
--- What a schedule of a network of the standard kinds leads to.
+-- Where a schedule of a network of the standard kinds leads.
 use Rattle.std.specs.Prelude.{List, [], unwrap_or}
 use Rattle.kpn_model.specs.declared.history.Entry.{Entry}
 use Rattle.kpn_model.specs.Network.{Network}

@@ -62,7 +62,7 @@ tokens_fit = All-from_recursion HasFitting parks.channels (empty_fits, (empty_fi
 pub parks_valid : IsValid signature parks
 parks_valid = valid named signature sketch refl cards_fit tokens_fit
 
--- until the right branch has to grow
+-- the schedule until the right branch has to grow
 abbrev before : List Turn
 before = Go 0 ∷ Go 1 ∷ Go 0 ∷ Go 1 ∷ Go 2 ∷ Go 1 ∷ Go 2 ∷ Go 3 ∷ Go 1 ∷ Go 0 ∷ Go 1 ∷ Go 2 ∷ Go 0 ∷ Go 2 ∷ Go 3 ∷ []
 

@@ -11,7 +11,7 @@ use Rattle.kpn_model.specs.Network.{Network}
 abbrev pub process : ℕ → ℕ → ℕ → Process
 process kind x y = record { name = []; card = record { kind = kind; args = x ∷ y ∷ 0 ∷ [] } }
 
--- writes n numbers, from `from` on, and stops
+-- writes the n numbers from `from` on, and stops
 abbrev pub count : ℕ → ℕ → Process
 count from n = process 0 from n
 
@@ -39,7 +39,7 @@ scale k = process 6 k 0
 abbrev pub weave : ℕ → ℕ → Process
 weave a b = process 7 a b
 
--- passes the lesser of two tokens on, and of equal ones one
+-- passes on the lesser of two tokens, and one of two equal ones
 abbrev pub merge : Process
 merge = process 8 0 0
 
@@ -47,15 +47,15 @@ merge = process 8 0 0
 abbrev pub divides : ℕ → Process
 divides m = process 9 m 0
 
--- passes each token on to the output that a flag says
+-- passes each token on to the output that a flag selects
 abbrev pub switch : Process
 switch = process 10 0 0
 
--- an empty channel of words from an output to an input, each a process and its port, with room for so many tokens
+-- an empty channel of words with this capacity, from an output to an input, each given by a process and its port
 abbrev pub words : ℕ × ℕ → ℕ × ℕ → ℕ → Channel
 words from to capacity = record { name = []; writer = from.0; out = from.1; reader = to.0; input = to.1; sort = Words; capacity = capacity; tokens = [] }
 
--- the same, of flags
+-- the same for flags
 abbrev pub flags : ℕ × ℕ → ℕ × ℕ → ℕ → Channel
 flags from to capacity = record (words from to capacity) { sort = Flags }
 

@@ -1,4 +1,4 @@
--- The bound of the least room changed in four ways. Each is said of the networks of the standard kinds, and fails.
+-- The bound of the least room changed in four ways. Each is stated for networks of the standard kinds, and is false.
 use Rattle.std.specs.Prelude.{min, ◌≡◌, ◌⊎◌, ℕ, ◌+◌, ◌<◌, ◌≤◌, List}
 use Rattle.kpn_model.specs.declared.history.Entry.{Entry}
 use Rattle.kpn_model.specs.declared.history.Entry.TheVariants.{Did, Grew}
@@ -10,13 +10,13 @@ use Rattle.kpn_standard.specs.Standard.{standard}
 use Rattle.kpn_laws.specs.Sufficient.{Suffices}
 use Rattle.test_laws.specs.ChangedRules.{RunBy}
 
--- if b places suffice, a growth by this rule is from fewer
+-- if b places suffice, each growth by this rule is from fewer
 abbrev pub GrowsBelowBy : (Network → State → Entry → State → Type 0) → Type 0
 GrowsBelowBy rule =
     (net : Network) (b : ℕ) → Suffices standard net b → (E : List Entry) (M N : State) (c to : ℕ)
     → RunBy (rule net) (start standard net) E M → rule net M (Grew c to) N → capacity M c < b
 
--- of the channels with a blocked writer the one of greatest capacity grows; of equal ones that of least number
+-- of the channels with a blocked writer the one of greatest capacity grows; among equals that of least number
 pub record GrowsGreatest (net : Network) (M : State) (c to : ℕ) (N : State) : Type 0 where
   pub artificial : IsArtificial standard net M
   pub writer : ℕ
@@ -27,12 +27,12 @@ pub record GrowsGreatest (net : Network) (M : State) (c to : ℕ) (N : State) : 
   pub to_is : to ≡ min (capacity M c + net.step) net.ceiling
   pub leaves : N ≡ with_channel M c (tokens M c) to
 
--- a step, if growths are such
+-- a step with such growths
 abbrev pub GreatestGrows : Network → State → Entry → State → Type 0
 GreatestGrows net M (Did p d) N = Does standard net M p d N
 GreatestGrows net M (Grew c to) N = GrowsGreatest net M c to N
 
--- if some capacities suffice, the chosen channel of an artificial deadlock has fewer places than it has among them
+-- if some capacities suffice, the chosen channel of an artificial deadlock has fewer places than among them
 abbrev pub EachBelowItsOwn : Type 0
 EachBelowItsOwn =
     (net : Network) (sizes : ℕ → ℕ) (F : List Entry) (N : State) (a : End) → IsFinal standard (resized net sizes) F N a → IsNatural a

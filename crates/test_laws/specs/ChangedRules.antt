@@ -1,4 +1,4 @@
--- Four definitions changed. A law is said of each as of the definition that stands, and fails.
+-- Four definitions changed. For each a law is stated as for the real definition, and is false.
 use Rattle.std.specs.Prelude.{min, ◌≡◌, ℕ, ◌+◌, ◌<◌, ◌≤◌, List, [], ◌∷◌, ◌++◌, Some}
 use Rattle.kpn_model.specs.declared.token.Token.{Token}
 use Rattle.kpn_model.specs.declared.kinds.Act.{Act}
@@ -41,12 +41,12 @@ pub record GrowsEarly (net : Network) (M : State) (c to : ℕ) (N : State) : Typ
   pub to_is : to ≡ min (capacity M c + net.step) net.ceiling
   pub leaves : N ≡ with_channel M c (tokens M c) to
 
--- a step, if growths are such
+-- a step with such growths
 abbrev pub EarlyGrowth : Network → State → Entry → State → Type 0
 EarlyGrowth net M (Did p d) N = Does standard net M p d N
 EarlyGrowth net M (Grew c to) N = GrowsEarly net M c to N
 
--- what an act comes to, if a write does not ask for room
+-- the deed of an act, if a write does not ask for room
 abbrev pub IsDeedAnyway : Network → State → ℕ → Act → Deed → Type 0
 IsDeedAnyway net M p (Write k w) (Put c t) = (out_of net p k ≡ Some c) × (t ≡ w)
 IsDeedAnyway net M p a d = IsDeed standard net M p a d
@@ -58,7 +58,7 @@ pub record DoesAnyway (net : Network) (M : State) (p : ℕ) (d : Deed) (N : Stat
   pub is_deed : IsDeedAnyway net M p answer.act d
   pub leaves : N ≡ after_deed standard net M p answer.next d
 
--- a step, if deeds are such
+-- a step with such deeds
 abbrev pub PutIntoFull : Network → State → Entry → State → Type 0
 PutIntoFull net M (Did p d) N = DoesAnyway net M p d N
 PutIntoFull net M (Grew c to) N = Grows standard net M c to N
@@ -73,7 +73,7 @@ pub record GrowsAnyLeast (net : Network) (M : State) (c to : ℕ) (N : State) : 
   pub to_is : to ≡ min (capacity M c + net.step) net.ceiling
   pub leaves : N ≡ with_channel M c (tokens M c) to
 
--- a step, if growths are such
+-- a step with such growths
 abbrev pub AnyOfEqual : Network → State → Entry → State → Type 0
 AnyOfEqual net M (Did p d) N = Does standard net M p d N
 AnyOfEqual net M (Grew c to) N = GrowsAnyLeast net M c to N

@@ -30,7 +30,7 @@ counter_outlives_sink_digest =
 abbrev pub CounterOutlivesSink : Type 0
 CounterOutlivesSink = HasDigest standard counter_outlives_sink counter_outlives_sink_digest
 
--- two full channels of one capacity: that of least number grows first
+-- two full channels of one capacity: the one of least number grows first
 abbrev pub equal_capacities : Network
 equal_capacities =
     network (count 1 2 ∷ count 1 2 ∷ sink 0 ∷ sink 0 ∷ [])
@@ -96,7 +96,7 @@ full_channel_of_stopped_writer_digest =
 abbrev pub FullChannelOfStoppedWriter : Type 0
 FullChannelOfStoppedWriter = HasDigest standard full_channel_of_stopped_writer full_channel_of_stopped_writer_digest
 
--- the same network if a growth adds four places: one growth each is enough
+-- the same network with growths of four places: one growth each is enough
 abbrev pub growth_step : Network
 growth_step =
     record smallest_full_channel_grows { step = 4 }

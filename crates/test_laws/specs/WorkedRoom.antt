@@ -10,15 +10,15 @@ use Rattle.kpn_standard.specs.Standard.{standard}
 use Rattle.kpn_laws.specs.Sufficient.{EndsWithin, LastsWithin}
 use Rattle.test_laws.specs.Building.{count, sink, copy, scale, weave, words, holding, numbers, network}
 
--- a process and a channel with a name, as a description gives them
+-- a process and a channel with a name, as in a description
 abbrev pub process_named : List ℕ → Process → Process
 process_named name p = record p { name = name }
 
 abbrev pub with_name : List ℕ → Channel → Channel
 with_name name c = record c { name = name }
 
--- Parks's case with a counter of five: if both the counter and the copy are blocked, one more place
--- for the copy is enough, and more room for the counter is of no help
+-- Parks's case with a counter of five: when the counter and the copy are both blocked, one more place for the copy is enough, and
+-- more room for the counter does not help
 abbrev pub longer_parks_case : Network
 longer_parks_case =
     network

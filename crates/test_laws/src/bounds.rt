@@ -2,13 +2,13 @@
 ghost use Rattle.test_laws.specs.ChangedRules.{EarlyGrowth};
 ghost use Rattle.test_laws.specs.ChangedBounds.{GrowsBelowBy, GreatestGrows, EachBelowItsOwn, StaysUpTo};
 
-/// The bound of `least_room` changed in four ways, each of which fails, of networks of the standard
-/// kinds.
+/// Does nothing: what it ensures is that the bound of `least_room`, changed in four ways, is false for
+/// networks of the standard kinds.
 ///
-/// `greatest_first`: if of the full channels the greatest grows, one may grow from as many places as
-/// suffice. `early`: so it is if a growth does not wait until no process can go on. `each_its_own`:
-/// the chosen channel may have as many places as suffice for it, if the others have as many as
-/// suffice for them. `no_step`: with a step above one a channel may grow to more places than suffice.
+/// `greatest_first`: if the greatest full channel grows, one may grow from as many places as suffice.
+/// `early`: the same if a growth does not wait until no process can go on. `each_its_own`: the chosen
+/// channel may have as many places as suffice for it, if the others have as many as suffice for them.
+/// `no_step`: with a step above one a channel may grow to more places than suffice.
 pub fn changed_bounds()
     ensures greatest_first { GrowsBelowBy GreatestGrows → ⊥ }
     ensures early { GrowsBelowBy EarlyGrowth → ⊥ }

@@ -1,5 +1,5 @@
-//! What meets the premises of the laws, networks that were worked out by hand, and definitions that were
-//! changed, of which a law is then false.
+//! What meets the premises of the laws, networks that were worked out by hand, and changed definitions
+//! that make a law false.
 //!
 //! A function here does nothing: what it ensures is proved.
 #![tactic(auto)]

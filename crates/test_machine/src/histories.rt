@@ -50,7 +50,7 @@ const HANDED_ON: History = History {
     end: None,
 };
 
-/// Commits the answers of these processes, in turn.
+/// Commits the answers of these processes one after the other, and returns the outcomes.
 fn outcomes_of<R: Abort>(
     rt: &R,
     alloc: Global,
@@ -65,7 +65,7 @@ fn outcomes_of<R: Abort>(
     Ok(outcomes)
 }
 
-/// Commits the answers of the processes, and compares what comes of it.
+/// Commits the answers of the processes, and compares the outcomes and the history.
 fn follow<R: Abort>(
     rt: &R,
     alloc: Global,

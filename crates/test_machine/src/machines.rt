@@ -1,4 +1,4 @@
-//! Calls of a machine, of which no more is said than the tests need.
+//! Calls of a machine, with only such contracts as the tests need.
 use crate::networks::{Parts, Sizes, parts_of};
 use kpn_body::{Finished, Standard, Task};
 use kpn_compute::CardBody;
@@ -13,7 +13,7 @@ pub(crate) type CardTask = Task<CardBody<Standard>>;
 
 pub(crate) type CardFinished = Finished<CardBody<Standard>>;
 
-/// A machine of a network of these sizes.
+/// Opens a machine of a network of these sizes.
 pub(crate) fn machine_of<R: Abort>(
     rt: &R,
     alloc: Global,
@@ -23,7 +23,7 @@ pub(crate) fn machine_of<R: Abort>(
     opened(rt, alloc, net, bodies)
 }
 
-/// Opens a machine, which memory alone may refuse.
+/// Opens a machine; only memory may be refused.
 pub(crate) fn opened<R: Abort>(
     rt: &R,
     alloc: Global,
@@ -39,7 +39,7 @@ pub(crate) fn opened<R: Abort>(
     }
 }
 
-/// The next task, where a process is ready.
+/// Takes the next task, if a process is ready.
 pub(crate) fn take(machine: &mut CardMachine) -> Option<CardTask> {
     machine.take()
 }
@@ -57,7 +57,7 @@ pub(crate) fn take_all(
     Ok(())
 }
 
-/// The answer of a process that is out.
+/// Calls the body of a process that is out, and returns its answer.
 pub(crate) fn answer_of<R: Abort>(
     rt: &R,
     tasks: &mut Vec<CardTask>,

@@ -42,7 +42,7 @@ pub(crate) struct Parts {
     pub(crate) bodies: Vec<CardBody<Standard>>,
 }
 
-/// A network of these sizes, with its bodies. The error is want of memory.
+/// A network of these sizes, with its bodies. Fails if memory was refused.
 pub(crate) fn parts_of<R: Abort>(rt: &R, alloc: Global, sizes: Sizes) -> Result<Parts, AllocError> {
     let text = text_of(alloc, sizes)?;
     let net = net_of(rt, alloc, text.as_str())?;
@@ -75,7 +75,7 @@ to = \"snk\"
     )
 }
 
-/// The network of a description that nothing but want of memory refuses.
+/// The network of a description that is refused only if memory is.
 fn net_of<R: Abort>(rt: &R, alloc: Global, text: &str) -> Result<Net<Standard>, AllocError> {
     match check_text(alloc, text) {
         Ok(net) => Ok(net),

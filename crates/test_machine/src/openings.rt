@@ -17,7 +17,7 @@ fn assert_cards<R: Abort>(rt: &R, bodies: &[CardBody<Standard>], cards: &[Card],
     }
 }
 
-/// What a fresh machine was opened with.
+/// Takes apart a fresh machine.
 fn taken_apart<R: Abort>(rt: &R, machine: CardMachine) -> Parts {
     assert!(rt; machine.is_fresh());
     let (net, bodies) = machine.into_parts();
@@ -43,7 +43,8 @@ fn the_parts_of_a_fresh_machine_open_again(rt: HostRuntime) -> Result<(), Fail> 
     Ok(())
 }
 
-/// What a machine was not opened with: the fault with its number, and the cards of the bodies.
+/// What a refused machine was to be opened with: the fault with its number, and the cards of the
+/// bodies.
 #[derive(Clone, Copy)]
 pub(crate) struct Misfit {
     pub(crate) name: &'static str,
@@ -79,7 +80,7 @@ pub(crate) fn assert_handed_back<R: Abort>(
     assert_cards(rt, refused.bodies.as_slice(), due.cards, name);
 }
 
-/// Is refused a machine, and handed back what it was to be opened with.
+/// Tries to open a machine that is refused, and compares what is handed back.
 fn open_misfit<R: Abort>(
     rt: &R,
     alloc: Global,

@@ -1,4 +1,4 @@
-//! One request for memory refused, whichever it is.
+//! One request for memory is refused, whichever it is.
 use crate::entries::{PUT_1, PUT_2, SINK_STOPPED, TOOK_1};
 use crate::machines::{CardMachine, CardTask, commit_of, take};
 use crate::networks::{COUNTER, Parts, SINK_OF_ONE, parts_of};
@@ -34,7 +34,7 @@ const NO_MEMORY: Misfit = Misfit {
     ],
 };
 
-/// Opens a machine, again with what came back if it is refused memory.
+/// Opens a machine, and tries again with what was handed back if memory was refused.
 fn open_again<R: Abort>(
     rt: &R,
     alloc: Global,
@@ -55,7 +55,7 @@ fn open_again<R: Abort>(
     }
 }
 
-/// Opens a machine, which nothing refuses.
+/// Opens a machine, which must succeed.
 fn open_at_last<R: Abort>(
     rt: &R,
     alloc: Global,
@@ -66,7 +66,7 @@ fn open_at_last<R: Abort>(
     opening.ok().expect(rt, "refused again")
 }
 
-/// Commits the answers up to the one that needs a growth, and tells whether the growth was refused.
+/// Commits the answers up to the one that needs a growth, and returns whether the growth was refused.
 fn grow<R: Abort>(
     rt: &R,
     machine: &mut CardMachine,
@@ -92,7 +92,7 @@ fn assert_ended<R: Abort>(rt: &R, machine: &mut CardMachine) {
     assert!(rt; take(machine).is_none());
 }
 
-/// A run that needs a growth, which tells the request that it met refused.
+/// Makes a run that needs a growth, and returns which request was refused.
 fn growing_run<R: Abort>(rt: &R, alloc: Global) -> Result<Refused, AllocError> {
     let Parts { net, bodies } = parts_of(rt, alloc, SINK_OF_ONE)?;
     let mut tasks = Vec::with_capacity(alloc, 2)?;

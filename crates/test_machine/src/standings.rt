@@ -1,4 +1,4 @@
-//! Where the processes stand, from the opening to the end.
+//! The standings of the processes, from the opening to the end.
 use crate::entries::PUT_1;
 use crate::machines::{CardMachine, CardTask, commit_of, machine_of, take, take_all};
 use crate::networks::{SINK_OF_THREE, Sizes};
@@ -21,7 +21,7 @@ struct Counts {
     fresh: bool,
 }
 
-/// Where the two processes stand.
+/// The standings of the two processes, with the counts.
 #[derive(Clone, Copy)]
 struct Stand {
     standings: [Standing; 2],

@@ -25,13 +25,13 @@ fn start_of<K: Kinds>(card: Card) -> Local
     start
 }
 
-/// An answer of the body as the task of process 0 at its start, which no machine asked for.
+/// The answer of a body as the task of process 0 at its start, for which no machine asked.
 fn unasked<K: Computes>(body: CardBody<K>) -> Finished<CardBody<K>> {
     let start = start_of::<K>(body.card());
     Task::new(0, body, start, None).call()
 }
 
-/// The counter's first answer, from a body that no machine has.
+/// The counter's first answer, from a body that belongs to no machine.
 fn answer_of_another_body<R: Abort>(rt: &R, alloc: Global) -> Result<CardFinished, AllocError> {
     let Parts { net: _, mut bodies } = parts_of(rt, alloc, SINK_OF_THREE)?;
     bodies.pop();
@@ -47,7 +47,7 @@ fn assert_first_answer<R: Abort>(rt: &R, finished: &CardFinished) {
     assert_eq!(rt; finished.last(), None);
 }
 
-/// Commits the counter's first answer again, which comes back and changes nothing.
+/// Commits the counter's first answer again, which is handed back and changes nothing.
 fn refuse_again<R: Abort>(
     rt: &R,
     machine: &mut CardMachine,
@@ -61,7 +61,7 @@ fn refuse_again<R: Abort>(
     finished
 }
 
-/// Both processes go out; the answer of the counter.
+/// Takes both processes, and returns the answer of the counter.
 fn counter_answers<R: Abort>(
     rt: &R,
     alloc: Global,
@@ -80,7 +80,7 @@ fn accept_first<R: Abort>(rt: &R, machine: &mut CardMachine, finished: CardFinis
     assert_eq!(rt; machine.commits(), 1);
 }
 
-/// Commits the counter's first answer if the counter is not out, which comes back and changes
+/// Commits the counter's first answer while the counter is not out; it is handed back and changes
 /// nothing.
 fn refuse_fresh<R: Abort>(
     rt: &R,
@@ -93,7 +93,7 @@ fn refuse_fresh<R: Abort>(
     finished
 }
 
-/// The task of the counter after its first token.
+/// Takes the task of the counter after its first token.
 fn second_task<R: Abort>(rt: &R, machine: &mut CardMachine) -> CardTask {
     let task = take(machine).expect(rt, "the counter is not ready");
     assert_eq!(rt; task.process(), 0);
@@ -126,8 +126,8 @@ fn an_answer_that_was_not_asked_for_is_handed_back(rt: HostRuntime) -> Result<()
     Ok(())
 }
 
-/// The counter's answer in the one machine comes to the other, if the counter is not out: it is
-/// handed back, and accepted if it was asked for.
+/// The counter's answer from one machine is committed to the other while its counter is not out: it is
+/// handed back, and then accepted by the machine that asked for it.
 #[test]
 fn an_answer_of_another_machine_is_handed_back(rt: HostRuntime) -> Result<(), Fail> {
     let mut one = machine_of(&rt, rt.alloc(), SINK_OF_THREE)?;
@@ -150,7 +150,7 @@ fn park_second<R: Abort>(
     Ok(())
 }
 
-/// If both machines ask the same, the answer of the one is as good as that of the other; the one
+/// If both machines ask the same, the answer from one is as good as the answer from the other; the one
 /// that comes second is handed back.
 #[test]
 fn an_answer_to_the_same_question_is_taken_once(rt: HostRuntime) -> Result<(), Fail> {
@@ -164,7 +164,7 @@ fn an_answer_to_the_same_question_is_taken_once(rt: HostRuntime) -> Result<(), F
     Ok(())
 }
 
-/// The counter's first answer is taken without being compared again, since the machine said that it has
+/// The counter's first answer is taken without being compared again, since the machine said that it had
 /// asked for it.
 #[test]
 fn an_answer_that_was_asked_for_is_taken_at_once(rt: HostRuntime) -> Result<(), Fail> {

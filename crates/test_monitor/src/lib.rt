@@ -1,5 +1,5 @@
-//! A caller of `kpn_monitor` that has two openings, which must-fail edits confuse: a monitor can be
-//! opened only under the names of its own opening, so no seat of another monitor has its seats' type.
+//! A caller of `kpn_monitor` with two openings, which must-fail edits confuse. A monitor can be opened
+//! only under the names of its own opening, so no seat of another monitor has the type of its seats.
 #![tactic(auto)]
 
 ghost use Rattle.std.specs.Prelude.{◌≡◌};

@@ -1,5 +1,5 @@
-//! A description of a counter into a sink, and what each call gives of it; the numbers of the faults;
-//! texts and lists.
+//! A description of a counter into a sink, and what each call returns for it; the numbers of the
+//! faults; texts and lists.
 ghost use Rattle.std.specs.Prelude.{◌≡◌, ◌<◌, ◌+◌, ◌^◌, ◌==◌, ◌&&◌, nat_lt, if◌then◌else◌, codes, [], ◌∷◌, Option, Some, None, slice_index};
 ghost use Rattle.std.specs.Str.{bytes_eq};
 
@@ -9,7 +9,7 @@ use kpn_net::{
 };
 use std::test::Fail;
 
-/// A counter and a sink, by their names, arguments and ports. What they do is no matter here: each
+/// A counter and a sink, with their names, arguments and ports. What they do doesn't matter here: each
 /// stops at once.
 struct CountAndSink;
 

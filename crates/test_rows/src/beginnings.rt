@@ -1,4 +1,4 @@
-//! Beginnings of a description.
+//! Prefixes of a description.
 use crate::texts::PARKS;
 use kpn_front::load::load;
 use kpn_net::{Net, NetFault};
@@ -11,7 +11,7 @@ fn is_accepted(alloc: Global, text: &[u8]) -> bool {
     net.is_ok()
 }
 
-/// Every beginning that lacks more than the last line feed is refused, and the rest is accepted.
+/// Every prefix that lacks more than the last line feed is refused, and the longer ones are accepted.
 #[test]
 fn only_the_whole_text_is_accepted(rt: HostRuntime) {
     let text = PARKS.as_bytes();

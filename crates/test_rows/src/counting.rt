@@ -80,8 +80,8 @@ fn network_of(alloc: Global, text: &str) -> Result<Net<Standard>, NetFault> {
     load(alloc, &mut source)
 }
 
-/// What is shown, the exit status, what is written, and how often the bodies are called: in the run
-/// once for each of its deeds, and not at all if no channel has the name to show.
+/// What is shown, the exit status, what is written, and how often the bodies are called: once for each
+/// deed of the run, and not at all if no channel has the name to show.
 static SHOWN: [(&str, u8, &str, u64); 2] = [
     (
         "c0",
@@ -143,7 +143,7 @@ fn a_task_calls_its_body_once(rt: HostRuntime) -> Result<(), Fail> {
 static HAMMING_FIRST: [u64; 10] = [1, 2, 3, 4, 5, 6, 8, 9, 10, 12];
 
 /// Hamming's numbers: the products of twos, threes and fives, in order. The budget is spent, and the
-/// sink has been given these ten first, whatever the schedule.
+/// sink has first taken these ten, whatever the schedule.
 #[test]
 fn hamming_numbers_come_in_order(rt: HostRuntime) -> Result<(), Fail> {
     let alloc = rt.alloc();

@@ -1,4 +1,4 @@
-//! Texts that were not written to be run: the longest, the largest, and what is no description.
+//! Texts that were not written to be run: the longest, the largest, and texts that are no description.
 use crate::describing::{Description, Port};
 use crate::runs::{WORKERS, outcome_of, outcome_of_words};
 use crate::texts::COUNTER;
@@ -9,7 +9,7 @@ use std::test::Fail;
 /// How many bytes a description may have.
 const LONGEST: usize = 1_048_576;
 
-/// The counter's text with so many bytes, of which those at the end are line feeds.
+/// The counter's text, filled up to `length` bytes with line feeds at its end.
 fn filled(alloc: Global, length: usize) -> Result<String, AllocError> {
     let filling = "\n".repeat(alloc, length.saturating_sub(COUNTER.len()))?;
     format!(in alloc; "{COUNTER}{filling}")
@@ -51,15 +51,15 @@ fn hostile_edits_are_refused(rt: HostRuntime) -> Result<(), Fail> {
     Ok(())
 }
 
-/// A key whose value is arrays in one another, so many deep; they are closed, or the text ends.
+/// A key whose value is arrays nested `deep` deep; they are closed, or the text ends.
 fn nested(alloc: Global, deep: usize, closed: bool) -> Result<String, AllocError> {
     let open = "[".repeat(alloc, deep)?;
     let close = "]".repeat(alloc, if closed { deep } else { 0 })?;
     format!(in alloc; "version = {open}{close}\n")
 }
 
-/// How deep arrays lie in one another, whether they are closed, and what is written: beyond 80 it is
-/// no TOML to the reader.
+/// How deep the arrays are nested, whether they are closed, and what is written: beyond 80 it is no
+/// TOML for the reader.
 static NESTED: [(usize, bool, &str); 4] = [
     (1000, false, "refused 1\n"),
     (100_000, true, "refused 1\n"),
@@ -86,7 +86,7 @@ fn bytes_that_are_no_text_are_refused(rt: HostRuntime) -> Result<(), Fail> {
     Ok(())
 }
 
-/// A description with so many counters of nothing and so many channels from the first to itself.
+/// A description with `processes` counters of nothing and `channels` channels from the first to itself.
 fn crowd(alloc: Global, processes: usize, channels: usize) -> Result<Description, AllocError> {
     let mut description = Description::new(alloc, 10_000)?;
     for i in 0..processes {
@@ -119,10 +119,10 @@ fn one_too_many_is_refused(rt: HostRuntime) -> Result<(), Fail> {
     Ok(())
 }
 
-/// How many processes of a chain hand tokens on.
+/// How many processes of a chain pass tokens on.
 const LINKS: usize = 62;
 
-/// A counter of a hundred, so many scales by one, and a sink of a hundred, in one chain.
+/// A counter of a hundred, `LINKS` scales by one, and a sink of a hundred, in one chain.
 fn chain(alloc: Global) -> Result<Description, AllocError> {
     let mut description = Description::new(alloc, 20_000)?;
     description.process("src", "count", "1, 100")?;

@@ -20,7 +20,7 @@ fn counter_into_nothing(
 }
 
 /// What is written of it, if `capacity` is less than `tokens` and the ceiling is not reached: the
-/// channel grows by one place for each token that it has no room for.
+/// channel grows by one place for each token for which it has no room.
 fn grown_lines(alloc: Global, tokens: usize, capacity: usize) -> Result<String, Fail> {
     let mut lines = String::new(alloc);
     let steps = tokens.wrapping_add(1);
@@ -56,8 +56,9 @@ fn channels_grow_far(rt: HostRuntime) -> Result<(), Fail> {
     Ok(())
 }
 
-/// A ring of 32 copies and 32 adders: each copy feeds both inputs of its adder, and each adder the
-/// next copy. There are 64 processes and 96 channels, each port the end of one, and all wait.
+/// A ring of 32 copies and 32 adders: each copy feeds both inputs of its adder, and each adder the next
+/// copy. There are 64 processes and 96 channels, each port is the end of one channel, and all processes
+/// wait.
 fn ring_of_copies(alloc: Global) -> Result<Description, AllocError> {
     let mut description = Description::new(alloc, 1_000_000)?;
     for i in 0..32usize {

@@ -21,7 +21,7 @@ const ROOM: usize = 16384;
 /// How many workers run each description: what is written is the same.
 pub(crate) const WORKERS: [&str; 3] = ["1", "2", "16"];
 
-/// The outcome of `kpn run` on a description by so many workers, with the stream of a channel if one
+/// The outcome of `kpn run` on a description by `workers` workers, with the stream of a channel if one
 /// is named.
 pub(crate) fn outcome_of<R: Threads + Wait + Clock + Sync>(
     rt: &R,
@@ -40,7 +40,7 @@ pub(crate) fn outcome_of<R: Threads + Wait + Clock + Sync>(
     }
 }
 
-/// The outcome of the program on these words and this input.
+/// The outcome of the program with these arguments and this input.
 pub(crate) fn outcome_of_words<R: Threads + Wait + Clock + Sync>(
     rt: &R,
     alloc: Global,
@@ -216,7 +216,7 @@ fn runs_tell_their_outcome(rt: HostRuntime) -> Result<(), Fail> {
     Ok(())
 }
 
-/// A description, its parts and what takes their places, the exit status, and what is written.
+/// A description, its parts and their replacements, the exit status, and what is written.
 type Row = (
     &'static str,
     &'static [(&'static str, &'static str)],
@@ -374,7 +374,7 @@ fn shows_the_named_stream(rt: HostRuntime) -> Result<(), Fail> {
     Ok(())
 }
 
-/// Words, a description, the exit status, the number of the fault or 0, and what is written.
+/// Arguments, a description, the exit status, the number of the fault or 0, and what is written.
 static CHECKS: [(&[&str], &str, u8, u8, &str); 6] = [
     (
         &["kpn", "check"],
@@ -401,8 +401,8 @@ fn words_choose_what_is_done(rt: HostRuntime) -> Result<(), Fail> {
     Ok(())
 }
 
-/// If a request for memory is refused, that is all that is told, and the status is 4. With ample
-/// memory the run is told; `tests/refuse_each_allocation` refuses each request in turn.
+/// If a request for memory is refused, only that is written, and the status is 4. With ample memory the
+/// run is written; `tests/refuse_each_allocation` refuses each request in turn.
 #[test]
 fn tells_a_refusal_or_the_run(rt: HostRuntime) -> Result<(), Fail> {
     let (text, show, status, lines) = RUNS[0];

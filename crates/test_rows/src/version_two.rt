@@ -91,7 +91,7 @@ to = \"snk\"
 capacity = 999990
 ";
 
-/// A description and its edits: the parts, and what takes their places.
+/// A description and its edits: the parts, and their replacements.
 #[derive(Clone, Copy)]
 struct Edited {
     text: &'static str,
@@ -101,8 +101,8 @@ struct Edited {
 /// How many workers run each description.
 const WORKERS: [&str; 2] = ["1", "4"];
 
-/// The outcome of a description with edits, by so many workers, with the stream of a channel if
-/// one is named.
+/// The outcome of a description with edits, by `workers` workers, with the stream of a channel if one
+/// is named.
 fn outcome<R: Threads + Wait + Clock + Sync>(
     rt: &R,
     alloc: Global,

@@ -8,8 +8,8 @@ use kpn_net::{Answer, Card, Local, Net, Token, read_sketch};
 use std::alloc::{AllocError, Global};
 use std::test::Fail;
 
-/// A body of a standard card that has no closure, so that the code of a test can name its monitor.
-/// Bodies with closures are run by workers in `meeting`.
+/// A body of a standard card without a closure, so that the code of a test can name its monitor.
+/// `meeting` runs bodies with closures.
 #[derive(Drop)]
 pub(crate) struct CardBody {
     card: Card,
@@ -51,7 +51,7 @@ pub(crate) fn bodies_of(alloc: Global, net: &Net<Standard>) -> Result<Vec<CardBo
     make_bodies(alloc, cards.as_slice())
 }
 
-/// A body of each of these cards.
+/// A body for each of these cards.
 fn make_bodies(alloc: Global, cards: &[Card]) -> Result<Vec<CardBody>, AllocError>
     requires { All (λ card. IsSome (signature card)) cards.now }
 {

@@ -31,8 +31,8 @@ fn with_capacities(alloc: Global, text: &str, capacities: &[usize]) -> Result<St
     Ok(described)
 }
 
-/// The report of Parks's case: nothing but capacities, growths and the number of entries depends on
-/// where the capacities start, and the third channel grows if it starts at one place.
+/// The report of Parks's case: only capacities, growths and the number of entries depend on the
+/// starting capacities, and the third channel grows if it starts with one place.
 fn woven_lines(alloc: Global, capacities: [usize; 4]) -> Result<String, Fail> {
     let [c0, c1, c2, c3] = capacities;
     let (grown, growth, entries) = match c2 {
@@ -81,7 +81,7 @@ fn parks_case_from_all_capacities(rt: HostRuntime) -> Result<(), Fail> {
 }
 
 /// The report of two counters of three into sinks of nothing: each channel grows to three places, the
-/// smaller first, and of equal ones the first.
+/// smaller first, and the first one if they are equal.
 fn two_full_lines(alloc: Global, first: usize, second: usize) -> Result<String, Fail> {
     let mut lines = String::new(alloc);
     writeln!(

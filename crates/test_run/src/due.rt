@@ -1,4 +1,4 @@
-//! What is due of runs, and how a run is compared with it.
+//! The expected results of runs, and how a run is compared with them.
 ghost use Rattle.std.specs.Prelude.{◌<◌, length};
 
 use kpn_machine::Standing;
@@ -9,7 +9,7 @@ use kpn_run::{Finish, report, stream_of};
 use std::alloc::{AllocError, Global};
 use std::process::Abort;
 
-/// What is due of a run.
+/// The expected result of a run.
 #[derive(Clone, Copy)]
 pub(crate) struct Due {
     pub(crate) end: End,
@@ -81,7 +81,7 @@ stream c0 1 2 3
     stream: &[Word(1), Word(2), Word(3)],
 };
 
-/// The smallest full channel grows first, and of equal ones the one of least number.
+/// The smallest full channel grows first, and among equals the one of least number.
 pub(crate) const TWO_FULL_END: Due = Due {
     end: End::Terminated,
     entries: 13,
@@ -104,7 +104,7 @@ stream c1 1 2 3
     stream: &[Word(1), Word(2), Word(3)],
 };
 
-/// Compares a run with what is due, its report to the byte.
+/// Compares a run with its expected result, its report to the byte.
 pub(crate) fn compare<K: Kinds, R: Abort>(
     rt: &R,
     alloc: Global,
@@ -117,7 +117,7 @@ pub(crate) fn compare<K: Kinds, R: Abort>(
     compare_stream(rt, alloc, finish, due.show, due.stream)
 }
 
-/// Compares how a run ended, and how many of each there are.
+/// Compares how a run ended, and its numbers of entries, growths and stopped processes.
 fn compare_numbers<K: Kinds, R: Abort>(rt: &R, finish: &Finish<K>, due: &Due) {
     assert_eq!(rt; finish.receipts(), due.entries);
     assert_eq!(rt; finish.history().len() as u64, due.entries);
@@ -135,7 +135,7 @@ fn stopped_in(standings: &[Standing]) -> usize {
         .count()
 }
 
-/// The text of a run's report, with the stream of a channel if one is to be shown.
+/// The text of a run's report, with the stream of a channel if one is given.
 pub(crate) fn text_of<K: Kinds>(
     alloc: Global,
     finish: &Finish<K>,
@@ -145,7 +145,7 @@ pub(crate) fn text_of<K: Kinds>(
     report_text(alloc, finish.net(), &report, show)
 }
 
-/// Compares the stream of a channel with the tokens that are due.
+/// Compares the stream of a channel with the expected tokens.
 pub(crate) fn compare_stream<K: Kinds, R: Abort>(
     rt: &R,
     alloc: Global,

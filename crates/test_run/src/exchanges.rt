@@ -13,7 +13,7 @@ use std::sync::Wait;
 use std::sync::ledger::Ledger;
 use std::time::Duration;
 
-/// What an exchange came to: how many tasks were called before it, how many entries its answers
+/// The result of an exchange: how many tasks were called before it, how many entries its answers
 /// appended, and what the hand was given.
 #[derive(Clone, Copy, Debug, PartialEq, Eq)]
 struct Round {
@@ -22,7 +22,7 @@ struct Round {
     next: Next,
 }
 
-/// Calls all tasks of a hand, and tells how many.
+/// Calls all tasks of a hand, and returns how many there were.
 fn call_all<B: Body, R: Wait>(rt: &R, hand: &mut Hand<B>) -> usize
     ensures { hand.new.called ≡ length hand.new.tasks }
 {
@@ -70,7 +70,7 @@ fn play_round<B: Body, E: EntryLedger, O: Ledger, R: Wait + Abort>(
 }
 
 /// One hand plays a counter of three into a sink of three to its end. In each round but the first both
-/// processes do what they do next; once a hand asks for no task, and once it is idle.
+/// processes do their next act. Once the hand asks for no task, and once it is idle.
 pub(crate) fn exchanged<B: Body, E: EntryLedger, O: Ledger, R: Wait + Clock + Abort>(
     rt: &R,
     alloc: Global,

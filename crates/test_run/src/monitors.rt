@@ -1,4 +1,4 @@
-//! Calls of a monitor, of which no more is said than the scenes need.
+//! Calls of a monitor, with only such contracts as the scenes need.
 ghost use Rattle.std.specs.Prelude.{◌≡◌};
 
 use crate::bodies::{CardBody, Parts, parts_of};
@@ -14,7 +14,7 @@ use std::sync::Wait;
 use std::sync::ledger::Ledger;
 use std::test::Fail;
 
-/// What stands in a monitor that is closed.
+/// What is read from a monitor that was closed.
 #[derive(Clone, Copy, PartialEq, Eq)]
 pub(crate) struct Ended {
     pub(crate) end: Option<End>,
@@ -35,7 +35,7 @@ pub(crate) fn opening_of(alloc: Global, text: &str) -> Result<Opening<CardBody>,
     Ok(opening)
 }
 
-/// The parts of a seat by two.
+/// Splits a seat in two.
 pub(crate) fn two_seats<E: EntryLedger, O: Ledger, R: Abort>(
     rt: &R,
     mut seat: Seat<E, O>,
@@ -108,7 +108,7 @@ pub(crate) fn handed_back<B: Body, E: EntryLedger, O: Ledger, R: Wait + Abort>(
     finished
 }
 
-/// Works alone to the end of the run, if no answer is refused.
+/// Works alone to the end of the run; no answer may be refused.
 pub(crate) fn work_alone<B: Body, E: EntryLedger, O: Ledger, R: Wait + Abort>(
     rt: &R,
     monitor: &Monitor<B, E, O>,
@@ -127,7 +127,7 @@ pub(crate) fn seat_of<B: Body, E: EntryLedger, O: Ledger, R: Abort>(
     seat
 }
 
-/// Closes a monitor of which this seat has all parts.
+/// Closes a monitor with this seat, which has all parts.
 pub(crate) fn close_alone<B: Body, E: EntryLedger, O: Ledger, R: Abort>(
     rt: &R,
     alloc: Global,
@@ -139,7 +139,7 @@ pub(crate) fn close_alone<B: Body, E: EntryLedger, O: Ledger, R: Abort>(
     Ok(close_with(rt, monitor, seats))
 }
 
-/// Closes a monitor of which these seats have all parts.
+/// Closes a monitor with these seats, which have all parts.
 pub(crate) fn close_with<B: Body, E: EntryLedger, O: Ledger, R: Abort>(
     rt: &R,
     monitor: Monitor<B, E, O>,
@@ -151,7 +151,7 @@ pub(crate) fn close_with<B: Body, E: EntryLedger, O: Ledger, R: Abort>(
     closed
 }
 
-/// What stands in a monitor that is closed.
+/// Reads the result of a monitor that was closed.
 pub(crate) fn ended_of<K: Kinds, E: EntryLedger>(closed: &Closed<K, E>) -> Ended {
     Ended {
         end: closed.end(),

@@ -1,7 +1,7 @@
-//! One request for memory refused, whichever it is.
+//! One request for memory is refused, whichever it is.
 //!
-//! Each test passes whichever request is refused, and prints which one was. What can be done again is
-//! done again with what came back, and succeeds.
+//! Each test passes whichever request is refused, and prints which one was. What can be tried again is
+//! tried again with what was handed back, and succeeds.
 ghost use Rattle.std.specs.Prelude.{◌≡◌, ◌<◌};
 ghost use Rattle.kpn_machine.specs.MachineView.{IsFresh};
 
@@ -37,7 +37,7 @@ enum Refused {
     Growth,
     Report,
     Stream,
-    /// One of the test's own, which makes the bodies or the texts.
+    /// One of the test's own requests, for the bodies or the texts.
     Elsewhere,
 }
 
@@ -57,7 +57,7 @@ impl Refused {
     }
 }
 
-/// Loads a description, again from its beginning if memory was refused.
+/// Loads a description, and tries again from its beginning if memory was refused.
 fn load_again<R: Abort>(rt: &R, alloc: Global, text: &str) -> (Net<Standard>, Refused) {
     match load_text(alloc, text) {
         Ok(net) => return (net, Refused::Nothing),
@@ -74,7 +74,7 @@ fn load_text(alloc: Global, text: &str) -> Result<Net<Standard>, NetFault> {
     load(alloc, &mut source)
 }
 
-/// Runs Parks's case, again with what came back if memory was refused.
+/// Runs Parks's case, and tries again with what was handed back if memory was refused.
 fn finish_again<B: Body, R: Threads + Wait + Clock + Abort + Sync>(
     rt: &R,
     alloc: Global,
@@ -95,7 +95,7 @@ fn finish_again<B: Body, R: Threads + Wait + Clock + Abort + Sync>(
     }
 }
 
-/// Reports, again if memory was refused.
+/// Makes a report, and tries again if memory was refused.
 fn report_again<K: Kinds, R: Abort>(
     rt: &R,
     alloc: Global,
@@ -110,7 +110,7 @@ fn report_again<K: Kinds, R: Abort>(
     (report, Refused::Report)
 }
 
-/// The stream of the last channel, again if memory was refused.
+/// Makes the stream of the last channel, and tries again if memory was refused.
 fn stream_again<K: Kinds, R: Abort>(
     rt: &R,
     alloc: Global,
@@ -127,8 +127,8 @@ fn stream_again<K: Kinds, R: Abort>(
     (stream, Refused::Stream)
 }
 
-/// A run whose growth was refused its memory: it ended there, with a history that no other run of the
-/// network contradicts, and without a detail.
+/// Compares a run whose growth was refused its memory: it ended there, with a history that contradicts
+/// no other run of the network, and without a detail.
 fn ends_for_memory<K: Kinds, R: Abort>(
     rt: &R,
     alloc: Global,
@@ -174,8 +174,8 @@ fn tell_again<K: Kinds, R: Abort>(
     Ok(first_refused(&[report, stream]))
 }
 
-/// Loads and runs Parks's case, with its report and a stream. The error is want of memory for what is
-/// the test's own.
+/// Loads and runs Parks's case, with its report and a stream. Fails if memory for the test itself was
+/// refused.
 fn run_refused<R: Threads + Wait + Clock + Abort + Sync>(
     rt: &R,
     alloc: Global,
@@ -192,7 +192,8 @@ fn run_refused<R: Threads + Wait + Clock + Abort + Sync>(
     Ok(first_refused(&[load, run, told]))
 }
 
-/// Opens a machine of a counter and a sink, again with what came back if memory was refused.
+/// Opens a machine of a counter and a sink, and tries again with what was handed back if memory was
+/// refused.
 fn machine_again<B: Body, R: Abort>(
     rt: &R,
     alloc: Global,
@@ -214,7 +215,8 @@ fn machine_again<B: Body, R: Abort>(
     }
 }
 
-/// Puts a machine under a lock, again with the machine that came back if memory was refused.
+/// Puts a machine under a lock, and tries again with the machine that was handed back if memory was
+/// refused.
 fn opening_again<B: Body, R: Abort>(
     rt: &R,
     alloc: Global,
@@ -233,7 +235,7 @@ fn opening_again<B: Body, R: Abort>(
     }
 }
 
-/// Works alone to the end of a counter of three into a sink of one, and looks at what stands then.
+/// Works alone to the end of a counter of three into a sink of one, and looks at the result.
 fn work_to_the_end<B: Body, E: EntryLedger, O: Ledger, R: Wait + Abort>(
     rt: &R,
     alloc: Global,
@@ -252,21 +254,21 @@ fn work_to_the_end<B: Body, E: EntryLedger, O: Ledger, R: Wait + Abort>(
     Ok(growth_refused(rt, ended_of(&closed), seen))
 }
 
-/// What stands if the growth was refused its memory: two puts, a take and a stop.
+/// The result if the growth was refused its memory: two puts, a take and a stop.
 const BEFORE_THE_GROWTH: Progress = Progress {
     entries: 4,
     growths: 0,
     phase: Phase::Memory,
 };
 
-/// What stands if it wasn't.
+/// The result if it was not refused.
 const AFTER_ALL: Progress = Progress {
     entries: 7,
     growths: 1,
     phase: Phase::Terminated,
 };
 
-/// Whether the growth was refused its memory, if the run is over.
+/// Whether the growth was refused its memory, given that the run is over.
 fn growth_refused<R: Abort>(rt: &R, ended: Ended, seen: Progress) -> Refused {
     assert_eq!(rt; ended.receipts, ended.entries as u64);
     if ended.end == Some(End::Memory) {
@@ -293,8 +295,8 @@ fn open_refused<B: Body, R: Wait + Abort>(
     Ok(first_refused(&[first, second, third]))
 }
 
-/// Loads a counter of three and a sink of one, and opens a monitor of them. The error is want of memory
-/// for what is the test's own.
+/// Loads a counter of three and a sink of one, and opens a monitor of them. Fails if memory for the
+/// test itself was refused.
 fn monitor_refused<R: Wait + Abort>(rt: &R, alloc: Global) -> Result<Refused, AllocError> {
     let (net, load) = load_again(rt, alloc, COUNTER_INTO_SMALL_SINK);
     let bodies = bodies_of(alloc, &net)?;

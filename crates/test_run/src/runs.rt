@@ -30,7 +30,7 @@ impl Gate for Counts {
     }
 }
 
-/// Runs a network, which memory alone may prevent.
+/// Runs a network; only memory may be refused.
 pub(crate) fn finish_of<B: Body, R: Threads + Wait + Clock + Abort + Sync, G: Gate>(
     rt: &R,
     alloc: Global,
@@ -59,7 +59,7 @@ pub(crate) fn finish_text<R: Threads + Wait + Clock + Abort + Sync, G: Gate>(
     Ok(finish)
 }
 
-/// Runs the network of a text, and compares the run with what is due.
+/// Runs the network of a text, and compares the run with its expected result.
 pub(crate) fn shows<R: Threads + Wait + Clock + Abort + Sync, G: Gate>(
     rt: &R,
     alloc: Global,
@@ -73,7 +73,7 @@ pub(crate) fn shows<R: Threads + Wait + Clock + Abort + Sync, G: Gate>(
     Ok(())
 }
 
-/// A number of workers that is none of 1 to 16 is refused, and all comes back.
+/// A number of workers outside 1 to 16 is refused, and all is handed back.
 fn refused_workers<B: Body, R: Threads + Wait + Clock + Abort + Sync>(
     rt: &R,
     alloc: Global,
@@ -87,7 +87,7 @@ fn refused_workers<B: Body, R: Threads + Wait + Clock + Abort + Sync>(
     }
 }
 
-/// Without its last body a network isn't run, and all comes back.
+/// Without its last body a network isn't run, and all is handed back.
 fn refused_bodies<B: Body, R: Threads + Wait + Clock + Abort + Sync>(
     rt: &R,
     alloc: Global,
@@ -110,7 +110,7 @@ fn refused_bodies<B: Body, R: Threads + Wait + Clock + Abort + Sync>(
     Ok((net, bodies))
 }
 
-/// Runs a network, and compares the run and how often its gate was asked with what is due.
+/// Runs a network, and compares the run, and how often its gate was asked, with what is expected.
 fn run_counted<B: Body, R: Threads + Wait + Clock + Abort + Sync>(
     rt: &R,
     alloc: Global,
@@ -130,8 +130,8 @@ fn run_counted<B: Body, R: Threads + Wait + Clock + Abort + Sync>(
     compare(rt, alloc, &finish, due)
 }
 
-/// Runs a network first by no worker and by 17, then without one of its bodies, which is refused each
-/// time, and at last by so many workers with what came back.
+/// Runs a network first with no worker and with 17, then without one of its bodies, all of which is
+/// refused, and at last with `workers` workers and what was handed back.
 pub(crate) fn run_bodies<B: Body, R: Threads + Wait + Clock + Abort + Sync>(
     rt: &R,
     alloc: Global,

@@ -1,6 +1,7 @@
 //! What is played on a monitor.
 //!
-//! The names of a monitor's ledgers are type parameters, so each scene is a function of any names.
+//! The names of a monitor's ledgers are type parameters, so each scene is a function that is generic
+//! over them.
 ghost use Rattle.std.specs.Prelude.{◌≡◌, ◌<◌, [], All, IfOk, IfSome};
 
 use crate::exchanges::exchanged;
@@ -27,7 +28,7 @@ use std::thread::{Threads, join};
 enum Scene {
     /// A watcher looks a thousand times while two threads work on Parks's case to its end.
     Watched,
-    /// One seat works to the end, and the monitor is closed first without it.
+    /// One seat works to the end, and the monitor is first closed without the other, which is refused.
     MissingSeat,
     /// One seat commits one answer, or drops its task, and the monitor is closed with no end.
     OneTask { dropped: bool },
@@ -80,7 +81,7 @@ fn play<B: Body, R: Threads + Wait + Clock + Abort + Sync>(
     }
 }
 
-/// Looks a thousand times, and says whether neither number ever fell.
+/// Looks a thousand times, and returns whether neither number ever fell.
 fn looks<B: Body, E: EntryLedger, O: Ledger>(
     monitor: &Monitor<B, E, O>,
     mut watcher: Watcher,
@@ -185,7 +186,7 @@ fn watched<
     settles(rt, alloc, monitor, (one, other), (first, second))
 }
 
-/// Closes a monitor with one of two seats, which is refused, and all comes back.
+/// Closes a monitor with one of two seats, which is refused, and all is handed back.
 fn not_closed<B: Body, E: EntryLedger, O: Ledger, R: Abort>(
     rt: &R,
     alloc: Global,
@@ -257,7 +258,7 @@ fn answer_once<B: Body, E: EntryLedger, O: Ledger, R: Wait + Abort>(
     }
 }
 
-/// No end stands, and no entry if the one task was dropped.
+/// The run has not ended, and has no entry if the one task was dropped.
 fn has_no_end<R: Abort>(rt: &R, ended: Ended, dropped: bool) {
     assert!(rt; ended.end.is_none());
     assert_eq!(rt; ended.entries as u64, ended.receipts);
@@ -266,7 +267,7 @@ fn has_no_end<R: Abort>(rt: &R, ended: Ended, dropped: bool) {
     }
 }
 
-/// Makes watchers until the next would be one too many, and says whether there were 64.
+/// Makes watchers until the next would be one too many, and returns whether there were 64.
 fn watch_all<B: Body, E: EntryLedger, O: Ledger, R: Wait>(
     rt: &R,
     monitor: &Monitor<B, E, O>,
@@ -284,7 +285,7 @@ fn watch_all<B: Body, E: EntryLedger, O: Ledger, R: Wait>(
     Ok(monitor.watch(rt).is_err())
 }
 
-/// Looks with each, and keeps them in the other list.
+/// Looks with each watcher, and moves them to the other list.
 fn all_look<B: Body, E: EntryLedger, O: Ledger>(
     monitor: &Monitor<B, E, O>,
     mut watchers: Vec<Watcher>,
@@ -304,7 +305,7 @@ fn all_look<B: Body, E: EntryLedger, O: Ledger>(
     Ok(same)
 }
 
-/// Settles each.
+/// Settles each watcher.
 fn all_settle<K: Kinds, E: EntryLedger>(
     closed: &mut Closed<K, E>,
     mut watchers: Vec<Watcher>,

@@ -1,4 +1,4 @@
-//! Schedules that come about by a gate, and by as many workers as there may be.
+//! Schedules forced by a gate, and schedules of the greatest number of workers.
 use crate::due::{COUNTER_ENDS, Due, WOVEN_ENDS};
 use crate::runs::shows;
 use crate::texts::{COPIED_AND_WOVEN, COUNTER_INTO_SINK, GROWING_CHAIN};
@@ -7,7 +7,7 @@ use kpn_net::Token::Word;
 use kpn_run::{Hold, Open};
 use std::test::Fail;
 
-/// A chain whose channels grow by turns, the smallest full one first.
+/// A chain whose channels grow in turn, the smallest full one first.
 const CHAIN_GROWS: Due = Due {
     end: End::Deadlock,
     entries: 76,
@@ -49,8 +49,8 @@ stream c3 1 2 3 4 5 6 7 8 9
     ],
 };
 
-/// Two workers, of which each answer of one process is held up until another has passed, for each ordered
-/// pair of two of the four processes of Parks's case.
+/// Two workers, with each answer of one process held up until another process has passed, for each
+/// ordered pair of the four processes of Parks's case.
 #[test]
 fn each_process_is_held_up_for_each_other(rt: HostRuntime) -> Result<(), Fail> {
     for process in 0..4 {
@@ -64,13 +64,13 @@ fn each_process_is_held_up_for_each_other(rt: HostRuntime) -> Result<(), Fail> {
     Ok(())
 }
 
-/// Nobody is held up, by two workers.
+/// No process is held up, with two workers.
 #[test]
 fn two_workers_of_two_processes(rt: HostRuntime) -> Result<(), Fail> {
     shows(&rt, rt.alloc(), COUNTER_INTO_SINK, 2, &Open, &COUNTER_ENDS)
 }
 
-/// Nobody is held up, by more workers than there are processes.
+/// No process is held up, with more workers than there are processes.
 #[test]
 fn sixteen_workers_of_two_processes(rt: HostRuntime) -> Result<(), Fail> {
     shows(&rt, rt.alloc(), COUNTER_INTO_SINK, 16, &Open, &COUNTER_ENDS)

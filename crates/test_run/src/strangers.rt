@@ -1,4 +1,4 @@
-//! Answers that no monitor asked for: of another monitor, and made a second time.
+//! Answers that no monitor asked for: from another monitor, and made a second time.
 ghost use Rattle.std.specs.Prelude.{◌≡◌};
 
 use crate::bodies::{Parts, parts_of};
@@ -29,7 +29,7 @@ fn two_monitors<B: Body, R: Wait + Abort>(
     stranger_between::<B, Brand, Brand, Brand, Brand, R>(rt, alloc, first, second)
 }
 
-/// Both processes go out; the answer of the counter.
+/// Takes both processes, and returns the answer of the counter.
 fn counter_answers<B: Body, E: EntryLedger, O: Ledger, R: Wait + Abort>(
     rt: &R,
     monitor: &Monitor<B, E, O>,
@@ -41,7 +41,7 @@ fn counter_answers<B: Body, E: EntryLedger, O: Ledger, R: Wait + Abort>(
     counter.call()
 }
 
-/// Commits an answer whose process isn't out, closes, and hands it back.
+/// Commits an answer whose process isn't out, closes the monitor, and returns the answer.
 fn refuse<B: Body, E: EntryLedger, O: Ledger, R: Wait + Abort>(
     rt: &R,
     alloc: Global,
@@ -63,7 +63,7 @@ fn running(entries: u32) -> Progress {
     }
 }
 
-/// What stands in a monitor that is closed after so many entries, before the end.
+/// The result of a monitor that is closed after this number of entries, before the end.
 fn not_ended(entries: u32) -> Ended {
     Ended {
         end: None,
@@ -105,8 +105,8 @@ fn close_after_one<B: Body, E: EntryLedger, O: Ledger, R: Abort>(
     Ok(())
 }
 
-/// The counter's answer in the one monitor comes to the other, if the counter isn't out: it is
-/// handed back, and accepted if it was asked for.
+/// The counter's answer from one monitor is committed to the other while its counter isn't out: it is
+/// handed back, and then accepted by the monitor that asked for it.
 fn stranger_between<B: Body, E: EntryLedger, O: Ledger, F: EntryLedger, P: Ledger, R: Wait + Abort>(
     rt: &R,
     alloc: Global,
@@ -142,7 +142,7 @@ fn one_monitor<B: Body, R: Wait + Abort>(
     second_answer::<B, Brand, Brand, R>(rt, alloc, opening, second)
 }
 
-/// An answer of the body as the task of process 0 at its start, which no monitor asked for.
+/// The answer of a body as the task of process 0 at its start, for which no monitor asked.
 fn unasked<B: Body>(body: B) -> Finished<B> {
     let card = body.card();
     let start = B::Kinds::start(&card);
@@ -150,8 +150,8 @@ fn unasked<B: Body>(body: B) -> Finished<B> {
     Task::new(0, body, start, None).call()
 }
 
-/// Commits an answer of process 0 at its start that is not asked for, and hands it back; a watcher still
-/// sees one entry.
+/// Commits an answer of process 0 at its start that was not asked for, and compares what is handed
+/// back; a watcher still sees one entry.
 fn refuse_again<B: Body, E: EntryLedger, O: Ledger, R: Wait + Abort>(
     rt: &R,
     monitor: &Monitor<B, E, O>,
@@ -170,8 +170,8 @@ fn refuse_again<B: Body, E: EntryLedger, O: Ledger, R: Wait + Abort>(
     finished
 }
 
-/// The counter's first answer comes a second time, from a body that the monitor does not have: while
-/// the counter is ready, and while it is out in another state.
+/// The counter's first answer is committed a second time, from a body that the monitor does not have:
+/// while the counter is ready, and while it is out in another state.
 fn second_answer<B: Body, E: EntryLedger, O: Ledger, R: Wait + Abort>(
     rt: &R,
     alloc: Global,

@@ -1,4 +1,4 @@
-//! Runs of which the whole report is due, or which never end by themselves.
+//! Runs whose whole report is compared, and runs that never end by themselves.
 ghost use Rattle.std.specs.Prelude.{◌<◌, length};
 
 use crate::due::{compare_stream, text_of};
@@ -13,7 +13,7 @@ use std::sync::Wait;
 use std::test::Fail;
 use std::thread::Threads;
 
-/// What is due of a run in full, whoever makes it.
+/// The whole expected result of a run, whatever the schedule.
 #[derive(Clone, Copy)]
 pub(crate) struct Whole<'a> {
     /// The text of the report, without a stream.
@@ -22,7 +22,7 @@ pub(crate) struct Whole<'a> {
     pub(crate) streams: &'a [(usize, &'a [Token])],
 }
 
-/// Runs the network of a text by so many workers, and compares its report and its streams.
+/// Runs the network of a text by `workers` workers, and compares its report and its streams.
 pub(crate) fn shows_whole<R: Threads + Wait + Clock + Abort + Sync>(
     rt: &R,
     alloc: Global,

@@ -1,4 +1,4 @@
-//! Callers of `kpn_watch`: what two looks tell, and calls at one of two boards, which must-fail edits
+//! Callers of `kpn_watch`: what two looks show, and calls at one of two boards, which must-fail edits
 //! turn to the other.
 #![tactic(auto)]
 
@@ -10,13 +10,13 @@ ghost use Rattle.kpn_watch.specs.declared.progress.Phase.TheVariants.{Running};
 use kpn_model::{End, Entry};
 use kpn_watch::{Board, CountingPublisher, Progress, Publisher, WatchFault, Watcher};
 
-/// What two looks of one watcher told.
+/// What two looks of one watcher returned.
 pub struct TwoLooks {
     pub first: Progress,
     pub second: Progress,
 }
 
-/// Looks twice. Neither number falls, and what has ended stays.
+/// Looks twice, and returns both. Neither number falls, and an end stays.
 pub fn look_twice(board: &Board, watcher: &mut Watcher) -> TwoLooks
     requires { watcher.old.board ≡ board.now }
     ensures entries { result.first.entries ≤ result.second.entries }

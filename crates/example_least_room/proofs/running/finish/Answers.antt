@@ -1,4 +1,4 @@
--- What the run that ended says, by the law.
+-- What the law says of the run that ended.
 use Rattle.std.proofs.Common.{◌∙◌, ap, arith, length}
 use Rattle.kpn_model.specs.History.{growths}
 use Rattle.example_least_room.proofs.ParksCase.{counted, never_three, few_growths, few_entries, no_ceiling, no_budget}

@@ -1,4 +1,4 @@
--- The network is there, and is Parks's case.
+-- The network is present, and is Parks's case.
 use Rattle.std.proofs.Common.{sym, ◌∙◌}
 use Rattle.example_least_room.proofs.tests.compare_with_bodies.Goals as goal
 

@@ -1,4 +1,4 @@
--- One body more, with the next card.
+-- One more body, with the next card.
 use Rattle.std.proofs.Common.{◌≡◌, ap, map, Some, sym, ◌∙◌, subst, Option, List}
 use Rattle.std.specs.Option.{IfSome}
 use Rattle.kpn_machine.specs.Opening.{cards_of}

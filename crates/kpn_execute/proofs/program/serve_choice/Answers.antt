@@ -1,4 +1,4 @@
--- What is told of the network that was loaded is told by the choice.
+-- What is written of the network that was loaded depends on the choice.
 use Rattle.std.proofs.Common.{Ok, refl}
 use Rattle.kpn_front.specs.Lines.{checked_line}
 use Rattle.kpn_execute.proofs.program.serve_choice.Goals as goal

@@ -1,4 +1,4 @@
--- The channel that is to be shown is known, or it is told that it isn't.
+-- The channel to show is known, or `no channel` is written.
 use Rattle.std.proofs.Common.{Some, None, inl, inr, refl, sym}
 use Rattle.kpn_front.specs.Lines.{no_channel_line}
 use Rattle.kpn_execute.proofs.running.execute.Goals as goal

@@ -1,4 +1,4 @@
--- One worker tells as a run that ended does, and several may also be given up.
+-- A run by one worker ends; one by several may also be given up.
 use Rattle.std.proofs.Common.{inr}
 use Rattle.kpn_execute.proofs.running.tell.Goals as goal
 

@@ -1,4 +1,4 @@
--- Want of memory before the run is told as such.
+-- If memory is refused before the run, this is written.
 use Rattle.std.proofs.Common.{inl, refl}
 use Rattle.kpn_net.specs.declared.fault.NetFault.TheVariants.{Memory}
 use Rattle.kpn_front.specs.Lines.{refused_line}

@@ -1,4 +1,4 @@
--- One body more, with the next card.
+-- One more body, with the next card.
 use Rattle.std.proofs.Common.{ap, Some, sym, ◌∙◌}
 use Rattle.kpn_machine.proofs.Cards.{one_more, of_all}
 use Rattle.kpn_execute.proofs.standard.make_and_execute.Goals as goal

@@ -1,4 +1,4 @@
--- What is answered is what is loaded of the whole text.
+-- The result is what is loaded of the whole text.
 use Rattle.std.proofs.Common.{◌∙◌}
 use Rattle.kpn_net.specs.Description.{Describes}
 use Rattle.kpn_front.proofs.Loaded.{loads_known}

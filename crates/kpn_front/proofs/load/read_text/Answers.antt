@@ -3,7 +3,7 @@ use Rattle.std.proofs.KnownBytes.{Consumes-trans}
 use Rattle.std.proofs.lemmas.List.{length-append}
 use Rattle.kpn_front.proofs.load.read_text.Goals as goal
 
--- the bytes of the turn that memory was refused for are gone too
+-- the bytes of the turn in which memory was refused have been consumed too
 pub returns-then-is_err-clause-taken : goal.returns-then-is_err-clause-taken
 returns-then-is_err-clause-taken g c =
     let text = c.loop-chunk.text.items in

@@ -1,4 +1,4 @@
--- The laws that fail of the changed definitions.
+-- The laws that fail for the changed definitions.
 use Rattle.test_laws.proofs.Counterexamples.{early_growth_fails, put_into_full_overfills, put_into_full_fails, any_of_equal_fails, taken_does_not_tell}
 use Rattle.test_laws.proofs.changed.changed_definitions.Goals as goal
 

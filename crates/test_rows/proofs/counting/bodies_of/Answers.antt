@@ -1,4 +1,4 @@
--- One body more, with the next card.
+-- One more body, with the next card.
 use Rattle.std.proofs.Common.{ap, Some, sym, ◌∙◌, ◌≤◌, length, arith}
 use Rattle.std.proofs.lemmas.List.{length-map}
 use Rattle.kpn_machine.specs.Opening.{cards_of}
