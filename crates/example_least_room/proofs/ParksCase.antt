@@ -33,7 +33,7 @@ at_the_case :
     → TakesLeastRoom standard longer_parks_case E M
 at_the_case kinds net E M family is room = subst (λ n. TakesLeastRoom standard n E M) is (subst (λ k. TakesLeastRoom k net E M) family room)
 
--- each channel begins with at most one place
+-- each channel begins with a capacity of at most one
 begins_with_one : (c : ℕ) → (channel_of longer_parks_case c).capacity ≤ 1
 begins_with_one zero = omega arith
 begins_with_one (suc zero) = omega arith
@@ -45,7 +45,7 @@ module _ (s : MachineView) (two : TwoPlacesSuffice) (room : TakesLeastRoom stand
   within_two : TakesAtMost standard longer_parks_case s.history s.state 2
   within_two = room.within 2 (inl two.0)
 
-  -- no channel has three places
+  -- no channel has capacity three
   three_nowhere : (c : ℕ) → capacity s.state c < 3
   three_nowhere c =
       ⊎_elim
@@ -57,7 +57,7 @@ module _ (s : MachineView) (two : TwoPlacesSuffice) (room : TakesLeastRoom stand
   eight_growths : length (growths s.history) ≤ 8
   eight_growths = within_two.few_growths (omega arith)
 
-  -- at most the entries of the run that ends in two places, and those growths
+  -- at most the entries of the run that ends with capacities of two, and those growths
   all_entries : length s.history ≤ 54
   all_entries = let few = room.few_entries 2 two.0 (omega arith) in let is = two.1 in omega arith
 

@@ -9,7 +9,7 @@ use std::alloc::{AllocError, Global};
 
 /// Makes Parks's case (Parks 1995) with a counter of five. A counter is copied to both inputs of a
 /// weave, which takes three tokens of the one and then three of the other, into a sink of eight. Each
-/// channel begins with one place, and grows by one.
+/// channel begins with capacity one, and grows by one.
 ///
 /// Fails if memory was refused.
 pub fn longer_parks_case(alloc: Global) -> Result<Net<Standard>, AllocError>
@@ -74,7 +74,7 @@ fn process(
     })
 }
 
-/// A channel of words with one place, from an output of a process to an input of another.
+/// A channel of words with capacity one, from an output of a process to an input of another.
 fn channel(
     alloc: Global,
     name: &str,

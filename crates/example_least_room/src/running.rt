@@ -16,9 +16,9 @@ use test_laws::worked_room;
 /// Runs Parks's case with a counter of five to its end in the calling thread, and returns how often a
 /// channel grew. No process may be out.
 ///
-/// Two places a channel suffice for it, in a run of 46 entries. So, by what `finish_alone` ensures, no
-/// channel ever has three; there are at most eight growths, two for each of the four channels, and 54
-/// entries; and neither the ceiling nor the budget ends the run. It ends because all have stopped,
+/// Capacities of two suffice for it, in a run of 46 entries. So, by what `finish_alone` ensures, no
+/// channel ever grows to three; there are at most eight growths, two for each of the four channels, and
+/// 54 entries; and neither the ceiling nor the budget ends the run. It ends because all have stopped,
 /// because none can go on, or because memory for a growth was refused.
 pub fn finish<B: Body>(machine: &mut Machine<B>) -> usize
     requires standard { B.Kinds.family ≡ standard }

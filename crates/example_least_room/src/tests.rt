@@ -22,11 +22,11 @@ const GROWTHS: &[Entry] = &[
 
 /// Runs the network, and compares. By hand: the counter fills channel 0 while the copy waits to put its
 /// second token on channel 2, from which the weave reads only after three tokens of channel 1. Channels
-/// 0 and 2 are full with one place each, and channel 0 grows first, having the lesser number; it is
-/// filled, and then channel 2, which has one place, grows. From then on no process has to wait for
-/// room. The counter puts 5 tokens and stops, the copy takes 5 and puts 10, the weave takes 8 and puts
-/// 8, the sink takes 8 and stops; the copy and the weave then wait for more. With the two growths these
-/// are 6 + 15 + 16 + 9 + 2 entries.
+/// 0 and 2 are full, with capacity one each, and channel 0 grows first, having the lesser number; it is
+/// filled, and then channel 2, of capacity one, grows. From then on no process has to wait for room.
+/// The counter puts 5 tokens and stops, the copy takes 5 and puts 10, the weave takes 8 and puts 8, the
+/// sink takes 8 and stops; the copy and the weave then wait for more. With the two growths these are 6
+/// + 15 + 16 + 9 + 2 entries.
 fn compare<R: Abort, B: Body>(
     rt: &R,
     alloc: Global,

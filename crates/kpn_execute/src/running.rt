@@ -28,8 +28,8 @@ struct Told {
 /// which then takes no lock.
 ///
 /// If the run came to its own end, each run of the network that is over has the same text, whatever the
-/// schedule. If some number of places a channel suffices for the network, the run takes no more, but
-/// for the step of a growth (Parks 1995).
+/// schedule. If capacity b suffices for the network, no channel of capacity b or more grows in the run
+/// (Parks 1995; docs/least-room.md).
 ///
 /// Returns the exit status:
 ///

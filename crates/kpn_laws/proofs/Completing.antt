@@ -1,4 +1,4 @@
--- If a network can come to its end in b places, each run does; if it can go on for ever, each can.
+-- If a network can come to its end with capacities of at most b, each run does; if it can go on for ever, each can.
 use Rattle.std.proofs.Common.{◌≤◌, ◌<◌, ◌⊎◌, inl, inr, ⊎_elim, List, [], ◌∷◌, ◌++◌, length, refl, arith, ℕ, ◌+◌, ◌*◌, zero, suc, length-append}
 use Rattle.kpn_model.specs.Determinacy.{IsRun}
 use Rattle.kpn_model.specs.declared.history.Entry.{Entry}
@@ -25,7 +25,7 @@ module _ (kinds : Family) (net : Network) where
   natural_end M Budget o h = absurd o
   natural_end M Memory o h = absurd o
 
-  -- if b places suffice and are within the ceiling, a run can go on or has ended
+  -- if capacity b suffices and is within the ceiling, a run can go on or has ended
   goes_or_ended : (b : ℕ) → Suffices kinds net b → b ≤ net.ceiling → (E : List Entry) (M : State) → IsRun kinds net E M → CanGoOn kinds net M ⊎ IsAtOwnEnd kinds net M
   goes_or_ended b s enough E M run =
       ⊎_elim inl

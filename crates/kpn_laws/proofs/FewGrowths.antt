@@ -1,4 +1,4 @@
--- If b places suffice, there are at most b growths times the number of channels.
+-- If capacity b suffices, there are at most b growths times the number of channels.
 use Rattle.std.proofs.Common.{◌≡◌, ◌≤◌, ◌<◌, ⊎_elim, List, [], ◌∷◌, ◌++◌, length, sym, ap, ◌∙◌, arith, ℕ, ◌+◌, ◌*◌, zero, suc, subst, min, length-append}
 use Rattle.std.proofs.lemmas.Bool.{cases_eq}
 use Rattle.kpn_model.specs.Determinacy.{IsRun}
@@ -40,11 +40,11 @@ module _ (kinds : Family) (net : Network) where
   total_up_to zero b f h = omega arith
   total_up_to (suc n) b f h = let a = total_up_to n b f h in let c = h n in omega arith
 
-  -- the places of all channels together, counted up to b for each
+  -- the capacities of all channels together, counted up to b for each
   abbrev places : ℕ → State → ℕ
   places b M = total kinds net (length net.channels) (λ c. min b (capacity M c))
 
-  -- a growth from fewer than b places adds to this sum
+  -- a growth from below b adds to this sum
   places_grew :
       (b : ℕ) (H : List Entry) (M : State) (c to : ℕ) (N : State) → IsRun kinds net H M → Grows kinds net M c to N → capacity M c < b → 0 < net.step
       → places b M + 1 ≤ places b N

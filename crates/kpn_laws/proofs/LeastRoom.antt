@@ -59,7 +59,7 @@ module _ (kinds : Family) (net : Network) where
       (λ (full : capacity N c ≤ length (tokens N c)). record { answer = b.answer; wanted = w; port = b.port; token = b.token; act = b.act; at = b.at; full = full })
       (cases_lt (length (tokens N c)) (capacity N c))
 
-  -- a run to an artificial deadlock dominates each run in which no channel has more places than the chosen one
+  -- a run to an artificial deadlock dominates each run in which no channel has more capacity than the chosen one
   chosen_dominates : (sizes : ℕ → ℕ) (E F : List Entry) (M N : State) (c : ℕ) → IsRun kinds net E M → IsArtificial kinds net M → IsChosen kinds net M c → IsRun kinds (resized net sizes) F N → IsBoundedBy N (capacity M c) → IsDominated F E
   chosen_dominates sizes E F M N c run artificial chosen run' up =
       let S = start kinds net in
@@ -84,8 +84,8 @@ module _ (kinds : Family) (net : Network) where
       is_dominated S' S f' f s.history E N M run' run
       (dominated_by_room S' S f' f s.history E N M run' run (over_quiet kinds net N s.cause over) (λ q d x. absurd (none_blocked kinds net N s.cause s.natural over q d x)))
 
-  -- the chosen channel of an artificial deadlock has fewer places than suffice for an end: otherwise the
-  -- run to it and the run to the end dominate each other, so the same was done, and a writer is blocked at the end
+  -- the chosen channel of an artificial deadlock has less capacity than suffices for an end: otherwise the run to it and the run
+  -- to the end dominate each other, so the same was done, and a writer is blocked at the end
   below_end : (b : ℕ) → EndsWithin kinds net b → (E : List Entry) (M : State) (c : ℕ) → IsRun kinds net E M → IsArtificial kinds net M → IsChosen kinds net M c → b ≤ capacity M c → ⊥
   below_end b s E M c run artificial chosen far =
       let sizes = s.sizes in
@@ -109,7 +109,7 @@ module _ (kinds : Family) (net : Network) where
       let many = l.many in
       omega arith
 
-  -- if b places suffice, the chosen channel of an artificial deadlock has fewer
+  -- if capacity b suffices, the chosen channel of an artificial deadlock has less
   fewer_here : (b : ℕ) → Suffices kinds net b → (E : List Entry) (M : State) (c : ℕ) → IsRun kinds net E M → IsArtificial kinds net M → IsChosen kinds net M c → capacity M c < b
   fewer_here b s E M c run artificial chosen =
       ⊎_elim (λ h. h)
@@ -117,7 +117,7 @@ module _ (kinds : Family) (net : Network) where
       absurd (⊎_elim (λ x. below_end b x E M c run artificial chosen far) (λ x. below_lasting b x E M c run artificial chosen far) s))
       (cases_lt (capacity M c) b)
 
-  -- a growth from fewer than b places gives its channel fewer than b and a step, and leaves the others' capacities
+  -- a growth from below b gives its channel a capacity below b plus a step, and leaves the others' capacities
   below_grew :
       (b : ℕ) (H : List Entry) (M : State) (c to : ℕ) (N : State) → IsRun kinds net H M → Grows kinds net M c to N → capacity M c < b
       → ((d : ℕ) → (capacity M d ≡ (channel_of net d).capacity) ⊎ (capacity M d < b + net.step))
@@ -134,7 +134,7 @@ module _ (kinds : Family) (net : Network) where
       (λ ne. subst (λ n. (n ≡ (channel_of net d).capacity) ⊎ (n < b + net.step)) (sym (left ∙ capacity_set_other M c d (tokens M c) to ne)) (ih d))
       (cases_eq d c)
 
-  -- so each channel has its starting capacity, or fewer places than b and a step
+  -- so each channel has its starting capacity, or one below b plus a step
   stays_below_here : (b : ℕ) → Suffices kinds net b → (E : List Entry) (M : State) → IsRun kinds net E M → (c : ℕ) → (capacity M c ≡ (channel_of net c).capacity) ⊎ (capacity M c < b + net.step)
   stays_below_here b s =
       run_induction kinds net (λ _ M. (c : ℕ) → (capacity M c ≡ (channel_of net c).capacity) ⊎ (capacity M c < b + net.step)) (start kinds net)
@@ -149,11 +149,11 @@ module _ (kinds : Family) (net : Network) where
       step H M (Grew d to) N before ih t c =
           below_grew b H M d to N before t (fewer_here b s H M d before t.artificial t.chosen) ih c
 
--- a run to an artificial deadlock dominates each run in which no channel has more places than the chosen one
+-- a run to an artificial deadlock dominates each run in which no channel has more capacity than the chosen one
 pub dominates : (kinds : Family) → Dominates kinds
 dominates kinds net sizes E F M N c run artificial chosen run' up = chosen_dominates kinds net sizes E F M N c run artificial chosen run' up
 
--- if b places suffice, the chosen channel of an artificial deadlock has fewer
+-- if capacity b suffices, the chosen channel of an artificial deadlock has less
 pub chosen_has_fewer : (kinds : Family) → ChosenHasFewer kinds
 chosen_has_fewer kinds net b s E M c run artificial chosen = fewer_here kinds net b s E M c run artificial chosen
 
@@ -168,7 +168,7 @@ grows_below kinds net b s E F N c to run =
     let is = g.to_is in
     (omega arith, omega arith)
 
--- so each channel has its starting capacity, or fewer places than b and a step
+-- so each channel has its starting capacity, or one below b plus a step
 pub stays_below : (kinds : Family) → StaysBelow kinds
 stays_below kinds net b s E M run = stays_below_here kinds net b s E M run
 
@@ -179,7 +179,7 @@ ceiling_suffices kinds net b s enough E M final =
     let at = final.over.1.2 in
     omega (arith, enough)
 
--- so with a step of one no channel has more than b places, if none has at the start
+-- so with a step of one no channel has more capacity than b, if none has at the start
 pub least_possible : (kinds : Family) → LeastPossible kinds
 least_possible kinds net b s one small E M run c =
     ⊎_elim

@@ -14,7 +14,7 @@ resize-capacity [] sizes b h c = omega arith
 resize-capacity (l ∷ ls) sizes b h zero = h 0 (omega arith)
 resize-capacity (l ∷ ls) sizes b h (suc c) = resize-capacity ls (λ n. sizes (n + 1)) b (λ n small. h (n + 1) (omega arith)) c
 
--- a run without growths has no more places at its end than at its start
+-- a run without growths has no greater capacities at its end than at its start
 pub keeps_capacities : (kinds : Family) → KeepsCapacities kinds
 keeps_capacities kinds net sizes b F N small run none c =
     let told = (history_tells_state kinds (resized net sizes) F N run c).2 in
@@ -32,7 +32,7 @@ resize-same (l ∷ ls) sizes h =
     let rest = resize-same ls (λ c. sizes (c + 1)) (λ c. h (c + 1) ∙ ap (λ x. (get_or (l ∷ ls) x no_channel).capacity) (next c)) in
     λ i. first i ∷ rest i
 
--- a run of the network itself that terminates or ends in a deadlock shows how many places suffice
+-- a run of the network itself that terminates or ends in a deadlock shows which capacity suffices
 pub own_end : (kinds : Family) → OwnEndSuffices kinds
 own_end kinds net E M a b final natural bounded_by =
     let own : ℕ → ℕ = λ c. (channel_of net c).capacity in

@@ -27,8 +27,8 @@ abbrev pub CanAlwaysGoOn : Family → Type 0
 CanAlwaysGoOn kinds = (net : Network) (M : State) → CanGoOn kinds net M ⊎ (((a : End) × IsOver kinds net M a) ⊎ IsAbove kinds net M)
 
 module _ (kinds : Family) where
-  -- if b places suffice for a run to its end, and the step is not 0, each run has at most the entries
-  -- of that run and b for each channel
+  -- if capacity b suffices for a run to its end, and the step is not 0, each run has at most the entries of that run and b for
+  -- each channel
   abbrev pub FewEntries : Type 0
   FewEntries =
       (net : Network) (b : ℕ) (s : EndsWithin kinds net b) → 0 < net.step → (E : List Entry) (M : State) → IsRun kinds net E M
@@ -46,7 +46,7 @@ module _ (kinds : Family) where
       (net : Network) (b : ℕ) → EndsWithin kinds net b → b ≤ net.ceiling → 0 < net.step → (E : List Entry) (M : State) → IsRun kinds net E M
       → (F : List Entry) × ((N : State) × Run kinds net M F N × IsAtOwnEnd kinds net N)
 
-  -- and if b places suffice for any number of deeds, and b is within the ceiling, no run comes to an end
+  -- and if capacity b suffices for any number of deeds, and b is within the ceiling, no run comes to an end
   abbrev pub NeverEnds : Type 0
   NeverEnds =
       (net : Network) (b : ℕ) → ((n : ℕ) → LastsWithin kinds net b n) → b ≤ net.ceiling → (E : List Entry) (M : State) → IsRun kinds net E M

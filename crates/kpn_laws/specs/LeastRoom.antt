@@ -15,15 +15,15 @@ pub record IsDominated (F E : List Entry) : Type 0 where
   pub deeds : (p : ℕ) → IsPrefixOf (deeds F p) (deeds E p)
   pub entries : length F + length (growths E) ≤ length E + length (growths F)
 
--- a run to an artificial deadlock dominates each run, from any starting capacities, in which no channel
--- has more places than its chosen one
+-- a run to an artificial deadlock dominates each run, from any starting capacities, in which no channel has more capacity than
+-- its chosen one
 abbrev pub Dominates : Family → Type 0
 Dominates kinds =
     (net : Network) (sizes : ℕ → ℕ) (E F : List Entry) (M N : State) (c : ℕ) → IsRun kinds net E M → IsArtificial kinds net M → IsChosen kinds net M c
     → IsRun kinds (resized net sizes) F N → IsBoundedBy N (capacity M c) → IsDominated F E
 
 module _ (kinds : Family) where
-  -- if b places suffice, the chosen channel of an artificial deadlock has fewer
+  -- if capacity b suffices, the chosen channel of an artificial deadlock has less
   abbrev pub ChosenHasFewer : Type 0
   ChosenHasFewer =
       (net : Network) (b : ℕ) → Suffices kinds net b → (E : List Entry) (M : State) (c : ℕ)
@@ -35,13 +35,13 @@ module _ (kinds : Family) where
       (net : Network) (b : ℕ) → Suffices kinds net b → (E F : List Entry) (N : State) (c to : ℕ)
       → IsRun kinds net (E ++ Grew c to ∷ F) N → (grown (channel_of net c).capacity (growths E) c < b) × (to < b + net.step)
 
-  -- so at each moment each channel has its starting capacity, or fewer places than b and a step
+  -- so at each moment each channel has its starting capacity, or one below b plus a step
   abbrev pub StaysBelow : Type 0
   StaysBelow =
       (net : Network) (b : ℕ) → Suffices kinds net b → (E : List Entry) (M : State) → IsRun kinds net E M
       → (c : ℕ) → (capacity M c ≡ (channel_of net c).capacity) ⊎ (capacity M c < b + net.step)
 
-  -- so with a step of one no channel ever has more places than suffice, if none has at the start
+  -- so with a step of one no channel ever has more capacity than suffices, if none has at the start
   abbrev pub LeastPossible : Type 0
   LeastPossible =
       (net : Network) (b : ℕ) → Suffices kinds net b → net.step ≡ 1 → IsBoundedBy (start kinds net) b → (E : List Entry) (M : State) → IsRun kinds net E M

@@ -9,17 +9,17 @@ use Rattle.kpn_model.specs.History.{growths, grown}
 use Rattle.kpn_model.specs.Determinacy.{IsRun}
 use Rattle.kpn_laws.specs.Sufficient.{EndsWithin, Suffices}
 
--- the run E to M takes, but for the step, no more than b places a channel: each growth is from fewer than
--- b, to fewer than b and a step; each channel has its starting capacity, or fewer than that; there are
--- at most b growths times the number of channels; and a ceiling of b or more is not in the way
+-- but for the step, the run E to M takes no more capacity than b for each channel: each growth is from below b, to below b plus a
+-- step; each channel has its starting capacity, or one below b plus a step; there are at most b growths times the number of
+-- channels; and no ceiling of b or more ends the run
 pub record TakesAtMost (kinds : Family) (net : Network) (E : List Entry) (M : State) (b : ℕ) : Type 0 where
   pub growths_below : (F G : List Entry) (c to : ℕ) → E ≡ F ++ Grew c to ∷ G → (grown (channel_of net c).capacity (growths F) c < b) × (to < b + net.step)
   pub capacities_below : (c : ℕ) → (capacity M c ≡ (channel_of net c).capacity) ⊎ (capacity M c < b + net.step)
   pub few_growths : 0 < net.step → length (growths E) ≤ length net.channels * b
   pub below_ceiling : b ≤ net.ceiling → IsOver kinds net M Ceiling → ⊥
 
--- whatever number of places suffices for the network, the run takes no more; and it has at most as many entries as any run that
--- comes to its end in b places, and b more for each channel
+-- whatever capacity suffices for the network, the run takes no more; and it has at most as many entries as any run that comes to
+-- its end with capacities of at most b, and b more for each channel
 pub record TakesLeastRoom (kinds : Family) (net : Network) (E : List Entry) (M : State) : Type 0 where
   pub within : (b : ℕ) → Suffices kinds net b → TakesAtMost kinds net E M b
   pub few_entries : (b : ℕ) (s : EndsWithin kinds net b) → 0 < net.step → length E ≤ length s.history + length net.channels * b

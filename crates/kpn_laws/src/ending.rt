@@ -9,11 +9,11 @@ use kpn_model::Kinds;
 /// of kinds and every network.
 ///
 /// `goes_on`: in every state some entry can follow, or it is over, or the chosen channel is above the
-/// ceiling. `few_entries`: if b places suffice for a run to its end, and the step is not 0, each run
+/// ceiling. `few_entries`: if capacity b suffices for a run to its end, and the step is not 0, each run
 /// has at most the entries of that run and b for each channel. `completes`: with b within the ceiling,
 /// each run can go on until it terminates or ends in a deadlock. `has_end`: so each run goes on to such
-/// an end. `never_ends`: if b places suffice for any number of deeds, and b is within the ceiling, each
-/// run can go on.
+/// an end. `never_ends`: if capacity b suffices for any number of deeds, and b is within the ceiling,
+/// each run can go on.
 pub fn completion()
     ensures goes_on { (kinds : Family) → CanAlwaysGoOn kinds }
     ensures few_entries { (kinds : Family) → FewEntries kinds }

@@ -10,19 +10,19 @@ use kpn_model::Kinds;
 /// (Parks 1995) takes, but for the step, no more room than any capacities that suffice, for every
 /// family of kinds and every network.
 ///
-/// b places suffice if from some starting capacities, with or without growths, a run terminates or ends
-/// in a deadlock with no channel of more than b places, or if there are such runs of any number of
-/// deeds. `chosen_has_fewer`: then in each artificial deadlock, from the network's own capacities, the
-/// chosen channel has fewer than b places. `grows_below`: so each growth of a history is from fewer
-/// than b, to fewer than b and a step. `stays_below`: so at each moment each channel has its starting
-/// capacity, or fewer places than b and a step. `least_possible`: with a step of one no channel ever
-/// has more than b, if none has at the start. `few_growths`: if the step is not 0 there are at most b
-/// growths times the number of channels. `ceiling_suffices`: no run is over at a ceiling of b or more.
+/// Capacity b suffices if from some starting capacities, with or without growths, a run terminates or
+/// ends in a deadlock with no capacity above b, or if there are such runs of any number of deeds.
+/// `chosen_has_fewer`: then in each artificial deadlock, from the network's own capacities, the chosen
+/// channel has less capacity than b. `grows_below`: so each growth of a history is from below b, to
+/// below b plus a step. `stays_below`: so at each moment each channel has its starting capacity, or one
+/// below b plus a step. `least_possible`: with a step of one no channel ever has more than b, if none
+/// has at the start. `few_growths`: if the step is not 0 there are at most b growths times the number
+/// of channels. `ceiling_suffices`: no run is over at a ceiling of b or more.
 ///
 /// `dominates`: in a run to an artificial deadlock each process does all that it does in any run, from
-/// any starting capacities, in which no channel has more places than the chosen one. `own_end`: a run
-/// of the network itself that terminates or ends in a deadlock shows how many places suffice.
-/// `keeps_capacities`: a run without growths has no more places at its end than at its start.
+/// any starting capacities, in which no channel has more capacity than the chosen one. `own_end`: a run
+/// of the network itself that terminates or ends in a deadlock shows which capacity suffices.
+/// `keeps_capacities`: a run without growths has no greater capacities at its end than at its start.
 /// `each_run`: what all this says of one run.
 pub fn least_room()
     ensures chosen_has_fewer { (kinds : Family) → ChosenHasFewer kinds }

@@ -371,8 +371,8 @@ impl<B: Body> Machine<B> {
 }
 
 impl<B: Body> Machine<B> {
-    /// Runs to an end in the calling thread. No process may be out. If some number of places a channel
-    /// suffices for the network, the run takes no more, but for the step of a growth (Parks 1995).
+    /// Runs to an end in the calling thread. No process may be out. If capacity b suffices for the
+    /// network, no channel of capacity b or more grows in the run (Parks 1995; docs/least-room.md).
     pub fn finish_alone(&mut self)
         requires { count_by is_out self.old.standings ≡ 0 }
         ensures goes { ContinuesRun B.Kinds.family self.old self.new }

@@ -13,8 +13,8 @@ pub record Family : Type 0 where
   pub start : Card → List ℕ
   pub answer : Card → List ℕ → Option Token → Answer
 
--- a channel leads from a port of its one writer to a port of its one reader; a growth adds `step`
--- places, up to the ceiling
+-- a channel leads from a port of its one writer to a port of its one reader; a growth adds `step` to a capacity, up to the
+-- ceiling
 pub record Network : Type 0 where
   pub processes : List Process
   pub channels : List Channel

@@ -48,8 +48,8 @@ impl<K: Kinds> Model for Net<K> {
 }
 
 impl<K: Kinds> Net<K> {
-    /// Makes the valid network that a sketch describes. Its channels grow up to 65,535 places in
-    /// version 1, and up to 1,000,000 in version 2. The sketch stays as it is.
+    /// Makes the valid network that a sketch describes. Its channels grow up to a capacity of 65,535 in
+    /// version 1, and of 1,000,000 in version 2. The sketch stays as it is.
     ///
     /// Errors: the first of `Version`, `Counts`, `Name`, `Kind`, `Args`, `NoEnd`, `Twice`, `Unused`,
     /// `Sorts`, `Capacity`, `Budget`, `Tokens` and `Step` whose condition holds of the sketch; or
@@ -175,16 +175,16 @@ impl<K: Kinds> Net<K> {
         self.channels[c].tokens.as_slice()
     }
 
-    /// Returns the budget: a run ends once its history has so many entries, and the history may have up
-    /// to two more. It is 1 to 1,000,000 if the ceiling is at most 65,535, and else 1 to 2,000,000.
+    /// Returns the budget: a run ends once its history has that many entries, and the history may have
+    /// up to two more. It is 1 to 1,000,000 if the ceiling is at most 65,535, and else 1 to 2,000,000.
     pub fn budget(&self) -> u64
         ensures { result ≡ self.now.budget }
     {
         self.budget
     }
 
-    /// Returns how many places a growth adds to a channel: 1 to 1,024 (Parks 1995 enlarges a full
-    /// channel when a run can't go on otherwise).
+    /// Returns how much a growth adds to the capacity of a channel: 1 to 1,024 (Parks 1995 enlarges a
+    /// full channel when a run can't go on otherwise).
     pub fn step(&self) -> usize
         ensures { result ≡ self.now.step }
     {

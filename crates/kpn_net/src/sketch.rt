@@ -2,9 +2,9 @@
 //! may name nothing.
 use kpn_model::{Listed, Sort, Text};
 
-/// A description with its defaults filled in: its version, its budget in entries of a history, how many
-/// places a growth adds (always 1 in version 1), and its processes and channels in the order of the
-/// text.
+/// A description with its defaults filled in: its version, its budget in entries of a history, how much
+/// a growth adds to a capacity (always 1 in version 1), and its processes and channels in the order of
+/// the text.
 #[derive(Drop)]
 pub struct Sketch {
     pub version: i64,

@@ -59,8 +59,8 @@ pub enum RunFault<B: Body> {
 /// after each prefix of it no channel holds more tokens than its capacity. It does not end by `Budget`
 /// if some run that is over has fewer entries than the budget. The deeds of each process, and the
 /// streams, in this history and in any run from any starting capacities are prefix-comparable (Kahn
-/// 1974). If some number of places a channel suffices for the network, the run takes no more, but for
-/// the step of a growth (Parks 1995).
+/// 1974). If capacity b suffices for the network, no channel of capacity b or more grows in the run
+/// (Parks 1995; docs/least-room.md).
 ///
 /// The calling thread is one worker, and each other has a thread of its own; if a thread can't be
 /// started, that worker runs in the calling thread. The call returns when all workers have met the end.

@@ -88,7 +88,7 @@ impl Ring {
 }
 
 /// Makes room for `needed` tokens. It asks for twice the old room if that is more, and for exactly
-/// `needed` if that is refused; so a growth by n places, one at a time, copies no more than 2n tokens.
+/// `needed` if that is refused; so n growths by one copy no more than 2n tokens.
 ///
 /// Errors: memory was refused. The buffer is then unchanged.
 fn make_room(buffer: &mut HeapCircularBuffer<Token>, needed: usize) -> Result<(), AllocError>

@@ -171,7 +171,7 @@ fn stopped(process: usize) -> Entry {
     }
 }
 
-/// A counter of three into a sink of one: the channel of one place grows to two.
+/// A counter of three into a sink of one: the channel of capacity one grows to two.
 #[test]
 fn each_commit_has_its_word(rt: HostRuntime) -> Result<(), Fail> {
     let mut display = Display::new(rt.alloc())?;

@@ -53,14 +53,14 @@ blocked_artificial : IsArtificial standard longer_parks_case both_blocked.1
 blocked_artificial =
     record { quiet = still_sound standard longer_parks_case both_blocked.1 refl; writer = 0; channel = 0; blocked = full_sound standard longer_parks_case both_blocked.1 0 0 refl }
 
--- the counter's channel has two places, and the counter fills them
+-- the counter's channel has capacity two, and the counter fills it
 abbrev counter_grown : State
 counter_grown = with_channel both_blocked.1 0 (tokens both_blocked.1 0) 2
 
 abbrev blocked_again : List Entry × State
 blocked_again = led longer_parks_case counter_grown (Go 0 ∷ [])
 
--- greatest first: the channel of the counter, where more room does not help, grows from two places although two suffice
+-- greatest first: the channel of the counter, where more room does not help, grows from capacity two although two suffices
 pub greatest_grows_fails : GrowsBelowBy GreatestGrows → ⊥
 greatest_grows_fails h =
     let net = longer_parks_case in
@@ -101,7 +101,7 @@ greatest_grows_fails h =
 abbrev one_put : List Entry × State
 one_put = led counter_into_sink (start standard counter_into_sink) (Go 0 ∷ [])
 
--- a growth that does not wait: the channel of the counter grows from one place although one suffices
+-- a growth that does not wait: the channel of the counter grows from capacity one although one suffices
 pub early_growth_fails : GrowsBelowBy EarlyGrowth → ⊥
 early_growth_fails h =
     let net = counter_into_sink in
@@ -113,7 +113,7 @@ early_growth_fails h =
     let one_below_one : 1 < 1 = h net 1 (inl s) one_put.0 K (with_channel K 0 (tokens K 0) 2) 0 2 run grows in
     omega arith
 
--- each below its own: the counter's channel grows from one place, although it needs no more if the others have enough
+-- each below its own: the counter's channel grows from capacity one, although it needs no more if the others have enough
 pub each_below_its_own_fails : EachBelowItsOwn → ⊥
 unfolding ends_in_two ends_by
 each_below_its_own_fails h =
@@ -125,7 +125,7 @@ each_below_its_own_fails h =
 abbrev grown_by_four : List Entry × State
 grown_by_four = led growth_step (start standard growth_step) (Go 0 ∷ Go 1 ∷ Go 2 ∷ Go 3 ∷ Go 0 ∷ Grow 1 ∷ [])
 
--- a step above one: a channel grows from one place to five although three suffice
+-- a step above one: a channel grows from capacity one to five although three suffices
 pub stays_up_to_fails : StaysUpTo → ⊥
 stays_up_to_fails h =
     let net = growth_step in

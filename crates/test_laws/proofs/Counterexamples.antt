@@ -116,7 +116,7 @@ begins_within : IsWithin (start standard counter_outlives_sink)
 begins_within zero = omega arith
 begins_within (suc c) = omega arith
 
--- a put into a full channel: the counter that outlives its sink brings two tokens to a channel of one place
+-- a put into a full channel: the counter that outlives its sink brings two tokens to a channel of capacity one
 pub put_into_full_overfills : AlwaysWithinBy PutIntoFull → ⊥
 put_into_full_overfills h =
     let net = counter_outlives_sink in
@@ -138,7 +138,7 @@ put_into_full_fails h =
     let seven_is_six : 7 ≡ 6 = ap (λ (d : Digest). d.entries) (sym calm.digest_is ∙ same) in
     absurd (different _ _ seven_is_six refl)
 
--- both counters have filled their channels of one place, and both sinks have stopped
+-- both counters have filled their channels of capacity one, and both sinks have stopped
 abbrev both_full : List Entry × State
 both_full = led equal_capacities (start standard equal_capacities) (Go 0 ∷ Go 1 ∷ Go 2 ∷ Go 3 ∷ [])
 

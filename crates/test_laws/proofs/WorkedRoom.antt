@@ -1,4 +1,4 @@
--- Networks for which a known number of places suffices, each shown by a schedule.
+-- Networks for which a known capacity suffices, each shown by a schedule.
 use Rattle.std.proofs.Common.{◌≡◌, ◌≤◌, inl, ⊎_elim, ℕ, ◌+◌, zero, suc, List, [], ◌∷◌, ◌++◌, Bool, true, ◌&&◌, nat_le, Some, get_or, length, refl, subst, arith, leb-true}
 use Rattle.kpn_model.specs.declared.history.Entry.{Entry}
 use Rattle.kpn_model.specs.declared.history.End.{End}
@@ -15,7 +15,7 @@ use Rattle.test_laws.proofs.Led.{led}
 use Rattle.kpn_laws.proofs.Replay.{both_true, played_sound, over_sound}
 use Rattle.kpn_laws.proofs.LeastRoom.{stays_below}
 
--- all of these channels have at most b places
+-- all of these channels have a capacity of at most b
 abbrev pub all_bounded : List Held → ℕ → Bool
 all_bounded [] b = true
 all_bounded (h ∷ hs) b = nat_le h.capacity b && all_bounded hs b
@@ -26,7 +26,7 @@ bounded_sound [] b e c = omega arith
 bounded_sound (h ∷ hs) b e zero = leb-true _ _ (both_true _ _ e).0
 bounded_sound (h ∷ hs) b e (suc c) = bounded_sound hs b (both_true _ _ e).1 c
 
--- a schedule to such an end with at most b places a channel shows that b suffice
+-- a schedule to such an end with capacities of at most b shows that b suffices
 unfoldable pub ends_by :
     (net : Network) (sizes : ℕ → ℕ) (b : ℕ) (a : End) (ts : List Turn) (r : List Entry × State) → played standard (resized net sizes) (start standard (resized net sizes)) ts ≡ Some r
     → is_over standard (resized net sizes) r.1 a ≡ true → IsNatural a → all_bounded r.1.channels b ≡ true → EndsWithin standard net b
@@ -41,7 +41,7 @@ ends_by net sizes b a ts r e over natural up =
       bounded = bounded_sound r.1.channels b up;
     }
 
--- one place for each channel, and two for the second of the copy's
+-- capacity one for each channel, and two for the second of the copy's
 abbrev pub two_for_one : ℕ → ℕ
 two_for_one c = get_or (1 ∷ 1 ∷ 2 ∷ 1 ∷ []) c 0
 
@@ -49,7 +49,7 @@ two_for_one c = get_or (1 ∷ 1 ∷ 2 ∷ 1 ∷ []) c 0
 abbrev pub to_the_end : List Turn
 to_the_end = Go 0 ∷ Go 1 ∷ Go 0 ∷ Go 1 ∷ Go 2 ∷ Go 1 ∷ Go 2 ∷ Go 3 ∷ Go 1 ∷ Go 0 ∷ Go 1 ∷ Go 2 ∷ Go 1 ∷ Go 2 ∷ Go 3 ∷ Go 1 ∷ Go 0 ∷ Go 1 ∷ Go 2 ∷ Go 2 ∷ Go 3 ∷ Go 2 ∷ Go 1 ∷ Go 2 ∷ Go 3 ∷ Go 1 ∷ Go 2 ∷ Go 0 ∷ Go 1 ∷ Go 2 ∷ Go 3 ∷ Go 0 ∷ Go 1 ∷ Go 2 ∷ Go 1 ∷ Go 2 ∷ Go 3 ∷ Go 2 ∷ Go 1 ∷ Go 2 ∷ Go 3 ∷ Go 1 ∷ Go 2 ∷ Go 2 ∷ Go 3 ∷ Go 3 ∷ []
 
--- two places are enough for Parks's case with a counter of five to end
+-- capacity two is enough for Parks's case with a counter of five to end
 unfoldable pub ends_in_two : EndsWithin standard longer_parks_case 2
 ends_in_two =
     ends_by longer_parks_case two_for_one 2 Deadlock to_the_end
@@ -96,7 +96,7 @@ rounds_many : (n : ℕ) → n + length (growths (rounds n)) ≤ length (rounds n
 rounds_many zero = omega arith
 rounds_many (suc n) = let h = rounds_many n in omega arith
 
--- a ring of one place goes on for ever
+-- a ring of capacity one goes on for ever
 pub ring_lasts : RingLasts
 ring_lasts n =
     record {

@@ -10,7 +10,7 @@ use Rattle.kpn_standard.specs.Standard.{standard}
 use Rattle.kpn_laws.specs.Sufficient.{Suffices}
 use Rattle.test_laws.specs.ChangedRules.{RunBy}
 
--- if b places suffice, each growth by this rule is from fewer
+-- if capacity b suffices, each growth by this rule is from less
 abbrev pub GrowsBelowBy : (Network → State → Entry → State → Type 0) → Type 0
 GrowsBelowBy rule =
     (net : Network) (b : ℕ) → Suffices standard net b → (E : List Entry) (M N : State) (c to : ℕ)
@@ -32,13 +32,13 @@ abbrev pub GreatestGrows : Network → State → Entry → State → Type 0
 GreatestGrows net M (Did p d) N = Does standard net M p d N
 GreatestGrows net M (Grew c to) N = GrowsGreatest net M c to N
 
--- if some capacities suffice, the chosen channel of an artificial deadlock has fewer places than among them
+-- if some capacities suffice, the chosen channel of an artificial deadlock has less capacity than among them
 abbrev pub EachBelowItsOwn : Type 0
 EachBelowItsOwn =
     (net : Network) (sizes : ℕ → ℕ) (F : List Entry) (N : State) (a : End) → IsFinal standard (resized net sizes) F N a → IsNatural a
     → (E : List Entry) (M : State) (c : ℕ) → IsRun standard net E M → IsArtificial standard net M → IsChosen standard net M c → capacity M c < capacity N c
 
--- if b places suffice, each channel has its starting capacity, or no more than b places, whatever the step
+-- if capacity b suffices, each channel has its starting capacity, or at most b, whatever the step
 abbrev pub StaysUpTo : Type 0
 StaysUpTo =
     (net : Network) (b : ℕ) → Suffices standard net b → (E : List Entry) (M : State) → IsRun standard net E M

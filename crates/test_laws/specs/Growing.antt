@@ -96,7 +96,7 @@ full_channel_of_stopped_writer_digest =
 abbrev pub FullChannelOfStoppedWriter : Type 0
 FullChannelOfStoppedWriter = HasDigest standard full_channel_of_stopped_writer full_channel_of_stopped_writer_digest
 
--- the same network with growths of four places: one growth each is enough
+-- the same network with a step of four: one growth each is enough
 abbrev pub growth_step : Network
 growth_step =
     record smallest_full_channel_grows { step = 4 }

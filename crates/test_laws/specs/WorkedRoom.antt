@@ -1,4 +1,4 @@
--- Networks of the standard kinds for which a known number of places suffices.
+-- Networks of the standard kinds for which a known capacity suffices.
 use Rattle.std.specs.Prelude.{◌≡◌, ℕ, ◌<◌, codes, List, [], ◌∷◌, length}
 use Rattle.kpn_model.specs.declared.parts.Process.{Process}
 use Rattle.kpn_model.specs.declared.parts.Channel.{Channel}
@@ -17,15 +17,15 @@ process_named name p = record p { name = name }
 abbrev pub with_name : List ℕ → Channel → Channel
 with_name name c = record c { name = name }
 
--- Parks's case with a counter of five: when the counter and the copy are both blocked, one more place for the copy is enough, and
--- more room for the counter does not help
+-- Parks's case with a counter of five: when the counter and the copy are both blocked, capacity for one more token of the copy is
+-- enough, and more capacity for the counter does not help
 abbrev pub longer_parks_case : Network
 longer_parks_case =
     network
     (process_named (codes "src") (count 1 5) ∷ process_named (codes "cp") copy ∷ process_named (codes "wv") (weave 3 3) ∷ process_named (codes "snk") (sink 8) ∷ [])
     (with_name (codes "c0") (words (0, 0) (1, 0) 1) ∷ with_name (codes "c1") (words (1, 0) (2, 0) 1) ∷ with_name (codes "c2") (words (1, 1) (2, 1) 1) ∷ with_name (codes "c3") (words (2, 0) (3, 0) 1) ∷ [])
 
--- two places suffice for it, in a run of 46 entries
+-- capacity two suffices for it, in a run of 46 entries
 abbrev pub TwoPlacesSuffice : Type 0
 TwoPlacesSuffice = (s : EndsWithin standard longer_parks_case 2) × (length s.history ≡ 46)
 
@@ -37,6 +37,6 @@ NeverThree = (E : List Entry) (M : State) → IsRun standard longer_parks_case E
 abbrev pub ring : Network
 ring = network (scale 1 ∷ []) (holding (numbers (7 ∷ [])) (words (0, 0) (0, 0) 1) ∷ [])
 
--- one place suffices for it, for any number of deeds
+-- capacity one suffices for it, for any number of deeds
 abbrev pub RingLasts : Type 0
 RingLasts = (n : ℕ) → LastsWithin standard ring 1 n

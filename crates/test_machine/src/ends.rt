@@ -68,7 +68,7 @@ fn assert_over<R: Abort>(rt: &R, machine: &CardMachine, due: &EndOfRun) {
     assert_eq!(rt; machine.commits(), due.commits, "{name}");
 }
 
-/// Compares the places of the processes, in the machine and in the report.
+/// Compares the places of the processes in the report.
 fn assert_places<R: Abort>(
     rt: &R,
     alloc: Global,

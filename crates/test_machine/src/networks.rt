@@ -1,5 +1,5 @@
-//! The networks of the tests: a counter from 1 of three tokens, process 0, writes into a sink,
-//! process 1, over channel 0 of one place.
+//! The networks of the tests: a counter from 1 of three tokens, process 0, writes into a sink, process
+//! 1, over channel 0 of capacity one.
 use kpn_body::Standard;
 use kpn_compute::{CardBody, bodies_of};
 use kpn_net::{Card, Net, NetFault, read_sketch};

@@ -5,7 +5,7 @@ use std::alloc::{AllocError, Global};
 use std::fmt::Write as _;
 use std::test::Fail;
 
-/// A counter of `tokens` into a sink of none, over a channel of `capacity` places.
+/// A counter of `tokens` into a sink of none, over a channel of capacity `capacity`.
 fn counter_into_nothing(
     alloc: Global,
     tokens: usize,
@@ -20,7 +20,7 @@ fn counter_into_nothing(
 }
 
 /// What is written of it, if `capacity` is less than `tokens` and the ceiling is not reached: the
-/// channel grows by one place for each token for which it has no room.
+/// channel grows by one for each token for which it has no room.
 fn grown_lines(alloc: Global, tokens: usize, capacity: usize) -> Result<String, Fail> {
     let mut lines = String::new(alloc);
     let steps = tokens.wrapping_add(1);
@@ -38,7 +38,7 @@ fn grown_lines(alloc: Global, tokens: usize, capacity: usize) -> Result<String, 
     Ok(lines)
 }
 
-/// A channel grows from one place to a hundred, and another to one below the ceiling of 65,535.
+/// A channel grows from capacity one to a hundred, and another to one below the ceiling of 65,535.
 #[test]
 fn channels_grow_far(rt: HostRuntime) -> Result<(), Fail> {
     for (tokens, capacity) in [(100, 1), (65_534, 65_000)] {

@@ -32,7 +32,7 @@ fn with_capacities(alloc: Global, text: &str, capacities: &[usize]) -> Result<St
 }
 
 /// The report of Parks's case: only capacities, growths and the number of entries depend on the
-/// starting capacities, and the third channel grows if it starts with one place.
+/// starting capacities, and the third channel grows if it starts with capacity one.
 fn woven_lines(alloc: Global, capacities: [usize; 4]) -> Result<String, Fail> {
     let [c0, c1, c2, c3] = capacities;
     let (grown, growth, entries) = match c2 {
@@ -80,7 +80,7 @@ fn parks_case_from_all_capacities(rt: HostRuntime) -> Result<(), Fail> {
     Ok(())
 }
 
-/// The report of two counters of three into sinks of nothing: each channel grows to three places, the
+/// The report of two counters of three into sinks of nothing: each channel grows to capacity three, the
 /// smaller first, and the first one if they are equal.
 fn two_full_lines(alloc: Global, first: usize, second: usize) -> Result<String, Fail> {
     let mut lines = String::new(alloc);
@@ -104,7 +104,7 @@ fn two_full_lines(alloc: Global, first: usize, second: usize) -> Result<String, 
     Ok(lines)
 }
 
-/// Two channels that grow, each from 1 to 4 places, by one worker and by four.
+/// Two channels that grow, from each capacity from 1 to 4, by one worker and by four.
 #[test]
 fn two_growing_channels_from_all_capacities(rt: HostRuntime) -> Result<(), Fail> {
     let alloc = rt.alloc();

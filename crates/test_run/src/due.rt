@@ -63,7 +63,7 @@ stream c3 1 2 3 1 2 3
     stream: &[Word(1), Word(2), Word(3), Word(1), Word(2), Word(3)],
 };
 
-/// The channel of one place grows once.
+/// The channel of capacity one grows once.
 pub(crate) const SMALL_SINK_ENDS: Due = Due {
     end: End::Terminated,
     entries: 7,

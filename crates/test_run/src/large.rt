@@ -56,7 +56,7 @@ fn thirty_two_pairs(rt: HostRuntime) -> Result<(), Fail> {
 }
 
 /// A counter of a hundred, 62 scales by one and a sink of a hundred in a chain, over 63 channels of
-/// one place.
+/// capacity one.
 fn chain(alloc: Global) -> Result<String, Fail> {
     let mut text = String::from_str(alloc, "version = 1\nbudget = 20000\n")?;
     for i in 0..64usize {

@@ -1,4 +1,4 @@
--- Networks for which a known number of places suffices.
+-- Networks for which a known capacity suffices.
 use Rattle.test_laws.proofs.WorkedRoom.{two_places_suffice, never_three, ring_lasts}
 use Rattle.test_laws.proofs.sufficing.worked_room.Goals as goal
 
