@@ -2,7 +2,7 @@
 """An independent, slow interpreter of the rules: from the words of the command and the text of a
 description to what is written on standard output and the exit status. It is written from docs/format.md
 and docs/model.md and shares nothing with the engine: TOML is read by Python's tomllib, a process is
-a Python generator, and any process that can go on is the next, as a seed decides.
+a Python generator, and any process that can go on may be the next, as a seed decides.
 
     tests/interpreter.py [--seed N] [--versions 1] run --show NAME < FILE
 """
@@ -129,7 +129,7 @@ SORTS = {"w": "words", "f": "flags"}
 
 
 def args_fit(kind, args):
-    """Whether a kind takes these arguments, of which there are as many as it wants."""
+    """Whether a kind accepts these arguments; their number is right."""
     if kind == "count":
         return sum(args) < WORD
     if kind in ("weave", "divides"):
@@ -148,7 +148,7 @@ class Refused(Exception):
 
 
 def depth(value):
-    """How many arrays lie in one another. As a loop, for they may be many."""
+    """How deep arrays are nested. By a loop, since it may be very deep."""
     deepest, rest = 0, [(value, 0)]
     while rest:
         value, level = rest.pop()
@@ -173,7 +173,7 @@ def integers(value):
 
 
 def finite(text):
-    """The number of a float; one too great for 64 bits is no TOML."""
+    """The value of a float; one too great for 64 bits is no TOML."""
     value = float(text)
     if math.isinf(value) and "inf" not in text:
         raise Refused(1)
@@ -181,7 +181,7 @@ def finite(text):
 
 
 def document(text):
-    """The TOML document of the bytes; numbers have 64 bits, and arrays lie at most 80 deep."""
+    """The TOML document of the bytes; numbers have 64 bits, and arrays are nested at most 80 deep."""
     if len(text) > LIMIT:
         raise Refused(15)
     try:
@@ -223,7 +223,7 @@ NEEDED = object()
 
 
 def read_keys(table, keys):
-    """The values at the keys, each with its form and its default; no other key may stand there."""
+    """The values at the keys, each with its form and its default; no other key is allowed."""
     if any(key not in keys for key in table):
         raise Refused(2)
     values = {}
@@ -251,7 +251,7 @@ TOP_KEYS = {
 
 
 def read_sketch(table, versions):
-    """The description of a document, with its defaults. Version 2 knows two keys more."""
+    """The description of a document, with its defaults. Version 2 has two more keys."""
     top, channel = dict(TOP_KEYS), dict(CHANNEL_KEYS)
     version = table.get("version")
     if 2 in versions and is_integer(version) and version == 2:
@@ -330,7 +330,7 @@ def load(text, versions):
 # The run.
 
 class Process:
-    """A process: what it wants next (an act, or none where it wants to stop), and what it has done."""
+    """A process: what it wants next (an act, or none if it wants to stop), and what it has done."""
 
     def __init__(self, sketch, number):
         self.name, self.number = sketch["name"], number
@@ -387,7 +387,7 @@ class Network:
         return not process.done and process.wants is not None and process.wants[0] == "writes" and not self.is_enabled(process)
 
     def do(self, process):
-        """The deed that an enabled process wants. The answer is the channel that it changed."""
+        """Does the deed that an enabled process wants. Returns the channel that it changed."""
         self.entries += 1
         process.steps += 1
         if process.wants is None:
@@ -404,7 +404,7 @@ class Network:
         return channel
 
     def go_until_quiet(self, budget):
-        """Deeds in any order, until no process can go on or the entries are more than the budget."""
+        """Does deeds in any order, until no process can go on or there are more entries than the budget."""
         awake = list(self.processes)
         while awake and self.entries <= budget:
             k = int(self.choices.random() * len(awake))
@@ -420,7 +420,7 @@ class Network:
                     awake.append(other)
 
     def run(self, budget):
-        """The cause of the end; of a run with more entries than the budget it is the budget."""
+        """The cause of the end; it is the budget if there are more entries than that."""
         while True:
             self.go_until_quiet(budget)
             if self.entries > budget:
@@ -465,8 +465,8 @@ OVER_BUDGET = (b"end budget\n", STATUS["budget"])
 
 
 def outcomes(sketch, show, seed):
-    """What may be written of a run, with the status. It is one thing, but for a run that ends by a
-    deadlock or at the ceiling with just as many entries as the budget: whether the machine sees its
+    """What may be written of a run, with the status. There is one possibility, except for a run that ends by a
+    deadlock or at the ceiling with exactly as many entries as the budget: whether the machine sees its
     end first or the budget's depends on the order of the work."""
     net = Network(sketch, seed)
     cause = net.run(sketch["budget"])
@@ -481,7 +481,7 @@ def outcomes(sketch, show, seed):
 # The command.
 
 def read_words(words):
-    """The command and the name to show, or none where the words are refused."""
+    """The command and the name to show, or none if the arguments are refused."""
     if words == ["check"]:
         return "check", None
     if words[:1] != ["run"]:
@@ -505,7 +505,7 @@ def read_words(words):
 
 
 def serve(words, text, seed=0, versions=(1, 2)):
-    """All that may be written on standard output, each with its exit status. Help is not told here."""
+    """All that may be written on standard output, each with its exit status. Help is left out."""
     choice = read_words(words)
     if choice is None:
         return [(b"", 1)]

@@ -1,5 +1,5 @@
 """Random networks and random edits of their texts, for tests/fuzz. A network is a table as tomllib
-gives it, with just the keys that its text is to have."""
+returns it, with exactly the keys that its text is to have."""
 import copy
 
 from interpreter import CEILING, GREATEST_BUDGET, KINDS, Network, load, Refused
@@ -11,7 +11,7 @@ AFTERWARDS = LETTERS + "0123456789_"
 
 
 def pick(choices, *weighted):
-    """One of the values, each given with its weight."""
+    """Chooses one of the values, each given with its weight."""
     return choices.choices([it for it, _ in weighted], [weight for _, weight in weighted])[0]
 
 
@@ -60,7 +60,7 @@ class Growing:
         self.outs, self.ins = {"w": [], "f": []}, {"w": [], "f": []}
 
     def add(self, kind, joined):
-        """One process more. With this probability each input is joined to an open output before it."""
+        """Adds a process. With this probability each input is joined to an open output before it."""
         name = f"p{len(self.processes)}"
         self.processes.append(process(self.choices, kind, len(self.processes)))
         for port, sort in enumerate(KINDS[kind][2]):
@@ -85,7 +85,7 @@ class Growing:
         self.channels.append(channel)
 
     def close(self, joined):
-        """Processes until the ports fit, and channels for all that is open. What is open is joined at
+        """Adds processes until the ports fit, and channels for all open ports. These are joined at
         random, so there may be loops."""
         while len(self.outs["f"]) != len(self.ins["f"]):
             if len(self.outs["f"]) > len(self.ins["f"]):
@@ -103,7 +103,7 @@ class Growing:
 
 
 def ports_fitted(choices):
-    """Processes and channels, as yet without capacities."""
+    """Processes and channels, without capacities yet."""
     size = choices.randint(*pick(choices, ((1, 5), 12), ((4, 12), 6), ((10, 24), 3), ((24, 50), 1)))
     joined = pick(choices, (1.0, 4), (0.9, 6), (0.7, 2), (0.0, 1))
     kinds = ["take"] if choices.random() < 0.2 else choices.sample(sorted(KINDS), choices.randint(2, len(KINDS)))
@@ -117,7 +117,7 @@ def ports_fitted(choices):
 
 
 def chain(choices):
-    """A source, processes that hand on, and a sink."""
+    """A source, processes that pass tokens on, and a sink."""
     growing = Growing(choices)
     growing.add("count", 1)
     for _ in range(choices.randint(0, pick(choices, (6, 5), (PROCESSES - 2, 1)))):
@@ -144,7 +144,7 @@ def fill_channels(choices, version, channels):
 
 
 def renamed(choices, network):
-    """Other names, of which processes and channels may share some."""
+    """Other names; a process and a channel may share one."""
     for key in ("process", "channel"):
         names = {}
         for it in network[key]:
@@ -160,7 +160,7 @@ def renamed(choices, network):
 
 
 def budget_near(choices, network, versions):
-    """A budget near the number of entries with which the run is over, where that is small."""
+    """A budget near the number of entries with which the run is over, if that is small."""
     sketch = load(plain(network), versions)
     net = Network(sketch, choices.random())
     net.run(1500)
@@ -227,13 +227,13 @@ def value_text(value):
 
 
 def tables(network, key):
-    """The tables at the key, if that is what stands there; an edit may have put something else."""
+    """The tables at the key, if there are any; an edit may have put something else there."""
     found = network.get(key)
     return found if type(found) is list and all(type(it) is dict for it in found) else []
 
 
 def values(network):
-    """What else stands at the top."""
+    """The other keys at the top level."""
     return {key: it for key, it in network.items() if not tables(network, key)}
 
 
@@ -302,7 +302,7 @@ def odd(choices, network):
 
 
 def flat_pairs(choices, table):
-    """The pairs of an inline table, which stands on one line."""
+    """The pairs of an inline table, on one line."""
     return [(odd_key(choices, key), value_text(value)) for key, value in table.items()]
 
 
@@ -406,7 +406,7 @@ def double_table(choices, network):
 
 
 def crowd(choices, network):
-    """Processes or channels about as many as there may be."""
+    """About as many processes or channels as are allowed."""
     key, most = choices.choice([("process", 64), ("channel", 256)])
     wanted = most + choices.choice([0, 0, 1])
     while len(network[key]) < wanted:
@@ -420,7 +420,7 @@ NETWORK_EDITS = [
 
 
 def edited(choices, network):
-    """A network with some edits, each of which may make it no network."""
+    """A network with some edits, each of which may make it invalid."""
     network = copy.deepcopy(network)
     for _ in range(pick(choices, (1, 6), (2, 2), (3, 1))):
         try:

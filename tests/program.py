@@ -1,4 +1,4 @@
-"""Runs the program on words and a text, with little overhead."""
+"""Runs the program with arguments and a text, with little overhead."""
 import os
 import select
 import signal

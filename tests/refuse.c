@@ -1,5 +1,5 @@
 // Loaded before a program: it refuses the program's request for memory of the number REFUSE, and the
-// start of a thread of the number REFUSE_THREAD, or of each where that is `all`. At each refusal an r
+// start of a thread of the number REFUSE_THREAD, or of each if that is `all`. At each refusal an r
 // is written to file 9.
 #define _GNU_SOURCE
 #include <dlfcn.h>
@@ -11,7 +11,7 @@
 
 extern void *__libc_calloc(size_t n, size_t size);
 
-// The number in a variable of the environment; 0 where it is absent, and -1 where it is `all`.
+// The number in a variable of the environment; 0 if it is absent, and -1 if it is `all`.
 static long wanted(const char *name) {
     const char *text = getenv(name);
     if (!text) return 0;

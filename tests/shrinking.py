@@ -8,12 +8,12 @@ from networks import plain, tables
 
 
 def size(text):
-    """How large a text is. Shorter is smaller, and of equal ones what has the lesser digits."""
+    """How large a text is. Shorter is smaller, and among texts of one length the one with lesser digits."""
     return len(text), text
 
 
 def without(network, key, kept):
-    """The network with those tables alone whose numbers are kept."""
+    """The network with only those tables whose numbers are kept."""
     return {**network, key: [it for n, it in enumerate(tables(network, key)) if n in kept]}
 
 
@@ -28,7 +28,7 @@ def fewer_tables(network):
 
 
 def component(network, name):
-    """The names of the processes that hang together with this one."""
+    """The names of the processes that are connected with this one."""
     found, rest = set(), [name]
     while rest:
         name = rest.pop()
@@ -54,7 +54,7 @@ def components(network):
 
 def cut(network):
     """Each channel replaced by a sink for what its writer puts, or a source for its reader, and then the
-    part in which that process stands alone."""
+    part in which that process is alone."""
     for n, channel in enumerate(tables(network, "channel")):
         if channel.get("sort", "words") != "words":
             continue
@@ -65,7 +65,7 @@ def cut(network):
             made.pop("in" if end == "to" else "out", None)
             changed["process"].append({"name": "cut", "kind": kind, "args": args})
             names = component(changed, "cut")
-            # What stood at the other side of the channel goes, as far as nothing else holds it.
+            # What was on the other side of the channel goes, unless something else connects it.
             yield only(changed, names)
 
 
@@ -153,7 +153,7 @@ def smaller_texts(text):
 
 
 def shrink(text, fails, seconds=40):
-    """A text that fails as this one does, and of which nothing can be taken."""
+    """A text that fails as this one does, and from which nothing can be removed."""
     until = time.monotonic() + seconds
     found = True
     while found and time.monotonic() < until:

@@ -109,7 +109,7 @@ def refused(name, text, number):
 
 
 def edit(text, *pairs):
-    """The text with each first piece replaced, which stands in it just once."""
+    """The text with each first piece replaced, which must occur in it exactly once."""
     for old, new in pairs:
         assert text.count(old) == 1, old
         text = text.replace(old, new)

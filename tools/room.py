@@ -19,7 +19,7 @@ def read_crates():
 
 
 def crates_below(name, crates, found):
-    """The crates that this one stands on, lowest first, and then itself."""
+    """The crates that this one uses, lowest first, and then itself."""
     for it in crates.get(name, []):
         if it in crates and it not in found:
             crates_below(it, crates, found)
@@ -34,7 +34,7 @@ def jobs():
 
 
 class Room:
-    """A copy of crates in target/NAME. Used as a context: it is gone at the end."""
+    """A copy of crates in target/NAME. Used as a context: it is removed at the end."""
 
     def __init__(self, name):
         self.folder = os.path.join(TOP, "target", name)
@@ -64,7 +64,7 @@ class Room:
             file.writelines(f"{name}: {' '.join(self.crates[name])}\n" for name in names)
 
     def rt(self, where, *words, tell=lambda line: None):
-        """The lines that an rt command writes; where is a crate, or None for all. It is told of each as it comes."""
+        """The lines that an rt command writes; `where` is a crate, or None for all. `tell` is called with each line as it comes."""
         lines = []
         how = {"stdin": subprocess.DEVNULL, "stdout": subprocess.PIPE, "stderr": subprocess.STDOUT}
         folder = self.path(where) if where else self.folder
@@ -75,7 +75,7 @@ class Room:
         return lines
 
     def prove(self, libraries, tell):
-        """Proves libraries, the lowest with all processors, those above it side by side, and tells of each."""
+        """Proves libraries, the lowest with all processors, those above it side by side, and calls `tell` for each."""
         proved = set()
 
         def hear(line):

@@ -1,7 +1,7 @@
 // The chain as goroutines over buffered channels: a counter, scales by three and a sink, over channels
-// of one place. Nothing is recorded.
+// of capacity one. Nothing is recorded.
 //
-// Words: the number of scales, and how many tokens go through them.
+// Arguments: the number of scales, and how many tokens go through them.
 package main
 
 import (

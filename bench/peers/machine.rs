@@ -1,8 +1,8 @@
 //! The Parks machine in plain Rust, without proofs: the same design as kpn's, with boxed closures,
 //! rings, a queue of the ready processes and a recorded history. It runs a chain of a counter, scales
-//! by three and a sink over channels of one place, and tells how many entries the history has.
+//! by three and a sink over channels of capacity one, and prints how many entries the history has.
 //!
-//! Words: the number of scales, and how many tokens go through them.
+//! Arguments: the number of scales, and how many tokens go through them.
 use std::collections::VecDeque;
 
 #[derive(Clone, Copy)]

@@ -1,7 +1,7 @@
 //! The chain as threads over channels of the standard library: a counter, scales by three and a sink,
-//! each a thread, over `sync_channel`s of one place. Nothing is recorded.
+//! each a thread, over `sync_channel`s of capacity one. Nothing is recorded.
 //!
-//! Words: the number of scales, and how many tokens go through them.
+//! Arguments: the number of scales, and how many tokens go through them.
 use std::sync::mpsc::sync_channel;
 use std::thread;
 
