@@ -1,5 +1,5 @@
 #!/usr/bin/env python3
-"""An independent, slow interpreter of the rules: from the words of the command and the text of a
+"""An independent, slow interpreter of the rules: from the arguments of the command and the text of a
 description to what is written on standard output and the exit status. It is written from docs/format.md
 and docs/model.md and shares nothing with the engine: TOML is read by Python's tomllib, a process is
 a Python generator, and any process that can go on may be the next, as a seed decides.
