@@ -60,8 +60,8 @@ impl<A: Kinds, B: Kinds> Kinds for Both<A, B> {
 
     /// Returns what a name means; `None` if neither family has it.
     ///
-    /// A name that only one family has means its kind there, if that kind's number is below 2^15 - 1.
-    /// Every other name is refused: no card of the kind that it means has ports, whatever its
+    /// A name that only one family has means its kind there, if that kind's number is below 2^15 - 1. Any
+    /// other name that a family has is refused: no card of the kind that it means has ports, whatever its
     /// arguments, so a description that uses it is no network. This holds of a name that both families
     /// have, also if `Both` is joined with `Both` and however many of the families have it.
     fn named(name: &str) -> Option<(u16, usize)>

@@ -110,9 +110,9 @@ impl<K: Kinds, E: EntryLedger> Closed<K, E> {
         self.chronicle.end()
     }
 
-    /// Ends a watcher, and returns the number of entries and of growths of the whole history and how it
-    /// ended. The history goes on from what the watcher had seen, and is the same if the watcher had
-    /// seen an end. Takes no memory, and waits for nobody.
+    /// Ends a watcher of this monitor, and returns the number of entries and of growths of the whole
+    /// history and how it ended. The history goes on from what the watcher had seen, and is the same if
+    /// the watcher had seen an end. Takes no memory, and waits for nobody.
     pub fn settle(&mut self, watcher: Watcher) -> Progress
         requires { watcher.board ≡ E.board }
         ensures goes_on { IsPrefix watcher.entries self.old.machine.history }

@@ -250,8 +250,8 @@ impl<B: Body, E: EntryLedger, O: Ledger> Monitor<B, E, O> {
     }
 
     /// Shows the watcher how far the history has come, and returns its numbers. The history goes on
-    /// from what this watcher saw before, and is the same if it had seen an end. Takes no lock and no
-    /// memory, and waits for nobody.
+    /// from what this watcher saw before, and is the same if it had seen an end. The watcher must be
+    /// this monitor's. Takes no lock and no memory, and waits for nobody.
     pub fn look(&self, watcher: &mut Watcher) -> Progress
         requires { watcher.old.board ≡ E.board }
         ensures board { watcher.new.board ≡ E.board }

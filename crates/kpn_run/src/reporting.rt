@@ -55,7 +55,7 @@ fn push_put(tokens: &mut Vec<Token>, entry: Entry, channel: usize) -> Result<(),
 }
 
 /// Returns what went through a channel: its start tokens, and those that the entries put on it, in
-/// order. Errors: memory was refused.
+/// order. `channel` must be below `net.channels()`. Errors: memory was refused.
 pub fn stream_of<K: Kinds>(
     alloc: Global,
     net: &Net<K>,

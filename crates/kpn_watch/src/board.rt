@@ -88,9 +88,9 @@ impl Board {
         Ok((Board { table }, Publisher { seat, watchers: 0 }))
     }
 
-    /// Publishes a history, its number of growths and its phase, by one store. The history must go on
-    /// from the published one, and if that had ended, it must be the same with the same phase. It must
-    /// have fewer than 2^22 entries.
+    /// Publishes a history, its number of growths and its phase, by one store. The publisher must be
+    /// this board's. The history must go on from the published one, and if that had ended, it must be
+    /// the same with the same phase. It must have fewer than 2^22 entries.
     pub fn publish(&self, publisher: &mut Publisher, history: &[Entry], growths: u32, phase: Phase)
         requires board { publisher.old.board ≡ self.now }
         requires goes_on { IsPrefix publisher.old.entries history.now }
@@ -128,7 +128,8 @@ impl Board {
             .store::<Publish<N>>(&mut publisher.seat, 0, progress.to_word());
     }
 
-    /// Makes a watcher that has seen what is published. Fails exactly if 64 were made before; nothing
+    /// Makes a watcher that has seen what is published. The publisher must be this board's. Fails
+    /// exactly if 64 were made before; nothing changes then.
     /// changes then.
     pub fn split(&self, publisher: &mut Publisher) -> Result<Watcher, WatchFault>
         requires { publisher.old.board ≡ self.now }
@@ -146,8 +147,8 @@ impl Board {
     }
 
     /// Shows the watcher what is published, by one load, and returns its numbers. The history goes on
-    /// from the one that the watcher saw before, and is the same if that had ended. Takes no lock and
-    /// no memory, and waits for nobody.
+    /// from the one that the watcher saw before, and is the same if that had ended. The watcher must be
+    /// this board's. Takes no lock and no memory, and waits for nobody.
     pub fn look(&self, watcher: &mut Watcher) -> Progress
         requires { watcher.old.board ≡ self.now }
         ensures board { watcher.new.board ≡ watcher.old.board }
@@ -159,8 +160,8 @@ impl Board {
         Progress::of_word(word)
     }
 
-    /// Ends a watcher. What is published goes on from what the watcher had seen, and is the same if the
-    /// watcher had seen an end.
+    /// Ends a watcher of this board. What is published goes on from what the watcher had seen, and is
+    /// the same if the watcher had seen an end.
     pub fn join(&self, watcher: Watcher, publisher: &mut Publisher)
         requires watcher { watcher.board ≡ self.now }
         requires publisher { publisher.old.board ≡ self.now }

@@ -55,8 +55,9 @@ impl CountingPublisher {
         }
     }
 
-    /// Publishes a history with its end, if it has one. The history must go on from the published one,
-    /// and if that had ended, it must be the same with the same end. It must have fewer than 2^22
+    /// Publishes a history with its end, if it has one, on the publisher's board. The history must go
+    /// on from the published one, and if that had ended, it must be the same with the same end. It must
+    /// have fewer than 2^22
     /// entries.
     pub fn publish(&mut self, board: &Board, history: &[Entry], ended: Option<End>)
         requires board { self.old.board ≡ board.now }
@@ -72,7 +73,8 @@ impl CountingPublisher {
         board.publish(&mut self.publisher, history, self.growths, self.phase);
     }
 
-    /// Makes a watcher that has seen what is published. Fails exactly if 64 were made before; nothing
+    /// Makes a watcher of the publisher's board that has seen what is published. Fails exactly if 64
+    /// were made before; nothing changes then.
     /// changes then.
     pub fn watch(&mut self, board: &Board) -> Result<Watcher, WatchFault>
         requires { self.old.board ≡ board.now }
@@ -84,8 +86,8 @@ impl CountingPublisher {
         board.split(&mut self.publisher)
     }
 
-    /// Ends a watcher, and returns what is published. The history goes on from what the watcher had
-    /// seen, and is the same if the watcher had seen an end.
+    /// Ends a watcher of the publisher's board, and returns what is published. The history goes on from
+    /// what the watcher had seen, and is the same if the watcher had seen an end.
     pub fn settle(&mut self, board: &Board, watcher: Watcher) -> Progress
         requires board { self.old.board ≡ board.now }
         requires watcher { watcher.board ≡ board.now }
