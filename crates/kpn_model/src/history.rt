@@ -42,7 +42,8 @@ pub enum End {
     Memory,
 }
 
-/// Where a process stands: it has stopped, or wants to read or to write the channel of a number.
+/// Where a process came to rest, as a report says it: it has stopped, or wants to read or to write the
+/// channel of this number.
 #[derive(Clone, Copy, Debug, PartialEq, Eq)]
 pub enum Place {
     Stopped,

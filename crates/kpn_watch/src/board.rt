@@ -130,7 +130,6 @@ impl Board {
 
     /// Makes a watcher that has seen what is published. The publisher must be this board's. Fails
     /// exactly if 64 were made before; nothing changes then.
-    /// changes then.
     pub fn split(&self, publisher: &mut Publisher) -> Result<Watcher, WatchFault>
         requires { publisher.old.board ≡ self.now }
         ensures seen { IfOk result (λ w. w ≡ record { board = publisher.old.board; entries = publisher.old.entries; phase = publisher.old.phase }) }

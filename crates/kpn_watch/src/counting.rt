@@ -75,7 +75,6 @@ impl CountingPublisher {
 
     /// Makes a watcher of the publisher's board that has seen what is published. Fails exactly if 64
     /// were made before; nothing changes then.
-    /// changes then.
     pub fn watch(&mut self, board: &Board) -> Result<Watcher, WatchFault>
         requires { self.old.board ≡ board.now }
         ensures seen { IfOk result (λ w. w ≡ record { board = self.old.board; entries = self.old.entries; phase = self.old.phase }) }
