@@ -35,8 +35,8 @@ struct Told {
 ///
 /// - 0 if the run terminated, 5 if it ended in a deadlock, 6 at the ceiling, 3 if its budget was spent;
 /// - 1 if no channel has the name `show` (nothing is then run, and `no channel NAME` is written);
-/// - 4 if memory was refused, before the run or for the report (`refused 14`), or for a growth (`end
-///   memory`);
+/// - 4 if memory was refused: before the run or for the report (`refused 14`), or for a growth
+///   (`end memory`);
 /// - 7 if the write fails;
 /// - 8 if the machine refused an answer of one of several workers (`lost`).
 pub fn execute<B: Body, S: Sink, R: Wait + Clock + Threads + Sync>(
