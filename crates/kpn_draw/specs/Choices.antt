@@ -1,4 +1,4 @@
--- What the words of the command line ask for, and why they are refused.
+-- What the arguments of the command line ask for, and why they are refused.
 use Rattle.std.specs.Prelude.{◌≡◌, ◌≤◌, ℕ, Bool, false, codes, List, [], Option, Some, None, IfSome, if◌then◌else◌, option_map}
 use Rattle.std.specs.Option.{option_map_or}
 use Rattle.std.specs.Str.{bytes_eq}
@@ -13,8 +13,8 @@ use Rattle.kpn_draw.specs.Command.{kpn_draw}
 abbrev pub is_run : List Row → Bool
 is_run rows = option_map_or (λ t. bytes_eq t (codes "true")) (first_of (codes "run") rows) false
 
--- the choice is what the entries of the command line ask for: the file of the description, and by how
--- many workers it is to be run, where it is
+-- the choice is what the entries of the command line ask for: the file of the description, and the number of workers of its run,
+-- if it is to be run
 pub record IsChoiceOf (rows : List Row) (choice : Choice) : Type 0 where
   pub file : option_map (λ s. s.now) choice.file ≡ first_of (codes "file") rows
   pub count : ℕ
@@ -25,25 +25,25 @@ pub record IsChoiceOf (rows : List Row) (choice : Choice) : Type 0 where
 abbrev pub HasFewWorkers : Option ℕ → Type 0
 HasFewWorkers workers = IfSome workers (λ n. (1 ≤ n) × (n ≤ 16))
 
--- the command line takes the words
+-- the command line accepts the arguments
 abbrev pub AreTaken : List Text → Type 0
 AreTaken words = fault_of kpn_draw words ≡ []
 
 abbrev pub IsChoice : List Text → Choice → Type 0
 IsChoice words choice = AreTaken words × IsChoiceOf (matches_of kpn_draw words) choice
 
--- the command line refuses the words by this kind of error, or memory was refused; or it takes them, and
--- the text of `--workers` is no number of workers
+-- the command line refuses the arguments with this kind of error, or memory was refused; or it accepts them, and the text of
+-- `--workers` is no number of workers
 abbrev pub IsWordsFault : List Text → WordsFault → Type 0
 IsWordsFault words (Parser e) = HasKind (fault_of kpn_draw words) e
 IsWordsFault words Workers = AreTaken words × IsRefusedWorkers (first_of (codes "workers") (matches_of kpn_draw words))
 
--- the words ask for a text, the help or the version
+-- the arguments ask for the help or the version
 abbrev pub asks_for_help : WordsFault → Bool
 asks_for_help (Parser e) = is_text_asked_for (kind_of e)
 asks_for_help Workers = false
 
--- the text for the user, where it is not the parser's own
+-- the text for the user, if it is not clap's own
 abbrev pub text_of : WordsFault → Option Text
 text_of (Parser e) = None
 text_of Workers = Some (codes "error: --workers takes a number from 1 to 16\n\nFor more information, try 'kpn-draw --help'.\n")

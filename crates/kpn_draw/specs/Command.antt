@@ -9,7 +9,7 @@ run_rule = record (new_rule (codes "run")) { long = Some (codes "run"); action =
 abbrev pub workers_rule : Rule
 workers_rule = record (new_rule (codes "workers")) { long = Some (codes "workers"); value_names = 1 }
 
--- it has no name of its own, so it stands by itself
+-- it has no name of its own, so it is a positional argument
 abbrev pub file_rule : Rule
 file_rule = record (new_rule (codes "file")) { value_names = 1 }
 

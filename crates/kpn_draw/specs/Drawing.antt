@@ -21,22 +21,21 @@ use Rattle.kpn_front.specs.Loading.{Loads}
 use Rattle.kpn_execute.specs.Execution.{TellsRefused, Writes}
 use Rattle.kpn_execute.specs.Program.{fault_of}
 
--- the picture of a network as a run left it, by the run's digest
+-- the picture of a network after a run, from the run's digest
 abbrev pub digest_picture : Network → Digest → List ℕ
 digest_picture net d = picture standard_title net (Some d.cause) d.places d.capacities d.rests
 
--- the picture of a run to M that ended for this cause: after a spent budget and after want of memory it
--- tells the cause alone
+-- the picture of a run to M that ended for this cause; if its budget was spent or memory was refused, it shows only the cause
 abbrev pub run_picture : Network → End → List Entry → State → List ℕ
 run_picture net cause E M = if has_detail cause then digest_picture net (digest standard net cause E M) else picture standard_title net (Some cause) [] [] []
 
--- the picture of a report: with its detail, where there is one
+-- the picture of a report: with its detail, if there is one
 abbrev pub report_picture : Network → End → Option Detail → List ℕ
 report_picture net end None = picture standard_title net (Some end) [] [] []
 report_picture net end (Some d) = picture standard_title net (Some end) d.places d.capacities d.rests
 
--- a run from the start ended for a cause to which it is bound, and this is its picture; where it came to
--- its own end, it is the picture of each run that is over
+-- a run from the start ended for a cause that justifies its end, and this is its picture; if it came to its own end, it is the
+-- picture of each run that is over
 pub record DrawsRun (net : Network) (status : ℕ) (text : List ℕ) : Type 0 where
   pub history : List Entry
   pub state : State
@@ -57,22 +56,22 @@ pub record DrawsNet (net : Network) (status : ℕ) (text : List ℕ) : Type 0 wh
   pub status_is : status ≡ 0
   pub text_is : text ≡ picture standard_title net None [] [] []
 
--- what is drawn of a run that ended: it, or it is told that memory was refused
+-- what is drawn of a run that ended: its picture, or that memory was refused
 abbrev pub DrawsEnd : Network → ℕ → List ℕ → Type 0
 DrawsEnd net status text = TellsRefused status text ⊎ DrawsRun net status text
 
--- what is drawn of a network: itself, or as a run by so many workers left it; or it is told why not
+-- what is drawn of a network: itself, or as a run by this number of workers left it; or why not
 abbrev pub DrawsOf : Option ℕ → Network → ℕ → List ℕ → Type 0
 DrawsOf None net status text = TellsRefused status text ⊎ DrawsNet net status text
 DrawsOf (Some workers) net status text = TellsLost status text ⊎ DrawsEnd net status text
 
--- what is drawn of a description that was loaded, or told of one that was refused
+-- what is drawn of a description that was loaded, or written of one that was refused
 abbrev pub DrawsLoaded : Option ℕ → Result Network NetFault → ℕ → List ℕ → Type 0
 DrawsLoaded workers (Ok net) status text = DrawsOf workers net status text
 DrawsLoaded workers (Err fault) status text = (status ≡ status_of_fault fault) × (text ≡ refused_line fault)
 
--- the input is loaded, and what is drawn of it is written; of the input are known its bytes, where they
--- are, and whether a read had failed before and after
+-- the input is loaded, and what is drawn of it is written; known of the input are its bytes, if they are known at all, and
+-- whether a read had failed before and after
 pub record Draws (workers : Option ℕ) (input : Option (List ℕ)) (failed_before failed_after : Bool) (takes : ℕ → Bool) (before after : Option (List ℕ)) (status : ℕ) (fault : Option NetFault) : Type 0 where
   pub loaded : Result Network NetFault
   pub loads : failed_before ≡ false → IfSome input (λ text. Loads named signature failed_after text loaded)

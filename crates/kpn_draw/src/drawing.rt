@@ -17,18 +17,18 @@ use std::rt::Clock;
 use std::sync::Wait;
 use std::thread::Threads;
 
-/// What came of a description: the exit status, and its fault where it was refused.
+/// The outcome of a description: the exit status, and its fault if it was refused.
 #[derive(Drop)]
 pub(crate) struct Served {
     pub(crate) status: u8,
     pub(crate) fault: Option<NetFault>,
 }
 
-/// Reads a description from the source, and writes the picture of its network to the sink: as it
-/// stands, or as a run by so many workers left it.
+/// Reads a description from the source, and writes the picture of its network to the sink: as
+/// described, or as a run by `workers` workers left it.
 ///
-/// The status is 0 where the picture was written, 2 where the description is refused (4 for want of
-/// memory), 7 where a write fails, and 8 where a run was given up.
+/// The status is 0 if the picture was written, 2 if the description is refused (4 if memory was), 7 if
+/// a write fails, and 8 if a run was given up.
 pub(crate) fn serve<I: Source, O: Sink, R: Wait + Clock + Threads + Sync>(
     rt: &R,
     alloc: Global,
@@ -61,8 +61,8 @@ pub(crate) fn serve<I: Source, O: Sink, R: Wait + Clock + Threads + Sync>(
 
 /// Writes the picture of a network.
 ///
-/// The answer is the exit status: 0, 4 where memory was refused (`refused 14` is then written), and 7
-/// where the write fails.
+/// Returns the exit status: 0, 4 if memory was refused (`refused 14` is then written), and 7 if the
+/// write fails.
 fn draw_net<S: Sink>(alloc: Global, net: &Net<Standard>, sink: &mut S) -> u8
     ensures { Writes (DrawsOf None net.now) (S.takes sink.old) (S.contents sink.old) (S.contents sink.new) result }
 {

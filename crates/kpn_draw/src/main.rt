@@ -20,14 +20,14 @@ use std::sync::Wait;
 use std::thread::Threads;
 use std::{env, fs, io};
 
-/// The exit status where the words are refused.
+/// The exit status if the arguments could not be collected.
 const REFUSED: u8 = 1;
 
 fn main(rt: HostRuntime) -> ExitCode {
     ExitCode::from(status_of(&rt))
 }
 
-/// Reads the words, draws what they ask for, and answers the exit status.
+/// Reads the arguments, draws what they ask for, and returns the exit status.
 fn status_of<R: Env + Files + Input + Print + Eprint + AllocGlobal + Wait + Clock + Threads + Sync>(
     rt: &R,
 ) -> u8 {
@@ -49,8 +49,8 @@ fn status_of<R: Env + Files + Input + Print + Eprint + AllocGlobal + Wait + Cloc
     }
 }
 
-/// Draws the description of the file that is named, or of standard input where none is. A file that
-/// can't be opened can't be read.
+/// Draws the description in the file that is named, or on standard input if none is. A file that can't
+/// be opened counts as one that can't be read.
 fn serve_choice<R: Files + Input + Print + AllocGlobal + Wait + Clock + Threads + Sync>(
     rt: &R,
     choice: &Choice<'_>,
@@ -74,7 +74,7 @@ fn serve_choice<R: Files + Input + Print + AllocGlobal + Wait + Clock + Threads 
     }
 }
 
-/// The words could not be collected, for want of memory.
+/// Says that the arguments could not be collected, since memory was refused.
 fn say_no_memory<R: Eprint>(rt: &R) -> u8 {
     let _ = eprintln!(rt; "kpn-draw: memory was refused while the words were read");
     REFUSED
@@ -93,7 +93,7 @@ fn texts_of<'a>(rt: &impl AllocGlobal, words: &'a Vec<String>) -> io::Result<Vec
     Ok(texts)
 }
 
-/// Help goes to standard output, and what is wrong with the words to standard error.
+/// Writes help to standard output, and a fault of the arguments to standard error.
 fn say_words_refused<R: Print + Eprint>(rt: &R, fault: &WordsFault) -> u8 {
     let said = if fault.asks_for_help() {
         print!(rt; "{fault}")

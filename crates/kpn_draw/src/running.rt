@@ -1,4 +1,4 @@
-//! A network that is run, and drawn as the run left it.
+//! Running a network, and drawing it as the run left it.
 ghost use Rattle.std.specs.Prelude.{◌≡◌, ◌≤◌, Some, IfOk, map, string_bytes};
 ghost use Rattle.kpn_execute.specs.Execution.{Writes};
 ghost use Rattle.kpn_draw.specs.Drawing.{DrawsEnd, DrawsOf, DrawsRun, report_picture};
@@ -19,9 +19,8 @@ use std::thread::Threads;
 
 /// Runs a network by 1 to 16 workers, and writes the picture of how the run left it.
 ///
-/// The answer is the exit status: 0 however the run ended, 4 where memory was refused (`refused 14` is
-/// then written), 7 where the write fails, and 8 where the machine refused an answer of a worker
-/// (`lost`).
+/// Returns the exit status: 0 however the run ended, 4 if memory was refused (`refused 14` is then
+/// written), 7 if the write fails, and 8 if the machine refused an answer of a worker (`lost`).
 pub(crate) fn draw_run<S: Sink, R: Wait + Clock + Threads + Sync>(
     rt: &R,
     alloc: Global,

@@ -1,4 +1,4 @@
-//! Worked lines of words, and worked pictures.
+//! Worked command lines, and worked pictures.
 ghost use Rattle.kpn_draw.specs.Choices.{HasFewWorkers};
 
 use crate::drawing::serve;
@@ -12,7 +12,7 @@ use std::sync::Wait;
 use std::test::Fail;
 use std::thread::Threads;
 
-/// What stands above all processes, in each picture.
+/// The lines above all processes, in each picture.
 const HEAD: &str = r##"digraph kpn {
   graph [rankdir=LR, nodesep=0.5, labelloc=t, fontname="Helvetica", fontsize=16];
   node [shape=box, style="rounded,filled", fillcolor="#eef3fa", color="#44546a", fontname="Helvetica"];
@@ -41,8 +41,8 @@ channel = [
 ]
 "#;
 
-/// What is written of a description, with the exit status and the number of its fault (0 where there
-/// is none) in front.
+/// What is written of a description, after the exit status and the number of its fault (0 if there is
+/// none).
 fn told<R: AllocGlobal + Wait + Clock + Threads + Sync>(
     rt: &R,
     text: &str,
@@ -91,7 +91,7 @@ fn draws_a_deadlock_with_its_cycle(rt: HostRuntime) -> Result<(), Fail> {
     Ok(())
 }
 
-/// After a spent budget the end alone is told: of eight entries three are allowed.
+/// If the budget is spent, only the end is drawn: three of eight entries are allowed.
 #[test]
 fn draws_a_spent_budget(rt: HostRuntime) -> Result<(), Fail> {
     let text = COUNTER.replace(rt.alloc(), "budget = 100", "budget = 3")?;
@@ -125,7 +125,7 @@ fn refuses_as_the_other_program_does(rt: HostRuntime) -> Result<(), Fail> {
     Ok(())
 }
 
-/// Takes so many bytes, and then fails.
+/// Takes a number of bytes, and then fails.
 #[derive(Drop)]
 struct Failing {
     room: usize,
@@ -156,7 +156,7 @@ fn tells_a_failed_write_by_its_status(rt: HostRuntime) {
     }
 }
 
-/// What the words ask for, as a text.
+/// What the arguments ask for, as a text.
 fn asked_for(alloc: Global, words: &[&str]) -> Result<String, AllocError> {
     match read_words(alloc, words) {
         Ok(Choice { workers, file }) => {
@@ -170,8 +170,8 @@ fn asked_for(alloc: Global, words: &[&str]) -> Result<String, AllocError> {
     }
 }
 
-/// Lines of words, and what they ask for: the number of workers of a run (0 where nothing is run) and a
-/// file; or nothing, with the exit status and whether it is for the number of workers.
+/// Command lines, and what they ask for: the number of workers of a run (0 if nothing is run) and a
+/// file; or nothing, with the exit status and whether it is because of the number of workers.
 static WORDS: [(&str, &str); 16] = [
     ("kpn-draw", "0 -"),
     ("kpn-draw a.toml", "0 a.toml"),

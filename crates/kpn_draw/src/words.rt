@@ -1,4 +1,4 @@
-//! The words of the command line.
+//! The arguments of the command line.
 ghost use Rattle.std.specs.Prelude.{◌≡◌, ◌≤◌, Some, None, IfOk, IfErr, map, option_map, codes, false, if◌then◌else◌};
 ghost use Rattle.std.specs.Option.{option_map_or};
 ghost use Rattle.std.specs.Str.{bytes_eq};
@@ -13,7 +13,7 @@ use clap::{Arg, ArgAction, ArgMatches, Command};
 use std::alloc::{AllocError, Global};
 use std::{error, fmt};
 
-/// What the help ends with: an example, and the statuses that the program exits with.
+/// How the help ends: an example, and the statuses with which the program exits.
 const STATUSES: &str = "\
 The description is TOML. The picture is a text for Graphviz:
   kpn-draw examples/parks.toml | dot -Tsvg > parks.svg
@@ -27,18 +27,18 @@ Exit status:
   8  a worker's answer was refused, and the run was given up
 ";
 
-/// What the words ask for: the description of a file, or of standard input where none is named, is
-/// drawn as it stands, or as a run by so many workers left it, 1 to 16.
+/// What the arguments ask for: the description in a file, or on standard input if no file is named, is
+/// drawn as described, or as a run by 1 to 16 workers left it.
 #[derive(Debug, Drop)]
 pub(crate) struct Choice<'a> {
     pub(crate) workers: Option<usize>,
     pub(crate) file: Option<&'a str>,
 }
 
-/// Why the words give no choice. Its `Display` is the text for the user, which ends a line.
+/// Why the arguments give no choice. Its `Display` is the text for the user, which ends a line.
 #[derive(Debug, Drop)]
 pub(crate) enum WordsFault {
-    /// The command line refuses the words, or they ask for help or the version, or memory was
+    /// The command line refuses the arguments, or they ask for help or the version, or memory was
     /// refused.
     Parser(clap::Error),
     /// The text of `--workers` is no number from 1 to 16.
@@ -46,8 +46,8 @@ pub(crate) enum WordsFault {
 }
 
 impl WordsFault {
-    /// Whether the words ask for help or for the version: the text then goes to standard output, and
-    /// else to standard error.
+    /// Whether the arguments ask for help or for the version. Their text then goes to standard output,
+    /// otherwise to standard error.
     pub(crate) fn asks_for_help(&self) -> bool
         ensures { result ≡ asks_for_help self.now }
     {
@@ -60,7 +60,7 @@ impl WordsFault {
         }
     }
 
-    /// The exit status: 0 where help or the version was asked for, and else 1.
+    /// The exit status: 0 if help or the version was asked for, and otherwise 1.
     pub(crate) fn status(&self) -> u8
         ensures { result ≡ (if asks_for_help self.now then 0 else 1) }
     {
@@ -85,12 +85,12 @@ impl fmt::Display for WordsFault {
 
 impl error::Error for WordsFault {}
 
-/// What the words ask for, of which the first is the program's name.
+/// Reads what the arguments ask for. The first of them is the program's name. Without `--run` nothing
+/// is run, whatever the number of workers.
 ///
-/// The fault is `Parser` just where the command line refuses the words, with the kind of error that
-/// clap has for them (a call for help or for the version is one), or where memory was refused. It is
-/// `Workers` just where the command line takes the words, and the text of `--workers` is not read as
-/// a number from 1 to 16. Without `--run` nothing is run, whatever the number of workers.
+/// Errors: `Parser` if the command line refuses the arguments, with the kind of error that clap has for
+/// them (a call for help or for the version is one), or if memory was refused. `Workers` if the command
+/// line accepts the arguments, but the text of `--workers` is not a number from 1 to 16.
 pub(crate) fn read_words<'a>(alloc: Global, words: &'a [&'a str]) -> Result<Choice<'a>, WordsFault>
     ensures ok { IfOk result (IsChoice (map (λ w. w.now) words.entry.now)) }
     ensures workers { IfOk result (λ c. HasFewWorkers c.workers) }
@@ -112,7 +112,7 @@ fn choice_of<'a>(matches: &ArgMatches<'a>) -> Result<Choice<'a>, WordsFault>
     Ok(Choice { workers, file })
 }
 
-/// The number of workers of a run, where one is asked for.
+/// The number of workers of a run, if one is asked for.
 fn asked_for(is_run: bool, count: usize) -> Option<usize>
     ensures { result ≡ (if is_run then Some count else None) }
 {
@@ -136,7 +136,7 @@ fn is_true(text: Option<&str>) -> bool
     }
 }
 
-/// The number of workers that a text asks for, or 1.
+/// The number of workers that a text asks for; 1 if there is no text.
 fn workers_in(text: Option<&str>) -> Result<usize, WordsFault>
     ensures ok { IfOk result (WorkersFrom (option_map (λ s. s.now) text.entry)) }
     ensures few { IfOk result (λ n. (1 ≤ n) × (n ≤ 16)) }
@@ -148,7 +148,7 @@ fn workers_in(text: Option<&str>) -> Result<usize, WordsFault>
     }
 }
 
-/// The number of workers that a text is.
+/// Reads a text as a number of workers; `None` if it is none.
 fn workers_of(text: &str) -> Option<usize>
     ensures { IsWorkers text.now result }
 {
@@ -165,7 +165,7 @@ fn text_in<'a>(matches: &ArgMatches<'a>, id: &str) -> Option<&'a str>
     matches.get_str(id)
 }
 
-/// What the command line finds in the words.
+/// Parses the arguments.
 fn matches_of<'a>(alloc: Global, words: &'a [&'a str]) -> Result<ArgMatches<'a>, WordsFault>
     ensures taken { IfOk result (λ m. AreTaken (map (λ w. w.now) words.entry.now)) }
     ensures matches { IfOk result (λ m. rows_of (found_of m) ≡ matches_of kpn_draw (map (λ w. w.now) words.entry.now)) }

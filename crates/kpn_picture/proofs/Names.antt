@@ -8,7 +8,7 @@ and_right : (a b : Bool) → (a && b) ≡ true → b ≡ true
 and_right true b h = h
 and_right false b h = cc
 
--- a byte that no name has
+-- a byte that is no byte of a name differs from each byte of a name
 other_byte : (b n : ℕ) → is_name_byte b ≡ true → is_name_byte n ≡ false → b ≢ n
 other_byte b n is isnt = λ same. let bad : is_name_byte n ≡ true = rw same at is in cc
 

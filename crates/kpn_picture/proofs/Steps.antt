@@ -1,4 +1,4 @@
--- One more step on the way of those who wait.
+-- One more step along the processes that wait.
 use Rattle.std.proofs.Common.{◌≡◌, ◌≢◌, ℕ, suc, List, Some, refl}
 use Rattle.std.proofs.lemmas.Bool.{ne_eqb}
 use Rattle.kpn_model.specs.declared.history.Place.{Place}

@@ -13,14 +13,14 @@ use Rattle.kpn_model.specs.declared.history.End.TheVariants.{Terminated, Deadloc
 use Rattle.kpn_model.specs.Network.{Network, card_of, channel_of}
 use Rattle.kpn_picture.specs.Waits.{is_on_cycle, is_jammed}
 
--- the lines that stand above all processes
+-- the lines above all processes
 abbrev pub head : List ℕ
 head =
     codes "digraph kpn {\n  graph [rankdir=LR, nodesep=0.5, labelloc=t, fontname=\"Helvetica\", fontsize=16];\n"
     ++ codes "  node [shape=box, style=\"rounded,filled\", fillcolor=\"#eef3fa\", color=\"#44546a\", fontname=\"Helvetica\"];\n"
     ++ codes "  edge [color=\"#44546a\", fontcolor=\"#44546a\", fontname=\"Helvetica\", fontsize=11];\n"
 
--- a text that stands for itself between quotes: it has no quote, no backslash and no line feed
+-- a text that needs no escapes between quotes: it has no quote, no backslash and no line feed
 abbrev pub IsPlain : List ℕ → Type 0
 IsPlain text = All (λ b. (b ≢ 34) × (b ≢ 92) × (b ≢ 10)) text
 
@@ -32,7 +32,7 @@ end_text Ceiling = codes "a channel at the ceiling would have to grow"
 end_text Budget = codes "budget spent"
 end_text Memory = codes "memory refused"
 
--- the line of the end of a run, where there was one
+-- the line of the end of a run, if there is one
 abbrev pub end_line : Option End → List ℕ
 end_line None = []
 end_line (Some end) = codes "  label=\"" ++ end_text end ++ codes "\";\n"
@@ -44,11 +44,11 @@ abbrev pub sort_text : Sort → List ℕ
 sort_text Words = codes "words"
 sort_text Flags = codes "flags"
 
--- the capacity of a channel at first, and the one that it grew to
+-- the starting capacity of a channel, and the one that it grew to
 abbrev pub capacity_text : ℕ → ℕ → List ℕ
 capacity_text at_first last = if at_first == last then decimal last else decimal at_first ++ codes " -> " ++ decimal last
 
--- how many tokens a channel holds, where it holds any
+-- how many tokens a channel holds, if it holds any
 abbrev pub held_part : ℕ → List ℕ
 held_part zero = []
 held_part (suc n) = codes "\\nholds " ++ decimal (suc n)
@@ -66,14 +66,14 @@ process_look true place = codes ", color=\"#c0392b\", penwidth=2"
 process_look false (Some Stopped) = codes ", fillcolor=\"#e3e3e3\""
 process_look false _ = []
 
--- how the line of a channel between processes of these names begins, and the text of one of this name
+-- how the line of a channel between processes with these names begins, and the label of a channel with this name
 abbrev pub arrow : List ℕ → List ℕ → List ℕ
 arrow writer reader = codes "  \"" ++ writer ++ codes "\" -> \"" ++ reader ++ codes "\" [label=\""
 
 abbrev pub label_opening : List ℕ → Sort → List ℕ
 label_opening name sort = name ++ codes "\\n" ++ sort_text sort ++ codes ", capacity "
 
--- how the line of a process of this name begins, up to its kind; and how each line ends, after the text
+-- how the line of a process with this name begins, up to its kind; and how each line ends, after the label
 abbrev pub box_opening : List ℕ → List ℕ
 box_opening name = codes "  \"" ++ name ++ codes "\" [label=\"" ++ name ++ codes "\\n"
 
@@ -91,14 +91,14 @@ module _ (net : Network) where
   abbrev pub channel_name : ℕ → List ℕ
   channel_name c = option_map_or (λ x. x.name) (slice_get net.channels c) []
 
-  -- where a run left a process
+  -- the place in which a run left a process
   abbrev pub place_text : Place → List ℕ
   place_text Stopped = codes "\\nended"
   place_text (Reads c) = codes "\\nwaits to read " ++ channel_name c
   place_text (Writes c) = codes "\\nwaits to write " ++ channel_name c
 
   module _ (title : ℕ → List ℕ × ℕ) (places : List Place) where
-    -- process p, in a box: its name, its kind and where it stands, if that is known
+    -- process p, as a box: its name, its kind and its place, if that is known
     abbrev pub process_line : ℕ → List ℕ
     process_line p =
         box_opening (process_name p) ++ kind_text title (card_of net p) ++ option_map_or place_text (slice_get places p) []
@@ -109,7 +109,7 @@ module _ (net : Network) where
   edge_opening c = let l = channel_of net c in arrow (process_name l.writer) (process_name l.reader) ++ label_opening (channel_name c) l.sort
 
   module _ (places : List Place) (capacities : List ℕ) (rests : List (List Token)) where
-    -- what channel c holds, and its capacity: in the end, if that is known, and else at first
+    -- what channel c holds, and its capacity: at the end, if that is known, and else at first
     abbrev pub held : ℕ → ℕ
     held c = length (option_map_or (λ rest. rest) (slice_get rests c) (channel_of net c).tokens)
 
@@ -125,12 +125,12 @@ module _ (net : Network) where
         edge_opening c ++ capacity_text (channel_of net c).capacity (last_capacity c) ++ held_part (held c)
         ++ closing (edge_look (is_jammed net places c) (has_grown c))
 
--- the texts of line 0 up to line n, without it
+-- the texts of the first n lines
 abbrev pub lines_upto : (ℕ → List ℕ) → ℕ → List ℕ
 lines_upto line zero = []
 lines_upto line (suc n) = lines_upto line n ++ line n
 
--- the picture of a network, and of a run that ended so and left it so
+-- the picture of a network, and of a run with this end that left it like this
 abbrev pub picture : (ℕ → List ℕ × ℕ) → Network → Option End → List Place → List ℕ → List (List Token) → List ℕ
 picture title net end places capacities rests =
     head ++ end_line end ++ lines_upto (process_line net title places) (length net.processes)

@@ -30,7 +30,7 @@ pub(crate) fn channel_name<K: Kinds>(net: &Net<K>, c: usize) -> &str
     }
 }
 
-/// The capacity of a channel at first, and the one that it grew to.
+/// Appends the starting capacity of a channel, and the one that it grew to.
 fn push_capacity(out: &mut String, at_first: usize, last: usize) -> Result<(), AllocError>
     ensures { OnOk result (string_bytes out.new ≡ string_bytes out.old ++ capacity_text at_first last) }
 {
@@ -41,7 +41,7 @@ fn push_capacity(out: &mut String, at_first: usize, last: usize) -> Result<(), A
     }
 }
 
-/// How many tokens a channel holds, where it holds any.
+/// Appends how many tokens a channel holds, if it holds any.
 fn push_held(out: &mut String, tokens: usize) -> Result<(), AllocError>
     ensures { OnOk result (string_bytes out.new ≡ string_bytes out.old ++ held_part tokens) }
 {
@@ -52,7 +52,7 @@ fn push_held(out: &mut String, tokens: usize) -> Result<(), AllocError>
     }
 }
 
-/// How many tokens a channel holds in the end, if that is known, and else at first.
+/// How many tokens a channel holds at the end, if that is known, and else at first.
 fn held<K: Kinds>(net: &Net<K>, left: &Left<'_>, c: usize) -> usize
     requires { c < length net.now.channels }
     ensures { result ≡ held net.now left.now.places.now left.now.capacities.now left.now.rests.now c }
@@ -63,7 +63,7 @@ fn held<K: Kinds>(net: &Net<K>, left: &Left<'_>, c: usize) -> usize
     }
 }
 
-/// The capacity of a channel in the end, if that is known, and else at first.
+/// The capacity of a channel at the end, if that is known, and else at first.
 fn last_capacity<K: Kinds>(net: &Net<K>, left: &Left<'_>, c: usize) -> usize
     requires { c < length net.now.channels }
     ensures { result ≡ last_capacity net.now left.now.places.now left.now.capacities.now left.now.rests.now c }
@@ -74,14 +74,14 @@ fn last_capacity<K: Kinds>(net: &Net<K>, left: &Left<'_>, c: usize) -> usize
     }
 }
 
-/// How the line of a channel between processes of these names begins.
+/// Appends how the line of a channel between processes with these names begins.
 fn push_arrow(out: &mut String, writer: &str, reader: &str) -> Result<(), AllocError>
     ensures { OnOk result (string_bytes out.new ≡ string_bytes out.old ++ arrow writer.now reader.now) }
 {
     write!(out, "  \"{writer}\" -> \"{reader}\" [label=\"")
 }
 
-/// How the text of a channel begins, up to its capacity.
+/// Appends how the label of a channel begins, up to its capacity.
 fn push_label(out: &mut String, name: &str, sort: Sort) -> Result<(), AllocError>
     ensures { OnOk result (string_bytes out.new ≡ string_bytes out.old ++ label_opening name.now sort) }
 {
@@ -89,7 +89,7 @@ fn push_label(out: &mut String, name: &str, sort: Sort) -> Result<(), AllocError
     write!(out, "{name}\\n{sort}, capacity ")
 }
 
-/// How the line of a channel begins, up to its capacity.
+/// Appends how the line of a channel begins, up to its capacity.
 fn push_opening<K: Kinds>(out: &mut String, net: &Net<K>, c: usize) -> Result<(), AllocError>
     requires { c < length net.now.channels }
     ensures { OnOk result (string_bytes out.new ≡ string_bytes out.old ++ edge_opening net.now c) }
@@ -111,7 +111,7 @@ fn look<K: Kinds>(net: &Net<K>, left: &Left<'_>, c: usize) -> &'static str
     edge_look(is_jammed(net, left.places, c), has_grown)
 }
 
-/// The line of a channel.
+/// Appends the line of a channel.
 fn push_channel<K: Kinds>(
     out: &mut String,
     net: &Net<K>,
@@ -128,7 +128,7 @@ fn push_channel<K: Kinds>(
     Ok(())
 }
 
-/// The lines of all channels.
+/// Appends the lines of all channels.
 pub(crate) fn push_channels<K: Kinds>(
     out: &mut String,
     net: &Net<K>,

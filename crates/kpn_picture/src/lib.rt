@@ -1,4 +1,4 @@
-//! Pictures of networks, in the language of Graphviz: of a description, and of how a run left it.
+//! Pictures of networks, in the language of Graphviz: of a description, and of the network after a run.
 #![tactic(auto)]
 
 mod edges;

@@ -51,7 +51,7 @@ pub(crate) fn sort_text(sort: Sort) -> &'static str
     }
 }
 
-/// How each line ends, after its text.
+/// Appends how each line ends, after its label.
 pub(crate) fn push_closing(out: &mut String, look: &str) -> Result<(), AllocError>
     ensures { OnOk result (string_bytes out.new ≡ string_bytes out.old ++ closing look.now) }
 {

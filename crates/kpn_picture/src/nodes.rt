@@ -1,4 +1,4 @@
-//! Processes, in boxes.
+//! Processes, as boxes.
 ghost use Rattle.std.specs.Prelude.{◌≡◌, ◌++◌, ◌<◌, [], OnOk, IsSome, length, string_bytes};
 ghost use Rattle.std.specs.List.{flat_map};
 ghost use Rattle.std.specs.Option.{option_map_or};
@@ -22,7 +22,7 @@ fn push_arguments(out: &mut String, arguments: &[u64]) -> Result<(), AllocError>
     Ok(())
 }
 
-/// The kind of a card, with the arguments that it takes.
+/// Appends the kind of a card, with the arguments that it takes.
 fn push_kind<K: Titled>(out: &mut String, card: &Card) -> Result<(), AllocError>
     requires { IsSome (K.signature_of card.now) }
     ensures { OnOk result (string_bytes out.new ≡ string_bytes out.old ++ kind_text K.title card.now) }
@@ -32,7 +32,7 @@ fn push_kind<K: Titled>(out: &mut String, card: &Card) -> Result<(), AllocError>
     push_arguments(out, &card.args[..arity.min(3)])
 }
 
-/// Where a run left a process, if that is known.
+/// Appends the place in which a run left a process, if that is known.
 fn push_place<K: Kinds>(
     out: &mut String,
     net: &Net<K>,
@@ -64,14 +64,14 @@ fn card<K: Kinds>(net: &Net<K>, p: usize) -> Card
     net.card(p)
 }
 
-/// How the line of a process begins, up to its kind.
+/// Appends how the line of a process begins, up to its kind.
 fn push_opening(out: &mut String, name: &str) -> Result<(), AllocError>
     ensures { OnOk result (string_bytes out.new ≡ string_bytes out.old ++ box_opening name.now) }
 {
     write!(out, "  \"{name}\" [label=\"{name}\\n")
 }
 
-/// The line of a process.
+/// Appends the line of a process.
 fn push_process<K: Titled>(
     out: &mut String,
     net: &Net<K>,
@@ -91,7 +91,7 @@ fn push_process<K: Titled>(
     Ok(())
 }
 
-/// The lines of all processes.
+/// Appends the lines of all processes.
 pub(crate) fn push_processes<K: Titled>(
     out: &mut String,
     net: &Net<K>,

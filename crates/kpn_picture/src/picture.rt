@@ -10,9 +10,9 @@ use kpn_net::{End, Kinds, Listed, Net, Place, Token};
 use std::alloc::{AllocError, Global};
 use std::fmt::Write;
 
-/// How a run left a network: where each process stands; of each channel the last capacity, and what it
-/// still holds. Where a list is shorter, no more is known: then no place is drawn, and a channel as it
-/// was at first.
+/// How a run left a network: the place of each process; for each channel its last capacity, and what it
+/// still holds. If a list is too short, the rest is not known: then no place is drawn, and a channel is
+/// drawn as it was at first.
 #[derive(Clone, Copy)]
 pub struct Left<'a> {
     pub places: &'a [Place],
@@ -20,7 +20,7 @@ pub struct Left<'a> {
     pub rests: &'a [Listed<Token>],
 }
 
-/// The lines that stand above all processes.
+/// The lines above all processes.
 const HEAD: &str = "\
 digraph kpn {
   graph [rankdir=LR, nodesep=0.5, labelloc=t, fontname=\"Helvetica\", fontsize=16];
@@ -28,7 +28,8 @@ digraph kpn {
   edge [color=\"#44546a\", fontcolor=\"#44546a\", fontname=\"Helvetica\", fontsize=11];
 ";
 
-/// The names of a network stand for themselves between quotes.
+/// Does nothing: a caller knows from here on that the names of a network need no escapes between
+/// quotes.
 fn names_are_plain<K: Kinds>(net: &Net<K>)
     ensures processes { All (λ p. IsPlain p.name) net.now.processes }
     ensures channels { All (λ c. IsPlain c.name) net.now.channels }
@@ -36,7 +37,7 @@ fn names_are_plain<K: Kinds>(net: &Net<K>)
     net.processes();
 }
 
-/// The line of the end of a run, where there was one.
+/// Appends the line of the end of a run, if there is one.
 fn push_end(out: &mut String, end: Option<End>) -> Result<(), AllocError>
     ensures { OnOk result (string_bytes out.new ≡ string_bytes out.old ++ end_line end) }
 {

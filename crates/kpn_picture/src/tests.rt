@@ -5,14 +5,14 @@ use kpn_standard::Standard;
 use std::alloc::{AllocError, Global};
 use std::test::Fail;
 
-/// What stands above all processes, in each picture.
+/// The lines above all processes, in each picture.
 const HEAD: &str = r##"digraph kpn {
   graph [rankdir=LR, nodesep=0.5, labelloc=t, fontname="Helvetica", fontsize=16];
   node [shape=box, style="rounded,filled", fillcolor="#eef3fa", color="#44546a", fontname="Helvetica"];
   edge [color="#44546a", fontcolor="#44546a", fontname="Helvetica", fontsize=11];
 "##;
 
-/// Draws a network of which nothing else is known but, where a run of it ended, how.
+/// Draws a network of which nothing is known but how a run ended, if it did.
 fn picture_of_start(
     alloc: Global,
     net: &Net<Standard>,
@@ -51,7 +51,7 @@ fn draws_a_description(rt: HostRuntime) -> Result<(), Fail> {
     Ok(())
 }
 
-/// A switch that sends words on by flags, the first of which stand on their channel at first.
+/// A switch that passes words on by flags; its channel of flags begins with some.
 const SWITCH: &str = r#"version = 2
 process = [
     { name = "a", kind = "count", args = [7, 3] },
@@ -109,7 +109,7 @@ channel = [
 ]
 "#;
 
-/// Where the run of the loop leaves its processes.
+/// The places in which the run of the loop leaves its processes.
 const LOOP_PLACES: [Place; 4] = [
     Place::Stopped,
     Place::Reads(1),
@@ -117,7 +117,7 @@ const LOOP_PLACES: [Place; 4] = [
     Place::Reads(3),
 ];
 
-/// So many words.
+/// A list of `count` words.
 fn words(alloc: Global, count: usize) -> Result<Listed<Token>, Fail> {
     Ok(Listed::new(vec![in alloc; Token::Word(2); count]?))
 }

@@ -11,8 +11,8 @@ pub trait Titled: Kinds {
 
     ghost title: { ℕ → List ℕ × ℕ };
 
-    /// The title of the kind of a card: its name, which means this kind, and the number of its
-    /// arguments.
+    /// Returns the title of the kind of a card: its name, which means this kind, and the number of its
+    /// arguments. The card must have a signature.
     fn title(card: &Card) -> (&'static str, usize)
         requires { IsSome (Self.signature_of card.now) }
         ensures name { result.0.now ≡ (title card.now.kind).0 }

@@ -1,11 +1,11 @@
-//! Who waits for whom, where a run left the processes, and the cycles of these waits.
+//! Which process waits for which after a run, and the cycles of these waits.
 ghost use Rattle.std.specs.Prelude.{◌≡◌, ◌<◌, false, length, slice_get};
 ghost use Rattle.std.specs.Option.{option_map_or};
 ghost use Rattle.kpn_picture.specs.Waits.{other_end, waits_for, is_met, is_on_cycle, stands_at_read, stands_at_write, is_jammed};
 
 use kpn_net::{Kinds, Net, Place};
 
-/// Who is to act before one that stands here can go on.
+/// The process that must act before a process with this place can go on.
 fn other_end<K: Kinds>(net: &Net<K>, place: Place) -> Option<usize>
     ensures { result ≡ other_end net.now place }
 {
@@ -16,14 +16,14 @@ fn other_end<K: Kinds>(net: &Net<K>, place: Place) -> Option<usize>
     }
 }
 
-/// Where a run left a process, if that is known.
+/// The place in which a run left a process, if that is known.
 pub(crate) fn place_at(places: &[Place], p: usize) -> Option<Place>
     ensures { result ≡ slice_get places.now p }
 {
     places.get(p).copied()
 }
 
-/// For whom a process waits.
+/// The process for which a process waits.
 fn waits_for<K: Kinds>(net: &Net<K>, places: &[Place], p: usize) -> Option<usize>
     ensures { result ≡ waits_for net.now places.now p }
 {
@@ -33,8 +33,8 @@ fn waits_for<K: Kinds>(net: &Net<K>, places: &[Place], p: usize) -> Option<usize
     }
 }
 
-/// Whether `goal` is met on the way from a process, from one to the next for whom it waits, in at
-/// most so many steps.
+/// Whether `goal` is reached from a process in at most `steps` steps, each from a process to the one
+/// for which it waits.
 fn is_met<K: Kinds>(net: &Net<K>, places: &[Place], steps: usize, goal: usize, from: usize) -> bool
     ensures { result ≡ is_met net.now places.now steps goal from }
 {
@@ -49,14 +49,14 @@ fn is_met<K: Kinds>(net: &Net<K>, places: &[Place], steps: usize, goal: usize, f
     false
 }
 
-/// Whether a process waits for itself, over others or at once.
+/// Whether a process waits for itself, directly or through others.
 pub(crate) fn is_on_cycle<K: Kinds>(net: &Net<K>, places: &[Place], p: usize) -> bool
     ensures { result ≡ is_on_cycle net.now places.now p }
 {
     is_met(net, places, net.processes(), p, p)
 }
 
-/// Whether a process that stands here waits for a token of this channel.
+/// Whether a process with this place waits for a token of this channel.
 fn stands_at_read(place: Option<Place>, c: usize) -> bool
     ensures { result ≡ option_map_or (stands_at_read c) place false }
 {
@@ -66,7 +66,7 @@ fn stands_at_read(place: Option<Place>, c: usize) -> bool
     }
 }
 
-/// Whether a process that stands here waits for room in this channel.
+/// Whether a process with this place waits for room in this channel.
 fn stands_at_write(place: Option<Place>, c: usize) -> bool
     ensures { result ≡ option_map_or (stands_at_write c) place false }
 {
@@ -76,8 +76,8 @@ fn stands_at_write(place: Option<Place>, c: usize) -> bool
     }
 }
 
-/// Whether a process of a cycle of waits waits for this channel: its reader for a token, or its
-/// writer for room. Where such a cycle stands, none of its processes goes on unless a channel grows.
+/// Returns whether a process on a cycle of waits waits for this channel: its reader for a token, or its
+/// writer for room. No process of such a cycle goes on unless a channel grows.
 pub fn is_jammed<K: Kinds>(net: &Net<K>, places: &[Place], c: usize) -> bool
     requires { c < length net.now.channels }
     ensures { result ≡ is_jammed net.now places.now c }

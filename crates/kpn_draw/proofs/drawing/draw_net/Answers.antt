@@ -1,4 +1,4 @@
--- The picture is written, or want of memory is told.
+-- The picture is written, or that memory was refused.
 use Rattle.std.proofs.Common.{inl, inr, refl, ◌∙◌}
 use Rattle.kpn_net.specs.declared.fault.NetFault.TheVariants.{Memory}
 use Rattle.kpn_front.specs.Lines.{refused_line}

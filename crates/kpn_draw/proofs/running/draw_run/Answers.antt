@@ -1,4 +1,4 @@
--- Want of memory for the bodies is told as such.
+-- If memory for the bodies is refused, this is written.
 use Rattle.std.proofs.Common.{inl, inr, refl}
 use Rattle.kpn_net.specs.declared.fault.NetFault.TheVariants.{Memory}
 use Rattle.kpn_front.specs.Lines.{refused_line}

@@ -1,4 +1,4 @@
--- A run that ended is drawn; want of memory and an answer that was refused are told.
+-- A run that ended is drawn; refused memory, and an answer that was refused, are reported.
 use Rattle.std.proofs.Common.{inl, inr, refl, ap, ◌∙◌, Err}
 use Rattle.kpn_net.specs.declared.fault.NetFault.TheVariants.{Memory}
 use Rattle.kpn_front.specs.Lines.{lost_line, refused_line}
