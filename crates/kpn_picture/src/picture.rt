@@ -50,7 +50,7 @@ fn push_end(out: &mut String, end: Option<End>) -> Result<(), AllocError>
     }
 }
 
-/// The lines above all processes, with the end of a run, where there was one.
+/// The lines above all processes, with the end of a run, if there is one.
 fn head(alloc: Global, end: Option<End>) -> Result<String, AllocError>
     ensures { IfOk result (λ text. string_bytes text ≡ head ++ end_line end) }
 {
@@ -59,13 +59,14 @@ fn head(alloc: Global, end: Option<End>) -> Result<String, AllocError>
     Ok(out)
 }
 
-/// The picture of a network, as a directed graph in the language of Graphviz: each process a box with
-/// its name and its kind, each channel an edge from its writer to its reader, with its name, its sort
-/// and its capacity. Of a run that ended it tells how, where it left each process, to what capacity
-/// each channel grew and what it holds; the channels on a cycle of waits are red.
+/// Returns the picture of a network, as a directed graph in the language of Graphviz: each process is a
+/// box with its name and its kind, each channel an edge from its writer to its reader, with its name,
+/// its sort and its capacity. For a run that ended it shows how, the place in which it left each
+/// process, the capacity to which each channel grew and what it holds; the channels on a cycle of waits
+/// are red.
 ///
-/// A name stands in quotes, and needs no other care, since it has neither a quote nor a backslash
-/// (`processes` and `channels`). The error is want of memory.
+/// A name is in quotes and needs no escapes, since it has no quote, no backslash and no line feed
+/// (`processes` and `channels`). Errors: memory was refused.
 pub fn picture_of<K: Titled>(
     alloc: Global,
     net: &Net<K>,
