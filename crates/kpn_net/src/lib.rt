@@ -3,11 +3,12 @@
 //! off them.
 #![tactic(auto)]
 
-mod check;
+pub mod check;
 pub mod fault;
 mod form;
 pub mod history;
 pub mod kinds;
+pub mod location;
 pub mod net;
 pub mod parts;
 mod ports;
@@ -15,11 +16,12 @@ pub mod read;
 pub mod sketch;
 pub mod small;
 pub mod token;
-mod version;
+pub mod version;
 
 pub use fault::NetFault;
 pub use history::{Deed, End, Entry, Place, Status};
 pub use kinds::{Act, Answer, Card, Kinds, Local, Signature};
+pub use location::{Location, locate};
 pub use net::Net;
 pub use parts::{Channel, Ends, Process};
 pub use read::read_sketch;
