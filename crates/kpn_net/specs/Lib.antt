@@ -5,3 +5,4 @@ pub mod Description
 pub mod Faults
 pub mod Sketched
 pub mod Ports
+pub mod Location

@@ -1,10 +1,11 @@
 //! The faults of a sketch, one function for each condition.
-ghost use Rattle.std.specs.Prelude.{◌≡◌, ◌&&◌, ◌||◌, not, int_lt, Bool, option_copied, pos, unsigned_abs, slice_index, slice_index_or};
+ghost use Rattle.std.specs.Prelude.{◌≡◌, ◌&&◌, ◌||◌, not, int_lt, Bool, option_copied, pos, is_none, unsigned_abs, slice_index, slice_index_or};
 ghost use Rattle.std.specs.List.{find, list_any, list_all};
 ghost use Rattle.std.specs.Ordering.{int_eq};
 ghost use Rattle.std.specs.Str.{bytes_eq};
 ghost use Rattle.kpn_model.specs.Lawful.{CardFits};
 ghost use Rattle.kpn_model.specs.Name.{is_letter, is_name_byte, is_name};
+ghost use Rattle.kpn_net.specs.Version.{ceiling_in};
 ghost use Rattle.kpn_net.specs.Faults.{any_pair, is_outside, same_process, same_channel, same_out, same_in, port_sort, is_sort, is_token, has_wrong_tokens, card_with, signature_of, has_unknown_kind, takes_other_count, has_wrong_args, signature_named, sketched_out_sort, sketched_in_sort, is_unused_out, is_unused_in, is_unused, has_unused_port, has_fault, first_fault};
 
 use crate::fault::NetFault;
@@ -45,7 +46,7 @@ fn begins_with_letter(bytes: &[u8]) -> bool
     }
 }
 
-fn is_name(text: &str) -> bool
+pub fn is_name(text: &str) -> bool
     ensures { result ≡ is_name text.now }
 {
     let bytes = text.as_bytes();
@@ -53,18 +54,18 @@ fn is_name(text: &str) -> bool
 }
 
 /// A relation that no two items of a list may have.
-trait Clash<T> {
+pub(crate) trait Clash<T> {
     ghost clash: { T → T → Bool };
 
     fn clash(x: &T, y: &T) -> bool
         ensures { result ≡ clash x.now y.now };
 }
 
-struct SameName;
+pub(crate) struct SameName;
 
-struct SameOut;
+pub(crate) struct SameOut;
 
-struct SameIn;
+pub(crate) struct SameIn;
 
 impl Clash<ProcessSketch> for SameName {
     ghost clash = { same_process };
@@ -118,7 +119,7 @@ fn any_clash<T, C: Clash<T>>(items: &[T]) -> bool
     false
 }
 
-fn port_sort(ports: &[Option<Sort>; 3], port: i64) -> Option<Sort>
+pub fn port_sort(ports: &[Option<Sort>; 3], port: i64) -> Option<Sort>
     ensures { result ≡ port_sort ports.now port }
 {
     match usize::try_from(port) {
@@ -127,7 +128,7 @@ fn port_sort(ports: &[Option<Sort>; 3], port: i64) -> Option<Sort>
     }
 }
 
-fn is_sort(sort: Sort, found: Option<Sort>) -> bool
+pub fn is_sort(sort: Sort, found: Option<Sort>) -> bool
     ensures { result ≡ is_sort sort found }
 {
     match (sort, found) {
@@ -155,20 +156,20 @@ pub(crate) fn card_with(kind: u16, args: &[i64]) -> Card
     }
 }
 
-fn signature_of<K: Kinds>(process: &ProcessSketch) -> Option<Signature>
+pub fn signature_of<K: Kinds>(process: &ProcessSketch) -> Option<Signature>
     ensures { result ≡ signature_of K.named K.signature_of process.now }
 {
     let (kind, _) = K::named(process.kind.as_str())?;
     K::signature(&card_with(kind, process.args.as_slice()))
 }
 
-fn has_unknown_kind<K: Kinds>(process: &ProcessSketch) -> bool
+pub(crate) fn has_unknown_kind<K: Kinds>(process: &ProcessSketch) -> bool
     ensures { result ≡ has_unknown_kind K.named K.signature_of process.now }
 {
     K::named(process.kind.as_str()).is_none()
 }
 
-fn takes_other_count<K: Kinds>(process: &ProcessSketch) -> bool
+pub fn takes_other_count<K: Kinds>(process: &ProcessSketch) -> bool
     ensures { result ≡ takes_other_count K.named K.signature_of process.now }
 {
     match K::named(process.kind.as_str()) {
@@ -177,7 +178,7 @@ fn takes_other_count<K: Kinds>(process: &ProcessSketch) -> bool
     }
 }
 
-fn has_wrong_args<K: Kinds>(process: &ProcessSketch) -> bool
+pub(crate) fn has_wrong_args<K: Kinds>(process: &ProcessSketch) -> bool
     ensures { result ≡ has_wrong_args K.named K.signature_of process.now }
 {
     let args = process.args.as_slice();
@@ -195,20 +196,20 @@ fn signature_named<K: Kinds>(sketch: &Sketch, name: &str) -> Option<Signature>
     signature_of::<K>(process)
 }
 
-fn process_named<'a>(processes: &'a [ProcessSketch], name: &str) -> Option<&'a ProcessSketch>
+pub fn process_named<'a>(processes: &'a [ProcessSketch], name: &str) -> Option<&'a ProcessSketch>
     ensures { option_copied result ≡ find (λ p. bytes_eq p.name name.now) processes.now }
 {
     processes.iter().find(|p| p.name.as_str() == name)
 }
 
-fn out_sort<K: Kinds>(sketch: &Sketch, channel: &ChannelSketch) -> Option<Sort>
+pub fn out_sort<K: Kinds>(sketch: &Sketch, channel: &ChannelSketch) -> Option<Sort>
     ensures { result ≡ sketched_out_sort K.named K.signature_of sketch.now channel.now }
 {
     let signature = signature_named::<K>(sketch, channel.from.as_str())?;
     port_sort(&signature.outs, channel.out)
 }
 
-fn in_sort<K: Kinds>(sketch: &Sketch, channel: &ChannelSketch) -> Option<Sort>
+pub fn in_sort<K: Kinds>(sketch: &Sketch, channel: &ChannelSketch) -> Option<Sort>
     ensures { result ≡ sketched_in_sort K.named K.signature_of sketch.now channel.now }
 {
     let signature = signature_named::<K>(sketch, channel.to.as_str())?;
@@ -231,14 +232,19 @@ fn leads_to(channels: &[ChannelSketch], name: &str, port: i64) -> bool
         .any(|c| c.to.as_str() == name && c.input == port)
 }
 
-fn is_unused_out<K: Kinds>(sketch: &Sketch, name: &str, signature: &Signature, port: i64) -> bool
+pub fn is_unused_out<K: Kinds>(
+    sketch: &Sketch,
+    name: &str,
+    signature: &Signature,
+    port: i64,
+) -> bool
     ensures { result ≡ is_unused_out K.named K.signature_of sketch.now name.now signature.now port }
 {
     port_sort(&signature.outs, port).is_some()
         && !leads_from(sketch.channels.as_slice(), name, port)
 }
 
-fn is_unused_in<K: Kinds>(sketch: &Sketch, name: &str, signature: &Signature, port: i64) -> bool
+pub fn is_unused_in<K: Kinds>(sketch: &Sketch, name: &str, signature: &Signature, port: i64) -> bool
     ensures { result ≡ is_unused_in K.named K.signature_of sketch.now name.now signature.now port }
 {
     port_sort(&signature.ins, port).is_some() && !leads_to(sketch.channels.as_slice(), name, port)
@@ -251,7 +257,7 @@ fn is_unused<K: Kinds>(sketch: &Sketch, name: &str, signature: &Signature, port:
         || is_unused_in::<K>(sketch, name, signature, port)
 }
 
-fn has_unused_port<K: Kinds>(sketch: &Sketch, process: &ProcessSketch) -> bool
+pub(crate) fn has_unused_port<K: Kinds>(sketch: &Sketch, process: &ProcessSketch) -> bool
     ensures { result ≡ has_unused_port K.named K.signature_of sketch.now process.now }
 {
     match signature_of::<K>(process) {
@@ -320,11 +326,21 @@ fn has_process_with_wrong_args<K: Kinds>(sketch: &Sketch) -> bool
         .any(|p| has_wrong_args::<K>(p))
 }
 
-fn lacks_end<K: Kinds>(sketch: &Sketch) -> bool
+/// Whether a channel begins or ends at no port.
+pub(crate) fn lacks_end<K: Kinds>(sketch: &Sketch, channel: &ChannelSketch) -> bool
+    ensures { result ≡ (is_none (out_sort K.named K.signature_of sketch.now channel.now) || is_none (in_sort K.named K.signature_of sketch.now channel.now)) }
+{
+    out_sort::<K>(sketch, channel).is_none() || in_sort::<K>(sketch, channel).is_none()
+}
+
+fn has_channel_without_end<K: Kinds>(sketch: &Sketch) -> bool
     ensures { result ≡ has_fault K.named K.signature_of sketch.now NetFault.NoEnd }
 {
-    let channels = sketch.channels.as_slice();
-    channels.iter().any(|c| out_sort::<K>(sketch, c).is_none() || in_sort::<K>(sketch, c).is_none())
+    sketch
+        .channels
+        .as_slice()
+        .iter()
+        .any(|c| lacks_end::<K>(sketch, c))
 }
 
 fn shares_port<K: Kinds>(sketch: &Sketch) -> bool
@@ -344,7 +360,7 @@ fn has_unused_ports<K: Kinds>(sketch: &Sketch) -> bool
         .any(|p| has_unused_port::<K>(sketch, p))
 }
 
-fn has_wrong_sort<K: Kinds>(sketch: &Sketch, channel: &ChannelSketch) -> bool
+pub(crate) fn has_wrong_sort<K: Kinds>(sketch: &Sketch, channel: &ChannelSketch) -> bool
     ensures { result ≡ (not (is_sort channel.now.sort (sketched_out_sort K.named K.signature_of sketch.now channel.now)) || not (is_sort channel.now.sort (sketched_in_sort K.named K.signature_of sketch.now channel.now))) }
 {
     !is_sort(channel.sort, out_sort::<K>(sketch, channel))
@@ -361,12 +377,20 @@ fn has_wrong_sorts<K: Kinds>(sketch: &Sketch) -> bool
         .any(|c| has_wrong_sort::<K>(sketch, c))
 }
 
-fn has_wrong_capacity<K: Kinds>(sketch: &Sketch) -> bool
+pub(crate) fn has_wrong_capacity(version: i64, channel: &ChannelSketch) -> bool
+    ensures { result ≡ is_outside (pos 1) (pos (ceiling_in version)) channel.now.capacity }
+{
+    is_outside(1, i64::from(ceiling_in(version)), channel.capacity)
+}
+
+fn has_wrong_capacities<K: Kinds>(sketch: &Sketch) -> bool
     ensures { result ≡ has_fault K.named K.signature_of sketch.now NetFault.Capacity }
 {
-    let ceiling = i64::from(ceiling_in(sketch.version));
-    let channels = sketch.channels.as_slice();
-    channels.iter().any(|c| is_outside(1, ceiling, c.capacity))
+    sketch
+        .channels
+        .as_slice()
+        .iter()
+        .any(|c| has_wrong_capacity(sketch.version, c))
 }
 
 fn has_wrong_budget<K: Kinds>(sketch: &Sketch) -> bool
@@ -376,7 +400,7 @@ fn has_wrong_budget<K: Kinds>(sketch: &Sketch) -> bool
     is_outside(1, greatest, sketch.budget)
 }
 
-fn is_token(sort: Sort, token: TokenSketch) -> bool
+pub fn is_token(sort: Sort, token: TokenSketch) -> bool
     ensures { result ≡ is_token sort token }
 {
     match (sort, token) {
@@ -401,7 +425,7 @@ fn is_below(capacity: i64, count: usize) -> bool
     }
 }
 
-fn has_wrong_tokens(channel: &ChannelSketch) -> bool
+pub(crate) fn has_wrong_tokens(channel: &ChannelSketch) -> bool
     ensures { result ≡ has_wrong_tokens channel.now }
 {
     let tokens = channel.tokens.as_slice();
@@ -438,7 +462,7 @@ pub(crate) fn first_fault<K: Kinds>(sketch: &Sketch) -> Option<NetFault>
         Some(NetFault::Kind)
     } else if has_process_with_wrong_args::<K>(sketch) {
         Some(NetFault::Args)
-    } else if lacks_end::<K>(sketch) {
+    } else if has_channel_without_end::<K>(sketch) {
         Some(NetFault::NoEnd)
     } else if shares_port::<K>(sketch) {
         Some(NetFault::Twice)
@@ -446,7 +470,7 @@ pub(crate) fn first_fault<K: Kinds>(sketch: &Sketch) -> Option<NetFault>
         Some(NetFault::Unused)
     } else if has_wrong_sorts::<K>(sketch) {
         Some(NetFault::Sorts)
-    } else if has_wrong_capacity::<K>(sketch) {
+    } else if has_wrong_capacities::<K>(sketch) {
         Some(NetFault::Capacity)
     } else if has_wrong_budget::<K>(sketch) {
         Some(NetFault::Budget)

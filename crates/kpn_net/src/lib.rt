@@ -2,20 +2,22 @@
 //! types of the model are exported here too.
 #![tactic(auto)]
 
-mod check;
+pub mod check;
 pub mod fault;
 mod form;
+pub mod location;
 pub mod net;
 mod ports;
 pub mod read;
 pub mod sketch;
-mod version;
+pub mod version;
 
 pub use fault::NetFault;
 pub use kpn_model::{
     Act, Answer, Card, Channel, Deed, End, Ends, Entry, Kinds, Listed, Local, Place, Process,
     Signature, Sort, Status, Text, Token,
 };
+pub use location::{Location, locate};
 pub use net::Net;
 pub use read::read_sketch;
 pub use sketch::{ChannelSketch, ProcessSketch, Sketch, TokenSketch};

@@ -3,21 +3,21 @@ ghost use Rattle.std.specs.Prelude.{◌≡◌};
 ghost use Rattle.kpn_net.specs.Version.{is_two, ceiling_in, greatest_budget_in};
 
 /// Whether the version is 2: channels may have start tokens, and a step may be given.
-pub(crate) fn is_two(version: i64) -> bool
+pub fn is_two(version: i64) -> bool
     ensures { result ≡ is_two version }
 {
     version == 2
 }
 
 /// The capacity beyond which no channel grows, in tokens.
-pub(crate) fn ceiling_in(version: i64) -> u32
+pub fn ceiling_in(version: i64) -> u32
     ensures { result ≡ ceiling_in version }
 {
     if is_two(version) { 1000000 } else { 65535 }
 }
 
 /// The greatest budget, in entries.
-pub(crate) fn greatest_budget_in(version: i64) -> u32
+pub fn greatest_budget_in(version: i64) -> u32
     ensures { result ≡ greatest_budget_in version }
 {
     if is_two(version) { 2000000 } else { 1000000 }

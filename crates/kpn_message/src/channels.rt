@@ -1,0 +1,147 @@
+//! What is wrong with a channel.
+use crate::processes::NAME_FORM;
+use crate::quoted::Quoted;
+use kpn_net::check::{is_name, is_sort, is_token, out_sort, process_named};
+use kpn_net::version::ceiling_in;
+use kpn_net::{ChannelSketch, Kinds, NetFault, Sketch, Sort, TokenSketch};
+use std::alloc::AllocError;
+use std::fmt::Write;
+
+/// What is wrong with a channel that has the fault, and that comes after these.
+pub(crate) fn push_channel<K: Kinds>(
+    out: &mut String,
+    sketch: &Sketch,
+    earlier: &[ChannelSketch],
+    channel: &ChannelSketch,
+    fault: NetFault,
+) -> Result<(), AllocError> {
+    write!(out, "channel {}: ", Quoted(channel.name.as_str()))?;
+    match fault {
+        NetFault::Name if is_name(channel.name.as_str()) => {
+            write!(out, "an earlier channel has this name")
+        }
+        NetFault::Name => write!(out, "{NAME_FORM}"),
+        NetFault::NoEnd => push_no_end::<K>(out, sketch, channel),
+        NetFault::Twice => push_shared(out, earlier, channel),
+        NetFault::Sorts => push_sorts::<K>(out, sketch, channel),
+        NetFault::Capacity => {
+            let ceiling = ceiling_in(sketch.version);
+            write!(
+                out,
+                "capacity {}; it must be 1 to {ceiling}",
+                channel.capacity
+            )
+        }
+        NetFault::Tokens => push_tokens(out, channel),
+        _ => write!(out, "{fault}"),
+    }
+}
+
+/// Which end of a channel is at no port.
+fn push_no_end<K: Kinds>(
+    out: &mut String,
+    sketch: &Sketch,
+    channel: &ChannelSketch,
+) -> Result<(), AllocError> {
+    let processes = sketch.processes.as_slice();
+    let is_out = out_sort::<K>(sketch, channel).is_none();
+    let (key, name) = if is_out {
+        ("from", channel.from.as_str())
+    } else {
+        ("to", channel.to.as_str())
+    };
+    let process = Quoted(name);
+    if process_named(processes, name).is_none() {
+        write!(out, "{key} {process}; no process has this name")
+    } else if is_out {
+        write!(out, "process {process} has no output {}", channel.out)
+    } else {
+        write!(out, "process {process} has no input {}", channel.input)
+    }
+}
+
+/// The earlier channel that ends at the same port.
+fn push_shared(
+    out: &mut String,
+    earlier: &[ChannelSketch],
+    channel: &ChannelSketch,
+) -> Result<(), AllocError> {
+    if let Some(other) = same_out(earlier, channel) {
+        let (process, other) = (Quoted(channel.from.as_str()), Quoted(other));
+        return write!(
+            out,
+            "output {} of process {process} is the end of channel {other} already",
+            channel.out
+        );
+    }
+    if let Some(other) = same_in(earlier, channel) {
+        let (process, other) = (Quoted(channel.to.as_str()), Quoted(other));
+        return write!(
+            out,
+            "input {} of process {process} is the end of channel {other} already",
+            channel.input
+        );
+    }
+    Ok(())
+}
+
+/// The name of the channel that begins at the same port.
+fn same_out<'a>(earlier: &'a [ChannelSketch], channel: &ChannelSketch) -> Option<&'a str> {
+    let other = earlier.iter().find(|c| c.from.as_str() == channel.from.as_str()
+        && c.out == channel.out)?;
+    Some(other.name.as_str())
+}
+
+/// The name of the channel that ends at the same port.
+fn same_in<'a>(earlier: &'a [ChannelSketch], channel: &ChannelSketch) -> Option<&'a str> {
+    let other = earlier.iter().find(|c| c.to.as_str() == channel.to.as_str()
+        && c.input == channel.input)?;
+    Some(other.name.as_str())
+}
+
+/// Which end of a channel is of the other sort.
+fn push_sorts<K: Kinds>(
+    out: &mut String,
+    sketch: &Sketch,
+    channel: &ChannelSketch,
+) -> Result<(), AllocError> {
+    let (sort, other) = match channel.sort {
+        Sort::Words => ("words", "flags"),
+        Sort::Flags => ("flags", "words"),
+    };
+    if is_sort(channel.sort, out_sort::<K>(sketch, channel)) {
+        let process = Quoted(channel.to.as_str());
+        let port = channel.input;
+        write!(
+            out,
+            "sort {sort}; input {port} of process {process} is of {other}"
+        )
+    } else {
+        let process = Quoted(channel.from.as_str());
+        let port = channel.out;
+        write!(
+            out,
+            "sort {sort}; output {port} of process {process} is of {other}"
+        )
+    }
+}
+
+/// What is wrong with the tokens that a channel holds at first.
+fn push_tokens(out: &mut String, channel: &ChannelSketch) -> Result<(), AllocError> {
+    let tokens = channel.tokens.as_slice();
+    let Some(k) = tokens.iter().position(|t| !is_token(channel.sort, *t)) else {
+        let capacity = channel.capacity;
+        return write!(
+            out,
+            "tokens has length {}; the capacity is {capacity}",
+            tokens.len()
+        );
+    };
+    match (channel.sort, tokens.get(k)) {
+        (Sort::Words, Some(TokenSketch::Integer(x))) => {
+            write!(out, "tokens[{k}] is {x}; a word is not negative")
+        }
+        (Sort::Words, _) => write!(out, "tokens[{k}] is no integer; the sort is words"),
+        (Sort::Flags, _) => write!(out, "tokens[{k}] is no boolean; the sort is flags"),
+    }
+}

@@ -1,0 +1,207 @@
+//! What is wrong with the keys of a description, and with the forms of their values.
+use crate::quoted::Quoted;
+use Presence::{Optional, Required};
+use kpn_net::version::is_two;
+use std::alloc::AllocError;
+use std::fmt::Write;
+use toml::{Table, Value};
+
+/// The form that the value of a key has to have.
+#[derive(Clone, Copy, Debug, PartialEq, Eq)]
+enum Form {
+    Integer,
+    Text,
+    Sort,
+    Integers,
+    Tokens,
+    Array,
+}
+
+impl Form {
+    fn fits(self, value: &Value) -> bool {
+        match self {
+            Form::Integer => value.is_integer(),
+            Form::Text => value.is_str(),
+            Form::Sort => matches!(value.as_str(), Some("words" | "flags")),
+            Form::Integers => are_integers(value),
+            Form::Tokens => are_tokens(value),
+            Form::Array => value.is_array(),
+        }
+    }
+
+    fn words(self) -> &'static str {
+        match self {
+            Form::Integer => "an integer",
+            Form::Text => "a text",
+            Form::Sort => "\"words\" or \"flags\"",
+            Form::Integers => "an array of integers",
+            Form::Tokens => "an array of integers and booleans",
+            Form::Array => "an array of tables",
+        }
+    }
+}
+
+/// Whether a key has to be there.
+#[derive(Clone, Copy, Debug, PartialEq, Eq)]
+enum Presence {
+    Required,
+    Optional,
+}
+
+/// A key, the form of its value, and whether it has to be there.
+#[derive(Clone, Copy)]
+struct Key(&'static str, Form, Presence);
+
+const VERSION: Key = Key("version", Form::Integer, Required);
+
+/// The keys at the top: the last is of version 2.
+const TOP: [Key; 5] = [
+    Key("version", Form::Integer, Required),
+    Key("budget", Form::Integer, Optional),
+    Key("process", Form::Array, Required),
+    Key("channel", Form::Array, Optional),
+    Key("step", Form::Integer, Optional),
+];
+
+const PROCESS: [Key; 3] = [
+    Key("name", Form::Text, Required),
+    Key("kind", Form::Text, Required),
+    Key("args", Form::Integers, Optional),
+];
+
+/// The keys of a channel: the last is of version 2.
+const CHANNEL: [Key; 8] = [
+    Key("name", Form::Text, Required),
+    Key("from", Form::Text, Required),
+    Key("to", Form::Text, Required),
+    Key("out", Form::Integer, Optional),
+    Key("in", Form::Integer, Optional),
+    Key("sort", Form::Sort, Optional),
+    Key("capacity", Form::Integer, Optional),
+    Key("tokens", Form::Tokens, Optional),
+];
+
+/// What is first wrong with the keys of a document; nothing where they are as they should be.
+pub(crate) fn push_misfit(out: &mut String, table: &Table) -> Result<(), AllocError> {
+    if push_key(out, table, VERSION)? {
+        return Ok(());
+    }
+    let version = match table.get("version") {
+        Some(Value::Integer(version)) => *version,
+        _ => 1,
+    };
+    let (top, channel): (&[Key], &[Key]) = if is_two(version) {
+        (&TOP, &CHANNEL)
+    } else {
+        (&TOP[..4], &CHANNEL[..7])
+    };
+    if push_keys(out, table, top)? || push_items(out, table, "process", &PROCESS)? {
+        return Ok(());
+    }
+    push_items(out, table, "channel", channel)?;
+    Ok(())
+}
+
+/// What is first wrong with the tables of an array at a key, and whether anything is.
+fn push_items(
+    out: &mut String,
+    table: &Table,
+    key: &str,
+    keys: &[Key],
+) -> Result<bool, AllocError> {
+    let Some(Value::Array(items)) = table.get(key) else {
+        return Ok(false);
+    };
+    for (k, item) in items.iter().enumerate() {
+        if push_item(out, item, key, k, keys)? {
+            return Ok(true);
+        }
+    }
+    Ok(false)
+}
+
+/// What is wrong with item `k` of the array at a key. What is written of an item without a fault is
+/// taken back.
+fn push_item(
+    out: &mut String,
+    item: &Value,
+    key: &str,
+    k: usize,
+    keys: &[Key],
+) -> Result<bool, AllocError> {
+    out.clear();
+    write!(out, "{key}[{k}]: ")?;
+    let Some(table) = item.as_table() else {
+        write!(out, "it must be a table")?;
+        return Ok(true);
+    };
+    if push_keys(out, table, keys)? {
+        return Ok(true);
+    }
+    out.clear();
+    Ok(false)
+}
+
+/// What is first wrong with a table that has to have these keys, and whether anything is: a key that
+/// is unknown, and then what is wrong with one of these.
+fn push_keys(out: &mut String, table: &Table, keys: &[Key]) -> Result<bool, AllocError> {
+    if let Some(unknown) = table.keys().find(|key| !is_among(keys, key.as_str())) {
+        write!(
+            out,
+            "key {} is unknown; the keys are",
+            Quoted(unknown.as_str())
+        )?;
+        push_names(out, keys)?;
+        return Ok(true);
+    }
+    for key in keys {
+        if push_key(out, table, *key)? {
+            return Ok(true);
+        }
+    }
+    Ok(false)
+}
+
+/// What is wrong with a key of a table, and whether anything is.
+fn push_key(out: &mut String, table: &Table, key: Key) -> Result<bool, AllocError> {
+    let Key(name, form, presence) = key;
+    match table.get(name) {
+        Some(value) if !form.fits(value) => {
+            write!(out, "key \"{name}\" must be {}", form.words())?;
+            Ok(true)
+        }
+        None if presence == Required => {
+            write!(out, "key \"{name}\" is missing")?;
+            Ok(true)
+        }
+        _ => Ok(false),
+    }
+}
+
+/// The names of keys, with commas between them.
+fn push_names(out: &mut String, keys: &[Key]) -> Result<(), AllocError> {
+    let mut comma = "";
+    for key in keys {
+        write!(out, "{comma} {}", key.0)?;
+        comma = ",";
+    }
+    Ok(())
+}
+
+fn is_among(keys: &[Key], name: &str) -> bool {
+    keys.iter().any(|key| key.0 == name)
+}
+
+fn are_integers(value: &Value) -> bool {
+    match value.as_array() {
+        Some(items) => items.iter().all(|item| item.is_integer()),
+        None => false,
+    }
+}
+
+fn are_tokens(value: &Value) -> bool {
+    match value.as_array() {
+        Some(items) => items.iter().all(|item| item.is_integer() || item.is_bool()),
+        None => false,
+    }
+}

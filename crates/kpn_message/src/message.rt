@@ -1,0 +1,105 @@
+//! The message of a refused description.
+use crate::channels::push_channel;
+use crate::keys::push_misfit;
+use crate::processes::push_process;
+use kpn_net::version::greatest_budget_in;
+use kpn_net::{Kinds, Location, NetFault, Sketch, locate, read_sketch};
+use std::alloc::{AllocError, Global};
+use std::fmt::Write;
+
+/// What is wrong with the text of a description, and where, on one line that no line feed ends.
+///
+/// `fault` is the fault that the description was refused for, and `kinds` names the kinds that there
+/// are. There is no message where the fault says all (`Memory` and `Input`), where the text does not
+/// have it, or where memory is refused.
+pub fn message_of<K: Kinds>(
+    alloc: Global,
+    text: &[u8],
+    fault: NetFault,
+    kinds: &str,
+) -> Option<String> {
+    let mut out = String::new(alloc);
+    match fault {
+        NetFault::Memory | NetFault::Input => return None,
+        NetFault::NotToml | NetFault::Keys => match toml::table_from_slice(alloc, text) {
+            Ok(table) => push_misfit(&mut out, &table).ok()?,
+            Err(error) => push_syntax(&mut out, text, &error).ok()?,
+        },
+        _ => {
+            let sketch = read_sketch(alloc, text).ok()?;
+            push_fault::<K>(&mut out, &sketch, fault, kinds).ok()?;
+        }
+    }
+    if out.is_empty() { None } else { Some(out) }
+}
+
+/// What the text has in place of TOML; nothing where memory was refused.
+fn push_syntax(out: &mut String, text: &[u8], error: &toml::de::Error) -> Result<(), AllocError> {
+    let Some(span) = error.span() else {
+        return Ok(());
+    };
+    let (line, column) = place_after(text.get(..span.start).unwrap_or(text));
+    write!(out, "line {line}, column {column}: {}", error.message())
+}
+
+/// The line and the column of what follows, both from 1. A column counts characters.
+fn place_after(before: &[u8]) -> (usize, usize) {
+    let mut line = 1usize;
+    let mut column = 1usize;
+    for byte in before {
+        if *byte == b'\n' {
+            line = line.saturating_add(1);
+            column = 1;
+        } else if *byte & 0xC0 != 0x80 {
+            column = column.saturating_add(1);
+        }
+    }
+    (line, column)
+}
+
+/// What is wrong with a sketch that has the fault.
+fn push_fault<K: Kinds>(
+    out: &mut String,
+    sketch: &Sketch,
+    fault: NetFault,
+    kinds: &str,
+) -> Result<(), AllocError> {
+    match locate::<K>(sketch, fault) {
+        Location::Process(p) => {
+            let process = &sketch.processes.as_slice()[p];
+            push_process::<K>(out, sketch, process, fault, kinds)
+        }
+        Location::Channel(c) => {
+            let (earlier, rest) = sketch.channels.as_slice().split_at(c);
+            match rest.first() {
+                Some(channel) => push_channel::<K>(out, sketch, earlier, channel, fault),
+                None => Ok(()),
+            }
+        }
+        Location::Description => push_whole(out, sketch, fault),
+    }
+}
+
+/// What is wrong with a description as a whole.
+fn push_whole(out: &mut String, sketch: &Sketch, fault: NetFault) -> Result<(), AllocError> {
+    match fault {
+        NetFault::Version => write!(out, "version {}; it must be 1 or 2", sketch.version),
+        NetFault::Counts => push_counts(out, sketch),
+        NetFault::Budget => {
+            let greatest = greatest_budget_in(sketch.version);
+            write!(out, "budget {}; it must be 1 to {greatest}", sketch.budget)
+        }
+        NetFault::Step => write!(out, "step {}; it must be 1 to 1024", sketch.step),
+        _ => Ok(()),
+    }
+}
+
+fn push_counts(out: &mut String, sketch: &Sketch) -> Result<(), AllocError> {
+    let processes = sketch.processes.as_slice().len();
+    let channels = sketch.channels.as_slice().len();
+    if processes == 0 || processes > 64 {
+        write!(out, "{processes} processes; there must be 1 to 64")
+    } else {
+        write!(out, "{channels} channels; there must be at most 256")
+    }
+}

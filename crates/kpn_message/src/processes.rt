@@ -1,0 +1,93 @@
+//! What is wrong with a process.
+use crate::quoted::Quoted;
+use kpn_net::check::{is_name, is_unused_in, is_unused_out, signature_of};
+use kpn_net::{Kinds, NetFault, ProcessSketch, Sketch};
+use std::alloc::AllocError;
+use std::fmt::Write;
+
+/// The form of a name.
+pub(crate) const NAME_FORM: &str =
+    "a name has 1 to 16 of a to z, 0 to 9 and _, and begins with a letter";
+
+/// What is wrong with a process that has the fault.
+pub(crate) fn push_process<K: Kinds>(
+    out: &mut String,
+    sketch: &Sketch,
+    process: &ProcessSketch,
+    fault: NetFault,
+    kinds: &str,
+) -> Result<(), AllocError> {
+    write!(out, "process {}: ", Quoted(process.name.as_str()))?;
+    match fault {
+        NetFault::Name if is_name(process.name.as_str()) => {
+            write!(out, "an earlier process has this name")
+        }
+        NetFault::Name => write!(out, "{NAME_FORM}"),
+        NetFault::Kind => {
+            let kind = Quoted(process.kind.as_str());
+            write!(out, "kind {kind} is unknown; the kinds are {kinds}")
+        }
+        NetFault::Args => push_args::<K>(out, process),
+        NetFault::Unused => push_unused::<K>(out, sketch, process),
+        _ => write!(out, "{fault}"),
+    }
+}
+
+/// What is wrong with the arguments of a process.
+fn push_args<K: Kinds>(out: &mut String, process: &ProcessSketch) -> Result<(), AllocError> {
+    let kind = Quoted(process.kind.as_str());
+    let args = process.args.as_slice();
+    let count = match K::named(process.kind.as_str()) {
+        Some((_, count)) => count,
+        None => 0,
+    };
+    if args.len() != count {
+        return write!(
+            out,
+            "args has length {}; kind {kind} takes {count}",
+            args.len()
+        );
+    }
+    match args.iter().position(|x| *x < 0) {
+        Some(k) => {
+            let arg = args.get(k).copied().unwrap_or(0);
+            write!(out, "args[{k}] is {arg}; it must not be negative")
+        }
+        None => {
+            write!(out, "kind {kind} does not take args ")?;
+            push_numbers(out, args)
+        }
+    }
+}
+
+/// Numbers in brackets, the first three of them.
+fn push_numbers(out: &mut String, numbers: &[i64]) -> Result<(), AllocError> {
+    match numbers {
+        [] => write!(out, "[]"),
+        [x] => write!(out, "[{x}]"),
+        [x, y] => write!(out, "[{x}, {y}]"),
+        [x, y, z] => write!(out, "[{x}, {y}, {z}]"),
+        [x, y, z, ..] => write!(out, "[{x}, {y}, {z}, ..]"),
+    }
+}
+
+/// The first port of a process that is the end of no channel.
+fn push_unused<K: Kinds>(
+    out: &mut String,
+    sketch: &Sketch,
+    process: &ProcessSketch,
+) -> Result<(), AllocError> {
+    let Some(signature) = signature_of::<K>(process) else {
+        return Ok(());
+    };
+    let name = process.name.as_str();
+    for port in 0..3 {
+        if is_unused_in::<K>(sketch, name, &signature, port) {
+            return write!(out, "input {port} is the end of no channel");
+        }
+        if is_unused_out::<K>(sketch, name, &signature, port) {
+            return write!(out, "output {port} is the end of no channel");
+        }
+    }
+    Ok(())
+}

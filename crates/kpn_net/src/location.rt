@@ -1,0 +1,118 @@
+//! Where a fault of a sketch is.
+ghost use Rattle.std.specs.Prelude.{◌≡◌, length, IfSome, IfNone};
+ghost use Rattle.std.specs.List.{list_any};
+ghost use Rattle.kpn_net.specs.Location.{clashes_at, IsFirst, HoldsNowhere, process_has_fault, channel_has_fault, IsLocation};
+
+use crate::check::{
+    Clash, SameIn, SameName, SameOut, has_unknown_kind, has_unused_port, has_wrong_args,
+    has_wrong_capacity, has_wrong_sort, has_wrong_tokens, is_name, lacks_end,
+};
+use crate::fault::NetFault;
+use crate::sketch::{ChannelSketch, ProcessSketch, Sketch};
+use kpn_model::Kinds;
+
+/// A place in a sketch: all of it, or one of its processes or channels, by its number.
+#[derive(Clone, Copy, Debug, PartialEq, Eq)]
+pub enum Location {
+    Description,
+    Process(usize),
+    Channel(usize),
+}
+
+/// Where a sketch has a fault: the first process that has it; where none has it, the first channel;
+/// and `Description` where no channel has it either. Of a name that stands twice the later is at
+/// fault, and so of a port. `Version`, `Counts`, `Budget` and `Step` are of no process and no
+/// channel, and any other fault that the sketch has is of one.
+#[tactic(auto, using(crate::proofs::Locations::nowhere_else))]
+pub fn locate<K: Kinds>(sketch: &Sketch, fault: NetFault) -> Location
+    ensures { IsLocation K.named K.signature_of sketch.now fault result }
+{
+    if let Some(p) = first_process::<K>(sketch, fault) {
+        return Location::Process(p);
+    }
+    match first_channel::<K>(sketch, fault) {
+        Some(c) => Location::Channel(c),
+        None => Location::Description,
+    }
+}
+
+fn first_process<K: Kinds>(sketch: &Sketch, fault: NetFault) -> Option<usize>
+    ensures first { IfSome result (IsFirst (process_has_fault K.named K.signature_of sketch.now fault) (length sketch.now.processes)) }
+    ensures none { IfNone result (HoldsNowhere (process_has_fault K.named K.signature_of sketch.now fault) (length sketch.now.processes)) }
+{
+    for p in 0..sketch.processes.as_slice().len() {
+        if process_has_fault::<K>(sketch, fault, p) {
+            return Some(p);
+        }
+    }
+    None
+}
+
+fn first_channel<K: Kinds>(sketch: &Sketch, fault: NetFault) -> Option<usize>
+    ensures first { IfSome result (IsFirst (channel_has_fault K.named K.signature_of sketch.now fault) (length sketch.now.channels)) }
+    ensures none { IfNone result (HoldsNowhere (channel_has_fault K.named K.signature_of sketch.now fault) (length sketch.now.channels)) }
+{
+    for c in 0..sketch.channels.as_slice().len() {
+        if channel_has_fault::<K>(sketch, fault, c) {
+            return Some(c);
+        }
+    }
+    None
+}
+
+fn process_has_fault<K: Kinds>(sketch: &Sketch, fault: NetFault, p: usize) -> bool
+    ensures { result ≡ process_has_fault K.named K.signature_of sketch.now fault p }
+{
+    let processes = sketch.processes.as_slice();
+    let Some(process) = processes.get(p) else {
+        return false;
+    };
+    match fault {
+        NetFault::Name => {
+            !is_name(process.name.as_str()) || clashes_at::<ProcessSketch, SameName>(processes, p)
+        }
+        NetFault::Kind => has_unknown_kind::<K>(process),
+        NetFault::Args => has_wrong_args::<K>(process),
+        NetFault::Unused => has_unused_port::<K>(sketch, process),
+        _ => false,
+    }
+}
+
+fn channel_has_fault<K: Kinds>(sketch: &Sketch, fault: NetFault, c: usize) -> bool
+    ensures { result ≡ channel_has_fault K.named K.signature_of sketch.now fault c }
+{
+    let channels = sketch.channels.as_slice();
+    let Some(channel) = channels.get(c) else {
+        return false;
+    };
+    match fault {
+        NetFault::Name => {
+            !is_name(channel.name.as_str()) || clashes_at::<ChannelSketch, SameName>(channels, c)
+        }
+        NetFault::NoEnd => lacks_end::<K>(sketch, channel),
+        NetFault::Twice => {
+            clashes_at::<ChannelSketch, SameOut>(channels, c)
+                || clashes_at::<ChannelSketch, SameIn>(channels, c)
+        }
+        NetFault::Sorts => has_wrong_sort::<K>(sketch, channel),
+        NetFault::Capacity => has_wrong_capacity(sketch.version, channel),
+        NetFault::Tokens => has_wrong_tokens(channel),
+        _ => false,
+    }
+}
+
+/// Whether item `k` clashes with an earlier one.
+fn clashes_at<T, C: Clash<T>>(items: &[T], k: usize) -> bool
+    ensures { result ≡ clashes_at C.clash items.now k }
+{
+    match items.get(k) {
+        Some(x) => clashes_earlier::<T, C>(&items[..k], x),
+        None => false,
+    }
+}
+
+fn clashes_earlier<T, C: Clash<T>>(earlier: &[T], x: &T) -> bool
+    ensures { result ≡ list_any (λ y. C.clash y x.now) earlier.now }
+{
+    earlier.iter().any(|y| C::clash(y, x))
+}
