@@ -9,14 +9,14 @@ use Rattle.kpn_model.specs.declared.history.Entry.TheVariants.{Did, Grew}
 use Rattle.kpn_model.specs.declared.history.End.{End}
 use Rattle.kpn_model.specs.declared.history.End.TheVariants.{Budget, Ceiling}
 use Rattle.kpn_model.specs.Network.{Family, Network, channel_of}
-use Rattle.kpn_model.specs.Semantics.{State, capacity, IsOver}
+use Rattle.kpn_model.specs.Semantics.{State, capacity}
+use Rattle.kpn_model.specs.Endings.{IsOver, MayEnd, MayStand}
 use Rattle.kpn_model.specs.History.{growths}
-use Rattle.kpn_model.specs.Moments.{IsBound}
 use Rattle.kpn_standard.specs.Standard.{standard}
 use Rattle.kpn_laws.specs.RoomOfRun.{TakesAtMost, TakesLeastRoom}
 use Rattle.test_laws.specs.WorkedRoom.{longer_parks_case, TwoPlacesSuffice}
 use Rattle.example_least_room.specs.Growth.{entry_grows}
-use Rattle.kpn_machine.specs.MachineView.{MachineView, EndHolds, IsFaithful}
+use Rattle.kpn_machine.specs.MachineView.{MachineView, IsFaithful}
 
 -- one more growth, or one more deed
 counted_more : (e : Entry) (E : List Entry) → length (growths (e ∷ E)) ≡ cond (entry_grows e) (1 + length (growths E)) (length (growths E))
@@ -75,8 +75,8 @@ module _ (kinds : Family) (admits : Card → List ℕ → Option Token → Type 
   few_entries = all_entries s two here
 
   -- the cause of an end justifies it
-  bound_by : (cause : End) → s.end ≡ Some cause → IsBound kinds s.network s.history s.state cause
-  bound_by cause ended = subst (EndHolds kinds s.network s.history s.state) ended faithful.bound
+  bound_by : (cause : End) → s.end ≡ Some cause → MayEnd kinds s.network s.history s.state cause
+  bound_by cause ended = subst (MayStand kinds s.network s.history s.state) ended faithful.bound
 
   -- no channel gets near the ceiling
   pub no_ceiling : s.end ≢ Some Ceiling

@@ -11,13 +11,14 @@ use Rattle.kpn_state.specs.declared.standing.Standing.{Standing}
 use Rattle.kpn_commit.specs.declared.settle.Settled.{Settled}
 use Rattle.kpn_commit.specs.declared.settle.Settled.TheVariants.{Busy, Ended, Enlarged}
 use Rattle.kpn_state.specs.Standings.{is_busy}
-use Rattle.kpn_commit.specs.Settling.{CanGrow, EndsBy, Settles}
+use Rattle.kpn_commit.specs.Settling.{Settles}
+use Rattle.kpn_model.specs.Endings.{CanGrow, HasStopped}
 use Rattle.kpn_commit.specs.Works.{end_after}
 use Rattle.kpn_state.proofs.Contradictions.{true_false}
 
 module _ (kinds : Family) (net : Network) where
   -- if a growth is due, the run can only end because memory was refused
-  due_memory : (M : State) (end : End) → EndsBy kinds net M end → CanGrow kinds net M → end ≡ Memory
+  due_memory : (M : State) (end : End) → HasStopped kinds net M end → CanGrow kinds net M → end ≡ Memory
   due_memory M Terminated h can = absurd (over_grows_not kinds net M Terminated can.channel can.to can.next h can.grows)
   due_memory M Deadlock h can = absurd (over_grows_not kinds net M Deadlock can.channel can.to can.next h can.grows)
   due_memory M Ceiling h can = absurd (over_grows_not kinds net M Ceiling can.channel can.to can.next h can.grows)

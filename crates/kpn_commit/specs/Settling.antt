@@ -5,10 +5,9 @@ use Rattle.kpn_model.specs.declared.token.Token.{Token}
 use Rattle.kpn_model.specs.declared.kinds.Answer.{Answer}
 use Rattle.kpn_model.specs.declared.history.Deed.TheVariants.{Put}
 use Rattle.kpn_model.specs.declared.history.Entry.TheVariants.{Grew}
-use Rattle.kpn_model.specs.declared.history.End.{End}
-use Rattle.kpn_model.specs.declared.history.End.TheVariants.{Terminated, Deadlock, Ceiling, Budget, Memory}
 use Rattle.kpn_model.specs.Network.{Family, Network}
-use Rattle.kpn_model.specs.Semantics.{State, Grows, IsOver}
+use Rattle.kpn_model.specs.Semantics.{State, Grows}
+use Rattle.kpn_model.specs.Endings.{HasStopped}
 use Rattle.kpn_state.specs.StateAndHistory.{StateAndHistory, more}
 use Rattle.kpn_state.specs.declared.standing.Standing.{Standing}
 use Rattle.kpn_state.specs.declared.standing.Standing.TheVariants.{Parked}
@@ -16,21 +15,6 @@ use Rattle.kpn_commit.specs.declared.settle.Settled.{Settled}
 use Rattle.kpn_commit.specs.declared.settle.Settled.TheVariants.{Busy, Ended, Enlarged}
 use Rattle.kpn_state.specs.Standings.{standing, is_busy}
 use Rattle.kpn_commit.specs.Reactions.{Acted}
-
--- a growth is due
-pub record CanGrow (kinds : Family) (net : Network) (M : State) : Type 0 where
-  pub channel : ℕ
-  pub to : ℕ
-  pub next : State
-  pub grows : Grows kinds net M channel to next
-
--- the run is over for this cause; for `Memory`, a growth is due
-abbrev pub EndsBy : Family → Network → State → End → Type 0
-EndsBy kinds net M Terminated = IsOver kinds net M Terminated
-EndsBy kinds net M Deadlock = IsOver kinds net M Deadlock
-EndsBy kinds net M Ceiling = IsOver kinds net M Ceiling
-EndsBy kinds net M Budget = ⊥
-EndsBy kinds net M Memory = CanGrow kinds net M
 
 -- a channel grows, and its writer's put follows
 pub record GrowsAndPuts (kinds : Family) (net : Network) (s : StateAndHistory) (standings : List Standing) (t : StateAndHistory) (moved : List Standing) : Type 0 where
@@ -47,5 +31,5 @@ pub record GrowsAndPuts (kinds : Family) (net : Network) (s : StateAndHistory) (
 -- some process is ready or out; or none is, and the run ends, or the chosen channel grows
 abbrev pub Settles : Family → Network → StateAndHistory → List Standing → Settled → StateAndHistory → List Standing → Type 0
 Settles kinds net s standings Busy t moved = (list_any is_busy standings ≡ true) × (t ≡ s) × (moved ≡ standings)
-Settles kinds net s standings (Ended end) t moved = (list_any is_busy standings ≡ false) × (t ≡ s) × (moved ≡ standings) × EndsBy kinds net s.state end
+Settles kinds net s standings (Ended end) t moved = (list_any is_busy standings ≡ false) × (t ≡ s) × (moved ≡ standings) × HasStopped kinds net s.state end
 Settles kinds net s standings Enlarged t moved = (list_any is_busy standings ≡ false) × GrowsAndPuts kinds net s standings t moved

@@ -8,12 +8,11 @@ use Rattle.kpn_model.specs.Network.{Network}
 use Rattle.kpn_model.specs.Semantics.{State}
 use Rattle.kpn_model.specs.History.{Digest, digest}
 use Rattle.kpn_model.specs.Determinacy.{IsRun, IsFinal}
-use Rattle.kpn_model.specs.Moments.{IsBound}
+use Rattle.kpn_model.specs.Endings.{MayEnd, has_report}
 use Rattle.kpn_standard.specs.Standard.{standard}
 use Rattle.kpn_standard.specs.Names.{named}
 use Rattle.kpn_standard.specs.Signatures.{signature}
 use Rattle.kpn_report.specs.declared.detail.Detail.{Detail}
-use Rattle.kpn_report.specs.Digested.{has_detail}
 use Rattle.kpn_picture.specs.Titles.{standard_title}
 use Rattle.kpn_picture.specs.Picture.{picture}
 use Rattle.kpn_front.specs.Lines.{lost_line, refused_line, status_of_fault}
@@ -27,7 +26,7 @@ digest_picture net d = picture standard_title net (Some d.cause) d.places d.capa
 
 -- the picture of a run to M that ended for this cause; if its budget was spent or memory was refused, it shows only the cause
 abbrev pub run_picture : Network → End → List Entry → State → List ℕ
-run_picture net cause E M = if has_detail cause then digest_picture net (digest standard net cause E M) else picture standard_title net (Some cause) [] [] []
+run_picture net cause E M = if has_report cause then digest_picture net (digest standard net cause E M) else picture standard_title net (Some cause) [] [] []
 
 -- the picture of a report: with its detail, if there is one
 abbrev pub report_picture : Network → End → Option Detail → List ℕ
@@ -41,10 +40,10 @@ pub record DrawsRun (net : Network) (status : ℕ) (text : List ℕ) : Type 0 wh
   pub state : State
   pub cause : End
   pub run : IsRun standard net history state
-  pub bound : IsBound standard net history state cause
+  pub bound : MayEnd standard net history state cause
   pub status_is : status ≡ 0
   pub text_is : text ≡ run_picture net cause history state
-  pub settled : has_detail cause ≡ true → (F : List Entry) (N : State) (b : End) → IsFinal standard net F N b → text ≡ digest_picture net (digest standard net b F N)
+  pub settled : has_report cause ≡ true → (F : List Entry) (N : State) (b : End) → IsFinal standard net F N b → text ≡ digest_picture net (digest standard net b F N)
 
 -- an answer of a worker was refused
 pub record TellsLost (status : ℕ) (text : List ℕ) : Type 0 where

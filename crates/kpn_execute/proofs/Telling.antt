@@ -9,21 +9,20 @@ use Rattle.kpn_model.specs.declared.history.End.{End}
 use Rattle.kpn_model.specs.declared.history.End.TheVariants.{Terminated, Deadlock, Ceiling, Budget, Memory}
 use Rattle.kpn_model.specs.declared.history.Place.{Place}
 use Rattle.kpn_model.specs.Network.{Family, Network}
-use Rattle.kpn_model.specs.Semantics.{State, IsOver, wants}
+use Rattle.kpn_model.specs.Semantics.{State, wants}
+use Rattle.kpn_model.specs.Endings.{IsOver, MayEnd, MayStand, has_report}
 use Rattle.kpn_model.specs.History.{Digest, digest, each_process, place_of}
 use Rattle.kpn_model.specs.Determinacy.{IsFinal, OneDigest}
-use Rattle.kpn_model.specs.Moments.{IsBound}
 use Rattle.kpn_state.specs.declared.standing.Standing.TheVariants.{Ready}
 use Rattle.kpn_state.specs.Standings.{standing, is_out, parked_answer}
 use Rattle.kpn_model.specs.declared.parts.Process.{Process}
-use Rattle.kpn_machine.specs.MachineView.{MachineView, EndHolds, IsFaithful}
+use Rattle.kpn_machine.specs.MachineView.{MachineView, IsFaithful}
 use Rattle.kpn_machine.specs.declared.opening.OpenFault.{OpenFault}
 use Rattle.kpn_machine.specs.declared.opening.OpenFault.TheVariants.{Bodies, Card as WrongCard, Memory as OutOfMemory}
 use Rattle.kpn_machine.specs.Opening.{cards_of, IsOpenFault}
 use Rattle.kpn_run.proofs.Told.{at_rest, over_of}
 use Rattle.kpn_laws.specs.RoomOfRun.{TakesLeastRoom}
 use Rattle.kpn_report.specs.Text.{end_line, digest_text, text}
-use Rattle.kpn_report.specs.Digested.{has_detail}
 use Rattle.kpn_execute.specs.Execution.{status_of_end, TellsRun}
 
 module _ (kinds : Family) (net : Network) where
@@ -44,14 +43,14 @@ module _ (kinds : Family) (net : Network) where
       over_text a E M channel e.over ∙ ap (text_of channel) (one net E F M N a b e f) ∙ sym (over_text b F N channel f.over)
 
 -- an end is justified
-bound_by : (kinds : Family) (admits : Card → List ℕ → Option Token → Type 0) (s : MachineView) (cause : End) → IsFaithful kinds admits s → s.end ≡ Some cause → IsBound kinds s.network s.history s.state cause
-bound_by kinds admits s cause faithful ended = subst (EndHolds kinds s.network s.history s.state) ended faithful.bound
+bound_by : (kinds : Family) (admits : Card → List ℕ → Option Token → Type 0) (s : MachineView) (cause : End) → IsFaithful kinds admits s → s.end ≡ Some cause → MayEnd kinds s.network s.history s.state cause
+bound_by kinds admits s cause faithful ended = subst (MayStand kinds s.network s.history s.state) ended faithful.bound
 
 -- the text of a run that ended is that of its history
 pub run_told :
     (kinds : Family) (admits : Card → List ℕ → Option Token → Type 0) (s : MachineView) (cause : End) (places : List Place) (channel : Option ℕ) (status : ℕ) (bytes : List ℕ) → IsFaithful kinds admits s → TakesLeastRoom kinds s.network s.history s.state → s.end ≡ Some cause
     → places ≡ each_process s.network (λ p. place_of s.network p (parked_answer (standing s.standings p))) → OneDigest kinds
-    → ((has_detail cause ≡ true → places ≡ each_process s.network (λ p. place_of s.network p (wants kinds s.network s.state p))) → bytes ≡ text kinds s.network cause s.history s.state channel)
+    → ((has_report cause ≡ true → places ≡ each_process s.network (λ p. place_of s.network p (wants kinds s.network s.state p))) → bytes ≡ text kinds s.network cause s.history s.state channel)
     → status ≡ status_of_end cause → TellsRun kinds s.network channel status bytes
 run_told kinds admits s cause places channel status bytes faithful room ended places_are one report status_is =
     let bound = bound_by kinds admits s cause faithful ended in

@@ -9,10 +9,9 @@ use Rattle.kpn_net.specs.declared.fault.NetFault.TheVariants.{Memory as OutOfMem
 use Rattle.kpn_model.specs.Network.{Family, Network}
 use Rattle.kpn_model.specs.Semantics.{State}
 use Rattle.kpn_model.specs.Determinacy.{IsRun, IsFinal}
-use Rattle.kpn_model.specs.Moments.{IsBound}
+use Rattle.kpn_model.specs.Endings.{MayEnd, has_report}
 use Rattle.kpn_laws.specs.RoomOfRun.{TakesLeastRoom}
 use Rattle.kpn_report.specs.Text.{text as report_text}
-use Rattle.kpn_report.specs.Digested.{has_detail}
 use Rattle.kpn_front.specs.Lines.{lost_line, refused_line, no_channel_line}
 
 -- the exit status of a run with this end
@@ -61,11 +60,11 @@ pub record TellsRun (kinds : Family) (net : Network) (channel : Option ℕ) (sta
   pub state : State
   pub cause : End
   pub run : IsRun kinds net history state
-  pub bound : IsBound kinds net history state cause
+  pub bound : MayEnd kinds net history state cause
   pub room : TakesLeastRoom kinds net history state
   pub status_is : status ≡ status_of_end cause
   pub text_is : text ≡ report_text kinds net cause history state channel
-  pub settled : has_detail cause ≡ true → IsSettled kinds net channel text
+  pub settled : has_report cause ≡ true → IsSettled kinds net channel text
 
 -- what is written of a run that ended
 abbrev pub TellsEnded : Family → Network → Option ℕ → ℕ → List ℕ → Type 0

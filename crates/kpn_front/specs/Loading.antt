@@ -8,12 +8,13 @@ use Rattle.kpn_model.specs.declared.kinds.Signature.{Signature}
 use Rattle.kpn_net.specs.declared.sketch.Sketch.{Sketch}
 use Rattle.kpn_net.specs.Description.{Describes, IsReadFault}
 use Rattle.kpn_net.specs.Faults.{first_fault}
+use Rattle.kpn_model.specs.declared.limits.TheConstants.{LONGEST_TEXT}
 use Rattle.kpn_model.specs.Network.{Network}
 use Rattle.kpn_net.specs.Sketched.{net_of}
 
 -- how many bytes a description may have
 abbrev pub longest : ℕ
-longest = 1048576
+longest = LONGEST_TEXT
 
 -- if the bytes that the source had left are known, at most n of them have been consumed
 abbrev pub ReadsAtMost : ℕ → Option (List ℕ) → Option (List ℕ) → Type 0

@@ -3,11 +3,9 @@ ghost use Rattle.std.specs.Prelude.{◌≡◌, ◌≢◌, false, ◌≤◌, ◌<
 ghost use Rattle.kpn_front.specs.Loading.{Loads, ReadsAtMost, longest};
 
 use crate::streams::Source;
+use kpn_model::limits::LONGEST_TEXT;
 use kpn_net::{Kinds, Net, NetFault, read_sketch};
 use std::alloc::Global;
-
-/// How many bytes a description may have.
-pub const LONGEST_TEXT: usize = 1048576;
 
 /// How many bytes one turn reads at most.
 const CHUNK: usize = 4096;

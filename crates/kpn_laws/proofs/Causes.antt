@@ -2,10 +2,10 @@
 use Rattle.std.proofs.Common.{◌≡◌, refl, sym, ap, ◌∙◌, arith, ℕ}
 use Rattle.kpn_model.specs.Network.{Network, Family}
 use Rattle.kpn_model.specs.declared.history.Status.TheVariants.{Done}
-use Rattle.kpn_model.specs.Semantics.{State, status, capacity, IsBlocked, IsQuiet, IsChosen, Grows, IsOver}
+use Rattle.kpn_model.specs.Semantics.{State, status, capacity, IsBlocked, IsQuiet, IsChosen, Grows}
+use Rattle.kpn_model.specs.Endings.{IsNatural, IsOver}
 use Rattle.kpn_model.specs.declared.history.End.{End}
 use Rattle.kpn_model.specs.declared.history.End.TheVariants.{Terminated, Deadlock, Ceiling, Budget, Memory}
-use Rattle.kpn_model.specs.Determinacy.{IsNatural}
 use Rattle.kpn_laws.proofs.Steps.{done_wants_none}
 
 module _ (kinds : Family) (net : Network) where

@@ -5,7 +5,8 @@ use Rattle.kpn_model.specs.declared.history.Entry.{Entry}
 use Rattle.kpn_model.specs.declared.history.End.{End}
 use Rattle.kpn_model.specs.declared.history.End.TheVariants.{Terminated, Deadlock, Ceiling, Budget, Memory}
 use Rattle.kpn_model.specs.Network.{Network, Family, resized}
-use Rattle.kpn_model.specs.Semantics.{State, start, Run, IsOver}
+use Rattle.kpn_model.specs.Semantics.{State, start, Run}
+use Rattle.kpn_model.specs.Endings.{IsOver}
 use Rattle.kpn_laws.specs.Sufficient.{EndsWithin, LastsWithin, Suffices}
 use Rattle.kpn_laws.specs.Completion.{CanGoOn, IsAtOwnEnd, IsAbove, FewEntries, Completes, HasEnd, NeverEnds}
 use Rattle.kpn_laws.proofs.Runs.{run_push}

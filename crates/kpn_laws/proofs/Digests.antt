@@ -4,7 +4,8 @@ use mathlib.Core.Path.{fun_ext}
 use Rattle.kpn_model.specs.declared.history.Entry.{Entry}
 use Rattle.kpn_model.specs.History.{deeds, taken, growths, grown, stream, digest, each_process, each_channel, place_of}
 use Rattle.kpn_model.specs.Network.{Network, channel_of, Family}
-use Rattle.kpn_model.specs.Semantics.{State, wants, start, Run, IsOver}
+use Rattle.kpn_model.specs.Semantics.{State, wants, start, Run}
+use Rattle.kpn_model.specs.Endings.{IsOver}
 use Rattle.kpn_model.specs.declared.history.End.{End}
 use Rattle.kpn_model.specs.Determinacy.{OneDigest, NoneLonger}
 use Rattle.kpn_laws.proofs.Lists.{same_from_fronts, front-length}

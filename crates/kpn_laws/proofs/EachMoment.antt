@@ -13,7 +13,8 @@ use Rattle.kpn_model.specs.declared.kinds.Act.TheVariants.{Read, Write, Stop}
 use Rattle.kpn_model.specs.declared.kinds.Answer.{Answer}
 use Rattle.kpn_model.specs.declared.history.End.TheVariants.{Budget}
 use Rattle.kpn_model.specs.Determinacy.{IsRun}
-use Rattle.kpn_model.specs.Moments.{OneState, FrontsAreRuns, HistoryTellsState, IsBound, BudgetSuffices, EnabledCanDo, OneCause}
+use Rattle.kpn_model.specs.Moments.{OneState, FrontsAreRuns, HistoryTellsState, BudgetSuffices, EnabledCanDo, OneCause}
+use Rattle.kpn_model.specs.Endings.{MayEnd}
 use Rattle.kpn_laws.proofs.Runs.{run_one, run_split}
 use Rattle.kpn_laws.proofs.Kept.{fresh_start}
 use Rattle.kpn_laws.proofs.KeptByRuns.{kept_run}
@@ -94,6 +95,6 @@ history_tells_state kinds net E M = told_run kinds net E M
 pub budget_suffices : (kinds : Family) → BudgetSuffices kinds
 budget_suffices kinds net E F M N a b run bound final small e =
     let n = no_longer kinds net F E N M b final run in
-    let full : IsBound kinds net E M Budget = subst (λ x. IsBound kinds net E M x) e bound in
+    let full : MayEnd kinds net E M Budget = subst (λ x. MayEnd kinds net E M x) e bound in
     let many = full.0 in
     absurd (omega arith)

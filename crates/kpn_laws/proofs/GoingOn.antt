@@ -8,7 +8,8 @@ use Rattle.kpn_model.specs.declared.history.Entry.TheVariants.{Did, Grew}
 use Rattle.kpn_model.specs.declared.history.End.{End}
 use Rattle.kpn_model.specs.declared.history.End.TheVariants.{Terminated, Deadlock, Ceiling}
 use Rattle.kpn_model.specs.Network.{Network, Family}
-use Rattle.kpn_model.specs.Semantics.{State, tokens, capacity, wants, with_channel, after_deed, IsBlocked, IsQuiet, IsArtificial, IsChosen, IsOver}
+use Rattle.kpn_model.specs.Semantics.{State, tokens, capacity, wants, with_channel, after_deed, IsBlocked, IsQuiet, IsArtificial, IsChosen}
+use Rattle.kpn_model.specs.Endings.{IsOver}
 use Rattle.kpn_laws.specs.Completion.{CanGoOn, IsAbove, CanAlwaysGoOn}
 use Rattle.kpn_laws.proofs.Steps.{live_within}
 use Rattle.kpn_laws.proofs.Schedule.{answer_deed, deed_of, full_of, all_done}

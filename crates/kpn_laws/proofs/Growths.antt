@@ -5,7 +5,8 @@ use Rattle.kpn_model.specs.declared.history.Entry.{Entry}
 use Rattle.kpn_model.specs.declared.history.Entry.TheVariants.{Did, Grew}
 use Rattle.kpn_model.specs.History.{growths}
 use Rattle.kpn_model.specs.Network.{Network, Family}
-use Rattle.kpn_model.specs.Semantics.{State, capacity, Step, Run, Grows, IsOver}
+use Rattle.kpn_model.specs.Semantics.{State, capacity, Step, Run, Grows}
+use Rattle.kpn_model.specs.Endings.{IsOver}
 use Rattle.kpn_model.specs.declared.history.End.{End}
 use Rattle.kpn_laws.proofs.Lists.{push_split, front_cases, front_to_push}
 use Rattle.kpn_laws.proofs.Views.{growths_push_did, growths_push_grew}

@@ -1,6 +1,7 @@
 -- Whatever the starting capacities: one outcome, and all runs are prefix-comparable.
 use Rattle.std.proofs.Common.{◌≡◌, List, ◌++◌, sym, ap, ◌∙◌, ℕ, subst}
-use Rattle.kpn_model.specs.Determinacy.{IsPrefixOf, ArePrefixComparable, AreAllPrefixComparable, IsRun, IsFinal, IsNatural, HaveSameOutcome, OneOutcome, AllPrefixComparable}
+use Rattle.kpn_model.specs.Determinacy.{IsPrefixOf, ArePrefixComparable, AreAllPrefixComparable, IsRun, IsFinal, HaveSameOutcome, OneOutcome, AllPrefixComparable}
+use Rattle.kpn_model.specs.Endings.{IsNatural}
 use Rattle.kpn_model.specs.declared.history.Entry.{Entry}
 use Rattle.kpn_model.specs.History.{deeds, put_on, stream, place_of}
 use Rattle.kpn_model.specs.Network.{Network, channel_of, Family, resized}

@@ -15,7 +15,8 @@ use Rattle.kpn_model.specs.declared.history.End.TheVariants.{Terminated, Deadloc
 use Rattle.kpn_model.specs.Network.{Family, Network, in_of, out_of}
 use Rattle.kpn_model.specs.declared.history.Status.{Status}
 use Rattle.kpn_model.specs.declared.history.Status.TheVariants.{Live, Done}
-use Rattle.kpn_model.specs.Semantics.{State, status, tokens, capacity, wants, start, IsPossible, IsQuiet, IsDeed, after_deed, with_channel, IsChosen, Step, Run, IsBlocked, IsOver}
+use Rattle.kpn_model.specs.Semantics.{State, status, tokens, capacity, wants, start, IsPossible, IsQuiet, IsDeed, after_deed, with_channel, IsChosen, Step, Run, IsBlocked}
+use Rattle.kpn_model.specs.Endings.{IsOver}
 use Rattle.kpn_model.specs.History.{Digest, digest}
 use Rattle.kpn_model.specs.Determinacy.{IsFinal}
 use Rattle.kpn_laws.specs.Digested.{HasDigest}

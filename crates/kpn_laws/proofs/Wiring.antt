@@ -7,7 +7,8 @@ use Rattle.kpn_model.specs.declared.history.Entry.TheVariants.{Did, Grew}
 use Rattle.kpn_model.specs.Network.{Network, in_of, out_of, Family, card_of}
 use Rattle.kpn_model.specs.declared.history.Status.{Status}
 use Rattle.kpn_model.specs.declared.history.Status.TheVariants.{Done, Live}
-use Rattle.kpn_model.specs.Semantics.{State, status, capacity, answered, IsDeed, Step, Run, IsBlocked, IsPossible, IsEnabled, IsQuiet, IsChosen, IsOver, IsArtificial}
+use Rattle.kpn_model.specs.Semantics.{State, status, capacity, answered, IsDeed, Step, Run, IsBlocked, IsPossible, IsEnabled, IsQuiet, IsChosen, IsArtificial}
+use Rattle.kpn_model.specs.Endings.{IsOver}
 use Rattle.kpn_model.specs.declared.kinds.Act.{Act}
 use Rattle.kpn_model.specs.declared.kinds.Act.TheVariants.{Read, Write, Stop}
 use Rattle.kpn_model.specs.declared.kinds.Answer.{Answer}

@@ -3,8 +3,9 @@ use Rattle.std.specs.Prelude.{◌⊎◌, ℕ, ◌+◌, ◌*◌, ◌<◌, ◌≤�
 use Rattle.kpn_model.specs.declared.history.Entry.{Entry}
 use Rattle.kpn_model.specs.declared.history.End.{End}
 use Rattle.kpn_model.specs.Network.{Family, Network}
-use Rattle.kpn_model.specs.Semantics.{State, capacity, IsArtificial, IsChosen, Step, Run, IsOver}
-use Rattle.kpn_model.specs.Determinacy.{IsRun, IsNatural}
+use Rattle.kpn_model.specs.Semantics.{State, capacity, IsArtificial, IsChosen, Step, Run}
+use Rattle.kpn_model.specs.Endings.{IsNatural, IsOver}
+use Rattle.kpn_model.specs.Determinacy.{IsRun}
 use Rattle.kpn_laws.specs.Sufficient.{EndsWithin, LastsWithin}
 
 -- some entry can follow

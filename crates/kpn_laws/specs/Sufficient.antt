@@ -5,7 +5,8 @@ use Rattle.kpn_model.specs.declared.history.End.{End}
 use Rattle.kpn_model.specs.Network.{Family, Network, resized}
 use Rattle.kpn_model.specs.Semantics.{State, capacity}
 use Rattle.kpn_model.specs.History.{growths}
-use Rattle.kpn_model.specs.Determinacy.{IsRun, IsFinal, IsNatural}
+use Rattle.kpn_model.specs.Determinacy.{IsRun, IsFinal}
+use Rattle.kpn_model.specs.Endings.{IsNatural}
 
 -- no channel has more capacity than b
 abbrev pub IsBoundedBy : State → ℕ → Type 0

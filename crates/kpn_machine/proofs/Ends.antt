@@ -5,7 +5,8 @@ use Rattle.std.specs.List.{list_any}
 use Rattle.kpn_model.specs.declared.history.End.{End}
 use Rattle.kpn_model.specs.declared.history.End.TheVariants.{Terminated, Deadlock, Ceiling, Budget, Memory}
 use Rattle.kpn_model.specs.Network.{Network, Family}
-use Rattle.kpn_model.specs.Semantics.{State, IsOver}
+use Rattle.kpn_model.specs.Semantics.{State}
+use Rattle.kpn_model.specs.Endings.{CanGrow, HasStopped, IsOver, has_report}
 use Rattle.kpn_laws.proofs.Causes.{cause_same, over_grows_not}
 use Rattle.kpn_body.specs.Input.{Input}
 use Rattle.kpn_state.specs.StateAndHistory.{StateAndHistory}
@@ -15,22 +16,22 @@ use Rattle.kpn_commit.specs.declared.settle.Settled.{Settled}
 use Rattle.kpn_commit.specs.declared.settle.Settled.TheVariants.{Busy, Stopped as Over, Enlarged}
 use Rattle.kpn_commit.specs.declared.outcome.Outcome.{Outcome}
 use Rattle.kpn_state.specs.Standings.{is_busy}
-use Rattle.kpn_commit.specs.Settling.{CanGrow, EndsBy, Settles, GrowsAndPuts}
+use Rattle.kpn_commit.specs.Settling.{Settles, GrowsAndPuts}
 use Rattle.kpn_commit.specs.Works.{end_after}
 use Rattle.kpn_machine.specs.MachineView.{MachineView, state_and_history_of}
-use Rattle.kpn_machine.specs.Commits.{IsCause, EndsAs, WorksOn, Commits}
+use Rattle.kpn_machine.specs.Commits.{EndsAs, WorksOn, Commits}
 use Rattle.kpn_commit.specs.declared.outcome.Outcome.TheVariants.{Done, Parked as Parks, LaidBack}
 use Rattle.kpn_state.proofs.Placed.{place_set_same, place_within, busy_at}
 use Rattle.kpn_state.proofs.Contradictions.{true_false}
 use Rattle.kpn_state.specs.Standings.{standing}
 
 -- an end by the budget is no cause
-budget_no_cause : (b : Bool) (cause : End) → IsCause cause → (if b then Some Budget else None) ≡ Some cause → ⊥
+budget_no_cause : (b : Bool) (cause : End) → has_report cause ≡ true → (if b then Some Budget else None) ≡ Some cause → ⊥
 budget_no_cause true Terminated h e = cc
 budget_no_cause true Deadlock h e = cc
 budget_no_cause true Ceiling h e = cc
-budget_no_cause true Budget h e = h
-budget_no_cause true Memory h e = h
+budget_no_cause true Budget h e = cc
+budget_no_cause true Memory h e = cc
 budget_no_cause false cause h e = cc
 
 -- nor is it refused memory
@@ -43,23 +44,23 @@ same_end a b e = cc
 
 module _ (kinds : Family) (net : Network) where
   -- a cause that was found is that of the definitions
-  found_over : (M : State) (end : End) → IsCause end → EndsBy kinds net M end → IsOver kinds net M end
+  found_over : (M : State) (end : End) → has_report end ≡ true → HasStopped kinds net M end → IsOver kinds net M end
   found_over M Terminated c h = h
   found_over M Deadlock c h = h
   found_over M Ceiling c h = h
   found_over M Budget c h = absurd h
-  found_over M Memory c h = absurd c
+  found_over M Memory c h = cc
 
   -- and no other is
-  over_found : (M : State) (end cause : End) → IsCause cause → EndsBy kinds net M end → IsOver kinds net M cause → Some end ≡ Some cause
+  over_found : (M : State) (end cause : End) → has_report cause ≡ true → HasStopped kinds net M end → IsOver kinds net M cause → Some end ≡ Some cause
   over_found M Terminated cause c h o = ap (λ (x : End). Some x) (cause_same kinds net M Terminated cause h o)
   over_found M Deadlock cause c h o = ap (λ (x : End). Some x) (cause_same kinds net M Deadlock cause h o)
   over_found M Ceiling cause c h o = ap (λ (x : End). Some x) (cause_same kinds net M Ceiling cause h o)
   over_found M Budget cause c h o = absurd h
   over_found M Memory cause c h o = absurd (over_grows_not kinds net M cause h.channel h.to h.next o h.grows)
 
-  found_memory : (M : State) (end : End) → end ≡ Memory → EndsBy kinds net M end → CanGrow kinds net M
-  found_memory M end e h = subst (λ x. EndsBy kinds net M x) e h
+  found_memory : (M : State) (end : End) → end ≡ Memory → HasStopped kinds net M end → CanGrow kinds net M
+  found_memory M end e h = subst (λ x. HasStopped kinds net M x) e h
 
   -- after a growth its writer is ready
   grown_busy : (s : StateAndHistory) (standings : List Standing) (t : StateAndHistory) (moved : List Standing) → GrowsAndPuts kinds net s standings t moved → list_any is_busy moved ≡ true
@@ -71,11 +72,11 @@ module _ (kinds : Family) (net : Network) where
       parked_ended e = cc
 
   module _ (s : StateAndHistory) (standings : List Standing) (t : StateAndHistory) (moved : List Standing) (budget entries : ℕ) where
-    ends_over : (x : Settled) → Settles kinds net s standings x t moved → (cause : End) → IsCause cause → (end_after x budget entries ≡ Some cause) ↔ ((list_any is_busy moved ≡ false) × IsOver kinds net t.state cause)
+    ends_over : (x : Settled) → Settles kinds net s standings x t moved → (cause : End) → has_report cause ≡ true → (end_after x budget entries ≡ Some cause) ↔ ((list_any is_busy moved ≡ false) × IsOver kinds net t.state cause)
     ends_over Busy h cause c = (λ e. absurd (budget_no_cause _ cause c e), λ o. absurd (true_false _ h.0 (ap (list_any is_busy) (sym h.2) ∙ o.0)))
     ends_over (Over end) h cause c = (
       λ e. let same = same_end end cause e in
-          (ap (list_any is_busy) h.2 ∙ h.0, subst (λ (y : StateAndHistory). IsOver kinds net y.state cause) (sym h.1) (found_over s.state cause c (subst (λ x. EndsBy kinds net s.state x) same h.3))),
+          (ap (list_any is_busy) h.2 ∙ h.0, subst (λ (y : StateAndHistory). IsOver kinds net y.state cause) (sym h.1) (found_over s.state cause c (subst (λ x. HasStopped kinds net s.state x) same h.3))),
       λ o. over_found s.state end cause c h.3 (subst (λ (y : StateAndHistory). IsOver kinds net y.state cause) h.1 o.1),
     )
     ends_over Enlarged h cause c = (λ e. absurd (budget_no_cause _ cause c e), λ o. absurd (true_false _ (grown_busy s standings t moved h.1) o.0))
@@ -95,7 +96,7 @@ module _ (kinds : Family) (net : Network) where
 
     ends_budget : (x : Settled) → Settles kinds net s standings x t moved → end_after x budget entries ≡ Some Budget → budget ≤ entries
     ends_budget Busy h e = by_budget _ refl e
-    ends_budget (Over end) h e = absurd (subst (λ x. EndsBy kinds net s.state x) (same_end end Budget e) h.3)
+    ends_budget (Over end) h e = absurd (subst (λ x. HasStopped kinds net s.state x) (same_end end Budget e) h.3)
     ends_budget Enlarged h e = by_budget _ refl e
 
     ends_none : (x : Settled) → end_after x budget entries ≡ None → entries < budget

@@ -32,9 +32,10 @@ use Rattle.kpn_commit.specs.declared.outcome.Outcome.{Outcome}
 use Rattle.kpn_commit.specs.declared.outcome.Outcome.TheVariants.{Done, Parked as Parks, LaidBack}
 use Rattle.kpn_state.specs.Standings.{standing, is_busy, parked_answer, StandingsFit}
 use Rattle.kpn_commit.specs.Reactions.{Reacts}
-use Rattle.kpn_commit.specs.Settling.{EndsBy, Settles}
+use Rattle.kpn_commit.specs.Settling.{Settles}
+use Rattle.kpn_model.specs.Endings.{HasStopped, MayEnd, MayStand}
 use Rattle.kpn_commit.specs.Works.{Works, acted_entries, settled_entries, outcome_of, end_after}
-use Rattle.kpn_machine.specs.MachineView.{MachineView, machine_view, IsOutAt, HasBodies, EndIs, waits, stays_in, IsSound, EndHolds, IsFaithful}
+use Rattle.kpn_machine.specs.MachineView.{MachineView, machine_view, IsOutAt, HasBodies, waits, stays_in, IsSound, IsFaithful}
 use Rattle.kpn_machine.specs.Commits.{number, Appends, WorksOn, Commits, TellsEnabled}
 use Rattle.kpn_state.proofs.Placed.{place_set_same, place_set_other, place_within, busy_at, out_not_ended, ready_not_ended}
 use Rattle.kpn_state.proofs.Contradictions.{none_some, true_false}
@@ -57,20 +58,11 @@ ready_not_parked : (a : Answer) → Ready ≡ Parked a → ⊥
 ready_not_parked a e = cc
 
 module _ (kinds : Family) (net : Network) where
-  -- an end is justified
-  end_holds : (M : State) (E : List Entry) (end : Option End) → length E ≤ net.budget + 2 → EndIs kinds net M E end → EndHolds kinds net E M end
-  end_holds M E None few h = tt
-  end_holds M E (Some Terminated) few h = h
-  end_holds M E (Some Deadlock) few h = h
-  end_holds M E (Some Ceiling) few h = h
-  end_holds M E (Some Budget) few h = (h, few)
-  end_holds M E (Some Memory) few h = (h.grows.artificial, (h.channel, h.grows.chosen, h.grows.below))
+  by_budget : (M : State) (E : List Entry) (b : Bool) → length E ≤ net.budget + 2 → nat_le net.budget (length E) ≡ b → MayStand kinds net E M (if b then Some Budget else None)
+  by_budget M E true few e = (grind (arith, common_steps), few)
+  by_budget M E false few e = grind (arith, common_steps)
 
-  by_budget : (M : State) (E : List Entry) (b : Bool) → nat_le net.budget (length E) ≡ b → EndIs kinds net M E (if b then Some Budget else None)
-  by_budget M E true e = grind (arith, common_steps)
-  by_budget M E false e = grind (arith, common_steps)
-
-  by_cause : (M : State) (E : List Entry) (end : End) → EndsBy kinds net M end → EndIs kinds net M E (Some end)
+  by_cause : (M : State) (E : List Entry) (end : End) → HasStopped kinds net M end → MayEnd kinds net E M end
   by_cause M E Terminated h = h
   by_cause M E Deadlock h = h
   by_cause M E Ceiling h = h
@@ -78,10 +70,10 @@ module _ (kinds : Family) (net : Network) where
   by_cause M E Memory h = h
 
   -- the end that follows is justified
-  end_follows : (s : StateAndHistory) (standings : List Standing) (x : Settled) (t : StateAndHistory) (moved : List Standing) → Settles kinds net s standings x t moved → EndIs kinds net t.state t.history (end_after x net.budget (length t.history))
-  end_follows s standings Busy t moved h = by_budget t.state t.history _ refl
-  end_follows s standings (Over end) t moved h = by_cause t.state t.history end (subst (λ (y : StateAndHistory). EndsBy kinds net y.state end) (sym h.1) h.3)
-  end_follows s standings Enlarged t moved h = by_budget t.state t.history _ refl
+  end_follows : (s : StateAndHistory) (standings : List Standing) (x : Settled) (t : StateAndHistory) (moved : List Standing) → length t.history ≤ net.budget + 2 → Settles kinds net s standings x t moved → MayStand kinds net t.history t.state (end_after x net.budget (length t.history))
+  end_follows s standings Busy t moved few h = by_budget t.state t.history _ few refl
+  end_follows s standings (Over end) t moved few h = by_cause t.state t.history end (subst (λ (y : StateAndHistory). HasStopped kinds net y.state end) (sym h.1) h.3)
+  end_follows s standings Enlarged t moved few h = by_budget t.state t.history _ few refl
 
   -- if there is none, some process is ready or out
   busy_follows : (s : StateAndHistory) (standings : List Standing) (x : Settled) (t : StateAndHistory) (moved : List Standing) (budget entries : ℕ) → Settles kinds net s standings x t moved → end_after x budget entries ≡ None → list_any is_busy moved ≡ true
@@ -148,7 +140,7 @@ module _ (kinds : Family) (admits : Card → List ℕ → Option Token → Type 
         run = h.run;
         within = at_each_moment s.network s.history s.state IsWithin h.run (within s.network valid);
         well_typed = at_each_moment s.network s.history s.state (IsWellTyped admits s.network) h.run (well_typed s.network valid);
-        bound = end_holds kinds s.network s.state s.history s.end h.few h.ends;
+        bound = h.ends;
         none_held_back = enabled_busy kinds admits s.network s.state s.standings h.keeps;
         wanted = λ p idle. idle_wants s.network s.state s.standings p _ h.keeps refl idle;
         some_busy = h.busy;
@@ -280,21 +272,22 @@ module _ (kinds : Family) (admits : Card → List ℕ → Option Token → Type 
 
         pub sound_worked : StandingsFit kinds admits net None N moved → IsSound kinds admits new left (set bodies i.process (Some i.card))
         sound_worked k =
-            let before : length E < net.budget = subst (λ e. EndIs kinds net M E e) none h.ends in
+            let before : length E < net.budget = subst (λ e. MayStand kinds net E M e) none h.ends in
             let longer : length F ≡ length E + number o = ap length goes.history ∙ length-append E goes.entries ∙ ap (λ n. length E + n) goes.count in
             let most = few_entries kinds old i.process o worked_tells in
             let asked = h.asked none in
             let count = works_count kinds net (state_and_history M E room) standings i.process (answer_to kinds i) o (state_and_history N F left) moved stop w out_within out.out in
             let number : number o ≡ acted_entries w.reaction + settled_entries w.settled = ap number w.outcome_is ∙ sym (number_is kinds net w.reaction w.settled) in
             let waiting = waiting_in moved in
+            let few : length F ≤ net.budget + 2 = omega arith in
             record {
               run = subst (λ l. IsRun kinds net l N) (sym goes.history) (run_both kinds net (start kinds net) M N E goes.entries h.run goes.run);
               keeps = k;
               room_is = goes.room ∙ h.room_is;
               many_bodies = length-set bodies i.process (Some i.card) ∙ h.many_bodies;
               has_bodies = bodies_back net standings moved bodies i.process i.card out_bodies out.card h.has_bodies (works_out kinds net (state_and_history M E room) standings i.process (answer_to kinds i) o (state_and_history N F left) moved stop w);
-              few = omega arith;
-              ends = subst (λ e. EndIs kinds net N F e) (sym w.end_is) (end_follows kinds net w.between w.places_between w.settled (state_and_history N F left) moved w.settles);
+              few = few;
+              ends = subst (λ e. MayStand kinds net F N e) (sym w.end_is) (end_follows kinds net w.between w.places_between w.settled (state_and_history N F left) moved few w.settles);
               busy = λ e. busy_follows kinds net w.between w.places_between w.settled (state_and_history N F left) moved net.budget (length F) w.settles (sym w.end_is ∙ e);
               idle = λ cause e not. idle_follows kinds net w.between w.places_between w.settled (state_and_history N F left) moved net.budget (length F) cause w.settles (sym w.end_is ∙ e) not;
               asked = λ e. omega arith;

@@ -1,18 +1,18 @@
 -- What taking an answer does.
-use Rattle.std.specs.Prelude.{◌≡◌, ◌≢◌, ◌⊎◌, ◌↔◌, ℕ, ◌+◌, ◌<◌, ◌≤◌, false, List, Some, None, length, set, ◌++◌}
+use Rattle.std.specs.Prelude.{◌≡◌, ◌≢◌, ◌⊎◌, ◌↔◌, ℕ, ◌+◌, ◌<◌, ◌≤◌, true, false, List, Some, None, length, set, ◌++◌}
 use Rattle.std.specs.List.{list_any}
 use Rattle.kpn_model.specs.declared.history.Entry.{Entry}
 use Rattle.kpn_model.specs.declared.history.End.{End}
-use Rattle.kpn_model.specs.declared.history.End.TheVariants.{Terminated, Deadlock, Ceiling, Budget, Memory}
+use Rattle.kpn_model.specs.declared.history.End.TheVariants.{Budget, Memory}
 use Rattle.kpn_model.specs.Network.{Family}
-use Rattle.kpn_model.specs.Semantics.{Run, IsEnabled, IsOver}
+use Rattle.kpn_model.specs.Semantics.{Run, IsEnabled}
+use Rattle.kpn_model.specs.Endings.{CanGrow, IsOver, has_report}
 use Rattle.kpn_body.specs.Input.{Input, answer_to}
 use Rattle.kpn_state.specs.declared.standing.Standing.TheVariants.{Ready}
 use Rattle.kpn_commit.specs.declared.settle.Settled.TheVariants.{Enlarged}
 use Rattle.kpn_commit.specs.declared.outcome.Outcome.{Outcome}
 use Rattle.kpn_commit.specs.declared.outcome.Outcome.TheVariants.{Done, Parked, LaidBack}
 use Rattle.kpn_state.specs.Standings.{is_busy}
-use Rattle.kpn_commit.specs.Settling.{CanGrow}
 use Rattle.kpn_commit.specs.Works.{Works}
 use Rattle.kpn_machine.specs.MachineView.{MachineView, state_and_history_of}
 
@@ -58,18 +58,10 @@ TellsEnabled kinds s p (Done n) = IsEnabled kinds s.network s.state p × (1 ≤ 
 TellsEnabled kinds s p (Parked n) = (IsEnabled kinds s.network s.state p → ⊥) × ((n ≡ 0) ⊎ (n ≡ 2))
 TellsEnabled kinds s p LaidBack = s.end ≢ None
 
--- a cause that the definitions give a run's end
-abbrev pub IsCause : End → Type 0
-IsCause Terminated = Unit {0}
-IsCause Deadlock = Unit {0}
-IsCause Ceiling = Unit {0}
-IsCause Budget = ⊥
-IsCause Memory = ⊥
-
--- the end of a run that had not ended before: a cause exactly when no process is ready or out and the run is over for it;
+-- the end of a run that had not ended before: a cause for which runs are over exactly when no process is ready or out and the run is over for it;
 -- `Memory` only if a growth is due; otherwise `Budget` exactly when it is spent; otherwise none
 pub record EndsAs (kinds : Family) (t : MachineView) : Type 0 where
-  pub over : (cause : End) → IsCause cause → (t.end ≡ Some cause) ↔ ((list_any is_busy t.standings ≡ false) × IsOver kinds t.network t.state cause)
+  pub over : (cause : End) → has_report cause ≡ true → (t.end ≡ Some cause) ↔ ((list_any is_busy t.standings ≡ false) × IsOver kinds t.network t.state cause)
   pub memory : t.end ≡ Some Memory → (list_any is_busy t.standings ≡ false) × CanGrow kinds t.network t.state
   pub budget : t.end ≡ Some Budget → t.network.budget ≤ length t.history
   pub none : t.end ≡ None → length t.history < t.network.budget

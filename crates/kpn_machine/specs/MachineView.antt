@@ -6,18 +6,18 @@ use Rattle.kpn_model.specs.declared.kinds.Card.{Card}
 use Rattle.kpn_model.specs.declared.history.Status.TheVariants.{Live}
 use Rattle.kpn_model.specs.declared.history.Entry.{Entry}
 use Rattle.kpn_model.specs.declared.history.End.{End}
-use Rattle.kpn_model.specs.declared.history.End.TheVariants.{Terminated, Deadlock, Ceiling, Budget, Memory}
+use Rattle.kpn_model.specs.declared.history.End.TheVariants.{Budget}
 use Rattle.kpn_model.specs.Network.{Family, Network, card_of}
 use Rattle.kpn_model.specs.Semantics.{State, status, wants, IsEnabled}
 use Rattle.kpn_model.specs.Determinacy.{IsRun}
-use Rattle.kpn_model.specs.Moments.{IsWithin, AtEachMoment, IsBound}
+use Rattle.kpn_model.specs.Endings.{MayStand}
+use Rattle.kpn_model.specs.Moments.{IsWithin, AtEachMoment}
 use Rattle.kpn_model.specs.Valid.{IsWellTyped}
 use Rattle.kpn_body.specs.Input.{Input}
 use Rattle.kpn_state.specs.StateAndHistory.{StateAndHistory, state_and_history}
 use Rattle.kpn_state.specs.declared.standing.Standing.{Standing}
 use Rattle.kpn_state.specs.declared.standing.Standing.TheVariants.{Ready, Out, Parked, Stopped}
 use Rattle.kpn_state.specs.Standings.{standing, is_busy, is_ready, parked_answer, StandingsFit}
-use Rattle.kpn_commit.specs.Settling.{EndsBy}
 
 -- the network, its state, the entries that led to it, the standing of each process, how the run ended, and how many answers were
 -- taken
@@ -61,15 +61,6 @@ pub record HasRoom {X : Type 0} (net : Network) (spare : List X) (room : ℕ) : 
   pub emptied : spare ≡ []
   pub enough : length net.processes ≤ room
 
--- what holds at an end; before one, the budget is not spent
-abbrev pub EndIs : Family → Network → State → List Entry → Option End → Type 0
-EndIs kinds net M E None = length E < net.budget
-EndIs kinds net M E (Some Terminated) = EndsBy kinds net M Terminated
-EndIs kinds net M E (Some Deadlock) = EndsBy kinds net M Deadlock
-EndIs kinds net M E (Some Ceiling) = EndsBy kinds net M Ceiling
-EndIs kinds net M E (Some Budget) = net.budget ≤ length E
-EndIs kinds net M E (Some Memory) = EndsBy kinds net M Memory
-
 -- 1 for a process that is parked
 abbrev pub waits : Standing → ℕ
 waits Ready = 0
@@ -93,15 +84,11 @@ pub record IsSound (kinds : Family) (admits : Card → List ℕ → Option Token
   pub many_bodies : length bodies ≡ length s.network.processes
   pub has_bodies : HasBodies s.network s.standings bodies
   pub few : length s.history ≤ s.network.budget + 2
-  pub ends : EndIs kinds s.network s.state s.history s.end
+  pub ends : MayStand kinds s.network s.history s.state s.end
   pub busy : s.end ≡ None → list_any is_busy s.standings ≡ true
   pub idle : (end : End) → s.end ≡ Some end → end ≢ Budget → list_any is_busy s.standings ≡ false
   pub asked : s.end ≡ None → s.commits ≤ length s.history + sum_by waits s.standings
   pub laid : s.commits ≤ length s.history + sum_by stays_in s.standings
-
-abbrev pub EndHolds : Family → Network → List Entry → State → Option End → Type 0
-EndHolds kinds net E M None = Unit {0}
-EndHolds kinds net E M (Some end) = IsBound kinds net E M end
 
 -- what holds of each machine at each time: its history is a run from the start to its state, and at each moment of it no channel
 -- is above its capacity and the state is well-typed; an end is justified; a process that can go on is ready or out, and one that
@@ -112,7 +99,7 @@ pub record IsFaithful (kinds : Family) (admits : Card → List ℕ → Option To
   pub run : IsRun kinds s.network s.history s.state
   pub within : AtEachMoment kinds s.network s.history IsWithin
   pub well_typed : AtEachMoment kinds s.network s.history (IsWellTyped admits s.network)
-  pub bound : EndHolds kinds s.network s.history s.state s.end
+  pub bound : MayStand kinds s.network s.history s.state s.end
   pub none_held_back : (p : ℕ) → IsEnabled kinds s.network s.state p → is_busy (standing s.standings p) ≡ true
   pub wanted : (p : ℕ) → is_busy (standing s.standings p) ≡ false → wants kinds s.network s.state p ≡ parked_answer (standing s.standings p)
   pub some_busy : s.end ≡ None → list_any is_busy s.standings ≡ true

@@ -2,6 +2,7 @@
 use crate::channels::push_channel;
 use crate::keys::push_misfit;
 use crate::processes::push_process;
+use kpn_model::limits::{GREATEST_STEP, MOST_CHANNELS, MOST_PROCESSES};
 use kpn_net::version::greatest_budget_in;
 use kpn_net::{Kinds, Location, NetFault, Sketch, locate, read_sketch};
 use std::alloc::{AllocError, Global};
@@ -89,7 +90,7 @@ fn push_whole(out: &mut String, sketch: &Sketch, fault: NetFault) -> Result<(), 
             let greatest = greatest_budget_in(sketch.version);
             write!(out, "budget {}; it must be 1 to {greatest}", sketch.budget)
         }
-        NetFault::Step => write!(out, "step {}; it must be 1 to 1024", sketch.step),
+        NetFault::Step => write!(out, "step {}; it must be 1 to {GREATEST_STEP}", sketch.step),
         _ => Ok(()),
     }
 }
@@ -97,9 +98,9 @@ fn push_whole(out: &mut String, sketch: &Sketch, fault: NetFault) -> Result<(), 
 fn push_counts(out: &mut String, sketch: &Sketch) -> Result<(), AllocError> {
     let processes = sketch.processes.as_slice().len();
     let channels = sketch.channels.as_slice().len();
-    if processes == 0 || processes > 64 {
-        write!(out, "{processes} processes; there must be 1 to 64")
+    if processes == 0 || processes > MOST_PROCESSES {
+        write!(out, "{processes} processes; there must be 1 to {MOST_PROCESSES}")
     } else {
-        write!(out, "{channels} channels; there must be at most 256")
+        write!(out, "{channels} channels; there must be at most {MOST_CHANNELS}")
     }
 }

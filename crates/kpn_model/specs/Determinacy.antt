@@ -3,8 +3,8 @@ use Rattle.std.specs.Prelude.{◌≡◌, ◌⊎◌, ℕ, ◌≤◌, List, ◌++�
 use Rattle.kpn_model.specs.declared.history.Entry.{Entry}
 use Rattle.kpn_model.specs.declared.history.End.{End}
 use Rattle.kpn_model.specs.Network.{Family, Network, resized}
-use Rattle.kpn_model.specs.declared.history.End.TheVariants.{Terminated, Deadlock}
-use Rattle.kpn_model.specs.Semantics.{State, start, wants, Run, IsOver}
+use Rattle.kpn_model.specs.Semantics.{State, start, wants, Run}
+use Rattle.kpn_model.specs.Endings.{IsOver, IsNatural}
 use Rattle.kpn_model.specs.History.{deeds, stream, place_of, digest}
 
 abbrev pub IsPrefixOf : {X : Type 0} → List X → List X → Type 0
@@ -35,12 +35,6 @@ abbrev pub NoneLonger : Family → Type 0
 NoneLonger kinds =
     (net : Network) (E F : List Entry) (M N : State) (a : End)
     → IsFinal kinds net E M a → IsRun kinds net F N → length F ≤ length E
-
--- the run came to its own end, which doesn't depend on the capacities: it terminated or ended in a deadlock
-abbrev pub IsNatural : End → Type 0
-IsNatural Terminated = Unit {0}
-IsNatural Deadlock = Unit {0}
-IsNatural _ = ⊥
 
 -- what two runs that are over have in common, whatever the capacities
 pub record HaveSameOutcome (kinds : Family) (net other : Network) (E F : List Entry) (M N : State) : Type 0 where

@@ -2,6 +2,7 @@ pub mod Network
 pub mod Lawful
 pub mod Semantics
 pub mod History
+pub mod Endings
 pub mod Determinacy
 pub mod Moments
 pub mod Name

@@ -3,9 +3,10 @@ use Rattle.std.specs.Prelude.{◌≡◌, ◌≢◌, ◌↔◌, ℕ, ◌+◌, ◌
 use Rattle.kpn_model.specs.declared.history.Deed.{Deed}
 use Rattle.kpn_model.specs.declared.history.Entry.{Entry}
 use Rattle.kpn_model.specs.declared.history.End.{End}
-use Rattle.kpn_model.specs.declared.history.End.TheVariants.{Budget, Memory}
+use Rattle.kpn_model.specs.declared.history.End.TheVariants.{Budget}
 use Rattle.kpn_model.specs.Network.{Family, Network, channel_of}
-use Rattle.kpn_model.specs.Semantics.{State, tokens, capacity, IsEnabled, Does, IsArtificial, IsChosen, Run, IsOver, start}
+use Rattle.kpn_model.specs.Semantics.{State, tokens, capacity, IsEnabled, Does, Run, start}
+use Rattle.kpn_model.specs.Endings.{IsOver, MayEnd}
 use Rattle.kpn_model.specs.History.{stream, taken, growths, grown}
 use Rattle.kpn_model.specs.Determinacy.{IsRun, IsFinal}
 
@@ -20,12 +21,6 @@ IsWithin M = (c : ℕ) → length (tokens M c) ≤ capacity M c
 -- each prefix of the history leads from the start to a state of which this holds
 abbrev pub AtEachMoment : Family → Network → List Entry → (State → Type 0) → Type 0
 AtEachMoment kinds net E P = (F G : List Entry) → F ++ G ≡ E → (N : State) × IsRun kinds net F N × P N
-
--- the run E from the start to M may end in this way
-abbrev pub IsBound : Family → Network → List Entry → State → End → Type 0
-IsBound kinds net E M Budget = (net.budget ≤ length E) × (length E ≤ net.budget + 2)
-IsBound kinds net E M Memory = IsArtificial kinds net M × ((c : ℕ) × IsChosen kinds net M c × (capacity M c < net.ceiling))
-IsBound kinds net E M end = IsOver kinds net M end
 
 -- the entries lead to one state
 abbrev pub OneState : Family → Type 0
@@ -47,7 +42,7 @@ HistoryTellsState kinds =
 -- if some run that is over has fewer entries than the budget, no run ends because of its budget
 abbrev pub BudgetSuffices : Family → Type 0
 BudgetSuffices kinds =
-    (net : Network) (E F : List Entry) (M N : State) (a b : End) → IsRun kinds net E M → IsBound kinds net E M a
+    (net : Network) (E F : List Entry) (M N : State) (a b : End) → IsRun kinds net E M → MayEnd kinds net E M a
     → IsFinal kinds net F N b → length F < net.budget → a ≢ Budget
 
 -- a process is enabled exactly when it can do a deed

@@ -8,8 +8,6 @@ use Rattle.kpn_model.specs.declared.history.Deed.{Deed}
 use Rattle.kpn_model.specs.declared.history.Deed.TheVariants.{Took, Put, Stopped}
 use Rattle.kpn_model.specs.declared.history.Entry.{Entry}
 use Rattle.kpn_model.specs.declared.history.Entry.TheVariants.{Did, Grew}
-use Rattle.kpn_model.specs.declared.history.End.{End}
-use Rattle.kpn_model.specs.declared.history.End.TheVariants.{Terminated, Deadlock, Ceiling, Budget, Memory}
 use Rattle.kpn_model.specs.declared.history.Status.{Status}
 use Rattle.kpn_model.specs.declared.history.Status.TheVariants.{Live, Done}
 use Rattle.kpn_model.specs.Network.{Family, Network, card_of, in_of, out_of}
@@ -132,11 +130,3 @@ module _ (kinds : Family) (net : Network) where
   abbrev pub Run : State → List Entry → State → Type 0
   Run M [] N = N ≡ M
   Run M (e ∷ es) N = (mid : State) × Step M e mid × Run mid es N
-
-  -- nothing can happen any more, for this cause
-  abbrev pub IsOver : State → End → Type 0
-  IsOver M Terminated = IsQuiet M × ((p : ℕ) → status M p ≡ Done)
-  IsOver M Deadlock = IsQuiet M × ((p : ℕ) × (status M p ≢ Done)) × ((p c : ℕ) → IsBlocked M p c → ⊥)
-  IsOver M Ceiling = IsArtificial M × ((c : ℕ) × IsChosen M c × (capacity M c ≡ net.ceiling))
-  IsOver M Budget = ⊥
-  IsOver M Memory = ⊥

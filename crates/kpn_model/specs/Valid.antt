@@ -6,6 +6,7 @@ use Rattle.kpn_model.specs.declared.token.Sort.{Sort}
 use Rattle.kpn_model.specs.declared.kinds.Card.{Card}
 use Rattle.kpn_model.specs.declared.kinds.Signature.{Signature}
 use Rattle.kpn_model.specs.declared.parts.Channel.{Channel}
+use Rattle.kpn_model.specs.declared.limits.TheConstants.{MOST_PROCESSES, MOST_CHANNELS, CEILING, HIGH_CEILING, GREATEST_BUDGET, GREATEST_HIGH_BUDGET, GREATEST_STEP}
 use Rattle.kpn_model.specs.declared.history.Entry.{Entry}
 use Rattle.kpn_model.specs.declared.history.Status.TheVariants.{Live}
 use Rattle.kpn_model.specs.Name.{is_name}
@@ -34,8 +35,8 @@ module _ (signature : Card → Option Signature) (net : Network) where
   -- the version of the description
   pub record IsValid : Type 0 where
     pub some_process : 1 ≤ length net.processes
-    pub few_processes : length net.processes ≤ 64
-    pub few_channels : length net.channels ≤ 256
+    pub few_processes : length net.processes ≤ MOST_PROCESSES
+    pub few_channels : length net.channels ≤ MOST_CHANNELS
     pub process_names : All (λ p. is_name p.name ≡ true) net.processes
     pub channel_names : All (λ c. is_name c.name ≡ true) net.channels
     pub processes_apart : AllPairs (λ p q. p.name ≢ q.name) net.processes
@@ -49,11 +50,11 @@ module _ (signature : Card → Option Signature) (net : Network) where
     pub start_tokens : All (λ c. AllByRecursion (IsOfSort c.sort) c.tokens) net.channels
     pub start_fits : All (λ c. length c.tokens ≤ c.capacity) net.channels
     pub some_step : 1 ≤ net.step
-    pub small_step : net.step ≤ 1024
-    pub small_ceiling : net.ceiling ≤ 1000000
+    pub small_step : net.step ≤ GREATEST_STEP
+    pub small_ceiling : net.ceiling ≤ HIGH_CEILING
     pub some_budget : 1 ≤ net.budget
-    pub small_budget : net.budget ≤ 2000000
-    pub smaller_budget : net.ceiling ≤ 65535 → net.budget ≤ 1000000
+    pub small_budget : net.budget ≤ GREATEST_HIGH_BUDGET
+    pub smaller_budget : net.ceiling ≤ CEILING → net.budget ≤ GREATEST_BUDGET
 
 -- each token has its channel's sort, and each live process's state is admitted
 pub record IsWellTyped (admits : Card → List ℕ → Option Token → Type 0) (net : Network) (M : State) : Type 0 where

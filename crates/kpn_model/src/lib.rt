@@ -5,6 +5,7 @@
 
 pub mod history;
 pub mod kinds;
+pub mod limits;
 pub mod parts;
 pub mod small;
 pub mod token;

@@ -13,7 +13,8 @@ ghost use Rattle.kpn_watch.specs.Phases.{phase_of};
 ghost use Rattle.kpn_monitor.specs.Kept.{IsShown, HasEnded, WasCommitted, WasTaken, FoundNothing};
 ghost use Rattle.kpn_monitor.specs.Hands.{TakesOutAll, CommitsAll, WereCommitted};
 ghost use Rattle.kpn_body.specs.Input.{Input};
-ghost use Rattle.kpn_machine.specs.MachineView.{MachineView, EndHolds, IsFaithful, IsFresh, TakesOut};
+ghost use Rattle.kpn_machine.specs.MachineView.{MachineView, IsFaithful, IsFresh, TakesOut};
+ghost use Rattle.kpn_model.specs.Endings.{MayStand};
 ghost use Rattle.kpn_machine.specs.Commits.{Commits, Appends, number};
 
 use crate::giving::{give_all, give_one};
@@ -23,7 +24,7 @@ use crate::seat::Seat;
 use kpn_body::{Body, Finished, Task};
 use kpn_machine::{Chronicle, Machine, Outcome, Stranger};
 use kpn_net::End;
-use kpn_watch::{Board, CountingPublisher, Publisher, WatchFault, Watcher};
+use kpn_watch::{Board, CountingPublisher, MOST_WATCHERS, Publisher, WatchFault, Watcher};
 use std::marker::Model;
 use std::sync::ledger::{Book, Ledger, Share};
 
@@ -317,9 +318,9 @@ impl<B: Body, E: EntryLedger, O: Ledger> Guarded<B, E, O> {
     pub(crate) fn watch(&mut self, board: &Board) -> Result<Watcher, WatchFault>
         requires { board.now ≡ E.board }
         ensures seen { IfOk result (λ w. w ≡ record { board = E.board; entries = self.old.machine.history; phase = phase_of self.old.machine.end }) }
-        ensures run { IfOk result (λ w. (M : State) × IsRun B.Kinds.family E.net w.entries M × EndHolds B.Kinds.family E.net w.entries M self.old.machine.end) }
+        ensures run { IfOk result (λ w. (M : State) × IsRun B.Kinds.family E.net w.entries M × MayStand B.Kinds.family E.net w.entries M self.old.machine.end) }
         ensures made { IfOk result (λ _. self.new ≡ record self.old { watchers = self.old.watchers + 1 }) }
-        ensures full { IsErr result ↔ (self.old.watchers ≡ 64) }
+        ensures full { IsErr result ↔ (self.old.watchers ≡ MOST_WATCHERS) }
         ensures kept { OnErr result (self.new ≡ self.old) }
     {
         self.machine.assure_faithful();

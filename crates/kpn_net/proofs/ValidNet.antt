@@ -10,6 +10,7 @@ use Rattle.std.specs.Ordering.{int_eq}
 use Rattle.std.specs.Str.{bytes_eq}
 use Rattle.kpn_net.specs.declared.fault.NetFault.{NetFault}
 use Rattle.kpn_net.specs.declared.fault.NetFault.TheVariants.{Version, Counts, Name, Kind, Args, NoEnd, Twice, Unused, Sorts, Capacity, Budget, Tokens, Step}
+use Rattle.kpn_model.specs.declared.limits.TheConstants.{MOST_PROCESSES, MOST_CHANNELS, CEILING, HIGH_CEILING, GREATEST_BUDGET, GREATEST_HIGH_BUDGET, GREATEST_STEP}
 use Rattle.kpn_model.specs.declared.token.Sort.{Sort}
 use Rattle.kpn_model.specs.declared.token.Sort.TheVariants.{Words, Flags}
 use Rattle.kpn_net.specs.declared.sketch.ProcessSketch.{ProcessSketch}
@@ -42,11 +43,11 @@ inside low high (pos n) h = let parts = or_parts (nat_lt n low) (nat_lt high n) 
 inside low high (negsuc n) h = cc
 
 -- the greatest budget goes with the ceiling of the version
-budget_by_ceiling : (two : Bool) (n : ℕ) → n ≤ (if two then 2000000 else 1000000) → (n ≤ 2000000) × ((if two then 1000000 else 65535) ≤ 65535 → n ≤ 1000000)
+budget_by_ceiling : (two : Bool) (n : ℕ) → n ≤ (if two then GREATEST_HIGH_BUDGET else GREATEST_BUDGET) → (n ≤ GREATEST_HIGH_BUDGET) × ((if two then HIGH_CEILING else CEILING) ≤ CEILING → n ≤ GREATEST_BUDGET)
 budget_by_ceiling true n h = (h, λ low. omega (arith, low))
 budget_by_ceiling false n h = (omega (arith, h), λ low. h)
 
-ceiling_small : (two : Bool) → (if two then 1000000 else 65535) ≤ 1000000
+ceiling_small : (two : Bool) → (if two then HIGH_CEILING else CEILING) ≤ HIGH_CEILING
 ceiling_small true = lit≤ tt
 ceiling_small false = lit≤ tt
 
@@ -160,17 +161,17 @@ module _ (named : List ℕ → Option (ℕ × ℕ)) (signature : Card → Option
 
     pub some_process : 1 ≤ length net.processes
     some_process = rw (length-map s.processes (process_in named))
-        (let first = (or_parts _ (nat_lt 64 (length s.processes) || nat_lt 256 (length s.channels)) counts_fine).0 in grind (arith, nat_tests))
+        (let first = (or_parts _ (nat_lt MOST_PROCESSES (length s.processes) || nat_lt MOST_CHANNELS (length s.channels)) counts_fine).0 in grind (arith, nat_tests))
 
-    pub few_processes : length net.processes ≤ 64
+    pub few_processes : length net.processes ≤ MOST_PROCESSES
     few_processes = rw (length-map s.processes (process_in named))
-        (let others = (or_parts _ (nat_lt 64 (length s.processes) || nat_lt 256 (length s.channels)) counts_fine).1 in
-        let many = (or_parts (nat_lt 64 (length s.processes)) (nat_lt 256 (length s.channels)) others).0 in grind (arith, nat_tests))
+        (let others = (or_parts _ (nat_lt MOST_PROCESSES (length s.processes) || nat_lt MOST_CHANNELS (length s.channels)) counts_fine).1 in
+        let many = (or_parts (nat_lt MOST_PROCESSES (length s.processes)) (nat_lt MOST_CHANNELS (length s.channels)) others).0 in grind (arith, nat_tests))
 
-    pub few_channels : length net.channels ≤ 256
+    pub few_channels : length net.channels ≤ MOST_CHANNELS
     few_channels = rw (length-map s.channels (channel_in s.processes))
-        (let others = (or_parts _ (nat_lt 64 (length s.processes) || nat_lt 256 (length s.channels)) counts_fine).1 in
-        let many = (or_parts (nat_lt 64 (length s.processes)) (nat_lt 256 (length s.channels)) others).1 in grind (arith, nat_tests))
+        (let others = (or_parts _ (nat_lt MOST_PROCESSES (length s.processes) || nat_lt MOST_CHANNELS (length s.channels)) counts_fine).1 in
+        let many = (or_parts (nat_lt MOST_PROCESSES (length s.processes)) (nat_lt MOST_CHANNELS (length s.channels)) others).1 in grind (arith, nat_tests))
 
     abbrev bad_process : Bool
     bad_process = list_any (λ p. not (is_name p.name)) s.processes
@@ -228,11 +229,11 @@ module _ (named : List ℕ → Option (ℕ × ℕ)) (signature : Card → Option
     pub budget : (1 ≤ net.budget) × (net.budget ≤ greatest_budget_in s.version)
     budget = inside 1 (greatest_budget_in s.version) s.budget budget_fine
 
-    pub small_budget : (net.budget ≤ 2000000) × (net.ceiling ≤ 65535 → net.budget ≤ 1000000)
+    pub small_budget : (net.budget ≤ GREATEST_HIGH_BUDGET) × (net.ceiling ≤ CEILING → net.budget ≤ GREATEST_BUDGET)
     small_budget = budget_by_ceiling (is_two s.version) net.budget budget.1
 
-    pub step : (1 ≤ net.step) × (net.step ≤ 1024)
-    step = inside 1 1024 s.step step_fine
+    pub step : (1 ≤ net.step) × (net.step ≤ GREATEST_STEP)
+    step = inside 1 GREATEST_STEP s.step step_fine
 
     kinds_fine : tests Kind ≡ false
     kinds_fine = none_passes tests faults no_fault 3 Version (lit< tt)

@@ -10,6 +10,7 @@ use Rattle.kpn_net.specs.declared.sketch.ProcessSketch.{ProcessSketch}
 use Rattle.kpn_net.specs.declared.sketch.ChannelSketch.{ChannelSketch}
 use Rattle.kpn_net.specs.declared.sketch.Sketch.{Sketch}
 use Rattle.toml.specs.Parse.{parse_document}
+use Rattle.kpn_model.specs.declared.limits.TheConstants.{DEFAULT_BUDGET}
 use Rattle.kpn_net.specs.declared.fault.NetFault.{NetFault}
 use Rattle.kpn_net.specs.declared.fault.NetFault.TheVariants.{NotToml, Keys, Memory}
 use Rattle.kpn_net.specs.Form.{required, optional, array_of, has_only}
@@ -74,7 +75,7 @@ abbrev pub sketch_of : Members → Option Sketch
 sketch_of table =
     required as_integer (codes "version") table >>= (λ version.
     if has_only (top_keys version) table then
-    optional as_integer (pos 10000) (codes "budget") table >>= (λ budget.
+    optional as_integer (pos DEFAULT_BUDGET) (codes "budget") table >>= (λ budget.
     optional as_integer (pos 1) (codes "step") table >>= (λ step.
     required (array_of described_process) (codes "process") table >>= (λ processes.
     optional (array_of (described_channel version)) [] (codes "channel") table >>= (λ channels.

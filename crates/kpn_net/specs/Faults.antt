@@ -15,6 +15,7 @@ use Rattle.kpn_net.specs.declared.sketch.ChannelSketch.{ChannelSketch}
 use Rattle.kpn_net.specs.declared.sketch.Sketch.{Sketch}
 use Rattle.kpn_model.specs.declared.kinds.Card.{Card}
 use Rattle.kpn_model.specs.declared.kinds.Signature.{Signature}
+use Rattle.kpn_model.specs.declared.limits.TheConstants.{MOST_PROCESSES, MOST_CHANNELS, GREATEST_STEP}
 use Rattle.kpn_model.specs.Lawful.{port_at}
 use Rattle.kpn_model.specs.Name.{is_name}
 use Rattle.kpn_net.specs.Version.{is_two, ceiling_in, greatest_budget_in}
@@ -110,7 +111,7 @@ module _ (named : List ℕ → Option (ℕ × ℕ)) (signature : Card → Option
     -- the conditions of the faults
     abbrev pub has_fault : NetFault → Bool
     has_fault Version = not (int_eq sketch.version (pos 1) || is_two sketch.version)
-    has_fault Counts = length sketch.processes == 0 || (nat_lt 64 (length sketch.processes) || nat_lt 256 (length sketch.channels))
+    has_fault Counts = length sketch.processes == 0 || (nat_lt MOST_PROCESSES (length sketch.processes) || nat_lt MOST_CHANNELS (length sketch.channels))
     has_fault Name =
         (list_any (λ p. not (is_name p.name)) sketch.processes || list_any (λ c. not (is_name c.name)) sketch.channels)
         || (any_pair same_process sketch.processes || any_pair same_channel sketch.channels)
@@ -123,7 +124,7 @@ module _ (named : List ℕ → Option (ℕ × ℕ)) (signature : Card → Option
     has_fault Capacity = list_any (λ c. is_outside (pos 1) (pos (ceiling_in sketch.version)) c.capacity) sketch.channels
     has_fault Budget = is_outside (pos 1) (pos (greatest_budget_in sketch.version)) sketch.budget
     has_fault Tokens = list_any has_wrong_tokens sketch.channels
-    has_fault Step = is_outside (pos 1) (pos 1024) sketch.step
+    has_fault Step = is_outside (pos 1) (pos GREATEST_STEP) sketch.step
     has_fault _ = false
 
     -- the fault of least number whose condition holds

@@ -11,6 +11,7 @@ ghost use Rattle.kpn_net.specs.Faults.{any_pair, is_outside, same_process, same_
 use crate::fault::NetFault;
 use crate::sketch::{ChannelSketch, ProcessSketch, Sketch, TokenSketch};
 use crate::version::{ceiling_in, greatest_budget_in, is_two};
+use kpn_model::limits::{GREATEST_STEP, MOST_CHANNELS, MOST_PROCESSES};
 use kpn_model::{Card, Kinds, Signature, Sort};
 
 fn is_outside(low: i64, high: i64, x: i64) -> bool
@@ -281,7 +282,9 @@ fn has_wrong_counts<K: Kinds>(sketch: &Sketch) -> bool
     ensures { result ≡ has_fault K.named K.signature_of sketch.now NetFault.Counts }
 {
     let processes = sketch.processes.as_slice();
-    processes.len() == 0 || processes.len() > 64 || sketch.channels.as_slice().len() > 256
+    processes.len() == 0
+        || processes.len() > MOST_PROCESSES
+        || sketch.channels.as_slice().len() > MOST_CHANNELS
 }
 
 fn has_bad_process_name(processes: &[ProcessSketch]) -> bool
@@ -328,7 +331,7 @@ fn has_process_with_wrong_args<K: Kinds>(sketch: &Sketch) -> bool
 
 /// Whether a channel begins or ends at no port.
 pub(crate) fn lacks_end<K: Kinds>(sketch: &Sketch, channel: &ChannelSketch) -> bool
-    ensures { result ≡ (is_none (out_sort K.named K.signature_of sketch.now channel.now) || is_none (in_sort K.named K.signature_of sketch.now channel.now)) }
+    ensures { result ≡ (is_none (sketched_out_sort K.named K.signature_of sketch.now channel.now) || is_none (sketched_in_sort K.named K.signature_of sketch.now channel.now)) }
 {
     out_sort::<K>(sketch, channel).is_none() || in_sort::<K>(sketch, channel).is_none()
 }
@@ -445,7 +448,7 @@ fn has_channel_with_wrong_tokens<K: Kinds>(sketch: &Sketch) -> bool
 fn has_wrong_step<K: Kinds>(sketch: &Sketch) -> bool
     ensures { result ≡ has_fault K.named K.signature_of sketch.now NetFault.Step }
 {
-    is_outside(1, 1024, sketch.step)
+    is_outside(1, i64::from(GREATEST_STEP), sketch.step)
 }
 
 /// The fault of least number whose condition holds.

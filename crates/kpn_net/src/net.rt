@@ -91,7 +91,9 @@ impl<K: Kinds> Net<K> {
     /// Does nothing: a caller knows from here on that the network is valid.
     pub fn assure_valid(&self)
         ensures valid { IsValid K.signature_of self.now }
-    {}
+    {
+        let _ = &self.processes;
+    }
 
     /// Returns the number of channels: 0 to 256.
     pub fn channels(&self) -> usize

@@ -9,6 +9,7 @@ use crate::fault::NetFault;
 use crate::form::{Form, find, has_only, optional, required};
 use crate::sketch::{ChannelSketch, ProcessSketch, Sketch, TokenSketch};
 use crate::version::is_two;
+use kpn_model::limits::DEFAULT_BUDGET;
 use kpn_model::{Listed, Sort};
 use std::alloc::Global;
 use toml::{Table, Value};
@@ -67,7 +68,7 @@ fn sketch_of(alloc: Global, table: &Table) -> Result<Sketch, NetFault>
     let none = Listed::new(Vec::new(alloc));
     Ok(Sketch {
         version,
-        budget: optional(alloc, version, table, "budget", 10000)?,
+        budget: optional(alloc, version, table, "budget", i64::from(DEFAULT_BUDGET))?,
         step: optional(alloc, version, table, "step", 1)?,
         processes: required(alloc, version, table, "process")?,
         channels: optional(alloc, version, table, "channel", none)?,
@@ -75,9 +76,9 @@ fn sketch_of(alloc: Global, table: &Table) -> Result<Sketch, NetFault>
 }
 
 impl Form for ProcessSketch {
-    ghost use Rattle.kpn_net.specs.Description.{process_of};
+    ghost use Rattle.kpn_net.specs.Description.{described_process};
 
-    ghost form = { λ version. process_of };
+    ghost form = { λ version. described_process };
 
     fn read(alloc: Global, version: i64, value: &Value) -> Result<ProcessSketch, NetFault> {
         let table = match value.as_table() {
@@ -130,9 +131,9 @@ fn channel_from(alloc: Global, version: i64, table: &Table) -> Result<ChannelSke
 }
 
 impl Form for ChannelSketch {
-    ghost use Rattle.kpn_net.specs.Description.{channel_of};
+    ghost use Rattle.kpn_net.specs.Description.{described_channel};
 
-    ghost form = { channel_of };
+    ghost form = { described_channel };
 
     fn read(alloc: Global, version: i64, value: &Value) -> Result<ChannelSketch, NetFault> {
         match value.as_table() {
@@ -159,9 +160,9 @@ impl Form for TokenSketch {
 }
 
 impl Form for Sort {
-    ghost use Rattle.kpn_net.specs.Description.{sort_of};
+    ghost use Rattle.kpn_net.specs.Description.{described_sort};
 
-    ghost form = { λ version. sort_of };
+    ghost form = { λ version. described_sort };
 
     fn read(_alloc: Global, _version: i64, value: &Value) -> Result<Sort, NetFault> {
         let Some(text) = value.as_str() else {

@@ -2,6 +2,8 @@
 ghost use Rattle.std.specs.Prelude.{◌≡◌};
 ghost use Rattle.kpn_net.specs.Version.{is_two, ceiling_in, greatest_budget_in};
 
+use kpn_model::limits::{CEILING, GREATEST_BUDGET, GREATEST_HIGH_BUDGET, HIGH_CEILING};
+
 /// Whether the version is 2: channels may have start tokens, and a step may be given.
 pub fn is_two(version: i64) -> bool
     ensures { result ≡ is_two version }
@@ -13,12 +15,20 @@ pub fn is_two(version: i64) -> bool
 pub fn ceiling_in(version: i64) -> u32
     ensures { result ≡ ceiling_in version }
 {
-    if is_two(version) { 1000000 } else { 65535 }
+    if is_two(version) {
+        HIGH_CEILING
+    } else {
+        CEILING
+    }
 }
 
 /// The greatest budget, in entries.
 pub fn greatest_budget_in(version: i64) -> u32
     ensures { result ≡ greatest_budget_in version }
 {
-    if is_two(version) { 2000000 } else { 1000000 }
+    if is_two(version) {
+        GREATEST_HIGH_BUDGET
+    } else {
+        GREATEST_BUDGET
+    }
 }

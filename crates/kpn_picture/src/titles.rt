@@ -2,7 +2,7 @@
 ghost use Rattle.kpn_picture.specs.Titles.{standard_title};
 
 use kpn_net::{Card, Kinds};
-use kpn_standard::Standard;
+use kpn_standard::{Kind, Standard};
 
 /// A family whose kinds have titles: the name by which a description calls each, and how many
 /// arguments it takes.
@@ -24,19 +24,10 @@ impl Titled for Standard {
     ghost title = { standard_title };
 
     fn title(card: &Card) -> (&'static str, usize) {
-        match card.kind {
-            0 => ("count", 2),
-            1 => ("sink", 1),
-            2 => ("take", 1),
-            3 => ("copy", 0),
-            4 => ("prefix", 1),
-            5 => ("add", 0),
-            6 => ("scale", 1),
-            7 => ("weave", 2),
-            8 => ("merge", 0),
-            9 => ("divides", 1),
-            10 => ("switch", 0),
-            _ => ("select", 0),
-        }
+        let Some(kind) = Kind::numbered(card.kind) else {
+            unreachable!()
+        };
+        let row = kind.row();
+        (row.name, row.arguments)
     }
 }

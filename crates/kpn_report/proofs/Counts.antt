@@ -14,7 +14,7 @@ use Rattle.kpn_report.specs.declared.account.Account.{Account}
 use Rattle.kpn_report.specs.Tally.{account, KeepsAccounts}
 use Rattle.kpn_report.specs.Text.{end_line, lines_upto, channel_line, put_count, left_count, digest_line, digest_text, text}
 use Rattle.kpn_report.specs.Counted.{counted_line, counted_text, shown_of}
-use Rattle.kpn_report.specs.Digested.{has_detail}
+use Rattle.kpn_model.specs.Endings.{has_report}
 
 -- two appended parts are one appended whole
 pub pushed : (old mid new counted shown whole : List ℕ) → mid ≡ old ++ counted → new ≡ mid ++ shown → counted ++ shown ≡ whole → new ≡ old ++ whole
@@ -64,7 +64,7 @@ module _ (kinds : Family) (net : Network) (cause : End) (E : List Entry) (M : St
 
 module _ (kinds : Family) (net : Network) (E : List Entry) (M : State) (show : Option ℕ) (out : List ℕ) where
   -- the text of a run that came to its own end
-  pub whole_text : (cause : End) → has_detail cause ≡ true → out ≡ end_line cause ++ digest_text net (digest kinds net Terminated E M) show → out ≡ text kinds net cause E M show
+  pub whole_text : (cause : End) → has_report cause ≡ true → out ≡ end_line cause ++ digest_text net (digest kinds net Terminated E M) show → out ≡ text kinds net cause E M show
   whole_text Terminated has e = e
   whole_text Deadlock has e = e
   whole_text Ceiling has e = e
@@ -72,7 +72,7 @@ module _ (kinds : Family) (net : Network) (E : List Entry) (M : State) (show : O
   whole_text Memory has e = cc
 
   -- and of any other
-  pub first_line_alone : (cause : End) → has_detail cause ≡ false → out ≡ end_line cause → out ≡ text kinds net cause E M show
+  pub first_line_alone : (cause : End) → has_report cause ≡ false → out ≡ end_line cause → out ≡ text kinds net cause E M show
   first_line_alone Terminated has e = cc
   first_line_alone Deadlock has e = cc
   first_line_alone Ceiling has e = cc

@@ -1,10 +1,11 @@
 -- A report, its digest and its text.
 use Rattle.std.specs.Prelude.{◌≡◌, ℕ, Bool, true, false, List, ◌++◌, Option, Some, None}
 use Rattle.kpn_model.specs.declared.history.End.{End}
-use Rattle.kpn_model.specs.declared.history.End.TheVariants.{Terminated, Budget, Memory}
+use Rattle.kpn_model.specs.declared.history.End.TheVariants.{Terminated}
 use Rattle.kpn_model.specs.declared.history.Entry.{Entry}
 use Rattle.kpn_model.specs.Network.{Family, Network}
 use Rattle.kpn_model.specs.Semantics.{State}
+use Rattle.kpn_model.specs.Endings.{has_report}
 use Rattle.kpn_model.specs.History.{Digest, digest}
 use Rattle.kpn_report.specs.Text.{end_line, digest_text}
 use Rattle.kpn_report.specs.declared.detail.Detail.{Detail}
@@ -31,13 +32,7 @@ abbrev pub report_text : Network → End → Option Detail → Option ℕ → Li
 report_text net end None show = end_line end
 report_text net end (Some d) show = end_line end ++ digest_text net (digest_of d) show
 
--- whether a run with this end came to its own end
-abbrev pub has_detail : End → Bool
-has_detail Budget = false
-has_detail Memory = false
-has_detail _ = true
-
 -- the report is that of a run to M that ended for this cause
 pub record IsReport (kinds : Family) (net : Network) (cause : End) (E : List Entry) (M : State) (detail : Option Detail) : Type 0 where
-  pub none : has_detail cause ≡ false → detail ≡ None
-  pub some : has_detail cause ≡ true → (d : Detail) × (detail ≡ Some d) × (digest_with cause d ≡ digest kinds net cause E M)
+  pub none : has_report cause ≡ false → detail ≡ None
+  pub some : has_report cause ≡ true → (d : Detail) × (detail ≡ Some d) × (digest_with cause d ≡ digest kinds net cause E M)

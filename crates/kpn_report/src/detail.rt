@@ -4,7 +4,8 @@ ghost use Rattle.kpn_model.specs.declared.history.End.{End as EndV};
 ghost use Rattle.kpn_model.specs.Network.{Family};
 ghost use Rattle.kpn_model.specs.Semantics.{State, wants};
 ghost use Rattle.kpn_model.specs.History.{each_process, place_of, digest};
-ghost use Rattle.kpn_report.specs.Digested.{digest_with, has_detail, IsReport};
+ghost use Rattle.kpn_report.specs.Digested.{digest_with, IsReport};
+ghost use Rattle.kpn_model.specs.Endings.{has_report};
 ghost use Rattle.kpn_report.specs.Tally.{account_at};
 
 use crate::account::Account;
@@ -115,9 +116,9 @@ pub fn report_of<K: Kinds>(
     end: End,
 ) -> Result<Report, AllocError>
     ensures end { IfOk result (λ r. r.end ≡ end) }
-    ensures detail { IfOk result (λ r. (kinds : Family) (M : State) → (has_detail end ≡ true → places.items ≡ each_process net.now (λ p. place_of net.now p (wants kinds net.now M p))) → IsReport kinds net.now end history.now M r.detail) }
+    ensures detail { IfOk result (λ r. (kinds : Family) (M : State) → (has_report end ≡ true → places.items ≡ each_process net.now (λ p. place_of net.now p (wants kinds net.now M p))) → IsReport kinds net.now end history.now M r.detail) }
 {
-    if has_detail(end) {
+    if has_report(end) {
         let detail = Some(detail_of(alloc, net, history, places)?);
         Ok(Report { end, detail })
     } else {
@@ -126,8 +127,8 @@ pub fn report_of<K: Kinds>(
 }
 
 /// Whether a run with this end came to its own end, and so has a detail.
-pub(crate) fn has_detail(end: End) -> bool
-    ensures { result ≡ has_detail end }
+pub(crate) fn has_report(end: End) -> bool
+    ensures { result ≡ has_report end }
 {
     matches!(end, End::Terminated | End::Deadlock | End::Ceiling)
 }

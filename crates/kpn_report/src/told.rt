@@ -7,10 +7,10 @@ ghost use Rattle.kpn_model.specs.declared.history.End.TheVariants.{Terminated};
 ghost use Rattle.kpn_report.specs.Tally.{account_at};
 ghost use Rattle.kpn_report.specs.Counted.{counted_line, counted_text, shown_of};
 ghost use Rattle.kpn_report.specs.Text.{lines_upto, digest_text, text};
-ghost use Rattle.kpn_report.specs.Digested.{has_detail};
+ghost use Rattle.kpn_model.specs.Endings.{has_report};
 
 use crate::account::Account;
-use crate::detail::has_detail;
+use crate::detail::has_report;
 use crate::lines::{end_line, push_channel, push_growths, push_processes, push_stream};
 use crate::streams::{Stream, stream_of};
 use crate::tally::{Tally, tally_of};
@@ -133,10 +133,10 @@ pub fn text_of<K: Kinds>(
     end: End,
     show: Option<usize>,
 ) -> Result<String, AllocError>
-    ensures { IfOk result (λ t. (kinds : Family) (M : State) → (has_detail end ≡ true → places.now ≡ each_process net.now (λ p. place_of net.now p (wants kinds net.now M p))) → string_bytes t ≡ text kinds net.now end history.now M show) }
+    ensures { IfOk result (λ t. (kinds : Family) (M : State) → (has_report end ≡ true → places.now ≡ each_process net.now (λ p. place_of net.now p (wants kinds net.now M p))) → string_bytes t ≡ text kinds net.now end history.now M show) }
 {
     let mut out = end_line(alloc, end)?;
-    if has_detail(end) {
+    if has_report(end) {
         push_history(alloc, &mut out, net, history, places, show)?;
     }
     Ok(out)

@@ -9,20 +9,20 @@ use Rattle.kpn_model.specs.declared.history.End.{End}
 use Rattle.kpn_model.specs.declared.history.End.TheVariants.{Terminated, Deadlock, Ceiling, Budget, Memory}
 use Rattle.kpn_model.specs.declared.history.Place.{Place}
 use Rattle.kpn_model.specs.Network.{Family, Network, channel_of, resized}
-use Rattle.kpn_model.specs.Semantics.{State, IsOver, wants}
+use Rattle.kpn_model.specs.Semantics.{State, wants}
+use Rattle.kpn_model.specs.Endings.{IsNatural, IsOver, MayEnd, has_report}
 use Rattle.kpn_model.specs.History.{Digest, each_process, each_channel, place_of, deeds, stream, put_on}
-use Rattle.kpn_model.specs.Determinacy.{IsFinal, IsNatural, OneDigest, OneOutcome}
-use Rattle.kpn_model.specs.Moments.{IsBound}
+use Rattle.kpn_model.specs.Determinacy.{IsFinal, OneDigest, OneOutcome}
 use Rattle.kpn_laws.proofs.Views.{put_on-append}
 use Rattle.kpn_state.specs.Standings.{standing, parked_answer}
 use Rattle.kpn_state.proofs.Placed.{idle_at}
 use Rattle.kpn_machine.specs.MachineView.{MachineView, IsFaithful}
 use Rattle.kpn_report.specs.declared.detail.Detail.{Detail}
-use Rattle.kpn_report.specs.Digested.{IsReport, has_detail}
+use Rattle.kpn_report.specs.Digested.{IsReport}
 use Rattle.kpn_run.specs.Runs.{FinishedRun, IsFinish}
 use Rattle.kpn_run.specs.Reports.{IsEveryRuns, IsOutcome}
 
-not_budget : (cause : End) → has_detail cause ≡ true → cause ≢ Budget
+not_budget : (cause : End) → has_report cause ≡ true → cause ≢ Budget
 not_budget Terminated has e = cc
 not_budget Deadlock has e = cc
 not_budget Ceiling has e = cc
@@ -31,7 +31,7 @@ not_budget Memory has e = cc
 
 -- if a run came to its own end, each process wants what it answered when it was parked
 pub at_rest :
-    (kinds : Family) (admits : Card → List ℕ → Option Token → Type 0) (s : MachineView) (cause : End) → IsFaithful kinds admits s → s.end ≡ Some cause → has_detail cause ≡ true
+    (kinds : Family) (admits : Card → List ℕ → Option Token → Type 0) (s : MachineView) (cause : End) → IsFaithful kinds admits s → s.end ≡ Some cause → has_report cause ≡ true
     → each_process s.network (λ p. place_of s.network p (parked_answer (standing s.standings p))) ≡ each_process s.network (λ p. place_of s.network p (wants kinds s.network s.state p))
 at_rest kinds admits s cause faithful ended has =
     let same : (λ (p : ℕ). place_of s.network p (parked_answer (standing s.standings p))) ≡ (λ (p : ℕ). place_of s.network p (wants kinds s.network s.state p)) = fun_ext (λ p. ap (place_of s.network p) (sym (faithful.wanted p (idle_at s.places p (faithful.none_busy cause ended (not_budget cause has)))))) in
@@ -41,15 +41,15 @@ at_rest kinds admits s cause faithful ended has =
 pub own_report :
     (kinds : Family) (admits : Card → List ℕ → Option Token → Type 0) (s : MachineView) (cause : End) (places : List Place) (detail : Option Detail) → IsFaithful kinds admits s → s.end ≡ Some cause
     → places ≡ each_process s.network (λ p. place_of s.network p (parked_answer (standing s.standings p)))
-    → ((has_detail cause ≡ true → places ≡ each_process s.network (λ p. place_of s.network p (wants kinds s.network s.state p))) → IsReport kinds s.network cause s.history s.state detail)
+    → ((has_report cause ≡ true → places ≡ each_process s.network (λ p. place_of s.network p (wants kinds s.network s.state p))) → IsReport kinds s.network cause s.history s.state detail)
     → IsReport kinds s.network cause s.history s.state detail
 own_report kinds admits s cause places detail faithful ended are report = report (λ has. are ∙ at_rest kinds admits s cause faithful ended has)
 
-module _ (kinds : Family) (net : Network) (E : List Entry) (M : State) (cause : End) (detail : Option Detail) (report : IsReport kinds net cause E M detail) (final : has_detail cause ≡ true → IsFinal kinds net E M cause) where
+module _ (kinds : Family) (net : Network) (E : List Entry) (M : State) (cause : End) (detail : Option Detail) (report : IsReport kinds net cause E M detail) (final : has_report cause ≡ true → IsFinal kinds net E M cause) where
   pub every_runs : OneDigest kinds → IsEveryRuns kinds net cause detail
   every_runs one has F N b over = let (d, is, same) = report.some has in (d, is, same ∙ one net E F M N cause b (final has) over)
 
-  natural : (a : End) → IsNatural a → has_detail a ≡ true
+  natural : (a : End) → IsNatural a → has_report a ≡ true
   natural Terminated n = refl
   natural Deadlock n = refl
   natural Ceiling n = refl
@@ -75,14 +75,14 @@ module _ (kinds : Family) (net : Network) (E : List Entry) (M : State) (cause : 
       )
 
 -- a run that came to its own end is over
-pub over_of : (kinds : Family) (net : Network) (cause : End) (E : List Entry) (M : State) → has_detail cause ≡ true → IsBound kinds net E M cause → IsOver kinds net M cause
+pub over_of : (kinds : Family) (net : Network) (cause : End) (E : List Entry) (M : State) → has_report cause ≡ true → MayEnd kinds net E M cause → IsOver kinds net M cause
 over_of kinds net Terminated E M has bound = bound
 over_of kinds net Deadlock E M has bound = bound
 over_of kinds net Ceiling E M has bound = bound
 over_of kinds net Budget E M has bound = cc
 over_of kinds net Memory E M has bound = cc
 
-pub final_of : (kinds : Family) (net : Network) (f : FinishedRun) → IsFinish kinds net f → has_detail f.cause ≡ true → IsFinal kinds net f.machine.history f.machine.state f.cause
+pub final_of : (kinds : Family) (net : Network) (f : FinishedRun) → IsFinish kinds net f → has_report f.cause ≡ true → IsFinal kinds net f.machine.history f.machine.state f.cause
 final_of kinds net f finish has = record { run = finish.run; over = over_of kinds net f.cause f.machine.history f.machine.state has finish.bound }
 
 -- one more entry

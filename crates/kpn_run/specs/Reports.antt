@@ -5,13 +5,14 @@ use Rattle.kpn_model.specs.declared.history.Entry.{Entry}
 use Rattle.kpn_model.specs.Network.{Family, Network, resized}
 use Rattle.kpn_model.specs.Semantics.{State, wants}
 use Rattle.kpn_model.specs.History.{deeds, stream, place_of, each_process, each_channel, digest}
-use Rattle.kpn_model.specs.Determinacy.{IsFinal, IsNatural}
+use Rattle.kpn_model.specs.Determinacy.{IsFinal}
+use Rattle.kpn_model.specs.Endings.{IsNatural, has_report}
 use Rattle.kpn_report.specs.declared.detail.Detail.{Detail}
-use Rattle.kpn_report.specs.Digested.{digest_with, has_detail}
+use Rattle.kpn_report.specs.Digested.{digest_with}
 
 -- the end and the detail are those of every run of the network that is over
 abbrev pub IsEveryRuns : Family → Network → End → Option Detail → Type 0
-IsEveryRuns kinds net cause detail = has_detail cause ≡ true → (F : List Entry) (N : State) (b : End) → IsFinal kinds net F N b → (d : Detail) × (detail ≡ Some d) × (digest_with cause d ≡ digest kinds net b F N)
+IsEveryRuns kinds net cause detail = has_report cause ≡ true → (F : List Entry) (N : State) (b : End) → IsFinal kinds net F N b → (d : Detail) × (detail ≡ Some d) × (digest_with cause d ≡ digest kinds net b F N)
 
 -- the history has the deeds of the run F of another network to N, and the detail its places, steps and
 -- streams

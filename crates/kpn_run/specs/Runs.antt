@@ -6,7 +6,8 @@ use Rattle.kpn_model.specs.declared.history.Entry.{Entry}
 use Rattle.kpn_model.specs.Network.{Family, Network, resized}
 use Rattle.kpn_model.specs.Semantics.{State}
 use Rattle.kpn_model.specs.Determinacy.{IsRun, IsFinal, AreAllPrefixComparable}
-use Rattle.kpn_model.specs.Moments.{IsBound, IsWithin}
+use Rattle.kpn_model.specs.Moments.{IsWithin}
+use Rattle.kpn_model.specs.Endings.{MayEnd}
 use Rattle.kpn_machine.specs.MachineView.{MachineView}
 use Rattle.kpn_monitor.specs.Names.{Shares}
 
@@ -21,7 +22,7 @@ pub record FinishedRun : Type 0 where
 pub record IsFinish (kinds : Family) (net : Network) (f : FinishedRun) : Type 0 where
   pub network : f.machine.network ≡ net
   pub run : IsRun kinds net f.machine.history f.machine.state
-  pub bound : IsBound kinds net f.machine.history f.machine.state f.cause
+  pub bound : MayEnd kinds net f.machine.history f.machine.state f.cause
   pub receipts : length f.machine.history ≡ f.receipts
 
 -- after each prefix of the history no channel holds more tokens than its capacity

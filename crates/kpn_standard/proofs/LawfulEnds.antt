@@ -3,10 +3,10 @@ use Rattle.std.proofs.Common.{◌≡◌, ℕ, ◌+◌, ◌<◌, ◌≤◌, ◌^�
 use Rattle.std.proofs.lemmas.Bool.{and_parts}
 use Rattle.kpn_model.specs.declared.token.Token.{Token}
 use Rattle.kpn_model.specs.declared.token.Token.TheVariants.{Word}
-use Rattle.kpn_standard.specs.Standard.{at, got, count, sink}
-use Rattle.kpn_standard.specs.Signatures.{card, signature, no_port, one_word}
-use Rattle.kpn_standard.specs.Locals.{one, IsLocal, LastFits}
-use Rattle.kpn_standard.specs.Ends.{Count, Sink, count_writes, count_stops, sink_reads_first, sink_reads_next, sink_reads_none, sink_stops}
+use Rattle.kpn_standard.specs.Locals.{at, got, one, IsLocal, LastFits}
+use Rattle.kpn_standard.specs.Ends.{count, sink, CountLine, SinkLine, count_writes, count_stops, sink_reads_first, sink_reads_next, sink_reads_none, sink_stops}
+use Rattle.kpn_standard.specs.Table.{no_port, one_word}
+use Rattle.kpn_standard.specs.Signatures.{card, signature}
 use Rattle.kpn_standard.specs.Admitted.{Admitted}
 use Rattle.kpn_standard.proofs.Laws.{IsLawful, AreArguments, passes, has_ports, by_test, below_or_at, stops, reads_word, writes}
 
@@ -25,11 +25,11 @@ module _ (args : List ℕ) (small : AreArguments args) (signed : IsSome (signatu
       record {
         local_fits = omega (arith, small);
         last_fits = tt;
-        line = below_or_at (Count (at args 1) (one i) None) i (at args 1) h count_writes count_stops;
+        line = below_or_at (CountLine (at args 1) (one i) None) i (at args 1) h count_writes count_stops;
       }
 
   -- an answer of count is lawful
-  pub count_lawful : (local : List ℕ) (last : Option Token) → IsLocal local → LastFits last → Count (at args 1) local last → IsLawful (card 0 args) (count args local (got last))
+  pub count_lawful : (local : List ℕ) (last : Option Token) → IsLocal local → LastFits last → CountLine (at args 1) local last → IsLawful (card 0 args) (count args local (got last))
   count_lawful local last fits last_fits (count_writes {i = i} h) =
       by_test (λ a. IsLawful (card 0 args) a) i (at args 1) _ _
       (λ below. writes _ _ count_ports _ 0 (omega arith) _ refl (omega (arith, count_sum)) (count_admitted (i + 1) (omega arith)))
@@ -49,7 +49,7 @@ module _ (args : List ℕ) (small : AreArguments args) (signed : IsSome (signatu
         local_fits = omega (arith, small);
         last_fits = fits;
         line =
-            below_or_at (Sink (at args 0) (one (i + 1)) (Some (Word w))) (i + 1) (at args 0) (omega arith)
+            below_or_at (SinkLine (at args 0) (one (i + 1)) (Some (Word w))) (i + 1) (at args 0) (omega arith)
             (λ below. sink_reads_next (omega arith) below) (λ same. sink_stops (omega arith) same);
       }
 
@@ -61,7 +61,7 @@ module _ (args : List ℕ) (small : AreArguments args) (signed : IsSome (signatu
       (λ above. stops _ _)
 
   -- an answer of sink is lawful
-  pub sink_lawful : (local : List ℕ) (last : Option Token) → IsLocal local → LastFits last → Sink (at args 0) local last → IsLawful (card 1 args) (sink args local (got last))
+  pub sink_lawful : (local : List ℕ) (last : Option Token) → IsLocal local → LastFits last → SinkLine (at args 0) local last → IsLawful (card 1 args) (sink args local (got last))
   sink_lawful local last fits last_fits (sink_reads_first h) =
       sink_reads 0
   sink_lawful local last fits last_fits (sink_reads_next {i = i} _ h) =

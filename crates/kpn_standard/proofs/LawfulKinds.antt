@@ -4,14 +4,14 @@ use Rattle.std.proofs.lemmas.Bool.{and_parts}
 use Rattle.kpn_model.specs.declared.token.Token.{Token}
 use Rattle.kpn_model.specs.declared.kinds.Card.{Card}
 use Rattle.kpn_model.specs.Lawful.{CardFits, AreLawful}
-use Rattle.kpn_standard.specs.Standard.{at, got, answer_by_number, standard}
-use Rattle.kpn_standard.specs.Signatures.{card, signature}
-use Rattle.kpn_standard.specs.Locals.{IsLocal, LastFits, one}
-use Rattle.kpn_standard.specs.Ends.{Count, Sink, count_writes, count_stops, sink_reads_first, sink_reads_none}
-use Rattle.kpn_standard.specs.Copies.{Take, take_reads, take_stops, copy_reads, prefix_begins}
+use Rattle.kpn_standard.specs.Locals.{at, got, IsLocal, LastFits, one}
+use Rattle.kpn_standard.specs.Ends.{CountLine, SinkLine, count_writes, count_stops, sink_reads_first, sink_reads_none}
+use Rattle.kpn_standard.specs.Copies.{TakeLine, take_reads, take_stops, copy_reads, prefix_begins}
 use Rattle.kpn_standard.specs.Arithmetic.{add_reads_first, scale_reads}
 use Rattle.kpn_standard.specs.Merging.{weave_reads_first, merge_reads_first}
 use Rattle.kpn_standard.specs.Flags.{divides_reads, switch_reads_flag, select_reads_flag}
+use Rattle.kpn_standard.specs.Signatures.{card, signature}
+use Rattle.kpn_standard.specs.Standard.{answer_by_number, standard}
 use Rattle.kpn_standard.specs.Admitted.{Admitted, HasLine}
 use Rattle.kpn_standard.proofs.Laws.{IsLawful, AreArguments, passes, below_or_at}
 use Rattle.kpn_standard.proofs.LawfulEnds.{count_lawful, sink_lawful}
@@ -76,9 +76,9 @@ starts_admitted c signed =
       last_fits = tt;
       line =
           by_kind (Starts c.args)
-          (λ signed. below_or_at (Count (at c.args 1) (one 0) None) 0 (at c.args 1) (omega arith) count_writes count_stops)
-          (λ signed. below_or_at (Sink (at c.args 0) (one 0) None) 0 (at c.args 0) (omega arith) sink_reads_first (λ same. sink_reads_none (sym same)))
-          (λ signed. below_or_at (Take (at c.args 0) (one 0) None) 0 (at c.args 0) (omega arith) take_reads take_stops)
+          (λ signed. below_or_at (CountLine (at c.args 1) (one 0) None) 0 (at c.args 1) (omega arith) count_writes count_stops)
+          (λ signed. below_or_at (SinkLine (at c.args 0) (one 0) None) 0 (at c.args 0) (omega arith) sink_reads_first (λ same. sink_reads_none (sym same)))
+          (λ signed. below_or_at (TakeLine (at c.args 0) (one 0) None) 0 (at c.args 0) (omega arith) take_reads take_stops)
           (λ signed. copy_reads)
           (λ signed. prefix_begins)
           (λ signed. add_reads_first)

@@ -9,9 +9,11 @@ use Rattle.kpn_model.specs.declared.kinds.Signature.{Signature}
 use Rattle.kpn_model.specs.declared.kinds.Act.TheVariants.{Read, Write, Stop}
 use Rattle.kpn_model.specs.declared.kinds.Answer.{Answer}
 use Rattle.kpn_model.specs.Lawful.{sort_of, Fits, port_at, in_sort, out_sort, NamesPort, LeadsOn}
-use Rattle.kpn_standard.specs.Standard.{at}
-use Rattle.kpn_standard.specs.Signatures.{given, signature}
-use Rattle.kpn_standard.specs.Admitted.{Admitted}
+use Rattle.kpn_standard.specs.Locals.{at}
+use Rattle.kpn_standard.specs.declared.kind.Kind.{Kind}
+use Rattle.kpn_standard.specs.Table.{row_of}
+use Rattle.kpn_standard.specs.Signatures.{card_of_kind, given, signature}
+use Rattle.kpn_standard.specs.Admitted.{Admitted, HasLine}
 
 -- the answer names a port of the card, and what follows it is admitted
 pub record IsLawful (card : Card) (answer : Answer) : Type 0 where
@@ -90,3 +92,8 @@ module _ (card : Card) (s : Signature) (signed : signature card ≡ Some s) (nex
   -- a write is lawful, if the token fits the port, and what follows is admitted
   pub writes : (token : Token) → port_at s.outs k ≡ Some (sort_of token) → Fits token → Admitted card next None → IsLawful card (record { next = next; act = Write k token })
   writes token port fits admitted = record { names_port = (small, fits, out_port ∙ port); leads_on = λ other. admitted }
+
+-- what is admitted of a card is admitted of the card of its kind
+pub admitted_by_kind : (kind : Kind) (card : Card) (local : List ℕ) (last : Option Token) → (row_of kind).number ≡ card.kind → Admitted card local last → Admitted (card_of_kind kind card.args) local last
+admitted_by_kind kind card local last same h =
+    record { local_fits = h.local_fits; last_fits = h.last_fits; line = subst (λ n. HasLine n card.args local last) (sym same) h.line }

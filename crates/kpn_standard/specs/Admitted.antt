@@ -1,37 +1,36 @@
 -- With which local state and last token a process of a standard card may be asked.
-use Rattle.std.specs.Prelude.{ℕ, ◌==◌, Bool, true, false, List, Option}
+use Rattle.std.specs.Prelude.{ℕ, List, Option, Some, None}
 use Rattle.kpn_model.specs.declared.token.Token.{Token}
 use Rattle.kpn_model.specs.declared.kinds.Card.{Card}
-use Rattle.kpn_standard.specs.Standard.{at}
-use Rattle.kpn_standard.specs.Locals.{IsLocal, LastFits}
-use Rattle.kpn_standard.specs.Ends.{Count, Sink}
-use Rattle.kpn_standard.specs.Copies.{Take, Copy, Prefix}
-use Rattle.kpn_standard.specs.Arithmetic.{Add, Scale}
-use Rattle.kpn_standard.specs.Merging.{Weave, Merge}
-use Rattle.kpn_standard.specs.Flags.{Divides, Switch, Select}
+use Rattle.kpn_standard.specs.declared.kind.Kind.{Kind}
+use Rattle.kpn_standard.specs.declared.kind.Kind.TheVariants.{Count, Sink, Take, Copy, Prefix, Add, Scale, Weave, Merge, Divides, Switch, Select}
+use Rattle.kpn_standard.specs.Locals.{at, IsLocal, LastFits}
+use Rattle.kpn_standard.specs.Ends.{CountLine, SinkLine}
+use Rattle.kpn_standard.specs.Copies.{TakeLine, CopyLine, PrefixLine}
+use Rattle.kpn_standard.specs.Arithmetic.{AddLine, ScaleLine}
+use Rattle.kpn_standard.specs.Merging.{WeaveLine, MergeLine}
+use Rattle.kpn_standard.specs.Flags.{DividesLine, SwitchLine, SelectLine}
+use Rattle.kpn_standard.specs.Table.{numbered}
 
--- one of two facts, as the test chooses
-infix 5 when◌then◌else◌
-abbrev pub when◌then◌else◌ : Bool → Type 0 → Type 0 → Type 0
-when true then p else q = p
-when false then p else q = q
+-- the lines of each kind
+abbrev pub LineOf : Option Kind → List ℕ → List ℕ → Option Token → Type 0
+LineOf None args = λ local last. ⊥
+LineOf (Some Count) args = CountLine (at args 1)
+LineOf (Some Sink) args = SinkLine (at args 0)
+LineOf (Some Take) args = TakeLine (at args 0)
+LineOf (Some Copy) args = CopyLine
+LineOf (Some Prefix) args = PrefixLine
+LineOf (Some Add) args = AddLine
+LineOf (Some Scale) args = ScaleLine
+LineOf (Some Weave) args = WeaveLine (at args 0) (at args 1)
+LineOf (Some Merge) args = MergeLine
+LineOf (Some Divides) args = DividesLine
+LineOf (Some Switch) args = SwitchLine
+LineOf (Some Select) args = SelectLine
 
--- the lines of each kind, by its number
+-- the kind with this number has a line for the local state and the last token
 abbrev pub HasLine : ℕ → List ℕ → List ℕ → Option Token → Type 0
-HasLine kind args local last =
-    when kind == 0 then Count (at args 1) local last else
-    when kind == 1 then Sink (at args 0) local last else
-    when kind == 2 then Take (at args 0) local last else
-    when kind == 3 then Copy local last else
-    when kind == 4 then Prefix local last else
-    when kind == 5 then Add local last else
-    when kind == 6 then Scale local last else
-    when kind == 7 then Weave (at args 0) (at args 1) local last else
-    when kind == 8 then Merge local last else
-    when kind == 9 then Divides local last else
-    when kind == 10 then Switch local last else
-    when kind == 11 then Select local last else
-    ⊥
+HasLine number = LineOf (numbered number)
 
 -- the kind has a line for the local state and the last token, and their numbers have 64 bits
 pub record Admitted (card : Card) (local : List ℕ) (last : Option Token) : Type 0 where

@@ -1,16 +1,27 @@
--- The states of the kinds that compute words: a line for each act.
-use Rattle.std.specs.Prelude.{ℕ, List, Option, Some, None}
+-- The kinds that compute words: what they answer, and their states, a line for each act.
+use Rattle.std.specs.Prelude.{ℕ, ◌+◌, ◌*◌, ◌%◌, ◌^◌, ◌==◌, if◌then◌else◌, List, Option, Some, None}
 use Rattle.kpn_model.specs.declared.token.Token.{Token}
 use Rattle.kpn_model.specs.declared.token.Token.TheVariants.{Word}
-use Rattle.kpn_standard.specs.Locals.{one, two}
+use Rattle.kpn_model.specs.declared.kinds.Act.TheVariants.{Read, Write}
+use Rattle.kpn_model.specs.declared.kinds.Answer.{Answer}
+use Rattle.kpn_standard.specs.Locals.{at, one, two, says, word}
 
--- add: reads a word of each input, writes their sum
-pub data Add : List ℕ → Option Token → Type 0 where
-  add_reads_first : Add (one 0) None
-  add_reads_second : {x : ℕ} → Add (one 1) (Some (Word x))
-  add_writes : {x y : ℕ} → Add (two 2 x) (Some (Word y))
+-- add: reads a word of each input, writes their sum modulo 2^64
+abbrev pub add : List ℕ → List ℕ → Token → Answer
+add args l t =
+    if at l 0 == 0 then says 1 0 0 (Read 0) else
+    if at l 0 == 1 then says 2 (word t) 0 (Read 1) else
+    says 0 0 0 (Write 0 (Word ((at l 1 + word t) % 2 ^ 64)))
 
--- scale: reads a word, writes its product
-pub data Scale : List ℕ → Option Token → Type 0 where
-  scale_reads : Scale (one 0) None
-  scale_writes : {t : ℕ} → Scale (one 1) (Some (Word t))
+pub data AddLine : List ℕ → Option Token → Type 0 where
+  add_reads_first : AddLine (one 0) None
+  add_reads_second : {x : ℕ} → AddLine (one 1) (Some (Word x))
+  add_writes : {x y : ℕ} → AddLine (two 2 x) (Some (Word y))
+
+-- scale: reads a word, writes its product by the argument modulo 2^64
+abbrev pub scale : List ℕ → List ℕ → Token → Answer
+scale args l t = if at l 0 == 0 then says 1 0 0 (Read 0) else says 0 0 0 (Write 0 (Word ((at args 0 * word t) % 2 ^ 64)))
+
+pub data ScaleLine : List ℕ → Option Token → Type 0 where
+  scale_reads : ScaleLine (one 0) None
+  scale_writes : {t : ℕ} → ScaleLine (one 1) (Some (Word t))

@@ -1,23 +1,43 @@
--- The states of the kinds that write what they read: a line for each act.
-use Rattle.std.specs.Prelude.{◌≡◌, ℕ, ◌<◌, List, Option, Some, None}
+-- The kinds that write what they read: what they answer, and their states, a line for each act.
+use Rattle.std.specs.Prelude.{◌≡◌, ℕ, ◌+◌, ◌<◌, ◌==◌, nat_lt, if◌then◌else◌, List, Option, Some, None}
 use Rattle.kpn_model.specs.declared.token.Token.{Token}
 use Rattle.kpn_model.specs.declared.token.Token.TheVariants.{Word}
-use Rattle.kpn_standard.specs.Locals.{one, two}
+use Rattle.kpn_model.specs.declared.kinds.Act.TheVariants.{Read, Write}
+use Rattle.kpn_model.specs.declared.kinds.Answer.{Answer}
+use Rattle.kpn_standard.specs.Locals.{at, one, two, says, stays, word}
 
--- take: reads and writes n tokens, then stops
-pub data Take (n : ℕ) : List ℕ → Option Token → Type 0 where
-  take_reads : {i : ℕ} → i < n → Take n (two 0 i) None
-  take_writes : {i t : ℕ} → i < n → Take n (two 1 i) (Some (Word t))
-  take_stops : {i : ℕ} → i ≡ n → Take n (two 0 i) None
+-- take: reads and writes n words, then stops
+abbrev pub take : List ℕ → List ℕ → Token → Answer
+take args l t =
+    if at l 0 == 1 then says 0 (at l 1 + 1) 0 (Write 0 t) else
+    if nat_lt (at l 1) (at args 0) then says 1 (at l 1) 0 (Read 0) else
+    stays l
 
--- copy: reads a token, writes it to output 0 and then to output 1
-pub data Copy : List ℕ → Option Token → Type 0 where
-  copy_reads : Copy (one 0) None
-  copy_writes_first : {t : ℕ} → Copy (one 1) (Some (Word t))
-  copy_writes_second : {t : ℕ} → Copy (two 2 t) None
+pub data TakeLine (n : ℕ) : List ℕ → Option Token → Type 0 where
+  take_reads : {i : ℕ} → i < n → TakeLine n (two 0 i) None
+  take_writes : {i t : ℕ} → i < n → TakeLine n (two 1 i) (Some (Word t))
+  take_stops : {i : ℕ} → i ≡ n → TakeLine n (two 0 i) None
 
--- prefix: writes a token of its own, then reads and writes
-pub data Prefix : List ℕ → Option Token → Type 0 where
-  prefix_begins : Prefix (one 0) None
-  prefix_reads : Prefix (one 1) None
-  prefix_writes : {t : ℕ} → Prefix (one 2) (Some (Word t))
+-- copy: reads a word, writes it to output 0 and then to output 1
+abbrev pub copy : List ℕ → List ℕ → Token → Answer
+copy args l t =
+    if at l 0 == 0 then says 1 0 0 (Read 0) else
+    if at l 0 == 1 then says 2 (word t) 0 (Write 0 t) else
+    says 0 0 0 (Write 1 (Word (at l 1)))
+
+pub data CopyLine : List ℕ → Option Token → Type 0 where
+  copy_reads : CopyLine (one 0) None
+  copy_writes_first : {t : ℕ} → CopyLine (one 1) (Some (Word t))
+  copy_writes_second : {t : ℕ} → CopyLine (two 2 t) None
+
+-- prefix: writes a word of its own, then reads and writes
+abbrev pub prefix : List ℕ → List ℕ → Token → Answer
+prefix args l t =
+    if at l 0 == 0 then says 1 0 0 (Write 0 (Word (at args 0))) else
+    if at l 0 == 1 then says 2 0 0 (Read 0) else
+    says 1 0 0 (Write 0 t)
+
+pub data PrefixLine : List ℕ → Option Token → Type 0 where
+  prefix_begins : PrefixLine (one 0) None
+  prefix_reads : PrefixLine (one 1) None
+  prefix_writes : {t : ℕ} → PrefixLine (one 2) (Some (Word t))

@@ -1,23 +1,40 @@
--- The states of the kinds that write or read flags: a line for each act.
-use Rattle.std.specs.Prelude.{ℕ, Bool, List, Option, Some, None}
+-- The kinds that write or read flags: what they answer, and their states, a line for each act.
+use Rattle.std.specs.Prelude.{ℕ, ◌%◌, ◌==◌, if◌then◌else◌, Bool, List, Option, Some, None}
 use Rattle.kpn_model.specs.declared.token.Token.{Token}
 use Rattle.kpn_model.specs.declared.token.Token.TheVariants.{Word, Flag}
-use Rattle.kpn_standard.specs.Locals.{one, two}
+use Rattle.kpn_model.specs.declared.kinds.Act.TheVariants.{Read, Write}
+use Rattle.kpn_model.specs.declared.kinds.Answer.{Answer}
+use Rattle.kpn_standard.specs.Locals.{at, one, two, says, word, flag}
 
 -- divides: reads a word, writes whether the argument divides it
-pub data Divides : List ℕ → Option Token → Type 0 where
-  divides_reads : Divides (one 0) None
-  divides_writes : {t : ℕ} → Divides (one 1) (Some (Word t))
+abbrev pub divides : List ℕ → List ℕ → Token → Answer
+divides args l t = if at l 0 == 0 then says 1 0 0 (Read 0) else says 0 0 0 (Write 0 (Flag (word t % at args 0 == 0)))
+
+pub data DividesLine : List ℕ → Option Token → Type 0 where
+  divides_reads : DividesLine (one 0) None
+  divides_writes : {t : ℕ} → DividesLine (one 1) (Some (Word t))
 
 -- switch: reads a flag and then a word, writes the word to the output that the flag selects
-pub data Switch : List ℕ → Option Token → Type 0 where
-  switch_reads_flag : Switch (one 0) None
-  switch_reads_word : {f : Bool} → Switch (one 1) (Some (Flag f))
-  switch_writes_first : {t : ℕ} → Switch (two 2 0) (Some (Word t))
-  switch_writes_second : {t : ℕ} → Switch (two 2 1) (Some (Word t))
+abbrev pub switch : List ℕ → List ℕ → Token → Answer
+switch args l t =
+    if at l 0 == 0 then says 1 0 0 (Read 1) else
+    if at l 0 == 1 then (if flag t then says 2 1 0 (Read 0) else says 2 0 0 (Read 0)) else
+    says 0 0 0 (Write (at l 1) t)
+
+pub data SwitchLine : List ℕ → Option Token → Type 0 where
+  switch_reads_flag : SwitchLine (one 0) None
+  switch_reads_word : {f : Bool} → SwitchLine (one 1) (Some (Flag f))
+  switch_writes_first : {t : ℕ} → SwitchLine (two 2 0) (Some (Word t))
+  switch_writes_second : {t : ℕ} → SwitchLine (two 2 1) (Some (Word t))
 
 -- select: reads a flag and then a word of the input that the flag selects, writes the word
-pub data Select : List ℕ → Option Token → Type 0 where
-  select_reads_flag : Select (one 0) None
-  select_reads_word : {f : Bool} → Select (one 1) (Some (Flag f))
-  select_writes : {t : ℕ} → Select (one 2) (Some (Word t))
+abbrev pub select : List ℕ → List ℕ → Token → Answer
+select args l t =
+    if at l 0 == 0 then says 1 0 0 (Read 2) else
+    if at l 0 == 1 then (if flag t then says 2 0 0 (Read 1) else says 2 0 0 (Read 0)) else
+    says 0 0 0 (Write 0 t)
+
+pub data SelectLine : List ℕ → Option Token → Type 0 where
+  select_reads_flag : SelectLine (one 0) None
+  select_reads_word : {f : Bool} → SelectLine (one 1) (Some (Flag f))
+  select_writes : {t : ℕ} → SelectLine (one 2) (Some (Word t))

@@ -1,10 +1,10 @@
-pub mod Standard
-pub mod Names
-pub mod Signatures
 pub mod Locals
 pub mod Ends
 pub mod Copies
 pub mod Arithmetic
 pub mod Merging
 pub mod Flags
+pub mod Table
+pub mod Signatures
+pub mod Standard
 pub mod Admitted

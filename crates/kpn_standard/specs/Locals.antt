@@ -1,7 +1,14 @@
--- Local states and last tokens.
-use Rattle.std.specs.Prelude.{ℕ, ◌<◌, ◌^◌, List, [], ◌∷◌, Option, Some, None}
+-- Local states, last tokens, and answers. A local state is written with its first numbers; the others are 0.
+use Rattle.std.specs.Prelude.{ℕ, ◌<◌, ◌^◌, Bool, false, List, [], ◌∷◌, Option, Some, None, get_or}
 use Rattle.kpn_model.specs.declared.token.Token.{Token}
+use Rattle.kpn_model.specs.declared.token.Token.TheVariants.{Word, Flag}
+use Rattle.kpn_model.specs.declared.kinds.Act.{Act}
+use Rattle.kpn_model.specs.declared.kinds.Act.TheVariants.{Stop}
+use Rattle.kpn_model.specs.declared.kinds.Answer.{Answer}
 use Rattle.kpn_model.specs.Lawful.{Fits}
+
+abbrev pub at : List ℕ → ℕ → ℕ
+at xs k = get_or xs k 0
 
 -- a local state with these first numbers, the others 0
 abbrev pub one : ℕ → List ℕ
@@ -22,3 +29,24 @@ IsLocal l = ⊥
 abbrev pub LastFits : Option Token → Type 0
 LastFits None = Unit {0}
 LastFits (Some t) = Fits t
+
+-- the answer with this act, after which the local state has these numbers
+abbrev pub says : ℕ → ℕ → ℕ → Act → Answer
+says a b c act = record { next = a ∷ b ∷ c ∷ 0 ∷ []; act = act }
+
+-- the answer that stops
+abbrev pub stays : List ℕ → Answer
+stays local = record { next = local; act = Stop }
+
+-- the token of the read just done, and as a word or a flag
+abbrev pub got : Option Token → Token
+got None = Word 0
+got (Some t) = t
+
+abbrev pub word : Token → ℕ
+word (Word n) = n
+word (Flag b) = 0
+
+abbrev pub flag : Token → Bool
+flag (Word n) = false
+flag (Flag b) = b

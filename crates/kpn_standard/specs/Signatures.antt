@@ -1,37 +1,23 @@
--- The arguments and the ports of the standard kinds.
-use Rattle.std.specs.Prelude.{ℕ, ◌+◌, ◌^◌, ◌==◌, nat_lt, ◌&&◌, if◌then◌else◌, Bool, List, [], ◌∷◌, Option, Some, None}
+-- What the names and the cards of the standard kinds mean.
+use Rattle.std.specs.Prelude.{ℕ, zero, suc, ◌+◌, ◌^◌, ◌==◌, nat_lt, ◌&&◌, if◌then◌else◌, Bool, true, List, Option, Some, None, option_map, option_and_then}
 use Rattle.kpn_model.specs.declared.token.Sort.{Sort}
-use Rattle.kpn_model.specs.declared.token.Sort.TheVariants.{Words, Flags}
 use Rattle.kpn_model.specs.declared.kinds.Card.{Card}
 use Rattle.kpn_model.specs.declared.kinds.Signature.{Signature}
-use Rattle.kpn_standard.specs.Standard.{at}
+use Rattle.kpn_standard.specs.declared.kind.Kind.{Kind}
+use Rattle.kpn_standard.specs.declared.kind.Kind.TheVariants.{Count, Weave, Divides}
+use Rattle.kpn_standard.specs.Locals.{at}
+use Rattle.kpn_standard.specs.Table.{row_of, numbered, called}
 
--- the card of a kind with these arguments
+-- the number of the kind with this name, and how many arguments it takes
+abbrev pub named : List ℕ → Option (ℕ × ℕ)
+named name = option_map (λ kind. ((row_of kind).number, (row_of kind).arguments)) (called name)
+
+-- the card of a kind with these arguments, by the kind's number or by the kind
 abbrev pub card : ℕ → List ℕ → Card
-card kind args = record { kind = kind; args = args }
+card number args = record { kind = number; args = args }
 
--- the sorts of three ports, some of them absent
-abbrev pub no_port : List (Option Sort)
-no_port = None ∷ None ∷ None ∷ []
-
-abbrev pub one_word : List (Option Sort)
-one_word = Some Words ∷ None ∷ None ∷ []
-
-abbrev pub two_words : List (Option Sort)
-two_words = Some Words ∷ Some Words ∷ None ∷ []
-
-abbrev pub one_flag : List (Option Sort)
-one_flag = Some Flags ∷ None ∷ None ∷ []
-
-abbrev pub word_and_flag : List (Option Sort)
-word_and_flag = Some Words ∷ Some Flags ∷ None ∷ []
-
-abbrev pub two_words_and_flag : List (Option Sort)
-two_words_and_flag = Some Words ∷ Some Words ∷ Some Flags ∷ []
-
--- the inputs and outputs, if the arguments are accepted
-abbrev pub given : Bool → List (Option Sort) → List (Option Sort) → Option Signature
-given taken ins outs = if taken then Some (record { ins = ins; outs = outs }) else None
+abbrev pub card_of_kind : Kind → List ℕ → Card
+card_of_kind kind args = card (row_of kind).number args
 
 -- all arguments after the first two are 0; after the first; all
 abbrev pub two_used : List ℕ → Bool
@@ -43,22 +29,28 @@ one_used args = (at args 1 == 0) && two_used args
 abbrev pub none_used : List ℕ → Bool
 none_used args = (at args 0 == 0) && one_used args
 
--- the ports of each kind, by its number, and the arguments that it takes
-abbrev pub signature_by_number : ℕ → List ℕ → Option Signature
-signature_by_number kind args =
-    if kind == 0 then given (two_used args && nat_lt (at args 0 + at args 1) (2 ^ 64)) no_port one_word else
-    if kind == 1 then given (one_used args) one_word no_port else
-    if kind == 2 then given (one_used args) one_word one_word else
-    if kind == 3 then given (none_used args) one_word two_words else
-    if kind == 4 then given (one_used args) one_word one_word else
-    if kind == 5 then given (none_used args) two_words one_word else
-    if kind == 6 then given (one_used args) one_word one_word else
-    if kind == 7 then given (two_used args && (nat_lt 0 (at args 0) && nat_lt 0 (at args 1))) two_words one_word else
-    if kind == 8 then given (none_used args) two_words one_word else
-    if kind == 9 then given (one_used args && nat_lt 0 (at args 0)) one_word one_flag else
-    if kind == 10 then given (none_used args) word_and_flag two_words else
-    if kind == 11 then given (none_used args) two_words_and_flag one_word else
-    None
+-- no arguments but the first n are used
+abbrev pub are_used : ℕ → List ℕ → Bool
+are_used zero = none_used
+are_used (suc zero) = one_used
+are_used _ = two_used
+
+-- what a kind asks of its arguments
+abbrev pub suit : Kind → List ℕ → Bool
+suit Count args = nat_lt (at args 0 + at args 1) (2 ^ 64)
+suit Weave args = nat_lt 0 (at args 0) && nat_lt 0 (at args 1)
+suit Divides args = nat_lt 0 (at args 0)
+suit _ args = true
+
+abbrev pub accepts : Kind → List ℕ → Bool
+accepts kind args = are_used (row_of kind).arguments args && suit kind args
+
+-- these inputs and outputs, if the arguments are accepted
+abbrev pub given : Bool → List (Option Sort) → List (Option Sort) → Option Signature
+given accepted ins outs = if accepted then Some (record { ins = ins; outs = outs }) else None
+
+abbrev pub signature_of_kind : Kind → List ℕ → Option Signature
+signature_of_kind kind args = given (accepts kind args) (row_of kind).ins (row_of kind).outs
 
 abbrev pub signature : Card → Option Signature
-signature card = signature_by_number card.kind card.args
+signature card = option_and_then (λ kind. signature_of_kind kind card.args) (numbered card.kind)

@@ -8,8 +8,9 @@ use crate::arithmetic::{add, scale};
 use crate::copies::{copy, prefix, take};
 use crate::ends::{count, sink};
 use crate::flags::{divides, select, switch};
+use crate::kind::Kind;
 use crate::merging::{merge, weave};
-use crate::numbers::*;
+use crate::token::stops;
 use kpn_model::{Answer, Card, Local, Token};
 
 /// Returns the answer of a process of a standard card, in this local state and after it has just read
@@ -20,18 +21,19 @@ pub fn answer(card: Card, local: Local, last: Option<Token>) -> Answer
     ensures { result ≡ standard.answer card local last }
 {
     let args = card.args;
-    match card.kind {
-        COUNT => count(args, local, last),
-        SINK => sink(args, local, last),
-        TAKE => take(args, local, last),
-        COPY => copy(args, local, last),
-        PREFIX => prefix(args, local, last),
-        ADD => add(args, local, last),
-        SCALE => scale(args, local, last),
-        WEAVE => weave(args, local, last),
-        MERGE => merge(args, local, last),
-        DIVIDES => divides(args, local, last),
-        SWITCH => switch(args, local, last),
-        _ => select(args, local, last),
+    match Kind::numbered(card.kind) {
+        Some(Kind::Count) => count(args, local, last),
+        Some(Kind::Sink) => sink(args, local, last),
+        Some(Kind::Take) => take(args, local, last),
+        Some(Kind::Copy) => copy(args, local, last),
+        Some(Kind::Prefix) => prefix(args, local, last),
+        Some(Kind::Add) => add(args, local, last),
+        Some(Kind::Scale) => scale(args, local, last),
+        Some(Kind::Weave) => weave(args, local, last),
+        Some(Kind::Merge) => merge(args, local, last),
+        Some(Kind::Divides) => divides(args, local, last),
+        Some(Kind::Switch) => switch(args, local, last),
+        Some(Kind::Select) => select(args, local, last),
+        None => stops(local),
     }
 }

@@ -2,18 +2,18 @@
 //! local state and last token.
 ghost use Rattle.std.specs.Prelude.{◌≡◌, IsSome};
 ghost use Rattle.kpn_standard.specs.Standard.{standard};
-ghost use Rattle.kpn_standard.specs.Signatures.{card, signature};
+ghost use Rattle.kpn_standard.specs.Signatures.{card_of_kind, signature};
 ghost use Rattle.kpn_standard.specs.Admitted.{Admitted};
 
-use crate::numbers::{ADD, SCALE};
+use crate::kind::Kind;
 use crate::token::{reads, word, writes};
 use kpn_model::{Answer, Local, Token};
 
 /// Reads a word of input 0 and one of input 1, and writes their sum modulo 2^64, for ever.
 pub fn add(args: [u64; 3], local: Local, last: Option<Token>) -> Answer
-    requires signed { IsSome (signature (card ADD args)) }
-    requires admitted { Admitted (card ADD args) local last }
-    ensures { result ≡ standard.answer (card ADD args) local last }
+    requires signed { IsSome (signature (card_of_kind Kind.Add args)) }
+    requires admitted { Admitted (card_of_kind Kind.Add args) local last }
+    ensures { result ≡ standard.answer (card_of_kind Kind.Add args) local last }
 {
     match local[0] {
         0 => reads([1, 0, 0, 0], 0),
@@ -27,9 +27,9 @@ pub fn add(args: [u64; 3], local: Local, last: Option<Token>) -> Answer
 
 /// Reads a word, and writes its product by `args[0]` modulo 2^64, for ever.
 pub fn scale(args: [u64; 3], local: Local, last: Option<Token>) -> Answer
-    requires signed { IsSome (signature (card SCALE args)) }
-    requires admitted { Admitted (card SCALE args) local last }
-    ensures { result ≡ standard.answer (card SCALE args) local last }
+    requires signed { IsSome (signature (card_of_kind Kind.Scale args)) }
+    requires admitted { Admitted (card_of_kind Kind.Scale args) local last }
+    ensures { result ≡ standard.answer (card_of_kind Kind.Scale args) local last }
 {
     match local[0] {
         0 => reads([1, 0, 0, 0], 0),

@@ -2,18 +2,18 @@
 //! admitted local state and last token.
 ghost use Rattle.std.specs.Prelude.{◌≡◌, IsSome};
 ghost use Rattle.kpn_standard.specs.Standard.{standard};
-ghost use Rattle.kpn_standard.specs.Signatures.{card, signature};
+ghost use Rattle.kpn_standard.specs.Signatures.{card_of_kind, signature};
 ghost use Rattle.kpn_standard.specs.Admitted.{Admitted};
 
-use crate::numbers::{COPY, PREFIX, TAKE};
+use crate::kind::Kind;
 use crate::token::{got, reads, stops, word, writes};
 use kpn_model::{Answer, Local, Token};
 
 /// Reads and writes `args[0]` words, then stops.
 pub fn take(args: [u64; 3], local: Local, last: Option<Token>) -> Answer
-    requires signed { IsSome (signature (card TAKE args)) }
-    requires admitted { Admitted (card TAKE args) local last }
-    ensures { result ≡ standard.answer (card TAKE args) local last }
+    requires signed { IsSome (signature (card_of_kind Kind.Take args)) }
+    requires admitted { Admitted (card_of_kind Kind.Take args) local last }
+    ensures { result ≡ standard.answer (card_of_kind Kind.Take args) local last }
 {
     let i = local[1];
     if local[0] == 1 {
@@ -27,9 +27,9 @@ pub fn take(args: [u64; 3], local: Local, last: Option<Token>) -> Answer
 
 /// Reads a word, and writes it to output 0 and then to output 1, for ever.
 pub fn copy(args: [u64; 3], local: Local, last: Option<Token>) -> Answer
-    requires signed { IsSome (signature (card COPY args)) }
-    requires admitted { Admitted (card COPY args) local last }
-    ensures { result ≡ standard.answer (card COPY args) local last }
+    requires signed { IsSome (signature (card_of_kind Kind.Copy args)) }
+    requires admitted { Admitted (card_of_kind Kind.Copy args) local last }
+    ensures { result ≡ standard.answer (card_of_kind Kind.Copy args) local last }
 {
     match local[0] {
         0 => reads([1, 0, 0, 0], 0),
@@ -40,9 +40,9 @@ pub fn copy(args: [u64; 3], local: Local, last: Option<Token>) -> Answer
 
 /// Writes the word `args[0]`, then reads and writes for ever.
 pub fn prefix(args: [u64; 3], local: Local, last: Option<Token>) -> Answer
-    requires signed { IsSome (signature (card PREFIX args)) }
-    requires admitted { Admitted (card PREFIX args) local last }
-    ensures { result ≡ standard.answer (card PREFIX args) local last }
+    requires signed { IsSome (signature (card_of_kind Kind.Prefix args)) }
+    requires admitted { Admitted (card_of_kind Kind.Prefix args) local last }
+    ensures { result ≡ standard.answer (card_of_kind Kind.Prefix args) local last }
 {
     match local[0] {
         0 => writes([1, 0, 0, 0], 0, Token::Word(args[0])),

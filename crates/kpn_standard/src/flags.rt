@@ -2,18 +2,18 @@
 //! admitted local state and last token.
 ghost use Rattle.std.specs.Prelude.{◌≡◌, IsSome};
 ghost use Rattle.kpn_standard.specs.Standard.{standard};
-ghost use Rattle.kpn_standard.specs.Signatures.{card, signature};
+ghost use Rattle.kpn_standard.specs.Signatures.{card_of_kind, signature};
 ghost use Rattle.kpn_standard.specs.Admitted.{Admitted};
 
-use crate::numbers::{DIVIDES, SELECT, SWITCH};
+use crate::kind::Kind;
 use crate::token::{flag, got, reads, word, writes};
 use kpn_model::{Answer, Local, Token};
 
 /// Reads a word, and writes whether `args[0]` divides it, for ever.
 pub fn divides(args: [u64; 3], local: Local, last: Option<Token>) -> Answer
-    requires signed { IsSome (signature (card DIVIDES args)) }
-    requires admitted { Admitted (card DIVIDES args) local last }
-    ensures { result ≡ standard.answer (card DIVIDES args) local last }
+    requires signed { IsSome (signature (card_of_kind Kind.Divides args)) }
+    requires admitted { Admitted (card_of_kind Kind.Divides args) local last }
+    ensures { result ≡ standard.answer (card_of_kind Kind.Divides args) local last }
 {
     match local[0] {
         0 => reads([1, 0, 0, 0], 0),
@@ -27,9 +27,9 @@ pub fn divides(args: [u64; 3], local: Local, last: Option<Token>) -> Answer
 /// Reads a flag of input 1 and then a word of input 0, and writes the word to output 1 if the flag is
 /// true and else to output 0, for ever.
 pub fn switch(args: [u64; 3], local: Local, last: Option<Token>) -> Answer
-    requires signed { IsSome (signature (card SWITCH args)) }
-    requires admitted { Admitted (card SWITCH args) local last }
-    ensures { result ≡ standard.answer (card SWITCH args) local last }
+    requires signed { IsSome (signature (card_of_kind Kind.Switch args)) }
+    requires admitted { Admitted (card_of_kind Kind.Switch args) local last }
+    ensures { result ≡ standard.answer (card_of_kind Kind.Switch args) local last }
 {
     match local[0] {
         0 => reads([1, 0, 0, 0], 1),
@@ -43,9 +43,9 @@ pub fn switch(args: [u64; 3], local: Local, last: Option<Token>) -> Answer
 /// Reads a flag of input 2 and then a word, of input 1 if the flag is true and else of input 0, and
 /// writes the word, for ever.
 pub fn select(args: [u64; 3], local: Local, last: Option<Token>) -> Answer
-    requires signed { IsSome (signature (card SELECT args)) }
-    requires admitted { Admitted (card SELECT args) local last }
-    ensures { result ≡ standard.answer (card SELECT args) local last }
+    requires signed { IsSome (signature (card_of_kind Kind.Select args)) }
+    requires admitted { Admitted (card_of_kind Kind.Select args) local last }
+    ensures { result ≡ standard.answer (card_of_kind Kind.Select args) local last }
 {
     match local[0] {
         0 => reads([1, 0, 0, 0], 2),

@@ -6,8 +6,8 @@ pub mod arithmetic;
 pub mod copies;
 pub mod ends;
 pub mod flags;
+pub mod kind;
 pub mod merging;
-pub mod numbers;
 pub mod standard;
 #[cfg(test)]
 mod tests;
@@ -18,5 +18,6 @@ pub use arithmetic::{add, scale};
 pub use copies::{copy, prefix, take};
 pub use ends::{count, sink};
 pub use flags::{divides, select, switch};
+pub use kind::Kind;
 pub use merging::{merge, weave};
 pub use standard::Standard;

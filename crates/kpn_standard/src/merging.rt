@@ -1,20 +1,21 @@
 //! The kinds that join two inputs: each function returns the next answer of its kind, for an admitted
 //! local state and last token.
 ghost use Rattle.std.specs.Prelude.{◌≡◌, IsSome};
-ghost use Rattle.kpn_standard.specs.Standard.{standard, emit};
-ghost use Rattle.kpn_standard.specs.Signatures.{card, signature};
+ghost use Rattle.kpn_standard.specs.Standard.{standard};
+ghost use Rattle.kpn_standard.specs.Merging.{emit};
+ghost use Rattle.kpn_standard.specs.Signatures.{card_of_kind, signature};
 ghost use Rattle.kpn_standard.specs.Admitted.{Admitted};
 
-use crate::numbers::{MERGE, WEAVE};
+use crate::kind::Kind;
 use crate::token::{got, reads, word, writes};
 use kpn_model::{Answer, Local, Token};
 use std::cmp::Ordering;
 
 /// Copies `args[0]` words of input 0, and then `args[1]` of input 1, for ever.
 pub fn weave(args: [u64; 3], local: Local, last: Option<Token>) -> Answer
-    requires signed { IsSome (signature (card WEAVE args)) }
-    requires admitted { Admitted (card WEAVE args) local last }
-    ensures { result ≡ standard.answer (card WEAVE args) local last }
+    requires signed { IsSome (signature (card_of_kind Kind.Weave args)) }
+    requires admitted { Admitted (card_of_kind Kind.Weave args) local last }
+    ensures { result ≡ standard.answer (card_of_kind Kind.Weave args) local last }
 {
     let [a, b, _] = args;
     let i = local[1];
@@ -32,9 +33,9 @@ pub fn weave(args: [u64; 3], local: Local, last: Option<Token>) -> Answer
 ///
 /// If the two are equal, it writes one and reads both inputs again, input 0 first.
 pub fn merge(args: [u64; 3], local: Local, last: Option<Token>) -> Answer
-    requires signed { IsSome (signature (card MERGE args)) }
-    requires admitted { Admitted (card MERGE args) local last }
-    ensures { result ≡ standard.answer (card MERGE args) local last }
+    requires signed { IsSome (signature (card_of_kind Kind.Merge args)) }
+    requires admitted { Admitted (card_of_kind Kind.Merge args) local last }
+    ensures { result ≡ standard.answer (card_of_kind Kind.Merge args) local last }
 {
     match local[0] {
         0 => reads([1, 0, 0, 0], 0),

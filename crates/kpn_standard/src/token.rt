@@ -1,6 +1,6 @@
 //! Answers, and what a last token is.
 ghost use Rattle.std.specs.Prelude.{◌≡◌};
-ghost use Rattle.kpn_standard.specs.Standard.{got as got_token, word as word_of, flag as flag_of};
+ghost use Rattle.kpn_standard.specs.Locals.{got as got_token, word as word_of, flag as flag_of};
 
 use kpn_model::{Act, Answer, Local, Token};
 

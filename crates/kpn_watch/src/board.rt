@@ -12,7 +12,7 @@ use std::alloc::{AllocError, Global};
 use std::marker::{Brand, Model};
 
 /// The greatest number of watchers of a board.
-const MOST_WATCHERS: u32 = 64;
+pub const MOST_WATCHERS: u32 = 64;
 
 /// The published word, which shows how far a history has come. Contracts see which board it is.
 #[derive(Drop)]
@@ -45,12 +45,13 @@ impl Model for Publisher {
     ghost use Rattle.std.specs.Prelude.{◌≡◌, ◌≤◌, []};
     ghost use Rattle.kpn_watch.specs.Boards.{Published};
     ghost use Rattle.kpn_watch.specs.Rule.{nothing};
+    ghost use Rattle.kpn_watch.specs.declared.board.TheConstants.{MOST_WATCHERS};
 
     ghost Value = { Published };
 
     ghost view = { λ p. record { board = p.seat.table_id; entries = p.seat.me.0.seen.entries; phase = p.seat.me.0.seen.phase; watchers = p.watchers } };
 
-    ghost invariant = { λ p. (p.seat.id ≡ 0) × (p.seat.me.0.note ≡ nothing) × (p.seat.me.1 ≡ []) × (p.watchers ≤ 64) };
+    ghost invariant = { λ p. (p.seat.id ≡ 0) × (p.seat.me.0.note ≡ nothing) × (p.seat.me.1 ≡ []) × (p.watchers ≤ MOST_WATCHERS) };
 }
 
 /// A reader of a board. Contracts see its board, and the history and the phase that it has seen.
@@ -134,7 +135,7 @@ impl Board {
         requires { publisher.old.board ≡ self.now }
         ensures seen { IfOk result (λ w. w ≡ record { board = publisher.old.board; entries = publisher.old.entries; phase = publisher.old.phase }) }
         ensures made { IfOk result (λ _. publisher.new ≡ record publisher.old { watchers = publisher.old.watchers + 1 }) }
-        ensures full { IsErr result ↔ (publisher.old.watchers ≡ 64) }
+        ensures full { IsErr result ↔ (publisher.old.watchers ≡ MOST_WATCHERS) }
         ensures kept { OnErr result (publisher.new ≡ publisher.old) }
     {
         if publisher.watchers == MOST_WATCHERS {

@@ -4,7 +4,7 @@ ghost use mathlib.Core.List.{IsPrefix};
 ghost use Rattle.kpn_watch.specs.Phases.{phase_of};
 ghost use Rattle.kpn_watch.specs.Shown.{shows, is_growth};
 
-use crate::board::{Board, Publisher, WatchFault, Watcher};
+use crate::board::{Board, MOST_WATCHERS, Publisher, WatchFault, Watcher};
 use crate::progress::{Phase, Progress};
 use kpn_model::{End, Entry};
 use std::marker::Model;
@@ -79,7 +79,7 @@ impl CountingPublisher {
         requires { self.old.board ≡ board.now }
         ensures seen { IfOk result (λ w. w ≡ record { board = self.old.board; entries = self.old.entries; phase = self.old.phase }) }
         ensures made { IfOk result (λ _. self.new ≡ record self.old { watchers = self.old.watchers + 1 }) }
-        ensures full { IsErr result ↔ (self.old.watchers ≡ 64) }
+        ensures full { IsErr result ↔ (self.old.watchers ≡ MOST_WATCHERS) }
         ensures kept { OnErr result (self.new ≡ self.old) }
     {
         board.split(&mut self.publisher)

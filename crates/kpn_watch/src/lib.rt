@@ -13,6 +13,6 @@ mod rule;
 #[cfg(test)]
 mod tests;
 
-pub use board::{Board, Publisher, WatchFault, Watcher};
+pub use board::{Board, MOST_WATCHERS, Publisher, WatchFault, Watcher};
 pub use counting::CountingPublisher;
 pub use progress::{Phase, Progress};

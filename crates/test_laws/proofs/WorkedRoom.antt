@@ -6,7 +6,7 @@ use Rattle.kpn_model.specs.declared.history.End.TheVariants.{Deadlock}
 use Rattle.kpn_model.specs.Network.{Network, channel_of, resized}
 use Rattle.kpn_model.specs.Semantics.{Held, State, start, capacity, Run}
 use Rattle.kpn_model.specs.History.{growths}
-use Rattle.kpn_model.specs.Determinacy.{IsNatural}
+use Rattle.kpn_model.specs.Endings.{IsNatural}
 use Rattle.kpn_standard.specs.Standard.{standard}
 use Rattle.kpn_laws.specs.Sufficient.{EndsWithin}
 use Rattle.test_laws.specs.WorkedRoom.{longer_parks_case, TwoPlacesSuffice, NeverThree, ring, RingLasts}

@@ -1,6 +1,7 @@
 use Rattle.std.proofs.Common.{◌≤◌, ◌++◌, ◌-◌, length, rules, take, arith}
 use Rattle.std.proofs.KnownBytes.{Consumes-trans}
 use Rattle.std.proofs.lemmas.List.{length-append}
+use Rattle.kpn_model.specs.declared.limits.TheConstants.{LONGEST_TEXT}
 use Rattle.kpn_front.proofs.load.read_text.Goals as goal
 
 -- the bytes of the turn in which memory was refused have been consumed too
@@ -8,7 +9,7 @@ pub returns-then-is_err-clause-taken : goal.returns-then-is_err-clause-taken
 returns-then-is_err-clause-taken g c =
     let text = c.loop-chunk.text.items in
     let read = take c.in-Ok.n c.read.new.buf in
-    let short : length text ≤ 1048576 = search rules in
+    let short : length text ≤ LONGEST_TEXT = search rules in
     let room : c.in-Ok.n ≤ (1048577 - length text) = search rules in
     let few : length read ≤ c.in-Ok.n = search rules in
     let both = length-append text read in

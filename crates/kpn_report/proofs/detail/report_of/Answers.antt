@@ -1,11 +1,11 @@
 -- A run that came to its own end has a detail, which is that of the digest.
 use Rattle.std.proofs.Common.{◌≡◌, true, refl, rules}
-use Rattle.kpn_report.specs.Digested.{has_detail}
+use Rattle.kpn_model.specs.Endings.{has_report}
 use Rattle.kpn_report.proofs.detail.report_of.Goals as goal
 
 pub returns-in_ok-detail_of-clause-detail : goal.returns-in_ok-detail_of-clause-detail
 returns-in_ok-detail_of-clause-detail g c = λ kinds M places.
-    let has : has_detail c.args.end ≡ true = search rules in
+    let has : has_report c.args.end ≡ true = search rules in
     record {
       none = λ e. cc;
       some = λ _. (c.in_ok-detail_of.field-0, refl, c.in_ok-detail_of.ensures kinds M c.args.end (places has));

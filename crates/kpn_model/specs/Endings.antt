@@ -1,0 +1,50 @@
+-- How runs end: when a growth is due, when a run is over, how an end may stand, and which ends have a report.
+use Rattle.std.specs.Prelude.{◌≡◌, ◌≢◌, ℕ, ◌+◌, ◌<◌, ◌≤◌, Bool, true, false, List, Option, Some, None, length}
+use Rattle.kpn_model.specs.declared.history.Entry.{Entry}
+use Rattle.kpn_model.specs.declared.history.End.{End}
+use Rattle.kpn_model.specs.declared.history.End.TheVariants.{Terminated, Deadlock, Ceiling, Budget, Memory}
+use Rattle.kpn_model.specs.declared.history.Status.TheVariants.{Done}
+use Rattle.kpn_model.specs.Network.{Family, Network}
+use Rattle.kpn_model.specs.Semantics.{State, status, capacity, IsQuiet, IsBlocked, IsArtificial, IsChosen, Grows}
+
+-- a growth is due
+pub record CanGrow (kinds : Family) (net : Network) (M : State) : Type 0 where
+  pub channel : ℕ
+  pub to : ℕ
+  pub next : State
+  pub grows : Grows kinds net M channel to next
+
+-- nothing can happen any more, for this cause
+abbrev pub IsOver : Family → Network → State → End → Type 0
+IsOver kinds net M Terminated = IsQuiet kinds net M × ((p : ℕ) → status M p ≡ Done)
+IsOver kinds net M Deadlock = IsQuiet kinds net M × ((p : ℕ) × (status M p ≢ Done)) × ((p c : ℕ) → IsBlocked kinds net M p c → ⊥)
+IsOver kinds net M Ceiling = IsArtificial kinds net M × ((c : ℕ) × IsChosen kinds net M c × (capacity M c ≡ net.ceiling))
+IsOver kinds net M Budget = ⊥
+IsOver kinds net M Memory = ⊥
+
+-- nothing goes on any more: the run is over for this cause; or it is `Memory`, and the growth that is due was refused
+abbrev pub HasStopped : Family → Network → State → End → Type 0
+HasStopped kinds net M Memory = CanGrow kinds net M
+HasStopped kinds net M end = IsOver kinds net M end
+
+-- how the run E from the start to M may end: nothing goes on any more, or the budget is spent
+abbrev pub MayEnd : Family → Network → List Entry → State → End → Type 0
+MayEnd kinds net E M Budget = (net.budget ≤ length E) × (length E ≤ net.budget + 2)
+MayEnd kinds net E M end = HasStopped kinds net M end
+
+-- how it may stand: without an end, while the budget is not spent, or with one
+abbrev pub MayStand : Family → Network → List Entry → State → Option End → Type 0
+MayStand kinds net E M None = length E < net.budget
+MayStand kinds net E M (Some end) = MayEnd kinds net E M end
+
+-- whether the run was over, so that there is more to report than its end
+abbrev pub has_report : End → Bool
+has_report Budget = false
+has_report Memory = false
+has_report _ = true
+
+-- the run came to its own end, which doesn't depend on the capacities: it terminated or ended in a deadlock
+abbrev pub IsNatural : End → Type 0
+IsNatural Terminated = Unit {0}
+IsNatural Deadlock = Unit {0}
+IsNatural _ = ⊥

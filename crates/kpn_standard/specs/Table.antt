@@ -1,0 +1,63 @@
+-- The table of the twelve standard kinds.
+use Rattle.std.specs.Prelude.{ℕ, ◌==◌, List, [], ◌∷◌, Option, Some, None, codes}
+use Rattle.std.specs.List.{find}
+use Rattle.std.specs.Str.{bytes_eq}
+use Rattle.kpn_model.specs.declared.token.Sort.{Sort}
+use Rattle.kpn_model.specs.declared.token.Sort.TheVariants.{Words, Flags}
+use Rattle.kpn_standard.specs.declared.kind.Kind.{Kind}
+use Rattle.kpn_standard.specs.declared.kind.Kind.TheVariants.{Count, Sink, Take, Copy, Prefix, Add, Scale, Weave, Merge, Divides, Switch, Select}
+
+-- the sorts of three ports, some of them absent
+abbrev pub no_port : List (Option Sort)
+no_port = None ∷ None ∷ None ∷ []
+
+abbrev pub one_word : List (Option Sort)
+one_word = Some Words ∷ None ∷ None ∷ []
+
+abbrev pub two_words : List (Option Sort)
+two_words = Some Words ∷ Some Words ∷ None ∷ []
+
+abbrev pub one_flag : List (Option Sort)
+one_flag = Some Flags ∷ None ∷ None ∷ []
+
+abbrev pub word_and_flag : List (Option Sort)
+word_and_flag = Some Words ∷ Some Flags ∷ None ∷ []
+
+abbrev pub two_words_and_flag : List (Option Sort)
+two_words_and_flag = Some Words ∷ Some Words ∷ Some Flags ∷ []
+
+-- the number of a kind in cards, its name, how many arguments it takes, its inputs and its outputs
+pub record Row : Type 0 where
+  pub number : ℕ
+  pub name : List ℕ
+  pub arguments : ℕ
+  pub ins : List (Option Sort)
+  pub outs : List (Option Sort)
+
+abbrev pub row : ℕ → List ℕ → ℕ → List (Option Sort) → List (Option Sort) → Row
+row number name arguments ins outs = record { number = number; name = name; arguments = arguments; ins = ins; outs = outs }
+
+abbrev pub row_of : Kind → Row
+row_of Count = row 0 (codes "count") 2 no_port one_word
+row_of Sink = row 1 (codes "sink") 1 one_word no_port
+row_of Take = row 2 (codes "take") 1 one_word one_word
+row_of Copy = row 3 (codes "copy") 0 one_word two_words
+row_of Prefix = row 4 (codes "prefix") 1 one_word one_word
+row_of Add = row 5 (codes "add") 0 two_words one_word
+row_of Scale = row 6 (codes "scale") 1 one_word one_word
+row_of Weave = row 7 (codes "weave") 2 two_words one_word
+row_of Merge = row 8 (codes "merge") 0 two_words one_word
+row_of Divides = row 9 (codes "divides") 1 one_word one_flag
+row_of Switch = row 10 (codes "switch") 0 word_and_flag two_words
+row_of Select = row 11 (codes "select") 0 two_words_and_flag one_word
+
+abbrev pub all_kinds : List Kind
+all_kinds = Count ∷ Sink ∷ Take ∷ Copy ∷ Prefix ∷ Add ∷ Scale ∷ Weave ∷ Merge ∷ Divides ∷ Switch ∷ Select ∷ []
+
+-- the kind with this number
+abbrev pub numbered : ℕ → Option Kind
+numbered number = find (λ kind. number == (row_of kind).number) all_kinds
+
+-- the kind with this name
+abbrev pub called : List ℕ → Option Kind
+called name = find (λ kind. bytes_eq name (row_of kind).name) all_kinds
