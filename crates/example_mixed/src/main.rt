@@ -24,7 +24,7 @@ fn main(rt: HostRuntime) -> io::Result<ExitCode> {
         Ok(choice) => choice,
         Err(fault) => {
             eprint!(rt; "{fault}")?;
-            return Ok(ExitCode::from(fault.status()));
+            return Ok(ExitCode::from(fault.status().code()));
         }
     };
     let mut source = Fallible::new(rt.reader());
@@ -37,5 +37,5 @@ fn main(rt: HostRuntime) -> io::Result<ExitCode> {
             execute_net(&rt, alloc, net, workers, show, &mut sink)
         }
     };
-    Ok(ExitCode::from(status))
+    Ok(ExitCode::from(status.code()))
 }

@@ -10,7 +10,7 @@ use Rattle.kpn_model.specs.declared.kinds.Signature.{Signature}
 use Rattle.kpn_model.specs.declared.kinds.Act.TheVariants.{Read, Write}
 use Rattle.kpn_model.specs.declared.kinds.Answer.{Answer}
 use Rattle.kpn_model.specs.Network.{Family}
-use Rattle.kpn_standard.specs.Standard.{at}
+use Rattle.kpn_standard.specs.Locals.{at}
 
 -- the number of the kind with this name, and how many arguments it takes
 abbrev pub number_named : List ℕ → Option (ℕ × ℕ)

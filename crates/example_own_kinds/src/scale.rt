@@ -1,6 +1,7 @@
 //! A caller's own closure for a standard kind.
 ghost use Rattle.std.specs.Prelude.{◌≡◌, ◌*◌, ◌%◌, ◌^◌, ◌∷◌, [], IfOk};
-ghost use Rattle.kpn_standard.specs.Standard.{standard, says};
+ghost use Rattle.kpn_standard.specs.Standard.{standard};
+ghost use Rattle.kpn_standard.specs.Locals.{says};
 ghost use Rattle.kpn_body.specs.Standard.{card, Admitted};
 
 use crate::asked::answer_of;

@@ -93,7 +93,7 @@ channel c0 put 0 left 0 capacity 1
 entries 0
 stream c0
 ";
-    assert_eq!(rt; status, 5);
+    assert_eq!(rt; status.code(), 5);
     assert!(rt; out.as_slice() == lines.as_bytes());
     Ok(())
 }

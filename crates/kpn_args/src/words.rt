@@ -7,6 +7,7 @@ ghost use Rattle.kpn_args.specs.Choices.{IsWorkers, WorkersFrom, IsRefusedWorker
 
 use clap::error::ErrorKind;
 use clap::{Arg, ArgMatches, Command};
+use kpn_front::Status;
 use std::alloc::{AllocError, Global};
 use std::{error, fmt};
 
@@ -68,11 +69,15 @@ impl WordsFault {
         }
     }
 
-    /// Returns the exit status: 0 if help or the version was asked for, and otherwise 1.
-    pub fn status(&self) -> u8
-        ensures { result ≡ (if asks_for_help self.now then 0 else 1) }
+    /// Returns `Success` if help or the version was asked for, and otherwise `WrongArguments`.
+    pub fn status(&self) -> Status
+        ensures { result ≡ (if asks_for_help self.now then Status.Success else Status.WrongArguments) }
     {
-        if self.asks_for_help() { 0 } else { 1 }
+        if self.asks_for_help() {
+            Status::Success
+        } else {
+            Status::WrongArguments
+        }
     }
 }
 

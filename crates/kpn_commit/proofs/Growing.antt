@@ -51,7 +51,7 @@ module _ (kinds : Family) (admits : Card → List ℕ → Option Token → Type 
       record {
         processes = k.processes;
         channels = length-set M.channels c _ ∙ k.channels;
-        standing = k.standing;
+        one_each = k.one_each;
         well_typed = record { tokens = λ d. subst (λ l. AllByRecursion (IsOfSort (channel_of net d).sort) l) (sym (same_tokens d)) (k.well_typed.tokens d); locals = k.well_typed.locals };
         smallest = λ d h.
             let old = k.smallest d h in

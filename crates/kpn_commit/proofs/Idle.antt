@@ -83,7 +83,7 @@ module _ (kinds : Family) (admits : Card → List ℕ → Option Token → Type 
       let b = awaits_blocked p c e in
       let within = live_within kinds net M p b.answer b.wanted in
       let many = k.processes in
-      let standing = k.standing in
+      let one_each = k.one_each in
       omega arith
 
   module _ (idle : list_any is_busy standings ≡ false) where

@@ -39,7 +39,7 @@ module _ (kinds : Family) (admits : Card → List ℕ → Option Token → Type 
   -- one process may be spared, even if none need be
   pub keeps_sparing : (M : State) (standings : List Standing) (p : ℕ) → StandingsFit kinds admits net None M standings → StandingsFit kinds admits net (Some p) M standings
   keeps_sparing M standings p k =
-      record { processes = k.processes; channels = k.channels; standing = k.standing; well_typed = k.well_typed; smallest = k.smallest; greatest = k.greatest; stopped = k.stopped; done = k.done; wanted = k.wanted; blocked = λ q a ne e. k.blocked q a (λ f. none_some q f) e }
+      record { processes = k.processes; channels = k.channels; one_each = k.one_each; well_typed = k.well_typed; smallest = k.smallest; greatest = k.greatest; stopped = k.stopped; done = k.done; wanted = k.wanted; blocked = λ q a ne e. k.blocked q a (λ f. none_some q f) e }
 
   -- if the spared process is not parked, or can't go on either, none need be spared
   pub keeps_all :
@@ -47,7 +47,7 @@ module _ (kinds : Family) (admits : Card → List ℕ → Option Token → Type 
       → ((q : ℕ) (a : Answer) → spared ≡ Some q → standing standings q ≡ Parked a → IsPossible kinds net M q a.act → ⊥) → StandingsFit kinds admits net None M standings
   keeps_all M standings None k h = k
   keeps_all M standings (Some p) k h =
-      record { processes = k.processes; channels = k.channels; standing = k.standing; well_typed = k.well_typed; smallest = k.smallest; greatest = k.greatest; stopped = k.stopped; done = k.done; wanted = k.wanted; blocked = λ q a ne e. ⊎_elim (λ (x : q ≡ p). h q a (ap Some (sym x)) e) (λ y. k.blocked q a (λ f. y (sym (some_same p q f))) e) (cases_eq q p) }
+      record { processes = k.processes; channels = k.channels; one_each = k.one_each; well_typed = k.well_typed; smallest = k.smallest; greatest = k.greatest; stopped = k.stopped; done = k.done; wanted = k.wanted; blocked = λ q a ne e. ⊎_elim (λ (x : q ≡ p). h q a (ap Some (sym x)) e) (λ y. k.blocked q a (λ f. y (sym (some_same p q f))) e) (cases_eq q p) }
 
   -- a live process may be parked, if it wants its answer and can't do it
   pub keeps_moved :
@@ -57,7 +57,7 @@ module _ (kinds : Family) (admits : Card → List ℕ → Option Token → Type 
       record {
         processes = k.processes;
         channels = k.channels;
-        standing = length-set standings p x ∙ k.standing;
+        one_each = length-set standings p x ∙ k.one_each;
         well_typed = k.well_typed;
         smallest = k.smallest;
         greatest = k.greatest;
@@ -93,7 +93,7 @@ module _ (kinds : Family) (admits : Card → List ℕ → Option Token → Type 
         record {
           processes = processes_after kinds net M p a.next d ∙ k.processes;
           channels = channels_after kinds net M p a.next d ∙ k.channels;
-          standing = length-set standings p (place_after d) ∙ k.standing;
+          one_each = length-set standings p (place_after d) ∙ k.one_each;
           well_typed = sorted_deed signature admits kinds net valid M k.well_typed p a w names d is leads k.channels;
           smallest = λ c h. subst (λ n. 1 ≤ n) (sym (capacity_after kinds net M p c a.next d)) (k.smallest c h);
           greatest = λ c. subst (λ n. n ≤ net.ceiling) (sym (capacity_after kinds net M p c a.next d)) (k.greatest c);

@@ -9,4 +9,4 @@ pub use Rattle.kpn_model.specs.declared.kinds.Act.{Act}
 pub use Rattle.kpn_model.specs.declared.kinds.Act.TheVariants.{Read, Write, Stop}
 pub use Rattle.kpn_model.specs.declared.kinds.Answer.{Answer}
 pub use Rattle.kpn_model.specs.Network.{Family}
-pub use Rattle.kpn_standard.specs.Standard.{at}
+pub use Rattle.kpn_standard.specs.Locals.{at}

@@ -10,11 +10,12 @@ use Rattle.kpn_model.specs.History.{Digest, digest}
 use Rattle.kpn_model.specs.Determinacy.{IsRun, IsFinal}
 use Rattle.kpn_model.specs.Endings.{MayEnd, has_report}
 use Rattle.kpn_standard.specs.Standard.{standard}
-use Rattle.kpn_standard.specs.Names.{named}
-use Rattle.kpn_standard.specs.Signatures.{signature}
+use Rattle.kpn_standard.specs.Signatures.{named, signature}
 use Rattle.kpn_report.specs.declared.detail.Detail.{Detail}
 use Rattle.kpn_picture.specs.Titles.{standard_title}
 use Rattle.kpn_picture.specs.Picture.{picture}
+use Rattle.kpn_front.specs.declared.status.Status.{Status}
+use Rattle.kpn_front.specs.declared.status.Status.TheVariants.{Success, Lost}
 use Rattle.kpn_front.specs.Lines.{lost_line, refused_line, status_of_fault}
 use Rattle.kpn_front.specs.Loading.{Loads}
 use Rattle.kpn_execute.specs.Execution.{TellsRefused, Writes}
@@ -35,43 +36,43 @@ report_picture net end (Some d) = picture standard_title net (Some end) d.places
 
 -- a run from the start ended for a cause that justifies its end, and this is its picture; if it came to its own end, it is the
 -- picture of each run that is over
-pub record DrawsRun (net : Network) (status : ℕ) (text : List ℕ) : Type 0 where
+pub record DrawsRun (net : Network) (status : Status) (text : List ℕ) : Type 0 where
   pub history : List Entry
   pub state : State
   pub cause : End
   pub run : IsRun standard net history state
   pub bound : MayEnd standard net history state cause
-  pub status_is : status ≡ 0
+  pub status_is : status ≡ Success
   pub text_is : text ≡ run_picture net cause history state
   pub settled : has_report cause ≡ true → (F : List Entry) (N : State) (b : End) → IsFinal standard net F N b → text ≡ digest_picture net (digest standard net b F N)
 
 -- an answer of a worker was refused
-pub record TellsLost (status : ℕ) (text : List ℕ) : Type 0 where
-  pub status_is : status ≡ 8
+pub record TellsLost (status : Status) (text : List ℕ) : Type 0 where
+  pub status_is : status ≡ Lost
   pub text_is : text ≡ lost_line
 
 -- the network itself is drawn
-pub record DrawsNet (net : Network) (status : ℕ) (text : List ℕ) : Type 0 where
-  pub status_is : status ≡ 0
+pub record DrawsNet (net : Network) (status : Status) (text : List ℕ) : Type 0 where
+  pub status_is : status ≡ Success
   pub text_is : text ≡ picture standard_title net None [] [] []
 
 -- what is drawn of a run that ended: its picture, or that memory was refused
-abbrev pub DrawsEnd : Network → ℕ → List ℕ → Type 0
+abbrev pub DrawsEnd : Network → Status → List ℕ → Type 0
 DrawsEnd net status text = TellsRefused status text ⊎ DrawsRun net status text
 
 -- what is drawn of a network: itself, or as a run by this number of workers left it; or why not
-abbrev pub DrawsOf : Option ℕ → Network → ℕ → List ℕ → Type 0
+abbrev pub DrawsOf : Option ℕ → Network → Status → List ℕ → Type 0
 DrawsOf None net status text = TellsRefused status text ⊎ DrawsNet net status text
 DrawsOf (Some workers) net status text = TellsLost status text ⊎ DrawsEnd net status text
 
 -- what is drawn of a description that was loaded, or written of one that was refused
-abbrev pub DrawsLoaded : Option ℕ → Result Network NetFault → ℕ → List ℕ → Type 0
+abbrev pub DrawsLoaded : Option ℕ → Result Network NetFault → Status → List ℕ → Type 0
 DrawsLoaded workers (Ok net) status text = DrawsOf workers net status text
 DrawsLoaded workers (Err fault) status text = (status ≡ status_of_fault fault) × (text ≡ refused_line fault)
 
 -- the input is loaded, and what is drawn of it is written; known of the input are its bytes, if they are known at all, and
 -- whether a read had failed before and after
-pub record Draws (workers : Option ℕ) (input : Option (List ℕ)) (failed_before failed_after : Bool) (takes : ℕ → Bool) (before after : Option (List ℕ)) (status : ℕ) (fault : Option NetFault) : Type 0 where
+pub record Draws (workers : Option ℕ) (input : Option (List ℕ)) (failed_before failed_after : Bool) (takes : ℕ → Bool) (before after : Option (List ℕ)) (status : Status) (fault : Option NetFault) : Type 0 where
   pub loaded : Result Network NetFault
   pub loads : failed_before ≡ false → IfSome input (λ text. Loads named signature failed_after text loaded)
   pub failed : failed_before ≡ false → failed_after ≡ true → loaded ≡ Err Input

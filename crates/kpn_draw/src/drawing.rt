@@ -6,6 +6,7 @@ ghost use Rattle.kpn_draw.specs.Choices.{HasFewWorkers};
 ghost use Rattle.kpn_draw.specs.Drawing.{Draws, DrawsOf};
 
 use crate::running::draw_run;
+use kpn_front::Status;
 use kpn_front::load::load;
 use kpn_front::say::{say, say_refused};
 use kpn_front::streams::{Sink, Source};
@@ -20,7 +21,7 @@ use std::thread::Threads;
 /// The outcome of a description: the exit status, and its fault if it was refused.
 #[derive(Drop)]
 pub(crate) struct Served {
-    pub(crate) status: u8,
+    pub(crate) status: Status,
     pub(crate) fault: Option<NetFault>,
 }
 
@@ -63,7 +64,7 @@ pub(crate) fn serve<I: Source, O: Sink, R: Wait + Clock + Threads + Sync>(
 ///
 /// Returns the exit status: 0, 4 if memory was refused (`refused 14` is then written), and 7 if the
 /// write fails.
-fn draw_net<S: Sink>(alloc: Global, net: &Net<Standard>, sink: &mut S) -> u8
+fn draw_net<S: Sink>(alloc: Global, net: &Net<Standard>, sink: &mut S) -> Status
     ensures { Writes (DrawsOf None net.now) (S.takes sink.old) (S.contents sink.old) (S.contents sink.new) result }
 {
     let start = Left {
@@ -72,7 +73,7 @@ fn draw_net<S: Sink>(alloc: Global, net: &Net<Standard>, sink: &mut S) -> u8
         rests: &[],
     };
     match picture_of(alloc, net, None, &start) {
-        Ok(picture) => say(sink, picture.as_str(), 0),
+        Ok(picture) => say(sink, picture.as_str(), Status::Success),
         Err(_) => say_refused(&NetFault::Memory, sink),
     }
 }

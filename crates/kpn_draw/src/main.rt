@@ -11,7 +11,8 @@ mod words;
 
 use crate::drawing::{Served, serve};
 use crate::words::{Choice, WordsFault, read_words};
-use kpn_front::say::{WRITE_FAILED, say_refused};
+use kpn_front::Status;
+use kpn_front::say::say_refused;
 use kpn_front::streams::Fallible;
 use kpn_net::NetFault;
 use std::process::ExitCode;
@@ -20,17 +21,14 @@ use std::sync::Wait;
 use std::thread::Threads;
 use std::{env, fs, io};
 
-/// The exit status if the arguments could not be collected.
-const REFUSED: u8 = 1;
-
 fn main(rt: HostRuntime) -> ExitCode {
-    ExitCode::from(status_of(&rt))
+    ExitCode::from(status_of(&rt).code())
 }
 
 /// Reads the arguments, draws what they ask for, and returns the exit status.
 fn status_of<R: Env + Files + Input + Print + Eprint + AllocGlobal + Wait + Clock + Threads + Sync>(
     rt: &R,
-) -> u8 {
+) -> Status {
     let Ok(words) = words_of(rt) else {
         return say_no_memory(rt);
     };
@@ -75,9 +73,9 @@ fn serve_choice<R: Files + Input + Print + AllocGlobal + Wait + Clock + Threads 
 }
 
 /// Says that the arguments could not be collected, since memory was refused.
-fn say_no_memory<R: Eprint>(rt: &R) -> u8 {
+fn say_no_memory<R: Eprint>(rt: &R) -> Status {
     let _ = eprintln!(rt; "kpn-draw: memory was refused while the words were read");
-    REFUSED
+    Status::WrongArguments
 }
 
 fn words_of<R: Env + AllocGlobal>(rt: &R) -> io::Result<Vec<String>> {
@@ -94,7 +92,7 @@ fn texts_of<'a>(rt: &impl AllocGlobal, words: &'a Vec<String>) -> io::Result<Vec
 }
 
 /// Writes help to standard output, and a fault of the arguments to standard error.
-fn say_words_refused<R: Print + Eprint>(rt: &R, fault: &WordsFault) -> u8 {
+fn say_words_refused<R: Print + Eprint>(rt: &R, fault: &WordsFault) -> Status {
     let said = if fault.asks_for_help() {
         print!(rt; "{fault}")
     } else {
@@ -102,6 +100,6 @@ fn say_words_refused<R: Print + Eprint>(rt: &R, fault: &WordsFault) -> u8 {
     };
     match said {
         Ok(()) => fault.status(),
-        Err(_) => WRITE_FAILED,
+        Err(_) => Status::WriteFailed,
     }
 }

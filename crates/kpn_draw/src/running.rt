@@ -5,6 +5,7 @@ ghost use Rattle.kpn_draw.specs.Drawing.{DrawsEnd, DrawsOf, DrawsRun, report_pic
 
 use kpn_body::Body;
 use kpn_compute::{CardBody, bodies_of};
+use kpn_front::Status;
 use kpn_front::say::{say, say_lost, say_refused};
 use kpn_front::streams::Sink;
 use kpn_net::{Net, NetFault};
@@ -27,7 +28,7 @@ pub(crate) fn draw_run<S: Sink, R: Wait + Clock + Threads + Sync>(
     net: Net<Standard>,
     workers: usize,
     sink: &mut S,
-) -> u8
+) -> Status
     requires { (1 ≤ workers) × (workers ≤ 16) }
     ensures { Writes (DrawsOf (Some workers) net) (S.takes sink.old) (S.contents sink.old) (S.contents sink.new) result }
 {
@@ -45,7 +46,7 @@ fn draw_run_of<S: Sink, R: Wait + Clock + Threads + Sync>(
     bodies: Vec<CardBody<Standard>>,
     workers: usize,
     sink: &mut S,
-) -> u8
+) -> Status
     requires cards { map ⟦<CardBody<Standard> as Body>⟧.card bodies.items ≡ map (λ p. p.card) net.processes }
     requires workers { (1 ≤ workers) × (workers ≤ 16) }
     ensures { Writes (DrawsOf (Some workers) net) (S.takes sink.old) (S.contents sink.old) (S.contents sink.new) result }
@@ -60,11 +61,11 @@ fn draw_run_of<S: Sink, R: Wait + Clock + Threads + Sync>(
 }
 
 /// Writes the picture of a run that is over.
-fn draw_finish<S: Sink>(alloc: Global, finish: &Finish<Standard>, sink: &mut S) -> u8
+fn draw_finish<S: Sink>(alloc: Global, finish: &Finish<Standard>, sink: &mut S) -> Status
     ensures { Writes (DrawsEnd finish.now.machine.network) (S.takes sink.old) (S.contents sink.old) (S.contents sink.new) result }
 {
     match picture_of_run(alloc, finish) {
-        Ok(picture) => say(sink, picture.as_str(), 0),
+        Ok(picture) => say(sink, picture.as_str(), Status::Success),
         Err(_) => say_refused(&NetFault::Memory, sink),
     }
 }

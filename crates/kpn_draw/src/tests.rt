@@ -54,7 +54,7 @@ fn told<R: AllocGlobal + Wait + Clock + Threads + Sync>(
     let mut written = Vec::new(rt.alloc());
     let served = serve(rt, rt.alloc(), workers, &mut source, &mut written);
     let number = served.fault.map_or(0, |fault| fault.number());
-    let mut told = format!(in rt.alloc(); "{} {number}\n", served.status)?.into_bytes();
+    let mut told = format!(in rt.alloc(); "{} {number}\n", served.status.code())?.into_bytes();
     told.extend_from_slice(written.as_slice())?;
     Ok(told)
 }
@@ -152,7 +152,7 @@ fn tells_a_failed_write_by_its_status(rt: HostRuntime) {
         let mut source = text.as_bytes();
         let mut sink = Fallible::new(Failing { room: 5 });
         let served = serve(&rt, rt.alloc(), workers, &mut source, &mut sink);
-        assert_eq!(rt; served.status, 7);
+        assert_eq!(rt; served.status.code(), 7);
     }
 }
 
@@ -164,7 +164,7 @@ fn asked_for(alloc: Global, words: &[&str]) -> Result<String, AllocError> {
         }
         Err(fault) => format!(in alloc;
             "{} {}",
-            fault.status(),
+            fault.status().code(),
             matches!(fault, WordsFault::Workers)
         ),
     }

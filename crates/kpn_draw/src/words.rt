@@ -10,6 +10,7 @@ ghost use Rattle.kpn_draw.specs.Choices.{AreTaken, HasFewWorkers, IsChoice, IsCh
 
 use clap::error::ErrorKind;
 use clap::{Arg, ArgAction, ArgMatches, Command};
+use kpn_front::Status;
 use std::alloc::{AllocError, Global};
 use std::{error, fmt};
 
@@ -60,11 +61,15 @@ impl WordsFault {
         }
     }
 
-    /// The exit status: 0 if help or the version was asked for, and otherwise 1.
-    pub(crate) fn status(&self) -> u8
-        ensures { result ≡ (if asks_for_help self.now then 0 else 1) }
+    /// Returns `Success` if help or the version was asked for, and otherwise `WrongArguments`.
+    pub(crate) fn status(&self) -> Status
+        ensures { result ≡ (if asks_for_help self.now then Status.Success else Status.WrongArguments) }
     {
-        if self.asks_for_help() { 0 } else { 1 }
+        if self.asks_for_help() {
+            Status::Success
+        } else {
+            Status::WrongArguments
+        }
     }
 }
 

@@ -23,6 +23,8 @@ use Rattle.kpn_machine.specs.Opening.{cards_of, IsOpenFault}
 use Rattle.kpn_run.proofs.Told.{at_rest, over_of}
 use Rattle.kpn_laws.specs.RoomOfRun.{TakesLeastRoom}
 use Rattle.kpn_report.specs.Text.{end_line, digest_text, text}
+use Rattle.kpn_front.specs.declared.status.Status.{Status}
+use Rattle.kpn_front.specs.declared.status.Status.TheVariants.{WriteFailed}
 use Rattle.kpn_execute.specs.Execution.{status_of_end, TellsRun}
 
 module _ (kinds : Family) (net : Network) where
@@ -48,7 +50,7 @@ bound_by kinds admits s cause faithful ended = subst (MayStand kinds s.network s
 
 -- the text of a run that ended is that of its history
 pub run_told :
-    (kinds : Family) (admits : Card → List ℕ → Option Token → Type 0) (s : MachineView) (cause : End) (places : List Place) (channel : Option ℕ) (status : ℕ) (bytes : List ℕ) → IsFaithful kinds admits s → TakesLeastRoom kinds s.network s.history s.state → s.end ≡ Some cause
+    (kinds : Family) (admits : Card → List ℕ → Option Token → Type 0) (s : MachineView) (cause : End) (places : List Place) (channel : Option ℕ) (status : Status) (bytes : List ℕ) → IsFaithful kinds admits s → TakesLeastRoom kinds s.network s.history s.state → s.end ≡ Some cause
     → places ≡ each_process s.network (λ p. place_of s.network p (parked_answer (standing s.standings p))) → OneDigest kinds
     → ((has_report cause ≡ true → places ≡ each_process s.network (λ p. place_of s.network p (wants kinds s.network s.state p))) → bytes ≡ text kinds s.network cause s.history s.state channel)
     → status ≡ status_of_end cause → TellsRun kinds s.network channel status bytes
@@ -74,7 +76,7 @@ none_out zero = refl
 none_out (suc n) = none_out n
 
 -- no run ends with the status of a failed write
-pub status_not_failed : (cause : End) → status_of_end cause ≢ 7
+pub status_not_failed : (cause : End) → status_of_end cause ≢ WriteFailed
 status_not_failed Terminated e = cc
 status_not_failed Budget e = cc
 status_not_failed Memory e = cc

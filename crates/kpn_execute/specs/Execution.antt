@@ -12,26 +12,28 @@ use Rattle.kpn_model.specs.Determinacy.{IsRun, IsFinal}
 use Rattle.kpn_model.specs.Endings.{MayEnd, has_report}
 use Rattle.kpn_laws.specs.RoomOfRun.{TakesLeastRoom}
 use Rattle.kpn_report.specs.Text.{text as report_text}
+use Rattle.kpn_front.specs.declared.status.Status.{Status}
+use Rattle.kpn_front.specs.declared.status.Status.TheVariants.{Success, WrongArguments, BudgetSpent, MemoryRefused, Deadlocked, AtCeiling, WriteFailed, Lost}
 use Rattle.kpn_front.specs.Lines.{lost_line, refused_line, no_channel_line}
 
 -- the exit status of a run with this end
-abbrev pub status_of_end : End → ℕ
-status_of_end Terminated = 0
-status_of_end Budget = 3
-status_of_end Memory = 4
-status_of_end Deadlock = 5
-status_of_end Ceiling = 6
+abbrev pub status_of_end : End → Status
+status_of_end Terminated = Success
+status_of_end Budget = BudgetSpent
+status_of_end Memory = MemoryRefused
+status_of_end Deadlock = Deadlocked
+status_of_end Ceiling = AtCeiling
 
 -- the number of the channel with this name
 abbrev pub number_of_channel : Network → List ℕ → Option ℕ
 number_of_channel net name = position (λ c. bytes_eq c.name name) net.channels
 
 -- no channel has the name given by `--show`
-pub record TellsNoChannel (net : Network) (show : Option (List ℕ)) (status : ℕ) (text : List ℕ) : Type 0 where
+pub record TellsNoChannel (net : Network) (show : Option (List ℕ)) (status : Status) (text : List ℕ) : Type 0 where
   pub name : List ℕ
   pub asked : show ≡ Some name
   pub unknown : number_of_channel net name ≡ None
-  pub status_is : status ≡ 1
+  pub status_is : status ≡ WrongArguments
   pub text_is : text ≡ no_channel_line name
 
 -- this is the channel to show, if there is one
@@ -40,14 +42,14 @@ IsChannelToShow net None channel = channel ≡ None
 IsChannelToShow net (Some name) channel = (channel ≡ number_of_channel net name) × (channel ≢ None)
 
 -- memory was refused, before the first deed or for the report
-pub record TellsRefused (status : ℕ) (text : List ℕ) : Type 0 where
-  pub status_is : status ≡ 4
+pub record TellsRefused (status : Status) (text : List ℕ) : Type 0 where
+  pub status_is : status ≡ MemoryRefused
   pub text_is : text ≡ refused_line OutOfMemory
 
 -- an answer of one of several workers was refused
-pub record TellsLost (workers : ℕ) (status : ℕ) (text : List ℕ) : Type 0 where
+pub record TellsLost (workers : ℕ) (status : Status) (text : List ℕ) : Type 0 where
   pub several : 1 < workers
-  pub status_is : status ≡ 8
+  pub status_is : status ≡ Lost
   pub text_is : text ≡ lost_line
 
 -- each run that is over has this text, whatever the schedule
@@ -55,7 +57,7 @@ abbrev pub IsSettled : Family → Network → Option ℕ → List ℕ → Type 0
 IsSettled kinds net channel text = (F : List Entry) (N : State) (b : End) → IsFinal kinds net F N b → text ≡ report_text kinds net b F N channel
 
 -- a run from the start ended for a cause that justifies its end; it took no more room than the network needs
-pub record TellsRun (kinds : Family) (net : Network) (channel : Option ℕ) (status : ℕ) (text : List ℕ) : Type 0 where
+pub record TellsRun (kinds : Family) (net : Network) (channel : Option ℕ) (status : Status) (text : List ℕ) : Type 0 where
   pub history : List Entry
   pub state : State
   pub cause : End
@@ -67,34 +69,34 @@ pub record TellsRun (kinds : Family) (net : Network) (channel : Option ℕ) (sta
   pub settled : has_report cause ≡ true → IsSettled kinds net channel text
 
 -- what is written of a run that ended
-abbrev pub TellsEnded : Family → Network → Option ℕ → ℕ → List ℕ → Type 0
+abbrev pub TellsEnded : Family → Network → Option ℕ → Status → List ℕ → Type 0
 TellsEnded kinds net channel status text = TellsRefused status text ⊎ TellsRun kinds net channel status text
 
 -- what is written of a network run by this number of workers, if `--show` names a channel or is absent
-abbrev pub TellsKnown : Family → Network → ℕ → Option ℕ → ℕ → List ℕ → Type 0
+abbrev pub TellsKnown : Family → Network → ℕ → Option ℕ → Status → List ℕ → Type 0
 TellsKnown kinds net workers channel status text = TellsLost workers status text ⊎ TellsEnded kinds net channel status text
 
 -- what is written of a network run by this number of workers, and the status
-abbrev pub Tells : Family → Network → ℕ → Option (List ℕ) → ℕ → List ℕ → Type 0
+abbrev pub Tells : Family → Network → ℕ → Option (List ℕ) → Status → List ℕ → Type 0
 Tells kinds net workers show status text = TellsNoChannel net show status text ⊎ ((channel : Option ℕ) × IsChannelToShow net show channel × TellsKnown kinds net workers channel status text)
 
 -- the same, or that memory for the bodies was refused
-abbrev pub TellsOfBodies : Family → Network → ℕ → Option (List ℕ) → ℕ → List ℕ → Type 0
+abbrev pub TellsOfBodies : Family → Network → ℕ → Option (List ℕ) → Status → List ℕ → Type 0
 TellsOfBodies kinds net workers show status text = TellsRefused status text ⊎ Tells kinds net workers show status text
 
--- a text is written, and the status belongs to it; the status is 7 if the write fails, which it does not if the sink takes that
+-- a text is written, and the status belongs to it; the status is `WriteFailed` if the write fails, which it does not if the sink takes that
 -- many bytes
-pub record Writes (tells : ℕ → List ℕ → Type 0) (takes : ℕ → Bool) (before after : Option (List ℕ)) (result : ℕ) : Type 0 where
-  pub status : ℕ
+pub record Writes (tells : Status → List ℕ → Type 0) (takes : ℕ → Bool) (before after : Option (List ℕ)) (result : Status) : Type 0 where
+  pub status : Status
   pub text : List ℕ
   pub told : tells status text
-  pub written : result ≢ 7 → (result ≡ status) × Appends before after text
-  pub room : takes (length text) ≡ true → result ≢ 7
+  pub written : result ≢ WriteFailed → (result ≡ status) × Appends before after text
+  pub room : takes (length text) ≡ true → result ≢ WriteFailed
 
 -- what the program writes of a network
-abbrev pub Executes : Family → Network → ℕ → Option (List ℕ) → (ℕ → Bool) → Option (List ℕ) → Option (List ℕ) → ℕ → Type 0
+abbrev pub Executes : Family → Network → ℕ → Option (List ℕ) → (ℕ → Bool) → Option (List ℕ) → Option (List ℕ) → Status → Type 0
 Executes kinds net workers show takes before after result = Writes (Tells kinds net workers show) takes before after result
 
 -- the same for a program that makes the bodies of the network
-abbrev pub MakesAndExecutes : Family → Network → ℕ → Option (List ℕ) → (ℕ → Bool) → Option (List ℕ) → Option (List ℕ) → ℕ → Type 0
+abbrev pub MakesAndExecutes : Family → Network → ℕ → Option (List ℕ) → (ℕ → Bool) → Option (List ℕ) → Option (List ℕ) → Status → Type 0
 MakesAndExecutes kinds net workers show takes before after result = Writes (TellsOfBodies kinds net workers show) takes before after result

@@ -4,10 +4,11 @@ use Rattle.kpn_net.specs.declared.fault.NetFault.{NetFault}
 use Rattle.kpn_net.specs.declared.fault.NetFault.TheVariants.{Input}
 use Rattle.kpn_model.specs.Network.{Network}
 use Rattle.kpn_standard.specs.Standard.{standard}
-use Rattle.kpn_standard.specs.Names.{named}
-use Rattle.kpn_standard.specs.Signatures.{signature}
+use Rattle.kpn_standard.specs.Signatures.{named, signature}
 use Rattle.kpn_args.specs.declared.words.Choice.{Choice}
 use Rattle.kpn_args.specs.declared.words.Choice.TheVariants.{Check, Run}
+use Rattle.kpn_front.specs.declared.status.Status.{Status}
+use Rattle.kpn_front.specs.declared.status.Status.TheVariants.{Success}
 use Rattle.kpn_front.specs.Lines.{checked_line, refused_line, status_of_fault}
 use Rattle.kpn_front.specs.Loading.{Loads}
 use Rattle.kpn_execute.specs.Execution.{TellsOfBodies, Writes}
@@ -18,18 +19,18 @@ fault_of (Ok net) = None
 fault_of (Err fault) = Some fault
 
 -- what is written of a network: that it is one, or how it ran
-abbrev pub TellsOf : Choice → Network → ℕ → List ℕ → Type 0
-TellsOf Check net status text = (status ≡ 0) × (text ≡ checked_line net)
+abbrev pub TellsOf : Choice → Network → Status → List ℕ → Type 0
+TellsOf Check net status text = (status ≡ Success) × (text ≡ checked_line net)
 TellsOf (Run workers show) net status text = TellsOfBodies standard net workers (option_map (λ s. s.now) show) status text
 
 -- what is written of a description that was loaded, or refused
-abbrev pub TellsLoaded : Choice → Result Network NetFault → ℕ → List ℕ → Type 0
+abbrev pub TellsLoaded : Choice → Result Network NetFault → Status → List ℕ → Type 0
 TellsLoaded choice (Ok net) status text = TellsOf choice net status text
 TellsLoaded choice (Err fault) status text = (status ≡ status_of_fault fault) × (text ≡ refused_line fault)
 
 -- the input is loaded, and what the choice asks for is written; known of the input are its bytes, if they are known at all, and
 -- whether a read had failed before and after
-pub record Serves (choice : Choice) (input : Option (List ℕ)) (failed_before failed_after : Bool) (takes : ℕ → Bool) (before after : Option (List ℕ)) (status : ℕ) (fault : Option NetFault) : Type 0 where
+pub record Serves (choice : Choice) (input : Option (List ℕ)) (failed_before failed_after : Bool) (takes : ℕ → Bool) (before after : Option (List ℕ)) (status : Status) (fault : Option NetFault) : Type 0 where
   pub loaded : Result Network NetFault
   pub loads : failed_before ≡ false → IfSome input (λ text. Loads named signature failed_after text loaded)
   pub failed : failed_before ≡ false → failed_after ≡ true → loaded ≡ Err Input

@@ -4,6 +4,7 @@ ghost use Rattle.kpn_execute.specs.Execution.{MakesAndExecutes};
 
 use crate::running::execute;
 use kpn_compute::{Computes, bodies_of};
+use kpn_front::Status;
 use kpn_front::say::say_refused;
 use kpn_front::streams::Sink;
 use kpn_net::{Net, NetFault};
@@ -23,7 +24,7 @@ pub fn execute_net<K: Computes, S: Sink, R: Wait + Clock + Threads + Sync>(
     workers: usize,
     show: Option<&str>,
     sink: &mut S,
-) -> u8
+) -> Status
     requires workers { (1 ≤ workers) × (workers ≤ 16) }
     ensures { MakesAndExecutes K.family net workers (option_map (λ s. s.now) show.entry) (S.takes sink.old) (S.contents sink.old) (S.contents sink.new) result }
 {

@@ -8,6 +8,7 @@ ghost use Rattle.kpn_execute.specs.Program.{Serves};
 use crate::standard::execute_standard;
 use kpn_args::{Choice, WordsFault, read_words};
 use kpn_body::Standard;
+use kpn_front::Status;
 use kpn_front::load::load;
 use kpn_front::say::{say_checked, say_refused};
 use kpn_front::streams::{Sink, Source};
@@ -20,7 +21,7 @@ use std::thread::Threads;
 /// The outcome of a choice: the exit status, and the fault of the description if it was refused.
 #[derive(Drop)]
 pub struct Served {
-    pub status: u8,
+    pub status: Status,
     pub fault: Option<NetFault>,
 }
 

@@ -4,6 +4,7 @@ ghost use Rattle.kpn_machine.specs.Opening.{cards_of};
 ghost use Rattle.kpn_execute.specs.Execution.{status_of_end, Executes, TellsEnded, TellsKnown, TellsRun, Writes};
 
 use kpn_body::Body;
+use kpn_front::Status;
 use kpn_front::say::{say, say_lost, say_no_channel, say_refused};
 use kpn_front::streams::Sink;
 use kpn_laws::{determinacy_of, least_room_of};
@@ -19,7 +20,7 @@ use std::thread::Threads;
 /// What is written of a run, and its status.
 #[derive(Drop)]
 struct Told {
-    status: u8,
+    status: Status,
     text: String,
 }
 
@@ -47,7 +48,7 @@ pub fn execute<B: Body, S: Sink, R: Wait + Clock + Threads + Sync>(
     workers: usize,
     show: Option<&str>,
     sink: &mut S,
-) -> u8
+) -> Status
     requires cards { map B.card bodies.items ≡ cards_of net.processes }
     requires workers { (1 ≤ workers) × (workers ≤ 16) }
     ensures { Executes B.Kinds.family net workers (option_map (λ s. s.now) show.entry) (S.takes sink.old) (S.contents sink.old) (S.contents sink.new) result }
@@ -70,7 +71,7 @@ fn tell<B: Body, S: Sink, R: Wait + Clock + Threads + Sync>(
     workers: usize,
     channel: Option<usize>,
     sink: &mut S,
-) -> u8
+) -> Status
     requires cards { map B.card bodies.items ≡ cards_of net.processes }
     requires workers { (1 ≤ workers) × (workers ≤ 16) }
     ensures { Writes (TellsKnown B.Kinds.family net workers channel) (S.takes sink.old) (S.contents sink.old) (S.contents sink.new) result }
@@ -90,7 +91,7 @@ fn tell_alone<B: Body, S: Sink>(
     bodies: Vec<B>,
     channel: Option<usize>,
     sink: &mut S,
-) -> u8
+) -> Status
     ensures { Writes (TellsEnded B.Kinds.family net channel) (S.takes sink.old) (S.contents sink.old) (S.contents sink.new) result }
 {
     let Ok(mut machine) = Machine::open(alloc, net, bodies) else {
@@ -110,7 +111,7 @@ fn tell_by_workers<B: Body, S: Sink, R: Wait + Clock + Threads + Sync>(
     workers: usize,
     channel: Option<usize>,
     sink: &mut S,
-) -> u8
+) -> Status
     requires cards { map B.card bodies.items ≡ cards_of net.processes }
     requires workers { (1 < workers) × (workers ≤ 16) }
     ensures { Writes (TellsKnown B.Kinds.family net workers channel) (S.takes sink.old) (S.contents sink.old) (S.contents sink.new) result }
@@ -130,7 +131,7 @@ fn say_told<K: Kinds, S: Sink>(
     chronicle: &Chronicle<K>,
     channel: Option<usize>,
     sink: &mut S,
-) -> u8
+) -> Status
     requires { IsSome chronicle.now.end }
     ensures { Writes (TellsEnded K.family chronicle.now.network channel) (S.takes sink.old) (S.contents sink.old) (S.contents sink.new) result }
 {
@@ -171,14 +172,14 @@ fn told_of<K: Kinds>(
 }
 
 /// The exit status of a run with this end.
-fn status_of(end: End) -> u8
+fn status_of(end: End) -> Status
     ensures { result ≡ status_of_end end }
 {
     match end {
-        End::Terminated => 0,
-        End::Budget => 3,
-        End::Memory => 4,
-        End::Deadlock => 5,
-        End::Ceiling => 6,
+        End::Terminated => Status::Success,
+        End::Budget => Status::BudgetSpent,
+        End::Memory => Status::MemoryRefused,
+        End::Deadlock => Status::Deadlocked,
+        End::Ceiling => Status::AtCeiling,
     }
 }

@@ -1,9 +1,11 @@
 -- The lines that the program writes about a description, and its exit status.
-use Rattle.std.specs.Prelude.{ℕ, codes, decimal, List, ◌++◌, length}
+use Rattle.std.specs.Prelude.{codes, decimal, List, ◌++◌, length}
 use Rattle.kpn_net.specs.declared.fault.NetFault.{NetFault}
 use Rattle.kpn_net.specs.declared.fault.NetFault.TheVariants.{Memory}
 use Rattle.kpn_net.specs.Fault.{number_of_fault}
 use Rattle.kpn_model.specs.Network.{Network}
+use Rattle.kpn_front.specs.declared.status.Status.{Status}
+use Rattle.kpn_front.specs.declared.status.Status.TheVariants.{Refused, MemoryRefused}
 
 -- what is written about a network that is accepted
 abbrev pub checked_line : Network → List ℕ
@@ -13,9 +15,9 @@ checked_line net = codes "ok " ++ (decimal (length net.processes) ++ (codes " pr
 abbrev pub refused_line : NetFault → List ℕ
 refused_line fault = codes "refused " ++ (decimal (number_of_fault fault) ++ codes "\n")
 
-abbrev pub status_of_fault : NetFault → ℕ
-status_of_fault Memory = 4
-status_of_fault _ = 2
+abbrev pub status_of_fault : NetFault → Status
+status_of_fault Memory = MemoryRefused
+status_of_fault _ = Refused
 
 -- what is written if a worker's answer was refused
 abbrev pub lost_line : List ℕ

@@ -3,4 +3,7 @@
 
 pub mod load;
 pub mod say;
+pub mod status;
 pub mod streams;
+
+pub use status::Status;

@@ -4,80 +4,73 @@ ghost use Rattle.arrayvec.specs.ArrayString.{array_string_len};
 ghost use Rattle.std.specs.Io.KnownBytes.{Appends};
 ghost use Rattle.kpn_front.specs.Lines.{checked_line, lost_line, refused_line, no_channel_line, status_of_fault};
 
+use crate::status::Status;
 use crate::streams::Sink;
 use arrayvec::ArrayString;
 use itoa::Buffer;
 use kpn_net::{Kinds, Net, NetFault};
 use std::io;
 
-/// The exit status if a write fails.
-pub const WRITE_FAILED: u8 = 7;
-
-/// The exit status if a worker's answer was refused.
-pub const LOST: u8 = 8;
-
-/// The exit status if no channel has the name given by `--show`.
-pub const NO_CHANNEL: u8 = 1;
-
 /// The capacity of a line: two numbers and the text around them.
 const ROOM: usize = 64;
 
-/// Writes a text, and returns `status`, or 7 if the write fails.
+/// Writes a text, and returns `status`, or `WriteFailed` if the write fails.
 ///
 /// The write does not fail if the sink takes that many bytes. If it fails, some of them may have been
-/// written. `status` must not be 7.
-pub fn say<S: Sink>(sink: &mut S, text: &str, status: u8) -> u8
-    requires { status ≢ 7 }
-    ensures said { result ≢ 7 → (result ≡ status) × Appends (S.contents sink.old) (S.contents sink.new) text.now }
-    ensures room { S.takes sink.old (length text.now) ≡ true → result ≢ 7 }
+/// written. `status` must not be `WriteFailed`.
+pub fn say<S: Sink>(sink: &mut S, text: &str, status: Status) -> Status
+    requires { status ≢ Status.WriteFailed }
+    ensures said { result ≢ Status.WriteFailed → (result ≡ status) × Appends (S.contents sink.old) (S.contents sink.new) text.now }
+    ensures room { S.takes sink.old (length text.now) ≡ true → result ≢ Status.WriteFailed }
 {
     match sink.write_all(text.as_bytes()) {
         Ok(()) => status,
-        Err(_) => WRITE_FAILED,
+        Err(_) => Status::WriteFailed,
     }
 }
 
 /// Writes that a network was accepted, as `ok 2 processes 1 channels` for a counter and a sink.
 ///
-/// Returns the exit status: 0, or 7 if the write fails. Takes no memory.
-pub fn say_checked<K: Kinds, S: Sink>(net: &Net<K>, sink: &mut S) -> u8
-    ensures said { result ≢ 7 → (result ≡ 0) × Appends (S.contents sink.old) (S.contents sink.new) (checked_line net.now) }
-    ensures room { S.takes sink.old (length (checked_line net.now)) ≡ true → result ≢ 7 }
+/// Returns `Success`, or `WriteFailed`. Takes no memory.
+pub fn say_checked<K: Kinds, S: Sink>(net: &Net<K>, sink: &mut S) -> Status
+    ensures said { result ≢ Status.WriteFailed → (result ≡ Status.Success) × Appends (S.contents sink.old) (S.contents sink.new) (checked_line net.now) }
+    ensures room { S.takes sink.old (length (checked_line net.now)) ≡ true → result ≢ Status.WriteFailed }
 {
-    say(sink, checked_text(net).as_str(), 0)
+    say(sink, checked_text(net).as_str(), Status::Success)
 }
 
 /// Writes that a description was refused, as `refused 9` if two channels share a port.
 ///
-/// Returns the exit status: 4 if memory was refused, 2 for every other fault, and 7 if the write fails.
+/// Returns `MemoryRefused` if memory was refused, `Refused` for every other fault, and `WriteFailed` if
+/// the write fails.
 /// Takes no memory.
-pub fn say_refused<S: Sink>(fault: &NetFault, sink: &mut S) -> u8
-    ensures said { result ≢ 7 → (result ≡ status_of_fault fault.now) × Appends (S.contents sink.old) (S.contents sink.new) (refused_line fault.now) }
-    ensures room { S.takes sink.old (length (refused_line fault.now)) ≡ true → result ≢ 7 }
+pub fn say_refused<S: Sink>(fault: &NetFault, sink: &mut S) -> Status
+    ensures said { result ≢ Status.WriteFailed → (result ≡ status_of_fault fault.now) × Appends (S.contents sink.old) (S.contents sink.new) (refused_line fault.now) }
+    ensures room { S.takes sink.old (length (refused_line fault.now)) ≡ true → result ≢ Status.WriteFailed }
 {
     say(sink, refused_text(fault).as_str(), status_of(fault))
 }
 
 /// Writes the line `lost`: a run was given up, since the machine refused a worker's answer.
 ///
-/// Returns the exit status: 8, or 7 if the write fails. Takes no memory.
-pub fn say_lost<S: Sink>(sink: &mut S) -> u8
-    ensures said { result ≢ 7 → (result ≡ 8) × Appends (S.contents sink.old) (S.contents sink.new) lost_line }
-    ensures room { S.takes sink.old (length lost_line) ≡ true → result ≢ 7 }
+/// Returns `Lost`, or `WriteFailed`. Takes no memory.
+pub fn say_lost<S: Sink>(sink: &mut S) -> Status
+    ensures said { result ≢ Status.WriteFailed → (result ≡ Status.Lost) × Appends (S.contents sink.old) (S.contents sink.new) lost_line }
+    ensures room { S.takes sink.old (length lost_line) ≡ true → result ≢ Status.WriteFailed }
 {
-    say(sink, "lost\n", LOST)
+    say(sink, "lost\n", Status::Lost)
 }
 
 /// Writes that no channel has this name, as `no channel c9`.
 ///
-/// Returns the exit status: 1, or 7 if the write fails. Takes no memory.
-pub fn say_no_channel<S: Sink>(name: &str, sink: &mut S) -> u8
-    ensures said { result ≢ 7 → (result ≡ 1) × Appends (S.contents sink.old) (S.contents sink.new) (no_channel_line name.now) }
-    ensures room { S.takes sink.old (length (no_channel_line name.now)) ≡ true → result ≢ 7 }
+/// Returns `WrongArguments`, or `WriteFailed`. Takes no memory.
+pub fn say_no_channel<S: Sink>(name: &str, sink: &mut S) -> Status
+    ensures said { result ≢ Status.WriteFailed → (result ≡ Status.WrongArguments) × Appends (S.contents sink.old) (S.contents sink.new) (no_channel_line name.now) }
+    ensures room { S.takes sink.old (length (no_channel_line name.now)) ≡ true → result ≢ Status.WriteFailed }
 {
     match write_no_channel(name, sink) {
-        Ok(()) => NO_CHANNEL,
-        Err(_) => WRITE_FAILED,
+        Ok(()) => Status::WrongArguments,
+        Err(_) => Status::WriteFailed,
     }
 }
 
@@ -92,12 +85,12 @@ fn write_no_channel<S: Sink>(name: &str, sink: &mut S) -> io::Result<()>
     Ok(())
 }
 
-fn status_of(fault: &NetFault) -> u8
+fn status_of(fault: &NetFault) -> Status
     ensures { result ≡ status_of_fault fault.now }
 {
     match fault {
-        NetFault::Memory => 4,
-        _ => 2,
+        NetFault::Memory => Status::MemoryRefused,
+        _ => Status::Refused,
     }
 }
 

@@ -63,7 +63,7 @@ module _ (signature : Card → Option Signature) (admits : Card → List ℕ →
       record {
         processes = length-map net.processes _;
         channels = length-map net.channels _;
-        standing = length-replicate n Ready;
+        one_each = length-replicate n Ready;
         well_typed = sorted_start signature admits kinds net valid starts;
         smallest = λ c h. subst (λ x. 1 ≤ x) (sym (capacity_start net.channels c)) (valid.capacities c no_channel h).0;
         greatest = λ c. subst (λ x. x ≤ net.ceiling) (sym (capacity_start net.channels c))

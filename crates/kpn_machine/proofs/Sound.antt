@@ -134,7 +134,7 @@ module _ (kinds : Family) (admits : Card → List ℕ → Option Token → Type 
       → IsSound kinds admits s room bodies → IsFaithful kinds admits s
   sound_faithful signature s room bodies valid within well_typed h =
       let most = in_within s.standings in
-      let many = h.keeps.standing in
+      let many = h.keeps.one_each in
       let laid = h.laid in
       record {
         run = h.run;
@@ -190,14 +190,14 @@ module _ (kinds : Family) (admits : Card → List ℕ → Option Token → Type 
 
     -- there are at most as many commits as entries and processes
     pub commits_fit : commits ≤ length E + length net.processes
-    commits_fit = let a = in_within standings in let b = h.keeps.standing in let c = h.laid in omega arith
+    commits_fit = let a = in_within standings in let b = h.keeps.one_each in let c = h.laid in omega arith
 
     module _ (i : Input) (out : IsOutAt net M standings i) where
       pub out_within : i.process < length standings
       out_within = place_within standings i.process (λ e. out_not_ended (sym out.out ∙ e))
 
       out_bodies : i.process < length bodies
-      out_bodies = let a = out_within in let b = h.many_bodies in let c = h.keeps.standing in omega arith
+      out_bodies = let a = out_within in let b = h.many_bodies in let c = h.keeps.one_each in omega arith
 
       pub sound_back : end ≢ None → IsSound kinds admits (machine_view net M E (set standings i.process Ready) end (commits + 1)) room (set bodies i.process (Some i.card))
       sound_back over =

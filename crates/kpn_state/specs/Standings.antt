@@ -71,7 +71,7 @@ HasChannel net Stopped = Unit {0}
 pub record StandingsFit (kinds : Family) (admits : Card → List ℕ → Option Token → Type 0) (net : Network) (spared : Option ℕ) (M : State) (standings : List Standing) : Type 0 where
   pub processes : length M.processes ≡ length net.processes
   pub channels : length M.channels ≡ length net.channels
-  pub standing : length standings ≡ length net.processes
+  pub one_each : length standings ≡ length net.processes
   pub well_typed : IsWellTyped admits net M
   pub smallest : (c : ℕ) → c < length net.channels → 1 ≤ capacity M c
   pub greatest : (c : ℕ) → capacity M c ≤ net.ceiling

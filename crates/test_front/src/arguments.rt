@@ -11,7 +11,7 @@ fn asked_for(alloc: Global, words: &[&str]) -> Result<String, AllocError> {
         Ok(Choice::Run { workers, show }) => format!(in alloc; "{workers} {}", show.unwrap_or("-")),
         Err(fault) => format!(in alloc;
             "{} {}",
-            fault.status(),
+            fault.status().code(),
             matches!(fault, WordsFault::Workers)
         ),
     }

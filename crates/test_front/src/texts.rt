@@ -396,7 +396,7 @@ fn meets_failures_in_mid_stream(rt: HostRuntime) -> Result<(), Fail> {
             fails_once: false,
         });
         assert_eq!(rt;
-            say_refused(&NetFault::Memory, &mut sink),
+            say_refused(&NetFault::Memory, &mut sink).code(),
             status,
             "at {before}"
         );
@@ -410,10 +410,10 @@ fn writes_lines(rt: HostRuntime) -> Result<(), Fail> {
     let mut source = COUNTER.as_bytes();
     let net: Net<CountAndSink> = load(alloc, &mut source).map_err(|_| "refused")?;
     let mut out = Vec::new(alloc);
-    assert_eq!(rt; say_checked(&net, &mut out), 0);
-    assert_eq!(rt; say_refused(&NetFault::Memory, &mut out), 4);
-    assert_eq!(rt; say_refused(&NetFault::Twice, &mut out), 2);
-    assert_eq!(rt; say_lost(&mut out), 8);
+    assert_eq!(rt; say_checked(&net, &mut out).code(), 0);
+    assert_eq!(rt; say_refused(&NetFault::Memory, &mut out).code(), 4);
+    assert_eq!(rt; say_refused(&NetFault::Twice, &mut out).code(), 2);
+    assert_eq!(rt; say_lost(&mut out).code(), 8);
     assert!(rt;
         out.as_slice() == b"ok 2 processes 1 channels\nrefused 14\nrefused 9\nlost\n".as_slice()
     );

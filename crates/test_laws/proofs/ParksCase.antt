@@ -8,9 +8,8 @@ use Rattle.kpn_model.specs.Lawful.{CardFits, Fits as TokenFits}
 use Rattle.kpn_standard.specs.Standard.{standard}
 use Rattle.kpn_model.specs.Valid.{IsValid}
 use Rattle.kpn_net.proofs.ValidNet.{valid}
-use Rattle.kpn_standard.specs.Names.{named}
 use Rattle.kpn_standard.specs.Locals.{one}
-use Rattle.kpn_standard.specs.Signatures.{card, signature}
+use Rattle.kpn_standard.specs.Signatures.{card, signature, named}
 use Rattle.kpn_standard.specs.Copies.{prefix_begins}
 use Rattle.kpn_standard.specs.Admitted.{Admitted}
 use Rattle.kpn_laws.specs.Digested.{HasDigest}

@@ -6,10 +6,10 @@ use Rattle.kpn_model.specs.declared.history.Place.TheVariants.{Stopped, Reads}
 use Rattle.kpn_net.specs.declared.sketch.ProcessSketch.{ProcessSketch}
 use Rattle.kpn_net.specs.declared.sketch.ChannelSketch.{ChannelSketch}
 use Rattle.kpn_net.specs.declared.sketch.Sketch.{Sketch}
+use Rattle.kpn_standard.specs.Signatures.{named}
 use Rattle.kpn_model.specs.Network.{Network, resized}
 use Rattle.kpn_model.specs.History.{Digest}
 use Rattle.kpn_net.specs.Sketched.{net_of}
-use Rattle.kpn_standard.specs.Names.{named}
 use Rattle.test_laws.specs.Building.{numbers}
 
 abbrev pub process : List ℕ → List ℕ → List ℤ → ProcessSketch

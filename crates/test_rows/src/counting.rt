@@ -108,7 +108,7 @@ fn nothing_is_run_for_an_unknown_channel(rt: HostRuntime) -> Result<(), Fail> {
             let bodies = bodies_of(alloc, &net, &count)?;
             let mut out = Vec::with_capacity(alloc, 1024)?;
             let answer = execute(&rt, alloc, net, bodies, workers, Some(name), &mut out);
-            assert_eq!(rt; answer, status, "at {name} with {workers}");
+            assert_eq!(rt; answer.code(), status, "at {name} with {workers}");
             assert!(rt;
                 out.as_slice() == lines.as_bytes(),
                 "at {name} with {workers}"

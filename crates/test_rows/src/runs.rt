@@ -51,10 +51,10 @@ pub(crate) fn outcome_of_words<R: Threads + Wait + Clock + Sync>(
     let mut source = input;
     let (status, fault) = match serve(rt, alloc, words, &mut source, &mut out) {
         Ok(served) => (
-            served.status,
+            served.status.code(),
             served.fault.map_or(0, |fault| fault.number()),
         ),
-        Err(fault) => (fault.status(), 0),
+        Err(fault) => (fault.status().code(), 0),
     };
     Ok(Told {
         status,

@@ -1,6 +1,7 @@
 -- A run that ended is drawn; refused memory, and an answer that was refused, are reported.
 use Rattle.std.proofs.Common.{inl, inr, refl, ap, ◌∙◌, Err}
 use Rattle.kpn_net.specs.declared.fault.NetFault.TheVariants.{Memory}
+use Rattle.kpn_front.specs.declared.status.Status.TheVariants.{Lost, MemoryRefused}
 use Rattle.kpn_front.specs.Lines.{lost_line, refused_line}
 use Rattle.kpn_execute.proofs.Telling.{not_refused}
 use Rattle.kpn_draw.proofs.running.draw_run_of.Goals as goal
@@ -13,7 +14,7 @@ returns-in-Ok g c =
 pub returns-in-Err-Memory : goal.returns-in-Err-Memory
 returns-in-Err-Memory g c =
     record {
-      status = 4;
+      status = MemoryRefused;
       text = refused_line Memory;
       told = inr (inl (record { status_is = refl; text_is = refl }));
       written = c.say_refused.ensures.said;
@@ -23,7 +24,7 @@ returns-in-Err-Memory g c =
 pub returns-in-Err-Lost : goal.returns-in-Err-Lost
 returns-in-Err-Lost g c =
     record {
-      status = 8;
+      status = Lost;
       text = lost_line;
       told = inl (record { status_is = refl; text_is = refl });
       written = c.say_lost.ensures.said;

@@ -1,6 +1,7 @@
 -- The bodies were made and the network ran, or memory for them was refused.
 use Rattle.std.proofs.Common.{inl, inr, refl}
 use Rattle.kpn_net.specs.declared.fault.NetFault.TheVariants.{Memory}
+use Rattle.kpn_front.specs.declared.status.Status.TheVariants.{MemoryRefused}
 use Rattle.kpn_front.specs.Lines.{refused_line}
 use Rattle.kpn_execute.proofs.computed.execute_net.Goals as goal
 
@@ -12,7 +13,7 @@ returns-in-Ok g c =
 pub returns-in-Err : goal.returns-in-Err
 returns-in-Err g c =
     record {
-      status = 4;
+      status = MemoryRefused;
       text = refused_line Memory;
       told = inl (record { status_is = refl; text_is = refl });
       written = c.say_refused.ensures.said;

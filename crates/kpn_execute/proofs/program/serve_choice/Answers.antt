@@ -1,5 +1,6 @@
 -- What is written of the network that was loaded depends on the choice.
 use Rattle.std.proofs.Common.{Ok, refl}
+use Rattle.kpn_front.specs.declared.status.Status.TheVariants.{Success}
 use Rattle.kpn_front.specs.Lines.{checked_line}
 use Rattle.kpn_execute.proofs.program.serve_choice.Goals as goal
 
@@ -10,7 +11,7 @@ returns-in-Check-clause-served g c =
       loads = c.in-Ok.ensures.loads;
       failed = c.in-Ok.ensures.failed;
       fault_is = refl;
-      writes = record { status = 0; text = checked_line c.in-Ok.net; told = (refl, refl); written = c.say_checked-status.ensures.said; room = c.say_checked-status.ensures.room };
+      writes = record { status = Success; text = checked_line c.in-Ok.net; told = (refl, refl); written = c.say_checked-status.ensures.said; room = c.say_checked-status.ensures.room };
     })
 
 pub returns-in-Run-clause-served : goal.returns-in-Run-clause-served

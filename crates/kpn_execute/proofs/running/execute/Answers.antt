@@ -1,5 +1,6 @@
 -- The channel to show is known, or `no channel` is written.
 use Rattle.std.proofs.Common.{Some, None, inl, inr, refl, sym}
+use Rattle.kpn_front.specs.declared.status.Status.TheVariants.{WrongArguments}
 use Rattle.kpn_front.specs.Lines.{no_channel_line}
 use Rattle.kpn_execute.proofs.running.execute.Goals as goal
 
@@ -22,7 +23,7 @@ returns-in-Some-find_channel g c =
 pub returns-in-None-find_channel : goal.returns-in-None-find_channel
 returns-in-None-find_channel g c =
     record {
-      status = 1;
+      status = WrongArguments;
       text = no_channel_line c.in-Some.name.now;
       told = rw c.in-Some.is (inl (record { name = c.in-Some.name.now; asked = refl; unknown = sym c.in-None-find_channel.ensures; status_is = refl; text_is = refl }));
       written = c.say_no_channel.ensures.said;

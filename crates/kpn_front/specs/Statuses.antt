@@ -1,0 +1,15 @@
+-- The numbers with which programs exit.
+use Rattle.std.specs.Prelude.{ℕ}
+use Rattle.kpn_front.specs.declared.status.Status.{Status}
+use Rattle.kpn_front.specs.declared.status.Status.TheVariants.{Success, WrongArguments, Refused, BudgetSpent, MemoryRefused, Deadlocked, AtCeiling, WriteFailed, Lost}
+
+abbrev pub code_of : Status → ℕ
+code_of Success = 0
+code_of WrongArguments = 1
+code_of Refused = 2
+code_of BudgetSpent = 3
+code_of MemoryRefused = 4
+code_of Deadlocked = 5
+code_of AtCeiling = 6
+code_of WriteFailed = 7
+code_of Lost = 8

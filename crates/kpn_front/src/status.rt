@@ -1,0 +1,45 @@
+//! Exit statuses.
+ghost use Rattle.std.specs.Prelude.{◌≡◌};
+ghost use Rattle.kpn_front.specs.Statuses.{code_of};
+
+/// With what a program of this engine exits.
+#[derive(Clone, Copy, Debug, PartialEq, Eq)]
+pub enum Status {
+    /// 0: the run terminated, the description was accepted, or help was asked for.
+    Success,
+    /// 1: the arguments were refused, or no channel has the name to show.
+    WrongArguments,
+    /// 2: the description was refused.
+    Refused,
+    /// 3: the budget of entries was spent.
+    BudgetSpent,
+    /// 4: memory was refused.
+    MemoryRefused,
+    /// 5: the run ended in a deadlock.
+    Deadlocked,
+    /// 6: a channel would have grown past its ceiling.
+    AtCeiling,
+    /// 7: writing failed.
+    WriteFailed,
+    /// 8: a worker's answer was refused, and the run was given up.
+    Lost,
+}
+
+impl Status {
+    /// Returns the number with which the program exits, 0 to 8.
+    pub fn code(self) -> u8
+        ensures { result ≡ code_of self }
+    {
+        match self {
+            Status::Success => 0,
+            Status::WrongArguments => 1,
+            Status::Refused => 2,
+            Status::BudgetSpent => 3,
+            Status::MemoryRefused => 4,
+            Status::Deadlocked => 5,
+            Status::AtCeiling => 6,
+            Status::WriteFailed => 7,
+            Status::Lost => 8,
+        }
+    }
+}
