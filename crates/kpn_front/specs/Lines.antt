@@ -1,5 +1,5 @@
 -- The lines that the program writes about a description, and its exit status.
-use Rattle.std.specs.Prelude.{codes, decimal, List, ◌++◌, length}
+use Rattle.std.specs.Prelude.{ℕ, codes, decimal, List, ◌++◌, length}
 use Rattle.kpn_net.specs.declared.fault.NetFault.{NetFault}
 use Rattle.kpn_net.specs.declared.fault.NetFault.TheVariants.{Memory}
 use Rattle.kpn_net.specs.Fault.{number_of_fault}

@@ -13,7 +13,7 @@ use Rattle.kpn_state.specs.StateAndHistory.{StateAndHistory}
 use Rattle.kpn_state.specs.declared.standing.Standing.{Standing}
 use Rattle.kpn_state.specs.declared.standing.Standing.TheVariants.{Ready, Parked, Stopped}
 use Rattle.kpn_commit.specs.declared.settle.Settled.{Settled}
-use Rattle.kpn_commit.specs.declared.settle.Settled.TheVariants.{Busy, Stopped as Over, Enlarged}
+use Rattle.kpn_commit.specs.declared.settle.Settled.TheVariants.{Busy, Ended, Enlarged}
 use Rattle.kpn_commit.specs.declared.outcome.Outcome.{Outcome}
 use Rattle.kpn_state.specs.Standings.{is_busy}
 use Rattle.kpn_commit.specs.Settling.{Settles, GrowsAndPuts}
@@ -74,7 +74,7 @@ module _ (kinds : Family) (net : Network) where
   module _ (s : StateAndHistory) (standings : List Standing) (t : StateAndHistory) (moved : List Standing) (budget entries : ℕ) where
     ends_over : (x : Settled) → Settles kinds net s standings x t moved → (cause : End) → has_report cause ≡ true → (end_after x budget entries ≡ Some cause) ↔ ((list_any is_busy moved ≡ false) × IsOver kinds net t.state cause)
     ends_over Busy h cause c = (λ e. absurd (budget_no_cause _ cause c e), λ o. absurd (true_false _ h.0 (ap (list_any is_busy) (sym h.2) ∙ o.0)))
-    ends_over (Over end) h cause c = (
+    ends_over (Ended end) h cause c = (
       λ e. let same = same_end end cause e in
           (ap (list_any is_busy) h.2 ∙ h.0, subst (λ (y : StateAndHistory). IsOver kinds net y.state cause) (sym h.1) (found_over s.state cause c (subst (λ x. HasStopped kinds net s.state x) same h.3))),
       λ o. over_found s.state end cause c h.3 (subst (λ (y : StateAndHistory). IsOver kinds net y.state cause) h.1 o.1),
@@ -83,7 +83,7 @@ module _ (kinds : Family) (net : Network) where
 
     ends_memory : (x : Settled) → Settles kinds net s standings x t moved → end_after x budget entries ≡ Some Memory → (list_any is_busy moved ≡ false) × CanGrow kinds net t.state
     ends_memory Busy h e = absurd (budget_no_memory _ e)
-    ends_memory (Over end) h e = (ap (list_any is_busy) h.2 ∙ h.0, subst (λ (y : StateAndHistory). CanGrow kinds net y.state) (sym h.1) (found_memory s.state end (same_end end Memory e) h.3))
+    ends_memory (Ended end) h e = (ap (list_any is_busy) h.2 ∙ h.0, subst (λ (y : StateAndHistory). CanGrow kinds net y.state) (sym h.1) (found_memory s.state end (same_end end Memory e) h.3))
     ends_memory Enlarged h e = absurd (budget_no_memory _ e)
 
     by_budget : (b : Bool) → nat_le budget entries ≡ b → (if b then Some Budget else None) ≡ Some Budget → budget ≤ entries
@@ -96,12 +96,12 @@ module _ (kinds : Family) (net : Network) where
 
     ends_budget : (x : Settled) → Settles kinds net s standings x t moved → end_after x budget entries ≡ Some Budget → budget ≤ entries
     ends_budget Busy h e = by_budget _ refl e
-    ends_budget (Over end) h e = absurd (subst (λ x. HasStopped kinds net s.state x) (same_end end Budget e) h.3)
+    ends_budget (Ended end) h e = absurd (subst (λ x. HasStopped kinds net s.state x) (same_end end Budget e) h.3)
     ends_budget Enlarged h e = by_budget _ refl e
 
     ends_none : (x : Settled) → end_after x budget entries ≡ None → entries < budget
     ends_none Busy e = by_none _ refl e
-    ends_none (Over end) e = cc
+    ends_none (Ended end) e = cc
     ends_none Enlarged e = by_none _ refl e
 
 module _ (kinds : Family) where

@@ -27,7 +27,7 @@ use Rattle.kpn_state.specs.declared.standing.Standing.TheVariants.{Ready, Out, P
 use Rattle.kpn_commit.specs.declared.react.Reaction.{Reaction}
 use Rattle.kpn_commit.specs.declared.react.Reaction.TheVariants.{Waits, Acts, HandsOn}
 use Rattle.kpn_commit.specs.declared.settle.Settled.{Settled}
-use Rattle.kpn_commit.specs.declared.settle.Settled.TheVariants.{Busy, Stopped as Over, Enlarged}
+use Rattle.kpn_commit.specs.declared.settle.Settled.TheVariants.{Busy, Ended, Enlarged}
 use Rattle.kpn_commit.specs.declared.outcome.Outcome.{Outcome}
 use Rattle.kpn_commit.specs.declared.outcome.Outcome.TheVariants.{Done, Parked as Parks, LaidBack}
 use Rattle.kpn_state.specs.Standings.{standing, is_busy, parked_answer, StandingsFit}
@@ -72,13 +72,13 @@ module _ (kinds : Family) (net : Network) where
   -- the end that follows is justified
   end_follows : (s : StateAndHistory) (standings : List Standing) (x : Settled) (t : StateAndHistory) (moved : List Standing) → length t.history ≤ net.budget + 2 → Settles kinds net s standings x t moved → MayStand kinds net t.history t.state (end_after x net.budget (length t.history))
   end_follows s standings Busy t moved few h = by_budget t.state t.history _ few refl
-  end_follows s standings (Over end) t moved few h = by_cause t.state t.history end (subst (λ (y : StateAndHistory). HasStopped kinds net y.state end) (sym h.1) h.3)
+  end_follows s standings (Ended end) t moved few h = by_cause t.state t.history end (subst (λ (y : StateAndHistory). HasStopped kinds net y.state end) (sym h.1) h.3)
   end_follows s standings Enlarged t moved few h = by_budget t.state t.history _ few refl
 
   -- if there is none, some process is ready or out
   busy_follows : (s : StateAndHistory) (standings : List Standing) (x : Settled) (t : StateAndHistory) (moved : List Standing) (budget entries : ℕ) → Settles kinds net s standings x t moved → end_after x budget entries ≡ None → list_any is_busy moved ≡ true
   busy_follows s standings Busy t moved budget entries h e = ap (list_any is_busy) h.2 ∙ h.0
-  busy_follows s standings (Over end) t moved budget entries h e = cc
+  busy_follows s standings (Ended end) t moved budget entries h e = cc
   busy_follows s standings Enlarged t moved budget entries h e =
       let g = h.1 in
       let within : g.writer < length standings = place_within standings g.writer (λ f. parked_ended g.wanted (sym g.parked ∙ f)) in
@@ -90,7 +90,7 @@ module _ (kinds : Family) (net : Network) where
   -- if there is one other than `Budget`, no process is
   idle_follows : (s : StateAndHistory) (standings : List Standing) (x : Settled) (t : StateAndHistory) (moved : List Standing) (budget entries : ℕ) (cause : End) → Settles kinds net s standings x t moved → end_after x budget entries ≡ Some cause → cause ≢ Budget → list_any is_busy moved ≡ false
   idle_follows s standings Busy t moved budget entries cause h e not = absurd (not (spent _ cause e))
-  idle_follows s standings (Over end) t moved budget entries cause h e not = ap (list_any is_busy) h.2 ∙ h.0
+  idle_follows s standings (Ended end) t moved budget entries cause h e not = ap (list_any is_busy) h.2 ∙ h.0
   idle_follows s standings Enlarged t moved budget entries cause h e not = absurd (not (spent _ cause e))
 
   -- done with 1 to 3 entries if the process could go on, parked with 0 or 2 if it couldn't
@@ -98,13 +98,13 @@ module _ (kinds : Family) (net : Network) where
       (M : State) (E : List Entry) (room : ℕ) (standings : List Standing) (end : Option End) (commits : ℕ) (m : StateAndHistory) (mid : List Standing) (t : StateAndHistory) (moved : List Standing) (p : ℕ) (a : Answer) (r : Reaction) (x : Settled)
       → p < length standings → Reacts kinds net (state_and_history M E room) standings p a r m mid → Settles kinds net m mid x t moved → TellsEnabled kinds (machine_view net M E standings end commits) p (outcome_of r x)
   tells M E room standings end commits m mid t moved p a Waits Busy within h g = (h.0, inl refl)
-  tells M E room standings end commits m mid t moved p a Waits (Over stop) within h g = (h.0, inl refl)
+  tells M E room standings end commits m mid t moved p a Waits (Ended stop) within h g = (h.0, inl refl)
   tells M E room standings end commits m mid t moved p a Waits Enlarged within h g = (h.0, inr refl)
   tells M E room standings end commits m mid t moved p a Acts Busy within h g = ((enabled_can_do kinds net M p).1 (h.0, (m.state, h.1.does)), omega arith, omega arith)
-  tells M E room standings end commits m mid t moved p a Acts (Over stop) within h g = ((enabled_can_do kinds net M p).1 (h.0, (m.state, h.1.does)), omega arith, omega arith)
+  tells M E room standings end commits m mid t moved p a Acts (Ended stop) within h g = ((enabled_can_do kinds net M p).1 (h.0, (m.state, h.1.does)), omega arith, omega arith)
   tells M E room standings end commits m mid t moved p a Acts Enlarged within h g = ((enabled_can_do kinds net M p).1 (h.0, (m.state, h.1.does)), omega arith, omega arith)
   tells M E room standings end commits m mid t moved p a HandsOn Busy within h g = ((enabled_can_do kinds net M p).1 (h.deed, (h.between.state, h.first.does)), omega arith, omega arith)
-  tells M E room standings end commits m mid t moved p a HandsOn (Over stop) within h g = ((enabled_can_do kinds net M p).1 (h.deed, (h.between.state, h.first.does)), omega arith, omega arith)
+  tells M E room standings end commits m mid t moved p a HandsOn (Ended stop) within h g = ((enabled_can_do kinds net M p).1 (h.deed, (h.between.state, h.first.does)), omega arith, omega arith)
   tells M E room standings end commits m mid t moved p a HandsOn Enlarged within h g = absurd (true_false _ (handed_busy kinds net (state_and_history M E room) standings p m mid within h) g.0)
 
 -- an outcome's number is at most 3

@@ -2,7 +2,7 @@
 use Rattle.kpn_machine.proofs.Sound.{sound_faithful}
 use Rattle.kpn_machine.proofs.machine.Machine.assure_faithful.Goals as goal
 
-pub returns-clause-faithful : goal.returns-clause-faithful
-returns-clause-faithful g c =
+pub returns : goal.returns
+returns g c =
     let kinds = g.B.Kinds.Kinds in
-    rw (← c.self.view_is) (sound_faithful kinds.family kinds.admits kinds.signature_of _ _ _ c.assure_valid.ensures.valid (c.valid_runs.ensures.within kinds.signature_of kinds.family) c.typed_runs.ensures c.self.invariant.0)
+    record { faithful = rw (← c.self.view_is) (sound_faithful kinds.family kinds.admits kinds.signature_of _ _ _ c.assure_valid.ensures.valid (c.valid_runs.ensures.within kinds.signature_of kinds.family) c.typed_runs.ensures c.self.invariant.0) }
