@@ -34,7 +34,7 @@ pub at_rest :
     (kinds : Family) (admits : Card → List ℕ → Option Token → Type 0) (s : MachineView) (cause : End) → IsFaithful kinds admits s → s.end ≡ Some cause → has_report cause ≡ true
     → each_process s.network (λ p. place_of s.network p (parked_answer (standing s.standings p))) ≡ each_process s.network (λ p. place_of s.network p (wants kinds s.network s.state p))
 at_rest kinds admits s cause faithful ended has =
-    let same : (λ (p : ℕ). place_of s.network p (parked_answer (standing s.standings p))) ≡ (λ (p : ℕ). place_of s.network p (wants kinds s.network s.state p)) = fun_ext (λ p. ap (place_of s.network p) (sym (faithful.wanted p (idle_at s.places p (faithful.none_busy cause ended (not_budget cause has)))))) in
+    let same : (λ (p : ℕ). place_of s.network p (parked_answer (standing s.standings p))) ≡ (λ (p : ℕ). place_of s.network p (wants kinds s.network s.state p)) = fun_ext (λ p. ap (place_of s.network p) (sym (faithful.wanted p (idle_at s.standings p (faithful.none_busy cause ended (not_budget cause has)))))) in
     ap (each_process s.network) same
 
 -- the report of a run, given where it left each process
