@@ -470,6 +470,37 @@ fn names_have_numbers_and_counts(rt: HostRuntime) -> Result<(), Fail> {
     Ok(())
 }
 
+#[test]
+fn kinds_have_rows(rt: HostRuntime) -> Result<(), Fail> {
+    let kinds = [
+        (Kind::Count, 0, "count", 2),
+        (Kind::Sink, 1, "sink", 1),
+        (Kind::Take, 2, "take", 1),
+        (Kind::Copy, 3, "copy", 0),
+        (Kind::Prefix, 4, "prefix", 1),
+        (Kind::Add, 5, "add", 0),
+        (Kind::Scale, 6, "scale", 1),
+        (Kind::Weave, 7, "weave", 2),
+        (Kind::Merge, 8, "merge", 0),
+        (Kind::Divides, 9, "divides", 1),
+        (Kind::Switch, 10, "switch", 0),
+        (Kind::Select, 11, "select", 0),
+    ];
+    for (kind, number, name, arguments) in kinds {
+        let row = kind.row();
+        assert_eq!(rt; row.number, number, "{name}");
+        assert_eq!(rt; row.name, name);
+        assert_eq!(rt; row.arguments, arguments, "{name}");
+        assert_eq!(rt; Kind::numbered(number), Some(kind), "{name}");
+        assert_eq!(rt; Kind::called(name), Some(kind), "{name}");
+    }
+    assert_eq!(rt; Kind::numbered(12), None);
+    assert_eq!(rt; Kind::called("counts"), None);
+    assert!(rt; Kind::Weave.accepts([1, 2, 0]));
+    assert!(rt; !Kind::Weave.accepts([1, 0, 0]));
+    Ok(())
+}
+
 const W: Option<Sort> = Some(Sort::Words);
 
 const F: Option<Sort> = Some(Sort::Flags);

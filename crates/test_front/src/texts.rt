@@ -2,6 +2,7 @@
 ghost use Rattle.std.specs.Prelude.{◌≡◌, ◌<◌, ◌+◌, ◌^◌, ◌==◌, ◌&&◌, nat_lt, if◌then◌else◌, codes, [], ◌∷◌, Option, Some, None, slice_index};
 ghost use Rattle.std.specs.Str.{bytes_eq};
 
+use kpn_front::Status;
 use kpn_front::load::load;
 use kpn_front::say::{say_checked, say_lost, say_refused};
 use kpn_front::streams::Fallible;
@@ -400,6 +401,25 @@ fn meets_failures_in_mid_stream(rt: HostRuntime) -> Result<(), Fail> {
             status,
             "at {before}"
         );
+    }
+    Ok(())
+}
+
+#[test]
+fn statuses_have_numbers(rt: HostRuntime) -> Result<(), Fail> {
+    let statuses = [
+        (Status::Success, 0),
+        (Status::WrongArguments, 1),
+        (Status::Refused, 2),
+        (Status::BudgetSpent, 3),
+        (Status::MemoryRefused, 4),
+        (Status::Deadlocked, 5),
+        (Status::AtCeiling, 6),
+        (Status::WriteFailed, 7),
+        (Status::Lost, 8),
+    ];
+    for (status, code) in statuses {
+        assert_eq!(rt; status.code(), code);
     }
     Ok(())
 }
