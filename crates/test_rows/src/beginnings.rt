@@ -16,7 +16,7 @@ fn is_accepted(alloc: Global, text: &[u8]) -> bool {
 fn only_the_whole_text_is_accepted(rt: HostRuntime) {
     let text = PARKS.as_bytes();
     for length in 0..text.len() + 1 {
-        let accepted = is_accepted(rt.alloc(), &text[..length]);
-        assert_eq!(rt; accepted, length + 1 >= text.len(), "at {length}");
+        let is_due = is_accepted(rt.alloc(), &text[..length]) == (length + 1 >= text.len());
+        assert!(rt; is_due, "at {length}");
     }
 }

@@ -1,20 +1,23 @@
 //! Bodies that count how often they are called.
-ghost use Rattle.std.specs.Prelude.{◌≡◌, ◌<◌, IsSome, IfOk, Some, length, map, slice_get};
+ghost use Rattle.std.specs.Prelude.{◌≡◌, ◌<◌, ◌≤◌, IsSome, IfOk, Some, length, map, slice_get};
 ghost use Rattle.kpn_model.specs.Valid.{IsValid};
 ghost use Rattle.kpn_machine.specs.Opening.{cards_of};
 ghost use Rattle.kpn_standard.specs.Signatures.{signature};
 
-use crate::texts::{COUNTER, HAMMING};
+use crate::checks::same;
+use crate::texts::COUNTER;
 use kpn_body::{Body, Task, answer};
 use kpn_execute::execute;
 use kpn_front::load::load;
-use kpn_net::{Act, Answer, Card, Deed, End, Entry, Local, Net, NetFault, Token};
-use kpn_run::{Open, run};
+use kpn_net::{Act, Answer, Card, Local, Net, NetFault, Token};
 use kpn_standard::Standard;
 use std::alloc::{AllocError, Global};
-use std::sync::Arc;
+use std::process::Abort;
+use std::rt::Clock;
 use std::sync::atomic::{AtomicU64, Ordering};
+use std::sync::{Arc, Wait};
 use std::test::Fail;
+use std::thread::Threads;
 
 /// A body of a standard card that adds one to a count each time it is called.
 #[derive(Drop)]
@@ -80,45 +83,77 @@ fn network_of(alloc: Global, text: &str) -> Result<Net<Standard>, NetFault> {
     load(alloc, &mut source)
 }
 
-/// What is shown, the exit status, what is written, and how often the bodies are called: once for each
-/// deed of the run, and not at all if no channel has the name to show.
-static SHOWN: [(&str, u8, &str, u64); 2] = [
-    (
-        "c0",
-        0,
-        "end terminated
+/// What is shown, the exit status, what is written, and how often the bodies are called.
+struct Shown {
+    name: &'static str,
+    status: u8,
+    lines: &'static str,
+    calls: u64,
+}
+
+/// The bodies are called once for each deed of the run, and not at all if no channel has the name to
+/// show.
+static SHOWN: [Shown; 2] = [
+    Shown {
+        name: "c0",
+        status: 0,
+        lines: "end terminated
 process src stopped steps 4
 process snk stopped steps 4
 channel c0 put 3 left 0 capacity 1
 entries 8
 stream c0 1 2 3
 ",
-        8,
-    ),
-    ("c9", 1, "no channel c9\n", 0),
+        calls: 8,
+    },
+    Shown {
+        name: "c9",
+        status: 1,
+        lines: "no channel c9\n",
+        calls: 0,
+    },
 ];
+
+/// Runs the counter's network, and returns the exit status.
+fn executed<R: Threads + Wait + Clock + Sync>(
+    rt: &R,
+    alloc: Global,
+    show: &str,
+    workers: usize,
+    calls: &Arc<AtomicU64>,
+    out: &mut Vec<u8>,
+) -> Result<u8, Fail>
+    requires { (1 ≤ workers) × (workers ≤ 16) }
+{
+    let net = network_of(alloc, COUNTER)?;
+    let bodies = bodies_of(alloc, &net, calls)?;
+    Ok(execute(rt, alloc, net, bodies, workers, Some(show), out).code())
+}
+
+/// Runs the counter's network, and compares what is written and how often the bodies are called.
+fn tells_shown<R: Threads + Wait + Clock + Abort + Sync>(
+    rt: &R,
+    alloc: Global,
+    row: &Shown,
+    workers: usize,
+) -> Result<(), Fail>
+    requires { (1 ≤ workers) × (workers ≤ 16) }
+{
+    let count = Arc::new(alloc, AtomicU64::new(0))?;
+    let mut out = Vec::with_capacity(alloc, 1024)?;
+    let status = executed(rt, alloc, row.name, workers, &count, &mut out)?;
+    let calls = count.load(Ordering::SeqCst);
+    same(rt, &(status, calls), &(row.status, row.calls), row.name);
+    same(rt, &out.as_slice(), &row.lines.as_bytes(), row.name);
+    Ok(())
+}
 
 #[test]
 fn nothing_is_run_for_an_unknown_channel(rt: HostRuntime) -> Result<(), Fail> {
-    let alloc = rt.alloc();
-    for (name, status, lines, calls) in SHOWN {
-        for workers in [1, 2, 16] {
-            let net = network_of(alloc, COUNTER)?;
-            let count = Arc::new(alloc, AtomicU64::new(0))?;
-            let bodies = bodies_of(alloc, &net, &count)?;
-            let mut out = Vec::with_capacity(alloc, 1024)?;
-            let answer = execute(&rt, alloc, net, bodies, workers, Some(name), &mut out);
-            assert_eq!(rt; answer.code(), status, "at {name} with {workers}");
-            assert!(rt;
-                out.as_slice() == lines.as_bytes(),
-                "at {name} with {workers}"
-            );
-            assert_eq!(rt;
-                count.load(Ordering::SeqCst),
-                calls,
-                "at {name} with {workers}"
-            );
-        }
+    for row in &SHOWN {
+        tells_shown(&rt, rt.alloc(), row, 1)?;
+        tells_shown(&rt, rt.alloc(), row, 2)?;
+        tells_shown(&rt, rt.alloc(), row, 16)?;
     }
     Ok(())
 }
@@ -137,48 +172,4 @@ fn a_task_calls_its_body_once(rt: HostRuntime) -> Result<(), Fail> {
     assert_eq!(rt; finished.answer().act, Act::Read(0));
     assert_eq!(rt; count.load(Ordering::SeqCst), 1);
     Ok(())
-}
-
-/// The first ten of Hamming's numbers.
-static HAMMING_FIRST: [u64; 10] = [1, 2, 3, 4, 5, 6, 8, 9, 10, 12];
-
-/// Hamming's numbers: the products of twos, threes and fives, in order. The budget is spent, and the
-/// sink has first taken these ten, whatever the schedule.
-#[test]
-fn hamming_numbers_come_in_order(rt: HostRuntime) -> Result<(), Fail> {
-    let alloc = rt.alloc();
-    for workers in [1, 4, 16] {
-        let net = network_of(alloc, HAMMING)?;
-        let count = Arc::new(alloc, AtomicU64::new(0))?;
-        let bodies = bodies_of(alloc, &net, &count)?;
-        let Ok(finish) = run(&rt, alloc, net, bodies, workers, &Open) else {
-            return Err("refused".into());
-        };
-        assert_eq!(rt; finish.end(), End::Budget, "with {workers}");
-        let taken = taken_from(alloc, finish.history(), 1)?;
-        assert!(rt;
-            taken.as_slice() == HAMMING_FIRST.as_slice(),
-            "with {workers}"
-        );
-    }
-    Ok(())
-}
-
-/// The words taken from a channel, in order.
-fn taken_from(alloc: Global, history: &[Entry], channel: usize) -> Result<Vec<u64>, AllocError> {
-    let mut words = Vec::new(alloc);
-    for entry in history {
-        if let Entry::Did {
-            deed: Deed::Took {
-                channel: from,
-                token: Token::Word(word),
-            },
-            ..
-        } = entry
-            && *from == channel
-        {
-            words.push(*word)?;
-        }
-    }
-    Ok(words)
 }

@@ -1,10 +1,14 @@
 //! Texts that were not written to be run: the longest, the largest, and texts that are no description.
+use crate::checks::same;
 use crate::describing::{Description, Port};
-use crate::runs::{WORKERS, outcome_of, outcome_of_words};
+use crate::rows::{ALONE, Due, Lines, outcome_of_words, tells_text};
 use crate::texts::COUNTER;
 use std::alloc::{AllocError, Global};
-use std::fmt::Write as _;
+use std::process::Abort;
+use std::rt::Clock;
+use std::sync::Wait;
 use std::test::Fail;
+use std::thread::Threads;
 
 /// How many bytes a description may have.
 const LONGEST: usize = 1_048_576;
@@ -24,14 +28,44 @@ entries 8
 
 #[test]
 fn the_longest_text_runs(rt: HostRuntime) -> Result<(), Fail> {
-    for (length, status, lines) in [(LONGEST, 0u8, COUNTED), (LONGEST + 1, 2, "refused 15\n")] {
-        let text = filled(rt.alloc(), length)?;
-        let told = outcome_of(&rt, rt.alloc(), text.as_str(), "1", None)?;
-        assert_eq!(rt; text.len(), length);
-        assert_eq!(rt; told.status, status);
-        assert!(rt; told.text.as_slice() == lines.as_bytes());
-    }
+    let due = Due {
+        status: 0,
+        lines: Lines::All(COUNTED),
+    };
+    runs_filled(&rt, rt.alloc(), LONGEST, &due)?;
+    let due = Due {
+        status: 2,
+        lines: Lines::All("refused 15\n"),
+    };
+    runs_filled(&rt, rt.alloc(), LONGEST + 1, &due)?;
     Ok(())
+}
+
+/// Runs the counter's text, filled up to this length.
+fn runs_filled<R: Threads + Wait + Clock + Abort + Sync>(
+    rt: &R,
+    alloc: Global,
+    length: usize,
+    due: &Due<'_>,
+) -> Result<(), AllocError> {
+    let text = filled(alloc, length)?;
+    same(rt, &text.len(), &length, "filled");
+    tells_text(rt, alloc, "filled", text.as_str(), None, ALONE, due)
+}
+
+/// Runs a text by one worker, which is refused with this line.
+fn is_refused<R: Threads + Wait + Clock + Abort + Sync>(
+    rt: &R,
+    alloc: Global,
+    name: &str,
+    text: &str,
+    line: &str,
+) -> Result<(), AllocError> {
+    let due = Due {
+        status: 2,
+        lines: Lines::All(line),
+    };
+    tells_text(rt, alloc, name, text, None, ALONE, &due)
 }
 
 /// Edits of the counter's text, and what is written.
@@ -44,9 +78,7 @@ static EDITS: [(&str, &str, &str); 2] = [
 fn hostile_edits_are_refused(rt: HostRuntime) -> Result<(), Fail> {
     for (old, new, line) in EDITS {
         let text = COUNTER.replace(rt.alloc(), old, new)?;
-        let told = outcome_of(&rt, rt.alloc(), text.as_str(), "1", None)?;
-        assert_eq!(rt; told.status, 2, "{new}");
-        assert!(rt; told.text.as_slice() == line.as_bytes(), "{new}");
+        is_refused(&rt, rt.alloc(), new, text.as_str(), line)?;
     }
     Ok(())
 }
@@ -58,22 +90,20 @@ fn nested(alloc: Global, deep: usize, closed: bool) -> Result<String, AllocError
     format!(in alloc; "version = {open}{close}\n")
 }
 
-/// How deep the arrays are nested, whether they are closed, and what is written: beyond 80 it is no
-/// TOML for the reader.
-static NESTED: [(usize, bool, &str); 4] = [
-    (1000, false, "refused 1\n"),
-    (100_000, true, "refused 1\n"),
-    (81, true, "refused 1\n"),
-    (80, true, "refused 2\n"),
+/// The row's name, how deep the arrays are nested, whether they are closed, and what is written: beyond
+/// 80 it is no TOML for the reader.
+static NESTED: [(&str, usize, bool, &str); 4] = [
+    ("1000 open arrays", 1000, false, "refused 1\n"),
+    ("100,000 arrays", 100_000, true, "refused 1\n"),
+    ("81 arrays", 81, true, "refused 1\n"),
+    ("80 arrays", 80, true, "refused 2\n"),
 ];
 
 #[test]
 fn nested_arrays_are_refused(rt: HostRuntime) -> Result<(), Fail> {
-    for (deep, closed, line) in NESTED {
+    for (name, deep, closed, line) in NESTED {
         let text = nested(rt.alloc(), deep, closed)?;
-        let told = outcome_of(&rt, rt.alloc(), text.as_str(), "1", None)?;
-        assert_eq!(rt; told.status, 2, "{deep}");
-        assert!(rt; told.text.as_slice() == line.as_bytes(), "{deep}");
+        is_refused(&rt, rt.alloc(), name, text.as_str(), line)?;
     }
     Ok(())
 }
@@ -81,8 +111,13 @@ fn nested_arrays_are_refused(rt: HostRuntime) -> Result<(), Fail> {
 #[test]
 fn bytes_that_are_no_text_are_refused(rt: HostRuntime) -> Result<(), Fail> {
     let told = outcome_of_words(&rt, rt.alloc(), &["kpn", "run"], b"\xff")?;
-    assert_eq!(rt; told.status, 2);
-    assert!(rt; told.text.as_slice() == "refused 1\n".as_bytes());
+    same(&rt, &told.status, &2, "no text");
+    same(
+        &rt,
+        &told.text.as_slice(),
+        &"refused 1\n".as_bytes(),
+        "no text",
+    );
     Ok(())
 }
 
@@ -100,81 +135,19 @@ fn crowd(alloc: Global, processes: usize, channels: usize) -> Result<Description
     Ok(description)
 }
 
+/// The row's name, how many processes and channels there are, and what is written.
+static CROWDS: [(&str, usize, usize, &str); 4] = [
+    ("65 processes", 65, 0, "refused 4\n"),
+    ("257 channels", 1, 257, "refused 4\n"),
+    ("64 processes", 64, 0, "refused 10\n"),
+    ("256 channels", 1, 256, "refused 8\n"),
+];
+
 #[test]
 fn one_too_many_is_refused(rt: HostRuntime) -> Result<(), Fail> {
-    for (processes, channels, line) in [
-        (65usize, 0usize, "refused 4\n"),
-        (1, 257, "refused 4\n"),
-        (64, 0, "refused 10\n"),
-        (1, 256, "refused 8\n"),
-    ] {
+    for (name, processes, channels, line) in CROWDS {
         let description = crowd(rt.alloc(), processes, channels)?;
-        let told = outcome_of(&rt, rt.alloc(), description.as_str(), "1", None)?;
-        assert_eq!(rt; told.status, 2, "{processes} and {channels}");
-        assert!(rt;
-            told.text.as_slice() == line.as_bytes(),
-            "{processes} and {channels}"
-        );
-    }
-    Ok(())
-}
-
-/// How many processes of a chain pass tokens on.
-const LINKS: usize = 62;
-
-/// A counter of a hundred, `LINKS` scales by one, and a sink of a hundred, in one chain.
-fn chain(alloc: Global) -> Result<Description, AllocError> {
-    let mut description = Description::new(alloc, 20_000)?;
-    description.process("src", "count", "1, 100")?;
-    let mut before = format!(in alloc; "src")?;
-    for i in 0..LINKS {
-        let name = format!(in alloc; "s{i}")?;
-        description.process(name.as_str(), "scale", "1")?;
-        link(alloc, &mut description, i, before.as_str(), name.as_str())?;
-        before = name;
-    }
-    description.process("snk", "sink", "100")?;
-    link(alloc, &mut description, LINKS, before.as_str(), "snk")?;
-    Ok(description)
-}
-
-/// The channel of this number between two processes of a chain.
-fn link(
-    alloc: Global,
-    description: &mut Description,
-    number: usize,
-    from: &str,
-    to: &str,
-) -> Result<(), AllocError> {
-    let name = format!(in alloc; "c{number}")?;
-    description.channel(name.as_str(), Port(from, 0), Port(to, 0), 1)
-}
-
-/// What is written of it: a hundred tokens go through each channel, and each scale waits for more.
-fn chain_lines(alloc: Global) -> Result<String, Fail> {
-    let mut lines = String::from_str(alloc, "end deadlock\nprocess src stopped steps 101\n")?;
-    for i in 0..LINKS {
-        writeln!(lines, "process s{i} reads c{i} steps 200")?;
-    }
-    writeln!(lines, "process snk stopped steps 101")?;
-    for i in 0..=LINKS {
-        writeln!(lines, "channel c{i} put 100 left 0 capacity 1")?;
-    }
-    writeln!(lines, "entries 12602")?;
-    Ok(lines)
-}
-
-#[test]
-fn a_chain_of_sixty_four_processes_runs(rt: HostRuntime) -> Result<(), Fail> {
-    let description = chain(rt.alloc())?;
-    let lines = chain_lines(rt.alloc())?;
-    for workers in WORKERS {
-        let told = outcome_of(&rt, rt.alloc(), description.as_str(), workers, None)?;
-        assert_eq!(rt; told.status, 5, "{workers} workers");
-        assert!(rt;
-            told.text.as_slice() == lines.as_bytes(),
-            "{workers} workers"
-        );
+        is_refused(&rt, rt.alloc(), name, description.as_str(), line)?;
     }
     Ok(())
 }

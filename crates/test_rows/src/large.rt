@@ -1,9 +1,13 @@
 //! Long growths and the largest networks, with what is written of them worked out by hand.
 use crate::describing::{Description, Port};
-use crate::runs::{WORKERS, outcome_of};
+use crate::rows::{Due, Lines, WORKERS, tells_text};
 use std::alloc::{AllocError, Global};
 use std::fmt::Write as _;
+use std::process::Abort;
+use std::rt::Clock;
+use std::sync::Wait;
 use std::test::Fail;
+use std::thread::Threads;
 
 /// A counter of `tokens` into a sink of none, over a channel of capacity `capacity`.
 fn counter_into_nothing(
@@ -41,19 +45,28 @@ fn grown_lines(alloc: Global, tokens: usize, capacity: usize) -> Result<String, 
 /// A channel grows from capacity one to a hundred, and another to one below the ceiling of 65,535.
 #[test]
 fn channels_grow_far(rt: HostRuntime) -> Result<(), Fail> {
-    for (tokens, capacity) in [(100, 1), (65_534, 65_000)] {
+    for (name, tokens, capacity) in [("to 100", 100, 1), ("to 65,534", 65_534, 65_000)] {
         let description = counter_into_nothing(rt.alloc(), tokens, capacity)?;
         let lines = grown_lines(rt.alloc(), tokens, capacity)?;
-        for workers in WORKERS {
-            let told = outcome_of(&rt, rt.alloc(), description.as_str(), workers, None)?;
-            assert_eq!(rt; told.status, 0, "to {tokens} with {workers}");
-            assert!(rt;
-                told.text.as_slice() == lines.as_bytes(),
-                "to {tokens} with {workers}"
-            );
-        }
+        tells_large(&rt, rt.alloc(), name, &description, 0, lines.as_str())?;
     }
     Ok(())
+}
+
+/// Runs a description by each number of workers, and compares the status and what is written.
+fn tells_large<R: Threads + Wait + Clock + Abort + Sync>(
+    rt: &R,
+    alloc: Global,
+    name: &str,
+    description: &Description,
+    status: u8,
+    lines: &str,
+) -> Result<(), AllocError> {
+    let due = Due {
+        status,
+        lines: Lines::All(lines),
+    };
+    tells_text(rt, alloc, name, description.as_str(), None, WORKERS, &due)
 }
 
 /// A ring of 32 copies and 32 adders: each copy feeds both inputs of its adder, and each adder the next
@@ -116,11 +129,7 @@ fn ring_lines(alloc: Global) -> Result<String, Fail> {
 fn the_largest_network_runs(rt: HostRuntime) -> Result<(), Fail> {
     let description = ring_of_copies(rt.alloc())?;
     let lines = ring_lines(rt.alloc())?;
-    for workers in WORKERS {
-        let told = outcome_of(&rt, rt.alloc(), description.as_str(), workers, None)?;
-        assert_eq!(rt; told.status, 5, "with {workers}");
-        assert!(rt; told.text.as_slice() == lines.as_bytes(), "with {workers}");
-    }
+    tells_large(&rt, rt.alloc(), "ring", &description, 5, lines.as_str())?;
     Ok(())
 }
 
@@ -165,10 +174,59 @@ fn pair_lines(alloc: Global) -> Result<String, Fail> {
 fn sixty_four_processes_run(rt: HostRuntime) -> Result<(), Fail> {
     let description = pairs(rt.alloc())?;
     let lines = pair_lines(rt.alloc())?;
-    for workers in WORKERS {
-        let told = outcome_of(&rt, rt.alloc(), description.as_str(), workers, None)?;
-        assert_eq!(rt; told.status, 0, "with {workers}");
-        assert!(rt; told.text.as_slice() == lines.as_bytes(), "with {workers}");
+    tells_large(&rt, rt.alloc(), "pairs", &description, 0, lines.as_str())?;
+    Ok(())
+}
+
+/// How many processes of a chain pass tokens on.
+const LINKS: usize = 62;
+
+/// A counter of a hundred, `LINKS` scales by one, and a sink of a hundred, in one chain.
+fn chain(alloc: Global) -> Result<Description, AllocError> {
+    let mut description = Description::new(alloc, 20_000)?;
+    description.process("src", "count", "1, 100")?;
+    let mut before = format!(in alloc; "src")?;
+    for i in 0..LINKS {
+        let name = format!(in alloc; "s{i}")?;
+        description.process(name.as_str(), "scale", "1")?;
+        link(alloc, &mut description, i, before.as_str(), name.as_str())?;
+        before = name;
     }
+    description.process("snk", "sink", "100")?;
+    link(alloc, &mut description, LINKS, before.as_str(), "snk")?;
+    Ok(description)
+}
+
+/// The channel of this number between two processes of a chain.
+fn link(
+    alloc: Global,
+    description: &mut Description,
+    number: usize,
+    from: &str,
+    to: &str,
+) -> Result<(), AllocError> {
+    let name = format!(in alloc; "c{number}")?;
+    description.channel(name.as_str(), Port(from, 0), Port(to, 0), 1)
+}
+
+/// What is written of it: a hundred tokens go through each channel, and each scale waits for more.
+fn chain_lines(alloc: Global) -> Result<String, Fail> {
+    let mut lines = String::from_str(alloc, "end deadlock\nprocess src stopped steps 101\n")?;
+    for i in 0..LINKS {
+        writeln!(lines, "process s{i} reads c{i} steps 200")?;
+    }
+    writeln!(lines, "process snk stopped steps 101")?;
+    for i in 0..=LINKS {
+        writeln!(lines, "channel c{i} put 100 left 0 capacity 1")?;
+    }
+    writeln!(lines, "entries 12602")?;
+    Ok(lines)
+}
+
+#[test]
+fn a_chain_of_sixty_four_processes_runs(rt: HostRuntime) -> Result<(), Fail> {
+    let description = chain(rt.alloc())?;
+    let lines = chain_lines(rt.alloc())?;
+    tells_large(&rt, rt.alloc(), "chain", &description, 5, lines.as_str())?;
     Ok(())
 }

@@ -1,10 +1,11 @@
 //! The report of a history that was worked out by hand.
+use crate::checks::same;
 use crate::texts::COUNTER;
 use kpn_front::load::load;
 use kpn_net::{Deed, End, Entry, Net, NetFault, Place, Token};
-use kpn_report::{Report, report_of, report_text, text_of};
+use kpn_report::{Detail, Report, report_of, report_text, text_of};
 use kpn_standard::Standard;
-use std::alloc::{AllocError, Global};
+use std::alloc::Global;
 use std::process::Abort;
 use std::test::Fail;
 
@@ -51,6 +52,12 @@ static HISTORY: [Entry; 7] = [
 
 const PLACES: [Place; 2] = [Place::Stopped, Place::Stopped];
 
+/// The stream of the channel.
+const STREAM: &[Token] = &[Token::Word(1), Token::Word(2), Token::Word(3)];
+
+/// What is left in the channel.
+const REST: &[Token] = &[Token::Word(2), Token::Word(3)];
+
 const TEXT: &str = "end terminated
 process src stopped steps 4
 process snk stopped steps 2
@@ -60,59 +67,59 @@ entries 7
 stream c0 1 2 3
 ";
 
-fn report<R: Abort>(
-    rt: &R,
-    alloc: Global,
-    net: &Net<Standard>,
-    end: End,
-) -> Result<Report, AllocError> {
+/// The network of the history.
+fn network(alloc: Global) -> Result<Net<Standard>, NetFault> {
+    let mut source = COUNTER.as_bytes();
+    load(alloc, &mut source)
+}
+
+/// The report of the history, with this end; its text and the text that is made at once are compared.
+fn report<R: Abort>(rt: &R, alloc: Global, end: End, lines: &str) -> Result<Report, Fail> {
+    let net = network(alloc)?;
+    let text = text_of(alloc, &net, &HISTORY, &PLACES, end, Some(0))?;
+    same(rt, &text.as_str(), &lines, "text at once");
     let places = Vec::from_slice(alloc, &PLACES)?;
-    let report = report_of(alloc, net, &HISTORY, places, end)?;
-    assert_eq!(rt; report.end, end);
+    let report = report_of(alloc, &net, &HISTORY, places, end)?;
+    let text = report_text(alloc, &net, &report, Some(0))?;
+    same(rt, &text.as_str(), &lines, "text of the report");
+    same(rt, &report.end, &end, "end");
     Ok(report)
 }
 
 #[test]
 fn a_history_has_its_report(rt: HostRuntime) -> Result<(), Fail> {
-    let alloc = rt.alloc();
-    let mut source = COUNTER.as_bytes();
-    let loaded: Result<Net<Standard>, NetFault> = load(alloc, &mut source);
-    let net = loaded.map_err(|_| "refused")?;
-    let text = text_of(alloc, &net, &HISTORY, &PLACES, End::Terminated, Some(0))?;
-    assert_eq!(rt; text.as_str(), TEXT);
-    let report_of_all = report(&rt, alloc, &net, End::Terminated)?;
-    let text = report_text(alloc, &net, &report_of_all, Some(0))?;
-    assert_eq!(rt; text.as_str(), TEXT);
-    let detail = report_of_all.detail.expect(&rt, "no detail");
-    assert_eq!(rt; detail.places.as_slice(), PLACES.as_slice());
-    assert_eq!(rt; detail.steps.as_slice(), [4, 2].as_slice());
-    assert_eq!(rt; detail.capacities.as_slice(), [2].as_slice());
-    assert_eq!(rt; detail.growths.as_slice(), [(0, 2)].as_slice());
-    assert_eq!(rt; detail.entries, 7);
+    let report = report(&rt, rt.alloc(), End::Terminated, TEXT)?;
+    let detail = report.detail.expect(&rt, "no detail");
+    compare_detail(&rt, &detail);
     let stream = detail.streams.as_slice().first().expect(&rt, "no stream");
-    assert_eq!(rt;
-        stream.as_slice(),
-        [Token::Word(1), Token::Word(2), Token::Word(3)].as_slice()
-    );
+    same(&rt, &stream.as_slice(), &STREAM, "stream");
     let rest = detail.rests.as_slice().first().expect(&rt, "no rest");
-    assert_eq!(rt;
-        rest.as_slice(),
-        [Token::Word(2), Token::Word(3)].as_slice()
-    );
+    same(&rt, &rest.as_slice(), &REST, "rest");
     Ok(())
+}
+
+/// Compares the numbers and lists of a report.
+fn compare_detail<R: Abort>(rt: &R, detail: &Detail) {
+    same(rt, &detail.places.as_slice(), &PLACES.as_slice(), "places");
+    same(rt, &detail.steps.as_slice(), &[4, 2].as_slice(), "steps");
+    same(
+        rt,
+        &detail.capacities.as_slice(),
+        &[2].as_slice(),
+        "capacities",
+    );
+    same(
+        rt,
+        &detail.growths.as_slice(),
+        &[(0, 2)].as_slice(),
+        "growths",
+    );
+    same(rt, &detail.entries, &7, "entries");
 }
 
 #[test]
 fn a_spent_budget_is_told_alone(rt: HostRuntime) -> Result<(), Fail> {
-    let alloc = rt.alloc();
-    let mut source = COUNTER.as_bytes();
-    let loaded: Result<Net<Standard>, NetFault> = load(alloc, &mut source);
-    let net = loaded.map_err(|_| "refused")?;
-    let text = text_of(alloc, &net, &HISTORY, &PLACES, End::Budget, Some(0))?;
-    assert_eq!(rt; text.as_str(), "end budget\n");
-    let report_of_none = report(&rt, alloc, &net, End::Budget)?;
-    assert!(rt; report_of_none.detail.is_none());
-    let text = report_text(alloc, &net, &report_of_none, Some(0))?;
-    assert_eq!(rt; text.as_str(), "end budget\n");
+    let report = report(&rt, rt.alloc(), End::Budget, "end budget\n")?;
+    assert!(rt; report.detail.is_none());
     Ok(())
 }

@@ -1,112 +1,56 @@
 //! Whole runs: what is written of each worked network, and the exit status.
+use crate::checks::same;
+use crate::rows::{Due, Lines, Row, WORKERS, fits, outcome_of, outcome_of_words, tells};
 use crate::texts::{CEILING, COUNTER, DEAD, ENDLESS, FLAGS, NOTHING, PARKS, TWO_FULL, WRAPS};
-use kpn_execute::serve;
-use std::alloc::{AllocError, Global};
-use std::rt::Clock;
-use std::sync::Wait;
 use std::test::Fail;
-use std::thread::Threads;
 
-/// The exit status, the number of the description's fault or 0, and what is written.
-#[derive(Drop)]
-pub(crate) struct Told {
-    pub(crate) status: u8,
-    pub(crate) fault: u8,
-    pub(crate) text: Vec<u8>,
-}
-
-/// Room for every text here, taken before the run.
-const ROOM: usize = 16384;
-
-/// How many workers run each description: what is written is the same.
-pub(crate) const WORKERS: [&str; 3] = ["1", "2", "16"];
-
-/// The outcome of `kpn run` on a description by `workers` workers, with the stream of a channel if one
-/// is named.
-pub(crate) fn outcome_of<R: Threads + Wait + Clock + Sync>(
-    rt: &R,
-    alloc: Global,
-    text: &str,
-    workers: &str,
-    show: Option<&str>,
-) -> Result<Told, AllocError> {
-    let input = text.as_bytes();
-    match show {
-        None => outcome_of_words(rt, alloc, &["kpn", "run", "--workers", workers], input),
-        Some(name) => {
-            let words = ["kpn", "run", "--workers", workers, "--show", name];
-            outcome_of_words(rt, alloc, &words, input)
-        }
-    }
-}
-
-/// The outcome of the program with these arguments and this input.
-pub(crate) fn outcome_of_words<R: Threads + Wait + Clock + Sync>(
-    rt: &R,
-    alloc: Global,
-    words: &[&str],
-    input: &[u8],
-) -> Result<Told, AllocError> {
-    let mut out = Vec::with_capacity(alloc, ROOM)?;
-    let mut source = input;
-    let (status, fault) = match serve(rt, alloc, words, &mut source, &mut out) {
-        Ok(served) => (
-            served.status.code(),
-            served.fault.map_or(0, |fault| fault.number()),
-        ),
-        Err(fault) => (fault.status().code(), 0),
-    };
-    Ok(Told {
-        status,
-        fault,
-        text: out,
-    })
-}
-
-/// A description in which parts are replaced.
-pub(crate) fn edited(
-    alloc: Global,
-    text: &str,
-    edits: &[(&str, &str)],
-) -> Result<String, AllocError> {
-    let mut edited = format!(in alloc; "{text}")?;
-    for (old, new) in edits {
-        edited = edited.replace(alloc, old, new)?;
-    }
-    Ok(edited)
-}
-
-/// A description, the channel to show, the exit status, and what is written.
-static RUNS: [(&str, Option<&str>, u8, &str); 12] = [
-    (
-        COUNTER,
-        Some("c0"),
-        0,
-        "end terminated
+/// The networks as they stand.
+static RUNS: [Row; 12] = [
+    Row {
+        name: "counter",
+        text: COUNTER,
+        edits: &[],
+        show: Some("c0"),
+        due: Due {
+            status: 0,
+            lines: Lines::All(
+                "end terminated
 process src stopped steps 4
 process snk stopped steps 4
 channel c0 put 3 left 0 capacity 1
 entries 8
 stream c0 1 2 3
 ",
-    ),
-    (
-        NOTHING,
-        Some("c0"),
-        0,
-        "end terminated
+            ),
+        },
+    },
+    Row {
+        name: "nothing",
+        text: NOTHING,
+        edits: &[],
+        show: Some("c0"),
+        due: Due {
+            status: 0,
+            lines: Lines::All(
+                "end terminated
 process src stopped steps 1
 process snk stopped steps 1
 channel c0 put 0 left 0 capacity 1
 entries 2
 stream c0
 ",
-    ),
-    (
-        WRAPS,
-        Some("c3"),
-        5,
-        "end deadlock
+            ),
+        },
+    },
+    Row {
+        name: "wraps",
+        text: WRAPS,
+        edits: &[],
+        show: Some("c3"),
+        due: Due {
+            status: 5,
+            lines: Lines::All(
+                "end deadlock
 process s stopped steps 2
 process d reads c0 steps 2
 process t stopped steps 2
@@ -119,24 +63,36 @@ channel c3 put 1 left 0 capacity 1
 entries 11
 stream c3 0
 ",
-    ),
-    (
-        DEAD,
-        None,
-        5,
-        "end deadlock
+            ),
+        },
+    },
+    Row {
+        name: "dead",
+        text: DEAD,
+        edits: &[],
+        show: None,
+        due: Due {
+            status: 5,
+            lines: Lines::All(
+                "end deadlock
 process k reads c0 steps 0
 process snk reads c1 steps 0
 channel c0 put 0 left 0 capacity 1
 channel c1 put 0 left 0 capacity 1
 entries 0
 ",
-    ),
-    (
-        FLAGS,
-        Some("c3"),
-        5,
-        "end deadlock
+            ),
+        },
+    },
+    Row {
+        name: "flags",
+        text: FLAGS,
+        edits: &[],
+        show: Some("c3"),
+        due: Due {
+            status: 5,
+            lines: Lines::All(
+                "end deadlock
 process src stopped steps 7
 process cp reads c0 steps 18
 process dv reads c1 steps 12
@@ -152,12 +108,18 @@ channel c5 put 3 left 0 capacity 1
 entries 63
 stream c3 false true false true false true
 ",
-    ),
-    (
-        PARKS,
-        Some("c3"),
-        5,
-        "end deadlock
+            ),
+        },
+    },
+    Row {
+        name: "parks",
+        text: PARKS,
+        edits: &[],
+        show: Some("c3"),
+        due: Due {
+            status: 5,
+            lines: Lines::All(
+                "end deadlock
 process src stopped steps 4
 process cp reads c0 steps 9
 process wv reads c1 steps 12
@@ -170,12 +132,18 @@ grew c2 2
 entries 33
 stream c3 1 2 3 1 2 3
 ",
-    ),
-    (
-        TWO_FULL,
-        None,
-        0,
-        "end terminated
+            ),
+        },
+    },
+    Row {
+        name: "two full",
+        text: TWO_FULL,
+        edits: &[],
+        show: None,
+        due: Due {
+            status: 0,
+            lines: Lines::All(
+                "end terminated
 process a stopped steps 3
 process b stopped steps 3
 process x stopped steps 1
@@ -186,87 +154,142 @@ grew c0 2
 grew c1 2
 entries 10
 ",
-    ),
-    (
-        CEILING,
-        None,
-        6,
-        "end ceiling
+            ),
+        },
+    },
+    Row {
+        name: "ceiling",
+        text: CEILING,
+        edits: &[],
+        show: None,
+        due: Due {
+            status: 6,
+            lines: Lines::All(
+                "end ceiling
 process src writes c0 steps 65535
 process snk stopped steps 1
 channel c0 put 65535 left 65535 capacity 65535
 entries 65536
 ",
-    ),
-    (ENDLESS, None, 3, "end budget\n"),
-    (PARKS, Some("c9"), 1, "no channel c9\n"),
-    (COUNTER, Some("c9"), 1, "no channel c9\n"),
-    ("", None, 2, "refused 2\n"),
+            ),
+        },
+    },
+    Row {
+        name: "endless",
+        text: ENDLESS,
+        edits: &[],
+        show: None,
+        due: Due {
+            status: 3,
+            lines: Lines::All("end budget\n"),
+        },
+    },
+    Row {
+        name: "parks without c9",
+        text: PARKS,
+        edits: &[],
+        show: Some("c9"),
+        due: Due {
+            status: 1,
+            lines: Lines::All("no channel c9\n"),
+        },
+    },
+    Row {
+        name: "counter without c9",
+        text: COUNTER,
+        edits: &[],
+        show: Some("c9"),
+        due: Due {
+            status: 1,
+            lines: Lines::All("no channel c9\n"),
+        },
+    },
+    Row {
+        name: "empty text",
+        text: "",
+        edits: &[],
+        show: None,
+        due: Due {
+            status: 2,
+            lines: Lines::All("refused 2\n"),
+        },
+    },
 ];
 
 #[test]
 fn runs_tell_their_outcome(rt: HostRuntime) -> Result<(), Fail> {
-    for (text, show, status, lines) in RUNS {
-        for workers in WORKERS {
-            let told = outcome_of(&rt, rt.alloc(), text, workers, show)?;
-            assert_eq!(rt; told.status, status, "with {workers}");
-            assert!(rt; told.text.as_slice() == lines.as_bytes(), "with {workers}");
-        }
+    for row in &RUNS {
+        tells(&rt, rt.alloc(), row, WORKERS)?;
     }
     Ok(())
 }
 
-/// A description, its parts and their replacements, the exit status, and what is written.
-type Row = (
-    &'static str,
-    &'static [(&'static str, &'static str)],
-    u8,
-    &'static str,
-);
-
+/// Networks with edits.
 static EDITS: [Row; 9] = [
-    (
-        COUNTER,
-        &[("args = [3]", "args = [4]")],
-        5,
-        "end deadlock
+    Row {
+        name: "a sink of four",
+        text: COUNTER,
+        edits: &[("args = [3]", "args = [4]")],
+        show: None,
+        due: Due {
+            status: 5,
+            lines: Lines::All(
+                "end deadlock
 process src stopped steps 4
 process snk reads c0 steps 3
 channel c0 put 3 left 0 capacity 1
 entries 7
 ",
-    ),
-    (
-        COUNTER,
-        &[("args = [3]", "args = [2]")],
-        0,
-        "end terminated
+            ),
+        },
+    },
+    Row {
+        name: "a sink of two",
+        text: COUNTER,
+        edits: &[("args = [3]", "args = [2]")],
+        show: None,
+        due: Due {
+            status: 0,
+            lines: Lines::All(
+                "end terminated
 process src stopped steps 4
 process snk stopped steps 3
 channel c0 put 3 left 1 capacity 1
 entries 7
 ",
-    ),
-    (
-        COUNTER,
-        &[("args = [3]", "args = [1]")],
-        0,
-        "end terminated
+            ),
+        },
+    },
+    Row {
+        name: "a sink of one",
+        text: COUNTER,
+        edits: &[("args = [3]", "args = [1]")],
+        show: None,
+        due: Due {
+            status: 0,
+            lines: Lines::All(
+                "end terminated
 process src stopped steps 4
 process snk stopped steps 2
 channel c0 put 3 left 2 capacity 2
 grew c0 2
 entries 7
 ",
-    ),
-    (
-        COUNTER,
-        &[
+            ),
+        },
+    },
+    Row {
+        name: "six into nothing",
+        text: COUNTER,
+        edits: &[
             ("args = [1, 3]", "args = [1, 6]"),
             ("args = [3]", "args = [0]"),
         ],
-        0,
-        "end terminated
+        show: None,
+        due: Due {
+            status: 0,
+            lines: Lines::All(
+                "end terminated
 process src stopped steps 7
 process snk stopped steps 1
 channel c0 put 6 left 6 capacity 6
@@ -277,33 +300,58 @@ grew c0 5
 grew c0 6
 entries 13
 ",
-    ),
-    (
-        COUNTER,
-        &[("version = 1", "version = 1\nbudget = 8")],
-        0,
-        "end terminated
+            ),
+        },
+    },
+    Row {
+        name: "budget of 8",
+        text: COUNTER,
+        edits: &[("version = 1", "version = 1\nbudget = 8")],
+        show: None,
+        due: Due {
+            status: 0,
+            lines: Lines::All(
+                "end terminated
 process src stopped steps 4
 process snk stopped steps 4
 channel c0 put 3 left 0 capacity 1
 entries 8
 ",
-    ),
-    (
-        COUNTER,
-        &[("version = 1", "version = 1\nbudget = 7")],
-        3,
-        "end budget\n",
-    ),
-    (COUNTER, &[("\"sink\"", "\"filter\"")], 2, "refused 6\n"),
-    (
-        TWO_FULL,
-        &[
+            ),
+        },
+    },
+    Row {
+        name: "budget of 7",
+        text: COUNTER,
+        edits: &[("version = 1", "version = 1\nbudget = 7")],
+        show: None,
+        due: Due {
+            status: 3,
+            lines: Lines::All("end budget\n"),
+        },
+    },
+    Row {
+        name: "unknown kind",
+        text: COUNTER,
+        edits: &[("\"sink\"", "\"filter\"")],
+        show: None,
+        due: Due {
+            status: 2,
+            lines: Lines::All("refused 6\n"),
+        },
+    },
+    Row {
+        name: "smaller of two full",
+        text: TWO_FULL,
+        edits: &[
             ("args = [1, 2]", "args = [1, 3]"),
             ("to = \"x\"", "to = \"x\"\ncapacity = 2"),
         ],
-        0,
-        "end terminated
+        show: None,
+        due: Due {
+            status: 0,
+            lines: Lines::All(
+                "end terminated
 process a stopped steps 4
 process b stopped steps 4
 process x stopped steps 1
@@ -315,10 +363,13 @@ grew c0 3
 grew c1 3
 entries 13
 ",
-    ),
-    (
-        TWO_FULL,
-        &[
+            ),
+        },
+    },
+    Row {
+        name: "one of two full",
+        text: TWO_FULL,
+        edits: &[
             ("args = [1, 2]", "args = [1, 3]"),
             (
                 "\"a\"\nkind = \"count\"\nargs = [1, 3]",
@@ -326,8 +377,11 @@ entries 13
             ),
             ("to = \"y\"", "to = \"y\"\ncapacity = 2"),
         ],
-        0,
-        "end terminated
+        show: None,
+        due: Due {
+            status: 0,
+            lines: Lines::All(
+                "end terminated
 process a stopped steps 2
 process b stopped steps 4
 process x stopped steps 1
@@ -337,80 +391,142 @@ channel c1 put 3 left 3 capacity 3
 grew c1 3
 entries 9
 ",
-    ),
+            ),
+        },
+    },
 ];
 
 #[test]
 fn edits_tell_their_outcome(rt: HostRuntime) -> Result<(), Fail> {
-    for (text, edits, status, lines) in &EDITS {
-        let text = edited(rt.alloc(), text, edits)?;
-        for workers in WORKERS {
-            let told = outcome_of(&rt, rt.alloc(), text.as_str(), workers, None)?;
-            assert_eq!(rt; told.status, *status, "with {workers}");
-            assert!(rt; told.text.as_slice() == lines.as_bytes(), "with {workers}");
-        }
+    for row in &EDITS {
+        tells(&rt, rt.alloc(), row, WORKERS)?;
     }
     Ok(())
 }
 
-/// The flags' network with another channel shown: the last line.
-static SHOWN: [(&str, &str); 2] = [
-    ("c4", "entries 63\nstream c4 1 3 5\n"),
-    ("c5", "entries 63\nstream c5 2 4 6\n"),
+/// The flags' network with another channel shown: the last lines.
+static SHOWN: [Row; 2] = [
+    Row {
+        name: "flags, stream c4",
+        text: FLAGS,
+        edits: &[],
+        show: Some("c4"),
+        due: Due {
+            status: 5,
+            lines: Lines::Last("entries 63\nstream c4 1 3 5\n"),
+        },
+    },
+    Row {
+        name: "flags, stream c5",
+        text: FLAGS,
+        edits: &[],
+        show: Some("c5"),
+        due: Due {
+            status: 5,
+            lines: Lines::Last("entries 63\nstream c5 2 4 6\n"),
+        },
+    },
 ];
 
 #[test]
 fn shows_the_named_stream(rt: HostRuntime) -> Result<(), Fail> {
-    for (name, end) in SHOWN {
-        for workers in WORKERS {
-            let told = outcome_of(&rt, rt.alloc(), FLAGS, workers, Some(name))?;
-            assert_eq!(rt; told.status, 5, "with {workers}");
-            assert!(rt;
-                told.text.as_slice().ends_with(end.as_bytes()),
-                "with {workers}"
-            );
-        }
+    for row in &SHOWN {
+        tells(&rt, rt.alloc(), row, WORKERS)?;
     }
     Ok(())
 }
 
 /// Arguments, a description, the exit status, the number of the fault or 0, and what is written.
-static CHECKS: [(&[&str], &str, u8, u8, &str); 6] = [
-    (
-        &["kpn", "check"],
-        COUNTER,
-        0,
-        0,
-        "ok 2 processes 1 channels\n",
-    ),
-    (&["kpn", "check"], "", 2, 2, "refused 2\n"),
-    (&["kpn", "run"], "version = ", 2, 1, "refused 1\n"),
-    (&["kpn", "walk"], COUNTER, 1, 0, ""),
-    (&["kpn", "run", "--workers", "17"], COUNTER, 1, 0, ""),
-    (&["kpn", "--help"], COUNTER, 0, 0, ""),
+struct Command {
+    name: &'static str,
+    words: &'static [&'static str],
+    text: &'static str,
+    status: u8,
+    fault: u8,
+    lines: &'static str,
+}
+
+static COMMANDS: [Command; 6] = [
+    Command {
+        name: "check",
+        words: &["kpn", "check"],
+        text: COUNTER,
+        status: 0,
+        fault: 0,
+        lines: "ok 2 processes 1 channels\n",
+    },
+    Command {
+        name: "check of nothing",
+        words: &["kpn", "check"],
+        text: "",
+        status: 2,
+        fault: 2,
+        lines: "refused 2\n",
+    },
+    Command {
+        name: "run of no TOML",
+        words: &["kpn", "run"],
+        text: "version = ",
+        status: 2,
+        fault: 1,
+        lines: "refused 1\n",
+    },
+    Command {
+        name: "walk",
+        words: &["kpn", "walk"],
+        text: COUNTER,
+        status: 1,
+        fault: 0,
+        lines: "",
+    },
+    Command {
+        name: "17 workers",
+        words: &["kpn", "run", "--workers", "17"],
+        text: COUNTER,
+        status: 1,
+        fault: 0,
+        lines: "",
+    },
+    Command {
+        name: "help",
+        words: &["kpn", "--help"],
+        text: COUNTER,
+        status: 0,
+        fault: 0,
+        lines: "",
+    },
 ];
 
 #[test]
 fn words_choose_what_is_done(rt: HostRuntime) -> Result<(), Fail> {
-    for (words, text, status, fault, lines) in CHECKS {
-        let told = outcome_of_words(&rt, rt.alloc(), words, text.as_bytes())?;
-        assert_eq!(rt; told.status, status);
-        assert_eq!(rt; told.fault, fault);
-        assert!(rt; told.text.as_slice() == lines.as_bytes());
+    for row in &COMMANDS {
+        let told = outcome_of_words(&rt, rt.alloc(), row.words, row.text.as_bytes())?;
+        same(
+            &rt,
+            &(told.status, told.fault),
+            &(row.status, row.fault),
+            row.name,
+        );
+        same(&rt, &told.text.as_slice(), &row.lines.as_bytes(), row.name);
     }
     Ok(())
 }
+
+/// What is written if a request for memory is refused.
+const NO_MEMORY: Due<'static> = Due {
+    status: 4,
+    lines: Lines::All("refused 14\n"),
+};
 
 /// If a request for memory is refused, only that is written, and the status is 4. With ample memory the
 /// run is written; `tests/refuse_each_allocation` refuses each request in turn.
 #[test]
 fn tells_a_refusal_or_the_run(rt: HostRuntime) -> Result<(), Fail> {
-    let (text, show, status, lines) = RUNS[0];
-    let Ok(told) = outcome_of(&rt, rt.alloc(), text, "1", show) else {
+    let [row, ..] = &RUNS;
+    let Ok(told) = outcome_of(&rt, rt.alloc(), row.text, "1", row.show) else {
         return Ok(());
     };
-    let is_run = told.status == status && told.text.as_slice() == lines.as_bytes();
-    let is_refusal = told.status == 4 && told.text.as_slice() == b"refused 14\n".as_slice();
-    assert!(rt; is_run || is_refusal);
+    let is_told = fits(&told, &row.due) || fits(&told, &NO_MEMORY);
+    assert!(rt; is_told);
     Ok(())
 }

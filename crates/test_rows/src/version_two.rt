@@ -1,11 +1,7 @@
 //! Descriptions of version 2: start tokens, a step for growths, and a higher ceiling.
-use crate::runs::{Told, edited, outcome_of};
+use crate::rows::{Due, Edits, Lines, Row, tells};
 use crate::texts::{COUNTER, FLAGS, TWO_FULL};
-use std::alloc::{AllocError, Global};
-use std::rt::Clock;
-use std::sync::Wait;
 use std::test::Fail;
-use std::thread::Threads;
 
 /// One process that takes two tokens from a channel to itself, which begins with a token.
 const LOOP: &str = "version = 2
@@ -91,55 +87,37 @@ to = \"snk\"
 capacity = 999990
 ";
 
-/// A description and its edits: the parts, and their replacements.
-#[derive(Clone, Copy)]
-struct Edited {
-    text: &'static str,
-    edits: &'static [(&'static str, &'static str)],
-}
-
 /// How many workers run each description.
-const WORKERS: [&str; 2] = ["1", "4"];
+const WORKERS: &[&str] = &["1", "4"];
 
-/// The outcome of a description with edits, by `workers` workers, with the stream of a channel if one
-/// is named.
-fn outcome<R: Threads + Wait + Clock + Sync>(
-    rt: &R,
-    alloc: Global,
-    row: &Edited,
-    workers: &str,
-    show: Option<&str>,
-) -> Result<Told, AllocError> {
-    let text = edited(alloc, row.text, row.edits)?;
-    outcome_of(rt, alloc, text.as_str(), workers, show)
-}
-
-/// A description, the channel to show, the exit status, and what is written.
-type Row = (Edited, Option<&'static str>, u8, &'static str);
-
+/// Runs of version 2.
 static RUNS: [Row; 7] = [
-    (
-        Edited {
-            text: LOOP,
-            edits: &[],
-        },
-        Some("c0"),
-        0,
-        "end terminated
+    Row {
+        name: "a loop of one",
+        text: LOOP,
+        edits: &[],
+        show: Some("c0"),
+        due: Due {
+            status: 0,
+            lines: Lines::All(
+                "end terminated
 process k stopped steps 5
 channel c0 put 2 left 1 capacity 1
 entries 5
 stream c0 7 7 7
 ",
-    ),
-    (
-        Edited {
-            text: RUNNING_SUMS,
-            edits: &[],
+            ),
         },
-        Some("c1"),
-        5,
-        "end deadlock
+    },
+    Row {
+        name: "running sums, stream c1",
+        text: RUNNING_SUMS,
+        edits: &[],
+        show: Some("c1"),
+        due: Due {
+            status: 5,
+            lines: Lines::All(
+                "end deadlock
 process s stopped steps 4
 process ad reads c0 steps 9
 process cp reads c2 steps 9
@@ -151,15 +129,18 @@ channel c3 put 3 left 0 capacity 1
 entries 26
 stream c1 0 1 3 6
 ",
-    ),
-    (
-        Edited {
-            text: RUNNING_SUMS,
-            edits: &[],
+            ),
         },
-        Some("c3"),
-        5,
-        "end deadlock
+    },
+    Row {
+        name: "running sums, stream c3",
+        text: RUNNING_SUMS,
+        edits: &[],
+        show: Some("c3"),
+        due: Due {
+            status: 5,
+            lines: Lines::All(
+                "end deadlock
 process s stopped steps 4
 process ad reads c0 steps 9
 process cp reads c2 steps 9
@@ -171,34 +152,40 @@ channel c3 put 3 left 0 capacity 1
 entries 26
 stream c3 1 3 6
 ",
-    ),
-    (
-        Edited {
-            text: COUNTER,
-            edits: &[("version = 1", "version = 2")],
+            ),
         },
-        Some("c0"),
-        0,
-        "end terminated
+    },
+    Row {
+        name: "counter of version 2",
+        text: COUNTER,
+        edits: &[("version = 1", "version = 2")],
+        show: Some("c0"),
+        due: Due {
+            status: 0,
+            lines: Lines::All(
+                "end terminated
 process src stopped steps 4
 process snk stopped steps 4
 channel c0 put 3 left 0 capacity 1
 entries 8
 stream c0 1 2 3
 ",
-    ),
-    (
-        Edited {
-            text: TWO_FULL,
-            edits: &[
-                ("version = 1", "version = 2\nstep = 4"),
-                ("args = [1, 2]", "args = [1, 3]"),
-                ("to = \"x\"", "to = \"x\"\ncapacity = 2"),
-            ],
+            ),
         },
-        None,
-        0,
-        "end terminated
+    },
+    Row {
+        name: "two full, step 4",
+        text: TWO_FULL,
+        edits: &[
+            ("version = 1", "version = 2\nstep = 4"),
+            ("args = [1, 2]", "args = [1, 3]"),
+            ("to = \"x\"", "to = \"x\"\ncapacity = 2"),
+        ],
+        show: None,
+        due: Due {
+            status: 0,
+            lines: Lines::All(
+                "end terminated
 process a stopped steps 4
 process b stopped steps 4
 process x stopped steps 1
@@ -209,19 +196,22 @@ grew c1 5
 grew c0 6
 entries 12
 ",
-    ),
-    (
-        Edited {
-            text: TWO_FULL,
-            edits: &[
-                ("version = 1", "version = 2\nstep = 1"),
-                ("args = [1, 2]", "args = [1, 3]"),
-                ("to = \"x\"", "to = \"x\"\ncapacity = 2"),
-            ],
+            ),
         },
-        None,
-        0,
-        "end terminated
+    },
+    Row {
+        name: "two full, step 1",
+        text: TWO_FULL,
+        edits: &[
+            ("version = 1", "version = 2\nstep = 1"),
+            ("args = [1, 2]", "args = [1, 3]"),
+            ("to = \"x\"", "to = \"x\"\ncapacity = 2"),
+        ],
+        show: None,
+        due: Due {
+            status: 0,
+            lines: Lines::All(
+                "end terminated
 process a stopped steps 4
 process b stopped steps 4
 process x stopped steps 1
@@ -233,34 +223,35 @@ grew c0 3
 grew c1 3
 entries 13
 ",
-    ),
-    (
-        Edited {
-            text: COUNTER,
-            edits: &[
-                ("version = 1", "version = 2"),
-                ("capacity = 1", "capacity = 65536"),
-            ],
+            ),
         },
-        None,
-        0,
-        "end terminated
+    },
+    Row {
+        name: "counter, capacity 65536",
+        text: COUNTER,
+        edits: &[
+            ("version = 1", "version = 2"),
+            ("capacity = 1", "capacity = 65536"),
+        ],
+        show: None,
+        due: Due {
+            status: 0,
+            lines: Lines::All(
+                "end terminated
 process src stopped steps 4
 process snk stopped steps 4
 channel c0 put 3 left 0 capacity 65536
 entries 8
 ",
-    ),
+            ),
+        },
+    },
 ];
 
 #[test]
 fn runs_of_version_two_tell_their_outcome(rt: HostRuntime) -> Result<(), Fail> {
-    for workers in WORKERS {
-        for (row, show, status, lines) in &RUNS {
-            let told = outcome(&rt, rt.alloc(), row, workers, *show)?;
-            assert_eq!(rt; told.status, *status);
-            assert!(rt; told.text.as_slice() == lines.as_bytes());
-        }
+    for row in &RUNS {
+        tells(&rt, rt.alloc(), row, WORKERS)?;
     }
     Ok(())
 }
@@ -268,200 +259,203 @@ fn runs_of_version_two_tell_their_outcome(rt: HostRuntime) -> Result<(), Fail> {
 /// Runs with the greatest budget, step and ceiling: a million entries each, by the built tests (`rt
 /// test`, `rt ci`) in a second; `rt try` is too slow for them.
 static LONG_RUNS: [Row; 2] = [
-    (
-        Edited {
-            text: LONG_STEP,
-            edits: &[],
-        },
-        None,
-        0,
-        "end terminated
+    Row {
+        name: "one growth to the ceiling",
+        text: LONG_STEP,
+        edits: &[],
+        show: None,
+        due: Due {
+            status: 0,
+            lines: Lines::All(
+                "end terminated
 process src stopped steps 1000001
 process snk stopped steps 1
 channel c0 put 1000000 left 1000000 capacity 1000000
 grew c0 1000000
 entries 1000003
 ",
-    ),
-    (
-        Edited {
-            text: LONG_STEP,
-            edits: &[
-                ("[1, 1000000]", "[1, 1000001]"),
-                ("capacity = 999990", "capacity = 1000000"),
-            ],
+            ),
         },
-        None,
-        6,
-        "end ceiling
+    },
+    Row {
+        name: "no growth at the ceiling",
+        text: LONG_STEP,
+        edits: &[
+            ("[1, 1000000]", "[1, 1000001]"),
+            ("capacity = 999990", "capacity = 1000000"),
+        ],
+        show: None,
+        due: Due {
+            status: 6,
+            lines: Lines::All(
+                "end ceiling
 process src writes c0 steps 1000000
 process snk stopped steps 1
 channel c0 put 1000000 left 1000000 capacity 1000000
 entries 1000001
 ",
-    ),
+            ),
+        },
+    },
 ];
 
 #[test]
 fn channels_grow_to_the_higher_ceiling(rt: HostRuntime) -> Result<(), Fail> {
-    for workers in WORKERS {
-        for (row, show, status, lines) in &LONG_RUNS {
-            let told = outcome(&rt, rt.alloc(), row, workers, *show)?;
-            assert_eq!(rt; told.status, *status);
-            assert!(rt; told.text.as_slice() == lines.as_bytes());
-        }
+    for row in &LONG_RUNS {
+        tells(&rt, rt.alloc(), row, WORKERS)?;
     }
     Ok(())
 }
 
-/// A description with edits, and what is written if it is refused.
-static REFUSED: [(Edited, &str); 16] = [
-    (
-        Edited {
-            text: LOOP,
-            edits: &[("[7]", "[1, 2]")],
-        },
-        "refused 16\n",
-    ),
-    (
-        Edited {
-            text: LOOP,
-            edits: &[("[7]", "[true]")],
-        },
-        "refused 16\n",
-    ),
-    (
-        Edited {
-            text: LOOP,
-            edits: &[("[7]", "[-1]")],
-        },
-        "refused 16\n",
-    ),
-    (
-        Edited {
-            text: LOOP,
-            edits: &[("[7]", "[1, true]")],
-        },
-        "refused 16\n",
-    ),
-    (
-        Edited {
-            text: LOOP,
-            edits: &[("[7]", "[\"a\"]")],
-        },
-        "refused 2\n",
-    ),
-    (
-        Edited {
-            text: LOOP,
-            edits: &[("version = 2", "version = 1")],
-        },
-        "refused 2\n",
-    ),
-    (
-        Edited {
-            text: LOOP,
-            edits: &[("[7]", "[1]\ncapacity = 0")],
-        },
-        "refused 12\n",
-    ),
-    (
-        Edited {
-            text: FLAGS,
-            edits: &[
-                ("version = 1", "version = 2"),
-                ("\"flags\"", "\"flags\"\ntokens = [1]"),
-            ],
-        },
-        "refused 16\n",
-    ),
-    (
-        Edited {
-            text: COUNTER,
-            edits: &[("version = 1", "version = 2\nstep = 0")],
-        },
-        "refused 17\n",
-    ),
-    (
-        Edited {
-            text: COUNTER,
-            edits: &[("version = 1", "version = 2\nstep = 1025")],
-        },
-        "refused 17\n",
-    ),
-    (
-        Edited {
-            text: COUNTER,
-            edits: &[
-                ("version = 1", "version = 2"),
-                ("capacity = 1", "capacity = 1000001"),
-            ],
-        },
-        "refused 12\n",
-    ),
-    (
-        Edited {
-            text: COUNTER,
-            edits: &[("version = 1", "version = 2\nbudget = 2000001")],
-        },
-        "refused 13\n",
-    ),
-    (
-        Edited {
-            text: COUNTER,
-            edits: &[("version = 1", "version = 1\nstep = 1")],
-        },
-        "refused 2\n",
-    ),
-    (
-        Edited {
-            text: COUNTER,
-            edits: &[("capacity = 1", "capacity = 65536")],
-        },
-        "refused 12\n",
-    ),
-    (
-        Edited {
-            text: COUNTER,
-            edits: &[("version = 1", "version = 1\nbudget = 1000001")],
-        },
-        "refused 13\n",
-    ),
-    (
-        Edited {
-            text: COUNTER,
-            edits: &[("version = 1", "version = 3")],
-        },
-        "refused 3\n",
-    ),
+/// A description with edits that is refused, and what is written of it.
+struct Refusal {
+    name: &'static str,
+    text: &'static str,
+    edits: Edits,
+    line: &'static str,
+}
+
+static REFUSED: [Refusal; 16] = [
+    Refusal {
+        name: "more tokens than capacity",
+        text: LOOP,
+        edits: &[("[7]", "[1, 2]")],
+        line: "refused 16\n",
+    },
+    Refusal {
+        name: "flag as a start token of words",
+        text: LOOP,
+        edits: &[("[7]", "[true]")],
+        line: "refused 16\n",
+    },
+    Refusal {
+        name: "negative start token",
+        text: LOOP,
+        edits: &[("[7]", "[-1]")],
+        line: "refused 16\n",
+    },
+    Refusal {
+        name: "word and flag as start tokens",
+        text: LOOP,
+        edits: &[("[7]", "[1, true]")],
+        line: "refused 16\n",
+    },
+    Refusal {
+        name: "text as a start token",
+        text: LOOP,
+        edits: &[("[7]", "[\"a\"]")],
+        line: "refused 2\n",
+    },
+    Refusal {
+        name: "start tokens in version 1",
+        text: LOOP,
+        edits: &[("version = 2", "version = 1")],
+        line: "refused 2\n",
+    },
+    Refusal {
+        name: "capacity 0",
+        text: LOOP,
+        edits: &[("[7]", "[1]\ncapacity = 0")],
+        line: "refused 12\n",
+    },
+    Refusal {
+        name: "word as a start token of flags",
+        text: FLAGS,
+        edits: &[
+            ("version = 1", "version = 2"),
+            ("\"flags\"", "\"flags\"\ntokens = [1]"),
+        ],
+        line: "refused 16\n",
+    },
+    Refusal {
+        name: "step 0",
+        text: COUNTER,
+        edits: &[("version = 1", "version = 2\nstep = 0")],
+        line: "refused 17\n",
+    },
+    Refusal {
+        name: "step 1025",
+        text: COUNTER,
+        edits: &[("version = 1", "version = 2\nstep = 1025")],
+        line: "refused 17\n",
+    },
+    Refusal {
+        name: "capacity 1000001",
+        text: COUNTER,
+        edits: &[
+            ("version = 1", "version = 2"),
+            ("capacity = 1", "capacity = 1000001"),
+        ],
+        line: "refused 12\n",
+    },
+    Refusal {
+        name: "budget 2000001",
+        text: COUNTER,
+        edits: &[("version = 1", "version = 2\nbudget = 2000001")],
+        line: "refused 13\n",
+    },
+    Refusal {
+        name: "step in version 1",
+        text: COUNTER,
+        edits: &[("version = 1", "version = 1\nstep = 1")],
+        line: "refused 2\n",
+    },
+    Refusal {
+        name: "capacity 65536 in version 1",
+        text: COUNTER,
+        edits: &[("capacity = 1", "capacity = 65536")],
+        line: "refused 12\n",
+    },
+    Refusal {
+        name: "budget 1000001 in version 1",
+        text: COUNTER,
+        edits: &[("version = 1", "version = 1\nbudget = 1000001")],
+        line: "refused 13\n",
+    },
+    Refusal {
+        name: "version 3",
+        text: COUNTER,
+        edits: &[("version = 1", "version = 3")],
+        line: "refused 3\n",
+    },
 ];
 
 #[test]
 fn refuses_what_the_version_does_not_allow(rt: HostRuntime) -> Result<(), Fail> {
-    for workers in WORKERS {
-        for (row, line) in &REFUSED {
-            let told = outcome(&rt, rt.alloc(), row, workers, None)?;
-            assert_eq!(rt; told.status, 2);
-            assert!(rt; told.text.as_slice() == line.as_bytes());
-        }
+    for refusal in &REFUSED {
+        let row = Row {
+            name: refusal.name,
+            text: refusal.text,
+            edits: refusal.edits,
+            show: None,
+            due: Due {
+                status: 2,
+                lines: Lines::All(refusal.line),
+            },
+        };
+        tells(&rt, rt.alloc(), &row, WORKERS)?;
     }
     Ok(())
 }
 
-/// A channel of flags that begins with a flag, which is the first that the switch reads.
+/// A channel of flags that begins with a flag, which is the first that the switch reads. At the end the
+/// switch waits for a seventh token.
+static FLAGGED: Row = Row {
+    name: "flags with a start token",
+    text: FLAGS,
+    edits: &[
+        ("version = 1", "version = 2"),
+        ("\"flags\"", "\"flags\"\ntokens = [true]"),
+    ],
+    show: Some("c3"),
+    due: Due {
+        status: 5,
+        lines: Lines::Last("stream c3 true false true false true false true\n"),
+    },
+};
+
 #[test]
 fn flags_are_start_tokens(rt: HostRuntime) -> Result<(), Fail> {
-    let flags = Edited {
-        text: FLAGS,
-        edits: &[
-            ("version = 1", "version = 2"),
-            ("\"flags\"", "\"flags\"\ntokens = [true]"),
-        ],
-    };
-    for workers in WORKERS {
-        let told = outcome(&rt, rt.alloc(), &flags, workers, Some("c3"))?;
-        let last = b"stream c3 true false true false true false true\n";
-        assert!(rt; told.text.as_slice().ends_with(last.as_slice()));
-    }
+    tells(&rt, rt.alloc(), &FLAGGED, WORKERS)?;
     Ok(())
 }
