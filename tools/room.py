@@ -1,12 +1,14 @@
 """A copy of crates, in which rt works while the tree itself stays as it is.
 
-One rt command at a time works in a folder, and it checks all crates that crates.txt names there. So a tool
-that needs some crates alone, or crates with changed files, works in a copy. The copy lies in the tree, so
-that a crate's out/, what was proved of it, is moved and not copied; it goes back when the work ends.
+One rt command at a time works on a crate and on those below it, and it checks all crates that crates.txt
+names. So a tool that needs some crates alone, or crates with changed files, works in a copy. The copy lies
+in the tree, so that a crate's out/, what was proved of it, is moved and not copied; it goes back when the
+work ends. Crates are proved side by side in further copies, to which what was proved is linked.
 """
 import os
 import shutil
 import subprocess
+from concurrent.futures import FIRST_COMPLETED, ThreadPoolExecutor, wait
 
 TOP = os.path.dirname(os.path.dirname(os.path.abspath(__file__)))
 
@@ -75,17 +77,72 @@ class Room:
         return lines
 
     def prove(self, libraries, tell):
-        """Proves libraries, the lowest with all processors, those above it side by side, and calls `tell` for each."""
-        proved = set()
+        """Proves libraries, side by side if they don't use each other, and calls `tell` for each.
 
-        def hear(line):
-            name = line[3:].strip()
-            if line.startswith("== ") and name in libraries and name not in proved:
-                proved.add(name)
-                tell(name, len(proved))
+        The one on which most others wait gets all processors, and the others beside it one each.
+        """
+        processors = int(jobs())
+        lanes = [Lane(self, number) for number in range(1 + processors // 2)]
+        left = sorted(libraries, key=lambda it: -self.height(it, libraries))
+        proved, running, lines = [], {}, []
+        with ThreadPoolExecutor(len(lanes)) as pool:
+            while left or running:
+                below = lambda it: crates_below(it, self.crates, [])[:-1]
+                ready = [it for it in left if set(below(it)) <= set(proved)]
+                first = max([*ready, *(it for it, _ in running.values())], key=lambda it: self.height(it, libraries))
+                for name in ready[: len(lanes)]:
+                    lane = lanes.pop()
+                    given = processors if name == first else 1
+                    running[pool.submit(lane.prove, name, below(name), given)] = name, lane
+                    left.remove(name)
+                for done in wait(running, return_when=FIRST_COMPLETED).done:
+                    name, lane = running.pop(done)
+                    lanes.append(lane)
+                    lines += done.result()
+                    if not has_rlib(self.folder, name):
+                        left = []
+                        continue
+                    proved.append(name)
+                    tell(name, len(proved))
+        return lines
 
-        lines = self.rt(libraries[0], "lib", "--jobs", jobs())
-        return lines + self.rt(None, "all", "check", "--jobs", jobs(), tell=hear)
+    def height(self, name, libraries):
+        """How much source stands on a crate, on the longest way up."""
+        above = [self.height(it, libraries) for it in libraries if name in self.crates[it]]
+        return self.size(name) + max(above, default=0)
+
+    def size(self, name):
+        found = (os.path.join(folder, file) for folder, _, files in os.walk(self.path(name, "src")) for file in files)
+        return sum(map(os.path.getsize, found))
+
+
+class Lane:
+    """A copy of the crates of a room, in which rt works beside other lanes."""
+
+    def __init__(self, room, number):
+        self.room, self.folder = room, os.path.join(room.folder, f"lane_{number}")
+
+    def prove(self, name, below, processors):
+        """Proves a crate over those below it, which are proved, and puts what was proved into the room."""
+        for it in [*below, name]:
+            self.hold(it)
+        with open(os.path.join(self.folder, "crates.txt"), "w", encoding="utf-8") as file:
+            file.writelines(f"{it}: {' '.join(self.room.crates[it])}\n" for it in [*below, name])
+        words = ["rt", "lib", "--jobs", str(processors)]
+        where = os.path.join(self.folder, "crates", name)
+        ran = subprocess.run(words, cwd=where, stdin=subprocess.DEVNULL, stdout=subprocess.PIPE, stderr=subprocess.STDOUT, text=True, errors="replace")
+        move_out(name, self.folder, self.room.folder)
+        return ran.stdout.splitlines(keepends=True)
+
+    def hold(self, name):
+        """Has a crate as the room has it. Files are linked: rt makes new ones in place of those that it changes."""
+        goal = os.path.join(self.folder, "crates", name)
+        shutil.rmtree(goal, ignore_errors=True)
+        shutil.copytree(self.room.path(name), goal, copy_function=os.link)
+
+
+def has_rlib(folder, name):
+    return os.path.isfile(os.path.join(folder, "crates", name, "out", "rlib", "stamp"))
 
 
 def move_out(name, origin, goal):

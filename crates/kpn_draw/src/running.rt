@@ -72,7 +72,7 @@ fn draw_finish<S: Sink>(alloc: Global, finish: &Finish<Standard>, sink: &mut S) 
 
 /// The picture of a run that is over.
 fn picture_of_run(alloc: Global, finish: &Finish<Standard>) -> Result<String, AllocError>
-    ensures { IfOk result (λ picture. DrawsRun finish.now.machine.network 0 (string_bytes picture)) }
+    ensures { IfOk result (λ picture. DrawsRun finish.now.machine.network Status.Success (string_bytes picture)) }
 {
     let _end = finish.end();
     let report = report(alloc, finish)?;
