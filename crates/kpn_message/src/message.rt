@@ -99,8 +99,14 @@ fn push_counts(out: &mut String, sketch: &Sketch) -> Result<(), AllocError> {
     let processes = sketch.processes.as_slice().len();
     let channels = sketch.channels.as_slice().len();
     if processes == 0 || processes > MOST_PROCESSES {
-        write!(out, "{processes} processes; there must be 1 to {MOST_PROCESSES}")
+        write!(
+            out,
+            "{processes} processes; there must be 1 to {MOST_PROCESSES}"
+        )
     } else {
-        write!(out, "{channels} channels; there must be at most {MOST_CHANNELS}")
+        write!(
+            out,
+            "{channels} channels; there must be at most {MOST_CHANNELS}"
+        )
     }
 }
