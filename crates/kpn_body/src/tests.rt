@@ -8,6 +8,7 @@ use crate::*;
 use kpn_model::Act::Write;
 use kpn_model::Token::Word;
 use kpn_model::{Answer, Card, Kinds, Local, Token};
+use std::alloc::{AllocError, Global};
 use std::process::Abort;
 use std::test::Fail;
 
@@ -61,26 +62,34 @@ fn asked_in_parts<B: Body>(
     Ok(())
 }
 
-#[test]
-fn count_from_one_writes_two(rt: HostRuntime) -> Result<(), Fail> {
-    let card = Card {
-        kind: 0,
-        args: [1, 3, 0],
-    };
+/// A body of a standard card, with a closure of its own.
+fn body_of(alloc: Global, card: Card) -> Result<StandardBody, AllocError>
+    requires { IsSome (signature card) }
+    ensures { IfOk result (λ b. b.card ≡ card) }
+{
     let call: Call = Box::new(
-        rt.alloc(),
+        alloc,
         move |local: Local, last: Option<Token>| -> Answer
             requires signed { IsSome (signature card) }
             requires admitted { Admitted card local last }
             ensures { result ≡ standard.answer card local last }
         { answer(card, local, last) },
     )?;
-    let body = StandardBody::new(card, call);
+    Ok(StandardBody::new(card, call))
+}
+
+#[test]
+fn count_from_one_writes_two(rt: HostRuntime) -> Result<(), Fail> {
+    let card = Card {
+        kind: 0,
+        args: [1, 3, 0],
+    };
+    let made = body_of(rt.alloc(), card)?;
     let expected = Answer {
         next: [2, 0, 0, 0],
         act: Write(0, Word(2)),
     };
-    let body = asked(&rt, body, [1, 0, 0, 0], None, expected)?;
+    let body = asked(&rt, made, [1, 0, 0, 0], None, expected)?;
     assert_eq!(rt; body.card(), card);
     asked_in_parts(&rt, body, [1, 0, 0, 0], None, expected)
 }
@@ -91,19 +100,11 @@ fn copy_writes_what_it_read(rt: HostRuntime) -> Result<(), Fail> {
         kind: 3,
         args: [0; 3],
     };
-    let call: Call = Box::new(
-        rt.alloc(),
-        move |local: Local, last: Option<Token>| -> Answer
-            requires signed { IsSome (signature card) }
-            requires admitted { Admitted card local last }
-            ensures { result ≡ standard.answer card local last }
-        { answer(card, local, last) },
-    )?;
-    let body = StandardBody::new(card, call);
+    let made = body_of(rt.alloc(), card)?;
     let expected = Answer {
         next: [2, 7, 0, 0],
         act: Write(0, Word(7)),
     };
-    asked(&rt, body, [1, 0, 0, 0], Some(Word(7)), expected)?;
+    asked(&rt, made, [1, 0, 0, 0], Some(Word(7)), expected)?;
     Ok(())
 }

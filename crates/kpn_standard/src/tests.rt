@@ -470,6 +470,11 @@ fn names_have_numbers_and_counts(rt: HostRuntime) -> Result<(), Fail> {
     Ok(())
 }
 
+/// Whether the kind is found by its number and by its name.
+fn is_found(kind: Kind, number: u16, name: &str) -> bool {
+    Kind::numbered(number) == Some(kind) && Kind::called(name) == Some(kind)
+}
+
 #[test]
 fn kinds_have_rows(rt: HostRuntime) -> Result<(), Fail> {
     let kinds = [
@@ -488,14 +493,11 @@ fn kinds_have_rows(rt: HostRuntime) -> Result<(), Fail> {
     ];
     for (kind, number, name, arguments) in kinds {
         let row = kind.row();
-        assert_eq!(rt; row.number, number, "{name}");
-        assert_eq!(rt; row.name, name);
-        assert_eq!(rt; row.arguments, arguments, "{name}");
-        assert_eq!(rt; Kind::numbered(number), Some(kind), "{name}");
-        assert_eq!(rt; Kind::called(name), Some(kind), "{name}");
+        let has_row = row.number == number && row.name == name && row.arguments == arguments;
+        assert!(rt; has_row && is_found(kind, number, name), "{name}");
     }
-    assert_eq!(rt; Kind::numbered(12), None);
-    assert_eq!(rt; Kind::called("counts"), None);
+    assert!(rt; Kind::numbered(12).is_none());
+    assert!(rt; Kind::called("counts").is_none());
     assert!(rt; Kind::Weave.accepts([1, 2, 0]));
     assert!(rt; !Kind::Weave.accepts([1, 0, 0]));
     Ok(())

@@ -3,7 +3,7 @@ use Rattle.kpn_body.proofs.Asked.{count_admitted}
 use Rattle.kpn_body.proofs.tests.count_from_one_writes_two.Goals as goal
 
 pub asked-requires-after_bounds : goal.asked-requires-after_bounds
-asked-requires-after_bounds g c κs = count_admitted _ c.new-body.ensures
+asked-requires-after_bounds g c κs = count_admitted _ c.in_ok-made.ensures
 
 pub asked_in_parts-requires-after_bounds : goal.asked_in_parts-requires-after_bounds
-asked_in_parts-requires-after_bounds g c κs = count_admitted _ (c.in_ok-body.ensures ∙ c.new-body.ensures)
+asked_in_parts-requires-after_bounds g c κs = count_admitted _ (c.in_ok-body.ensures ∙ c.in_ok-made.ensures)
