@@ -9,7 +9,7 @@ use crate::runs::run_bodies;
 use crate::texts::COUNTER_INTO_SINK;
 use kpn_body::{Call, StandardBody, answer};
 use kpn_net::{Answer, Card, Local, Token};
-use std::alloc::Global;
+use std::alloc::{AllocError, Global};
 use std::process::Abort;
 use std::rt::Clock;
 use std::sync::atomic::{AtomicU64, Ordering};
@@ -61,6 +61,52 @@ fn run_counter<R: Threads + Wait + Clock + Abort + Sync>(
     Ok(())
 }
 
+/// A body that waits for the right one at its call of the number `at`.
+fn left_body(
+    alloc: Global,
+    card: Card,
+    at: u64,
+    calls: Arc<Calls>,
+) -> Result<StandardBody, AllocError>
+    requires { IsSome (signature card) }
+{
+    let call: Call = Box::new(
+        alloc,
+        move |local: Local, last: Option<Token>| -> Answer
+            requires signed { IsSome (signature card) }
+            requires admitted { Admitted card local last }
+            ensures { result ≡ standard.answer card local last }
+        {
+            meet(at, &calls.left, &calls.right, &calls.seen);
+            answer(card, local, last)
+        },
+    )?;
+    Ok(StandardBody::new(card, call))
+}
+
+/// A body that waits for the left one at its call of the number `at`.
+fn right_body(
+    alloc: Global,
+    card: Card,
+    at: u64,
+    calls: Arc<Calls>,
+) -> Result<StandardBody, AllocError>
+    requires { IsSome (signature card) }
+{
+    let call: Call = Box::new(
+        alloc,
+        move |local: Local, last: Option<Token>| -> Answer
+            requires signed { IsSome (signature card) }
+            requires admitted { Admitted card local last }
+            ensures { result ≡ standard.answer card local last }
+        {
+            meet(at, &calls.right, &calls.left, &calls.seen);
+            answer(card, local, last)
+        },
+    )?;
+    Ok(StandardBody::new(card, call))
+}
+
 /// Runs a counter into a sink by two workers, with closures that wait for each other at the call of
 /// this number. How often they were called decides whether they wait, and not what they answer.
 fn meet_at<R: Threads + Wait + Clock + Abort + Sync>(
@@ -69,40 +115,17 @@ fn meet_at<R: Threads + Wait + Clock + Abort + Sync>(
     at: u64,
 ) -> Result<(), Fail> {
     let calls = Arc::new(alloc, no_calls())?;
-    let (one, two) = (Arc::try_clone(&calls)?, Arc::try_clone(&calls)?);
-    let mut bodies = Vec::new(alloc);
     let src = Card {
         kind: 0,
         args: [1, 3, 0],
     };
-    let left: Call = Box::new(
-        alloc,
-        move |local: Local, last: Option<Token>| -> Answer
-            requires signed { IsSome (signature src) }
-            requires admitted { Admitted src local last }
-            ensures { result ≡ standard.answer src local last }
-        {
-            meet(at, &one.left, &one.right, &one.seen);
-            answer(src, local, last)
-        },
-    )?;
-    bodies.push(StandardBody::new(src, left))?;
     let snk = Card {
         kind: 1,
         args: [3, 0, 0],
     };
-    let right: Call = Box::new(
-        alloc,
-        move |local: Local, last: Option<Token>| -> Answer
-            requires signed { IsSome (signature snk) }
-            requires admitted { Admitted snk local last }
-            ensures { result ≡ standard.answer snk local last }
-        {
-            meet(at, &two.right, &two.left, &two.seen);
-            answer(snk, local, last)
-        },
-    )?;
-    bodies.push(StandardBody::new(snk, right))?;
+    let mut bodies = Vec::new(alloc);
+    bodies.push(left_body(alloc, src, at, Arc::try_clone(&calls)?)?)?;
+    bodies.push(right_body(alloc, snk, at, Arc::try_clone(&calls)?)?)?;
     run_counter(rt, alloc, bodies)?;
     assert_eq!(rt; calls.seen.load(Ordering::SeqCst), 2);
     Ok(())
