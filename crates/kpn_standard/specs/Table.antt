@@ -34,22 +34,22 @@ pub record Row : Type 0 where
   pub ins : List (Option Sort)
   pub outs : List (Option Sort)
 
-abbrev pub row : ℕ → List ℕ → ℕ → List (Option Sort) → List (Option Sort) → Row
-row number name arguments ins outs = record { number = number; name = name; arguments = arguments; ins = ins; outs = outs }
+abbrev pub tabled : ℕ → List ℕ → ℕ → List (Option Sort) → List (Option Sort) → Row
+tabled number name arguments ins outs = record { number = number; name = name; arguments = arguments; ins = ins; outs = outs }
 
 abbrev pub row_of : Kind → Row
-row_of Count = row 0 (codes "count") 2 no_port one_word
-row_of Sink = row 1 (codes "sink") 1 one_word no_port
-row_of Take = row 2 (codes "take") 1 one_word one_word
-row_of Copy = row 3 (codes "copy") 0 one_word two_words
-row_of Prefix = row 4 (codes "prefix") 1 one_word one_word
-row_of Add = row 5 (codes "add") 0 two_words one_word
-row_of Scale = row 6 (codes "scale") 1 one_word one_word
-row_of Weave = row 7 (codes "weave") 2 two_words one_word
-row_of Merge = row 8 (codes "merge") 0 two_words one_word
-row_of Divides = row 9 (codes "divides") 1 one_word one_flag
-row_of Switch = row 10 (codes "switch") 0 word_and_flag two_words
-row_of Select = row 11 (codes "select") 0 two_words_and_flag one_word
+row_of Count = tabled 0 (codes "count") 2 no_port one_word
+row_of Sink = tabled 1 (codes "sink") 1 one_word no_port
+row_of Take = tabled 2 (codes "take") 1 one_word one_word
+row_of Copy = tabled 3 (codes "copy") 0 one_word two_words
+row_of Prefix = tabled 4 (codes "prefix") 1 one_word one_word
+row_of Add = tabled 5 (codes "add") 0 two_words one_word
+row_of Scale = tabled 6 (codes "scale") 1 one_word one_word
+row_of Weave = tabled 7 (codes "weave") 2 two_words one_word
+row_of Merge = tabled 8 (codes "merge") 0 two_words one_word
+row_of Divides = tabled 9 (codes "divides") 1 one_word one_flag
+row_of Switch = tabled 10 (codes "switch") 0 word_and_flag two_words
+row_of Select = tabled 11 (codes "select") 0 two_words_and_flag one_word
 
 abbrev pub all_kinds : List Kind
 all_kinds = Count ∷ Sink ∷ Take ∷ Copy ∷ Prefix ∷ Add ∷ Scale ∷ Weave ∷ Merge ∷ Divides ∷ Switch ∷ Select ∷ []
