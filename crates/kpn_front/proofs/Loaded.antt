@@ -1,5 +1,5 @@
 -- What `Net::check` returns is what is loaded.
-use Rattle.std.proofs.Common.{◌≡◌, ◌≢◌, ℕ, Bool, true, false, cond, List, [], ◌∷◌, Option, Some, None, Result, Ok, Err, IfOk, IfErr, IfSome, refl}
+use Rattle.std.proofs.Common.{◌≡◌, ◌≢◌, ℕ, Bool, true, false, cond, List, [], ◌∷◌, Option, Some, None, Result, Ok, Err, IfOk, IfErr, IfSome, refl, ◌∙◌, inl}
 use Rattle.std.specs.List.{find}
 use Rattle.kpn_net.specs.declared.fault.NetFault.{NetFault}
 use Rattle.kpn_net.specs.declared.fault.NetFault.TheVariants.{NotToml, Keys, Version, Counts, Name, Kind, Args, NoEnd, Twice, Unused, Sorts, Capacity, Budget, Memory, Input, Tokens, Step}
@@ -10,7 +10,8 @@ use Rattle.kpn_net.specs.Description.{Describes}
 use Rattle.kpn_net.specs.Faults.{first_fault, has_fault}
 use Rattle.kpn_model.specs.Network.{Network}
 use Rattle.kpn_net.specs.Sketched.{net_of}
-use Rattle.kpn_front.specs.Loading.{Loads, IsWhole, IsLoadFault}
+use Rattle.kpn_front.specs.Loading.{Loads, IsWhole, IsLoadFault, IsTextOf}
+use Rattle.kpn_front.specs.declared.load.Refused.{Refused}
 
 -- if an item is found, first or later, it passes the test
 found_at : {A : Type 0} (p : A → Bool) (y x : A) (rest : Option A) (b : Bool) → p y ≡ b → (rest ≡ Some x → p x ≡ true) → cond b (Some y) rest ≡ Some x → p x ≡ true
@@ -48,15 +49,18 @@ module _ (named : List ℕ → Option (ℕ × ℕ)) (signature : Card → Option
   fault_from failed text sketch Step short d h = (short, (sketch, d, h (λ x. cc)))
 
   -- the result of `check`, if this is the whole text
-  loads_from : (failed : Bool) (text : List ℕ) (sketch : Sketch) (r : Result Network NetFault) → IsWhole named signature failed text → Describes text sketch
+  pub loads_from : (failed : Bool) (text : List ℕ) (sketch : Sketch) (r : Result Network NetFault) → IsWhole named signature failed text → Describes text sketch
       → IfOk r (λ n. (first_fault named signature sketch ≡ None) × (n ≡ net_of named sketch))
       → IfErr r (λ e. e ≢ Memory → first_fault named signature sketch ≡ Some e) → Loads named signature failed text r
   loads_from failed text sketch (Ok n) short d ok fault = (short, (sketch, d, ok.0, ok.1))
   loads_from failed text sketch (Err e) short d ok fault = fault_from failed text sketch e short d fault
 
-  -- the same, if the text is all that the source had
-  pub loads_known : (failed : Bool) (known : Option (List ℕ)) (text : List ℕ) (sketch : Sketch) (r : Result Network NetFault) → IfSome known (λ t. text ≡ t) → IsWhole named signature failed text → Describes text sketch
-      → IfOk r (λ n. (first_fault named signature sketch ≡ None) × (n ≡ net_of named sketch))
-      → IfErr r (λ e. e ≢ Memory → first_fault named signature sketch ≡ Some e) → IfSome known (λ t. Loads named signature failed t r)
-  loads_known failed None text sketch r same short d ok fault = tt
-  loads_known failed (Some t) text sketch r same short d ok fault = rw (← same) (loads_from failed text sketch r short d ok fault)
+  -- what a text describes is loaded of the source that had it, if no read failed
+  pub loads_known : (failed : Bool) (known : Option (List ℕ)) (text : List ℕ) (r : Result Network NetFault) → IfSome known (λ t. text ≡ t) → failed ≡ false → Loads named signature false text r → IfSome known (λ t. Loads named signature failed t r)
+  loads_known failed None text r same e h = tt
+  loads_known failed (Some t) text r same e h = rw (← same, e) h
+
+-- the text that is handed back is all that the source had
+pub text_known : (known : Option (List ℕ)) (text : List ℕ) (refused : Refused) → IfSome known (λ t. text ≡ t) → refused.text.items ≡ text → IfSome known (λ t. IsTextOf t refused)
+text_known None text refused same e = tt
+text_known (Some t) text refused same e = inl (e ∙ same)

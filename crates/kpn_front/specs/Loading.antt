@@ -1,8 +1,9 @@
 -- What is loaded from a source of bytes.
-use Rattle.std.specs.Prelude.{◌≡◌, ◌⊎◌, ◌≤◌, ◌<◌, ℕ, Bool, true, false, List, length, Option, Some, None, Result, MatchResult}
+use Rattle.std.specs.Prelude.{◌≡◌, ◌⊎◌, ◌≤◌, ◌<◌, ℕ, Bool, true, false, List, [], length, Option, Some, None, Result, Ok, Err, MatchResult}
 use Rattle.std.specs.Io.KnownBytes.{Consumes}
 use Rattle.kpn_net.specs.declared.fault.NetFault.{NetFault}
 use Rattle.kpn_net.specs.declared.fault.NetFault.TheVariants.{NotToml, Keys, Memory, Input}
+use Rattle.kpn_front.specs.declared.load.Refused.{Refused}
 use Rattle.kpn_model.specs.declared.kinds.Card.{Card}
 use Rattle.kpn_model.specs.declared.kinds.Signature.{Signature}
 use Rattle.kpn_net.specs.declared.sketch.Sketch.{Sketch}
@@ -19,6 +20,15 @@ longest = LONGEST_TEXT
 -- if the bytes that the source had left are known, at most n of them have been consumed
 abbrev pub ReadsAtMost : ℕ → Option (List ℕ) → Option (List ℕ) → Type 0
 ReadsAtMost n old new = (bytes : List ℕ) × Consumes old new bytes × (length bytes ≤ n)
+
+-- the fault of a refused description, without its text
+abbrev pub without_text : Result Network Refused → Result Network NetFault
+without_text (Ok net) = Ok net
+without_text (Err refused) = Err refused.fault
+
+-- the text that is handed back is all that there was, or nothing if it was not read to its end
+abbrev pub IsTextOf : List ℕ → Refused → Type 0
+IsTextOf text refused = (refused.text.items ≡ text) ⊎ ((refused.text.items ≡ []) × ((refused.fault ≡ Input) ⊎ (refused.fault ≡ Memory)))
 
 module _ (named : List ℕ → Option (ℕ × ℕ)) (signature : Card → Option Signature) (failed : Bool) (text : List ℕ) where
   -- no read failed, and the text is no longer than a description may be

@@ -1,6 +1,6 @@
 //! Reading a network from a source.
 ghost use Rattle.std.specs.Prelude.{◌≡◌, ◌≢◌, false, ◌≤◌, ◌<◌, ◌+◌, ◌⊎◌, true, IfOk, IfErr, IfSome, length};
-ghost use Rattle.kpn_front.specs.Loading.{Loads, ReadsAtMost, longest};
+ghost use Rattle.kpn_front.specs.Loading.{Loads, ReadsAtMost, longest, without_text, IsTextOf};
 
 use crate::streams::Source;
 use kpn_model::limits::LONGEST_TEXT;
@@ -9,6 +9,14 @@ use std::alloc::Global;
 
 /// How many bytes one turn reads at most.
 const CHUNK: usize = 4096;
+
+/// A description of which no network was made: the fault, and the text that has it. The text is empty
+/// if it was not read to its end, since the fault is `Input` or memory was refused.
+#[derive(Drop)]
+pub struct Refused {
+    pub fault: NetFault,
+    pub text: Vec<u8>,
+}
 
 /// Reads a description to its end, and makes its network. Reads at most 1,048,577 bytes.
 ///
@@ -21,8 +29,39 @@ pub fn load<K: Kinds, S: Source>(alloc: Global, source: &mut S) -> Result<Net<K>
     ensures steady { S.is_steady source.old ≡ true → S.has_failed source.new ≡ S.has_failed source.old }
     ensures taken { ReadsAtMost (longest + 1) (S.remaining source.old) (S.remaining source.new) }
 {
-    let text = read_text(alloc, source)?;
-    let sketch = read_sketch(alloc, text.as_slice())?;
+    load_or_refuse(alloc, source).map_err(|refused| refused.fault)
+}
+
+/// The same as `load`, but it hands back the text of a refused description beside the fault.
+pub fn load_or_refuse<K: Kinds, S: Source>(
+    alloc: Global,
+    source: &mut S,
+) -> Result<Net<K>, Refused>
+    ensures loads { S.has_failed source.old ≡ false → IfSome (S.remaining source.old) (λ text. Loads K.named K.signature_of (S.has_failed source.new) text (without_text result)) }
+    ensures text { IfSome (S.remaining source.old) (λ text. IfErr result (IsTextOf text)) }
+    ensures failed { S.has_failed source.old ≡ false → S.has_failed source.new ≡ true → without_text result ≡ Err NetFault.Input }
+    ensures steady { S.is_steady source.old ≡ true → S.has_failed source.new ≡ S.has_failed source.old }
+    ensures taken { ReadsAtMost (longest + 1) (S.remaining source.old) (S.remaining source.new) }
+{
+    let text = match read_text(alloc, source) {
+        Ok(text) => text,
+        Err(fault) => {
+            let text = Vec::new(alloc);
+            return Err(Refused { fault, text });
+        }
+    };
+    match net_of_text(alloc, text.as_slice()) {
+        Ok(net) => Ok(net),
+        Err(fault) => Err(Refused { fault, text }),
+    }
+}
+
+/// The network that a text describes.
+fn net_of_text<K: Kinds>(alloc: Global, text: &[u8]) -> Result<Net<K>, NetFault>
+    requires { length text.now ≤ longest }
+    ensures { Loads K.named K.signature_of false text.now result }
+{
+    let sketch = read_sketch(alloc, text)?;
     Net::check(alloc, &sketch)
 }
 
