@@ -28,8 +28,45 @@ Exit status:
   8  a worker's answer was refused, and the run was given up
 ";
 
-/// Where the subcommands find the description.
-const INPUT: &str = "The description is TOML, read from standard input.";
+/// Where the subcommands find the description, and how one is written.
+const INPUT: &str = "\
+The description is TOML, read from standard input. Its keys, and in brackets what holds if one is absent:
+  version         1 or 2
+  budget          how many entries a run may have [10000]
+  step            how much a growth adds to a capacity, in version 2 [1]
+  [[process]]
+    name, kind    texts; a name has 1 to 16 of a to z, 0 to 9 and _, the first a letter
+    args          the arguments of the kind, integers [none]
+  [[channel]]
+    name          as of a process
+    from, to      the names of two processes
+    out, in       the port of from and of to [0]
+    sort          \"words\" or \"flags\" [\"words\"]
+    capacity      how many tokens it may hold [1]
+    tokens        what it holds at first, in version 2 [nothing]
+
+Kinds of processes, with their arguments and their ports, inputs -> outputs (w a word, f a flag):
+  count FROM N    -> w        writes FROM, FROM + 1, .. (N words), then stops
+  sink N          w ->        reads N words, then stops
+  take N          w -> w      copies N words, then stops
+  copy            w -> w w    writes each word to both outputs
+  prefix V        w -> w      writes V, then copies
+  add             w w -> w    writes the sums
+  scale K         w -> w      writes the products by K
+  weave A B       w w -> w    copies A words of input 0, then B of input 1, and so on
+  merge           w w -> w    makes one stream in order of two, equal words once
+  divides M       w -> f      writes whether M divides the word
+  switch          w f -> w w  writes to output 1 if the flag is true, else to output 0
+  select          w w f -> w  reads input 1 if the flag is true, else input 0
+
+Example:
+  version = 1
+  process = [
+    { name = \"src\", kind = \"count\", args = [1, 3] },
+    { name = \"snk\", kind = \"sink\", args = [3] },
+  ]
+  channel = [{ name = \"c0\", from = \"src\", to = \"snk\" }]
+";
 
 /// What the arguments ask for.
 #[derive(Debug, Drop)]
