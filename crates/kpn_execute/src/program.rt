@@ -3,26 +3,37 @@ ghost use Rattle.std.specs.Prelude.{◌≡◌, ◌+◌, IfOk, IfErr, OnErr, map}
 ghost use Rattle.kpn_args.specs.Choices.{HasFewWorkers, IsChoice, IsWordsFault};
 ghost use Rattle.kpn_front.specs.Loading.{ReadsAtMost, longest};
 ghost use Rattle.kpn_args.specs.declared.words.Choice.{Choice as ChoiceV};
-ghost use Rattle.kpn_execute.specs.Program.{Serves};
+ghost use Rattle.kpn_execute.specs.Execution.{Writes};
+ghost use Rattle.kpn_execute.specs.Program.{Serves, TellsOf};
 
 use crate::standard::execute_standard;
 use kpn_args::{Choice, WordsFault, read_words};
 use kpn_body::Standard;
 use kpn_front::Status;
-use kpn_front::load::load;
+use kpn_front::load::load_or_refuse;
 use kpn_front::say::{say_checked, say_refused};
 use kpn_front::streams::{Sink, Source};
+use kpn_message::message_of;
 use kpn_net::{Net, NetFault};
 use std::alloc::Global;
 use std::rt::Clock;
 use std::sync::Wait;
 use std::thread::Threads;
 
-/// The outcome of a choice: the exit status, and the fault of the description if it was refused.
+/// The names of the standard kinds, as a message lists them.
+const KINDS: &str =
+    "add, copy, count, divides, merge, prefix, scale, select, sink, switch, take and weave";
+
+/// The outcome of a choice: the exit status, and if the description was refused its fault, and what is
+/// wrong with it and where.
+///
+/// No contract says what the message is. There is none if the fault says all (`Memory` and `Input`), or
+/// if memory for the message was refused.
 #[derive(Drop)]
 pub struct Served {
     pub status: Status,
     pub fault: Option<NetFault>,
+    pub message: Option<String>,
 }
 
 /// Does what the arguments ask for; the first of them is the program's name. It reads a description
@@ -62,21 +73,36 @@ fn serve_choice<I: Source, O: Sink, R: Wait + Clock + Threads + Sync>(
     ensures served { Serves choice.entry (I.remaining source.old) (I.has_failed source.old) (I.has_failed source.new) (O.takes sink.old) (O.contents sink.old) (O.contents sink.new) result.status result.fault }
     ensures taken { ReadsAtMost (longest + 1) (I.remaining source.old) (I.remaining source.new) }
 {
-    let net: Net<Standard> = match load(alloc, source) {
+    let net: Net<Standard> = match load_or_refuse(alloc, source) {
         Ok(net) => net,
-        Err(fault) => {
+        Err(refused) => {
             return Served {
-                status: say_refused(&fault, sink),
-                fault: Some(fault),
+                status: say_refused(&refused.fault, sink),
+                fault: Some(refused.fault),
+                message: message_of::<Standard>(alloc, refused.text.as_slice(), refused.fault, KINDS),
             };
         }
     };
-    let status = match choice {
+    Served {
+        status: serve_net(rt, alloc, choice, net, sink),
+        fault: None,
+        message: None,
+    }
+}
+
+/// Writes what was chosen of a network that was loaded.
+fn serve_net<O: Sink, R: Wait + Clock + Threads + Sync>(
+    rt: &R,
+    alloc: Global,
+    choice: Choice<'_>,
+    net: Net<Standard>,
+    sink: &mut O,
+) -> Status
+    requires workers { HasFewWorkers choice }
+    ensures { Writes (TellsOf choice.entry net) (O.takes sink.old) (O.contents sink.old) (O.contents sink.new) result }
+{
+    match choice {
         Choice::Check => say_checked(&net, sink),
         Choice::Run { workers, show } => execute_standard(rt, alloc, net, workers, show, sink),
-    };
-    Served {
-        status,
-        fault: None,
     }
 }

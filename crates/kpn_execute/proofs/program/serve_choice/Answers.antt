@@ -1,26 +1,18 @@
--- What is written of the network that was loaded depends on the choice.
-use Rattle.std.proofs.Common.{Ok, refl}
-use Rattle.kpn_front.specs.declared.status.Status.TheVariants.{Success}
-use Rattle.kpn_front.specs.Lines.{checked_line}
+-- What is loaded is a network, of which what was chosen is written, or a fault.
+use Rattle.std.proofs.Common.{Ok, Err, refl}
+use Rattle.kpn_front.specs.Lines.{refused_line, status_of_fault}
 use Rattle.kpn_execute.proofs.program.serve_choice.Goals as goal
 
-pub returns-in-Check-clause-served : goal.returns-in-Check-clause-served
-returns-in-Check-clause-served g c =
-    rw c.in-Check.is (record {
-      loaded = Ok c.in-Ok.net;
-      loads = c.in-Ok.ensures.loads;
-      failed = c.in-Ok.ensures.failed;
+pub returns-in-Err-clause-served : goal.returns-in-Err-clause-served
+returns-in-Err-clause-served g c =
+    let fault = c.in-Err.refused.fault in
+    record {
+      loaded = Err fault;
+      loads = c.in-Err.ensures.loads;
+      failed = c.in-Err.ensures.failed;
       fault_is = refl;
-      writes = record { status = Success; text = checked_line c.in-Ok.net; told = (refl, refl); written = c.say_checked-status.ensures.said; room = c.say_checked-status.ensures.room };
-    })
+      writes = record { status = status_of_fault fault; text = refused_line fault; told = (refl, refl); written = c.say_refused.ensures.said; room = c.say_refused.ensures.room };
+    }
 
-pub returns-in-Run-clause-served : goal.returns-in-Run-clause-served
-returns-in-Run-clause-served g c =
-    let t = c.execute_standard-status.ensures in
-    rw c.in-Run.is (record {
-      loaded = Ok c.in-Ok.net;
-      loads = c.in-Ok.ensures.loads;
-      failed = c.in-Ok.ensures.failed;
-      fault_is = refl;
-      writes = record { status = t.status; text = t.text; told = t.told; written = t.written; room = t.room };
-    })
+pub returns-clause-served : goal.returns-clause-served
+returns-clause-served g c = record { loaded = Ok c.in-Ok.net; loads = c.in-Ok.ensures.loads; failed = c.in-Ok.ensures.failed; fault_is = refl; writes = c.serve_net.ensures }
