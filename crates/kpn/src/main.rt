@@ -2,7 +2,7 @@
 #![tactic(auto)]
 
 use kpn_args::WordsFault;
-use kpn_execute::serve;
+use kpn_execute::{Served, serve};
 use kpn_front::Status;
 use kpn_front::streams::Fallible;
 use std::process::ExitCode;
@@ -29,13 +29,20 @@ fn status_of<R: Env + Input + Print + Eprint + AllocGlobal + Wait + Clock + Thre
     let mut sink = Fallible::new(io::writer(rt));
     match serve(rt, rt.alloc(), texts.as_slice(), &mut source, &mut sink) {
         Ok(served) => {
-            if let Some(fault) = served.fault {
-                let _ = eprintln!(rt; "kpn: {fault}");
-            }
+            say_why(rt, &served);
             served.status
         }
         Err(fault) => say_words_refused(rt, &fault),
     }
+}
+
+/// Says on standard error why a description was refused.
+fn say_why<R: Eprint>(rt: &R, served: &Served) {
+    let _ = match (&served.message, served.fault) {
+        (Some(message), _) => eprintln!(rt; "kpn: {message}"),
+        (None, Some(fault)) => eprintln!(rt; "kpn: {fault}"),
+        (None, None) => Ok(()),
+    };
 }
 
 /// Says that the arguments could not be collected, since memory was refused.

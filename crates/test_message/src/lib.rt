@@ -1,0 +1,5 @@
+//! The message of each fault, compared with texts that were written by hand.
+#![tactic(auto)]
+
+#[cfg(test)]
+mod tests;

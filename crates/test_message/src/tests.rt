@@ -1,0 +1,407 @@
+//! Edits of a description, each with the number of its fault and its message.
+use kpn_message::message_of;
+use kpn_net::{Net, NetFault, read_sketch};
+use kpn_standard::Standard;
+use std::alloc::Global;
+use std::test::Fail;
+
+const KINDS: &str = "count and sink";
+
+/// A counter, a copier and two sinks.
+const TEXT: &str = "version = 2
+budget = 100
+
+[[process]]
+name = \"src\"
+kind = \"count\"
+args = [1, 3]
+
+[[process]]
+name = \"two\"
+kind = \"copy\"
+
+[[process]]
+name = \"s0\"
+kind = \"sink\"
+args = [3]
+
+[[process]]
+name = \"s1\"
+kind = \"sink\"
+args = [3]
+
+[[channel]]
+name = \"c0\"
+from = \"src\"
+to = \"two\"
+
+[[channel]]
+name = \"c1\"
+from = \"two\"
+to = \"s0\"
+capacity = 7
+
+[[channel]]
+name = \"c2\"
+from = \"two\"
+out = 1
+to = \"s1\"
+tokens = []
+";
+
+/// What stands in the text, what stands there in its place, the number of the fault and the message.
+static EDITS: [(&str, &str, u8, &str); 42] = [
+    (
+        "version = 2",
+        "version = ",
+        1,
+        "line 1, column 11: invalid value, expected a string, number, boolean, date-time, array or inline table",
+    ),
+    (
+        "budget = 100",
+        "budgets = 100",
+        2,
+        "key \"budgets\" is unknown; the keys are version, budget, process, channel, step",
+    ),
+    ("version = 2\n", "", 2, "key \"version\" is missing"),
+    (
+        "version = 2",
+        "version = \"2\"",
+        2,
+        "key \"version\" must be an integer",
+    ),
+    (
+        "version = 2",
+        "version = 1",
+        2,
+        "channel[2]: key \"tokens\" is unknown; the keys are name, from, to, out, in, sort, capacity",
+    ),
+    (
+        "version = 2",
+        "version = 1\nstep = 2",
+        2,
+        "key \"step\" is unknown; the keys are version, budget, process, channel",
+    ),
+    (
+        "kind = \"copy\"",
+        "knd = \"copy\"",
+        2,
+        "process[1]: key \"knd\" is unknown; the keys are name, kind, args",
+    ),
+    (
+        "kind = \"copy\"",
+        "",
+        2,
+        "process[1]: key \"kind\" is missing",
+    ),
+    (
+        "kind = \"copy\"",
+        "kind = 4",
+        2,
+        "process[1]: key \"kind\" must be a text",
+    ),
+    (
+        "args = [1, 3]",
+        "args = 3",
+        2,
+        "process[0]: key \"args\" must be an array of integers",
+    ),
+    (
+        "args = [1, 3]",
+        "args = [1, 3.5]",
+        2,
+        "process[0]: key \"args\" must be an array of integers",
+    ),
+    (
+        "capacity = 7",
+        "sort = \"bytes\"",
+        2,
+        "channel[1]: key \"sort\" must be \"words\" or \"flags\"",
+    ),
+    (
+        "tokens = []",
+        "tokens = [\"1\"]",
+        2,
+        "channel[2]: key \"tokens\" must be an array of integers and booleans",
+    ),
+    ("to = \"two\"\n", "", 2, "channel[0]: key \"to\" is missing"),
+    (
+        "version = 2",
+        "version = 3",
+        2,
+        "channel[2]: key \"tokens\" is unknown; the keys are name, from, to, out, in, sort, capacity",
+    ),
+    (
+        "name = \"src\"",
+        "name = \"Src\"",
+        5,
+        "process \"Src\": a name has 1 to 16 of a to z, 0 to 9 and _, and begins with a letter",
+    ),
+    (
+        "name = \"src\"",
+        "name = \"a\\n\\\"b\"",
+        5,
+        "process \"a\\n\\\"b\": a name has 1 to 16 of a to z, 0 to 9 and _, and begins with a letter",
+    ),
+    (
+        "name = \"src\"",
+        "name = \"a2345678901234567890123456789012345678901\"",
+        5,
+        "process \"a234567890123456789012345678901234567890..\": a name has 1 to 16 of a to z, 0 to 9 and _, and begins with a letter",
+    ),
+    (
+        "name = \"s1\"",
+        "name = \"s0\"",
+        5,
+        "process \"s0\": an earlier process has this name",
+    ),
+    (
+        "name = \"c2\"",
+        "name = \"2\"",
+        5,
+        "channel \"2\": a name has 1 to 16 of a to z, 0 to 9 and _, and begins with a letter",
+    ),
+    (
+        "name = \"c2\"",
+        "name = \"c0\"",
+        5,
+        "channel \"c0\": an earlier channel has this name",
+    ),
+    (
+        "kind = \"count\"",
+        "kind = \"cuont\"",
+        6,
+        "process \"src\": kind \"cuont\" is unknown; the kinds are count and sink",
+    ),
+    (
+        "args = [1, 3]",
+        "args = [1]",
+        7,
+        "process \"src\": args has length 1; kind \"count\" takes 2",
+    ),
+    (
+        "args = [1, 3]",
+        "args = [1, -3]",
+        7,
+        "process \"src\": args[1] is -3; it must not be negative",
+    ),
+    (
+        "kind = \"copy\"",
+        "kind = \"weave\"\nargs = [0, 1]",
+        7,
+        "process \"two\": kind \"weave\" does not take args [0, 1]",
+    ),
+    (
+        "from = \"src\"",
+        "from = \"scr\"",
+        8,
+        "channel \"c0\": from \"scr\"; no process has this name",
+    ),
+    (
+        "to = \"s1\"",
+        "to = \"s2\"",
+        8,
+        "channel \"c2\": to \"s2\"; no process has this name",
+    ),
+    (
+        "out = 1",
+        "out = 2",
+        8,
+        "channel \"c2\": process \"two\" has no output 2",
+    ),
+    (
+        "capacity = 7",
+        "in = -1",
+        8,
+        "channel \"c1\": process \"s0\" has no input -1",
+    ),
+    (
+        "out = 1",
+        "out = 0",
+        9,
+        "channel \"c2\": output 0 of process \"two\" is the end of channel \"c1\" already",
+    ),
+    (
+        "to = \"s1\"",
+        "to = \"s0\"",
+        9,
+        "channel \"c2\": input 0 of process \"s0\" is the end of channel \"c1\" already",
+    ),
+    (
+        "kind = \"copy\"",
+        "kind = \"switch\"",
+        10,
+        "process \"two\": input 1 is the end of no channel",
+    ),
+    (
+        "kind = \"count\"\nargs = [1, 3]",
+        "kind = \"copy\"",
+        10,
+        "process \"src\": input 0 is the end of no channel",
+    ),
+    (
+        "[[channel]]\nname = \"c1\"\nfrom = \"two\"\nto = \"s0\"\ncapacity = 7\n",
+        "",
+        10,
+        "process \"two\": output 0 is the end of no channel",
+    ),
+    (
+        "capacity = 7",
+        "sort = \"flags\"",
+        11,
+        "channel \"c1\": sort flags; output 0 of process \"two\" is of words",
+    ),
+    (
+        "capacity = 7",
+        "capacity = 1000001",
+        12,
+        "channel \"c1\": capacity 1000001; it must be 1 to 1000000",
+    ),
+    (
+        "capacity = 7",
+        "capacity = 0",
+        12,
+        "channel \"c1\": capacity 0; it must be 1 to 1000000",
+    ),
+    (
+        "budget = 100",
+        "budget = 0",
+        13,
+        "budget 0; it must be 1 to 2000000",
+    ),
+    (
+        "tokens = []",
+        "tokens = [1, 2]",
+        16,
+        "channel \"c2\": tokens has length 2; the capacity is 1",
+    ),
+    (
+        "tokens = []",
+        "tokens = [true]",
+        16,
+        "channel \"c2\": tokens[0] is no integer; the sort is words",
+    ),
+    (
+        "tokens = []",
+        "tokens = [-1]",
+        16,
+        "channel \"c2\": tokens[0] is -1; a word is not negative",
+    ),
+    (
+        "budget = 100",
+        "step = 1025",
+        17,
+        "step 1025; it must be 1 to 1024",
+    ),
+];
+
+/// Whole texts of version 1, and of no network.
+static TEXTS: [(&[u8], u8, &str); 11] = [
+    (b"\xff", 1, "line 1, column 1: invalid UTF-8"),
+    (
+        b"version = 1\n[[process]\n",
+        1,
+        "line 2, column 11: unclosed array table, expected `]]`",
+    ),
+    (b"", 2, "key \"version\" is missing"),
+    (b"version = 1\n", 2, "key \"process\" is missing"),
+    (
+        b"version = 1\nprocess = 3\n",
+        2,
+        "key \"process\" must be an array of tables",
+    ),
+    (
+        b"version = 1\nprocess = [1]\n",
+        2,
+        "process[0]: it must be a table",
+    ),
+    (
+        b"version = 0\nprocess = []\n",
+        3,
+        "version 0; it must be 1 or 2",
+    ),
+    (
+        b"version = 1\nprocess = []\n",
+        4,
+        "0 processes; there must be 1 to 64",
+    ),
+    (
+        b"version = 1\nbudget = 1000001\n[[process]]\nname = \"a\"\nkind = \"copy\"\n[[channel]]\nname = \"c\"\nfrom = \"a\"\nto = \"a\"\ncapacity = 65536\n[[channel]]\nname = \"d\"\nfrom = \"a\"\nout = 1\nto = \"a\"\n",
+        9,
+        "channel \"d\": input 0 of process \"a\" is the end of channel \"c\" already",
+    ),
+    (
+        b"version = 1\nprocess = [{ name = \"a\", kind = \"count\", args = [1, 3] }, { name = \"d\", kind = \"divides\", args = [2] }, { name = \"s\", kind = \"sink\", args = [3] }]\nchannel = [{ name = \"x\", from = \"a\", to = \"d\" }, { name = \"y\", from = \"d\", to = \"s\", sort = \"flags\" }]\n",
+        11,
+        "channel \"y\": sort flags; input 0 of process \"s\" is of words",
+    ),
+    (
+        b"version = 2\nprocess = [{ name = \"a\", kind = \"count\", args = [1, 3] }, { name = \"b\", kind = \"count\", args = [1, 3] }, { name = \"d\", kind = \"divides\", args = [2] }, { name = \"w\", kind = \"switch\" }, { name = \"s\", kind = \"sink\", args = [3] }, { name = \"t\", kind = \"sink\", args = [3] }]\nchannel = [{ name = \"x\", from = \"a\", to = \"d\" }, { name = \"y\", from = \"b\", to = \"w\" }, { name = \"f\", from = \"d\", to = \"w\", in = 1, sort = \"flags\", tokens = [true, 1], capacity = 2 }, { name = \"u\", from = \"w\", to = \"s\" }, { name = \"v\", from = \"w\", out = 1, to = \"t\" }]\n",
+        16,
+        "channel \"f\": tokens[1] is no boolean; the sort is flags",
+    ),
+];
+
+/// The fault of a text, and its message.
+fn told(alloc: Global, text: &[u8]) -> (u8, Option<String>) {
+    let fault = match read_sketch(alloc, text) {
+        Ok(sketch) => match Net::<Standard>::check(alloc, &sketch) {
+            Ok(_) => return (0, None),
+            Err(fault) => fault,
+        },
+        Err(fault) => fault,
+    };
+    (
+        fault.number(),
+        message_of::<Standard>(alloc, text, fault, KINDS),
+    )
+}
+
+/// Whether a text is refused by this number, and with this message.
+fn is_told(alloc: Global, text: &[u8], number: u8, message: &str) -> bool {
+    match told(alloc, text) {
+        (found, Some(told)) => found == number && told.as_str() == message,
+        _ => false,
+    }
+}
+
+#[test]
+fn each_edit_has_its_message(rt: HostRuntime) -> Result<(), Fail> {
+    for (old, new, number, message) in EDITS {
+        let text = TEXT.replace(rt.alloc(), old, new)?;
+        assert!(rt;
+            is_told(rt.alloc(), text.as_bytes(), number, message),
+            "{new}"
+        );
+    }
+    Ok(())
+}
+
+#[test]
+fn each_text_has_its_message(rt: HostRuntime) -> Result<(), Fail> {
+    for (text, number, message) in TEXTS {
+        assert!(rt; is_told(rt.alloc(), text, number, message), "{message}");
+    }
+    Ok(())
+}
+
+/// The faults that have no message, with the numbers and the lines of these.
+static PLAIN: [(NetFault, u8, &str); 2] = [
+    (NetFault::Memory, 14, "memory was refused"),
+    (
+        NetFault::Input,
+        15,
+        "the input could not be read, or is longer than 1048576 bytes",
+    ),
+];
+
+#[test]
+fn two_faults_have_a_plain_line(rt: HostRuntime) -> Result<(), Fail> {
+    for (fault, number, line) in PLAIN {
+        let message = message_of::<Standard>(rt.alloc(), TEXT.as_bytes(), fault, KINDS);
+        assert!(rt; message.is_none());
+        assert_eq!(rt; fault.number(), number);
+        assert_eq!(rt; format!(in rt.alloc(); "{fault}")?.as_str(), line);
+    }
+    Ok(())
+}
