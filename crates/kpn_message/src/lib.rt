@@ -4,8 +4,10 @@
 
 mod channels;
 mod keys;
+pub mod location;
 mod message;
 mod processes;
 mod quoted;
 
+pub use location::{Location, locate};
 pub use message::message_of;

@@ -1,10 +1,11 @@
 //! The message of a refused description.
 use crate::channels::push_channel;
 use crate::keys::push_misfit;
+use crate::location::{Location, locate};
 use crate::processes::push_process;
 use kpn_model::limits::{GREATEST_STEP, MOST_CHANNELS, MOST_PROCESSES};
 use kpn_net::version::greatest_budget_in;
-use kpn_net::{Kinds, Location, NetFault, Sketch, locate, read_sketch};
+use kpn_net::{Kinds, NetFault, Sketch, read_sketch};
 use std::alloc::{AllocError, Global};
 use std::fmt::Write;
 

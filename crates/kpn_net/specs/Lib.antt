@@ -5,4 +5,3 @@ pub mod Description
 pub mod Faults
 pub mod Sketched
 pub mod Ports
-pub mod Location

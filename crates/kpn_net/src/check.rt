@@ -55,18 +55,21 @@ pub fn is_name(text: &str) -> bool
 }
 
 /// A relation that no two items of a list may have.
-pub(crate) trait Clash<T> {
+pub trait Clash<T> {
     ghost clash: { T → T → Bool };
 
     fn clash(x: &T, y: &T) -> bool
         ensures { result ≡ clash x.now y.now };
 }
 
-pub(crate) struct SameName;
+/// Two processes, or two channels, of one name.
+pub struct SameName;
 
-pub(crate) struct SameOut;
+/// Two channels from one port.
+pub struct SameOut;
 
-pub(crate) struct SameIn;
+/// Two channels to one port.
+pub struct SameIn;
 
 impl Clash<ProcessSketch> for SameName {
     ghost clash = { same_process };
@@ -164,7 +167,8 @@ pub fn signature_of<K: Kinds>(process: &ProcessSketch) -> Option<Signature>
     K::signature(&card_with(kind, process.args.as_slice()))
 }
 
-pub(crate) fn has_unknown_kind<K: Kinds>(process: &ProcessSketch) -> bool
+/// Whether the family has no kind of the name that the process gives.
+pub fn has_unknown_kind<K: Kinds>(process: &ProcessSketch) -> bool
     ensures { result ≡ has_unknown_kind K.named K.signature_of process.now }
 {
     K::named(process.kind.as_str()).is_none()
@@ -179,7 +183,9 @@ pub fn takes_other_count<K: Kinds>(process: &ProcessSketch) -> bool
     }
 }
 
-pub(crate) fn has_wrong_args<K: Kinds>(process: &ProcessSketch) -> bool
+/// Whether the kind takes another number of arguments, or more than three, or refuses these: one is
+/// below 0, or no process of the kind has them.
+pub fn has_wrong_args<K: Kinds>(process: &ProcessSketch) -> bool
     ensures { result ≡ has_wrong_args K.named K.signature_of process.now }
 {
     let args = process.args.as_slice();
@@ -258,7 +264,8 @@ fn is_unused<K: Kinds>(sketch: &Sketch, name: &str, signature: &Signature, port:
         || is_unused_in::<K>(sketch, name, signature, port)
 }
 
-pub(crate) fn has_unused_port<K: Kinds>(sketch: &Sketch, process: &ProcessSketch) -> bool
+/// Whether no channel leads from or to a port of the process.
+pub fn has_unused_port<K: Kinds>(sketch: &Sketch, process: &ProcessSketch) -> bool
     ensures { result ≡ has_unused_port K.named K.signature_of sketch.now process.now }
 {
     match signature_of::<K>(process) {
@@ -329,8 +336,8 @@ fn has_process_with_wrong_args<K: Kinds>(sketch: &Sketch) -> bool
         .any(|p| has_wrong_args::<K>(p))
 }
 
-/// Whether a channel begins or ends at no port.
-pub(crate) fn lacks_end<K: Kinds>(sketch: &Sketch, channel: &ChannelSketch) -> bool
+/// Whether the channel begins or ends at no port: of no process of that name, or of none that has it.
+pub fn lacks_end<K: Kinds>(sketch: &Sketch, channel: &ChannelSketch) -> bool
     ensures { result ≡ (is_none (sketched_out_sort K.named K.signature_of sketch.now channel.now) || is_none (sketched_in_sort K.named K.signature_of sketch.now channel.now)) }
 {
     out_sort::<K>(sketch, channel).is_none() || in_sort::<K>(sketch, channel).is_none()
@@ -363,7 +370,8 @@ fn has_unused_ports<K: Kinds>(sketch: &Sketch) -> bool
         .any(|p| has_unused_port::<K>(sketch, p))
 }
 
-pub(crate) fn has_wrong_sort<K: Kinds>(sketch: &Sketch, channel: &ChannelSketch) -> bool
+/// Whether a port at an end of the channel is of another sort than the channel, or is missing.
+pub fn has_wrong_sort<K: Kinds>(sketch: &Sketch, channel: &ChannelSketch) -> bool
     ensures { result ≡ (not (is_sort channel.now.sort (sketched_out_sort K.named K.signature_of sketch.now channel.now)) || not (is_sort channel.now.sort (sketched_in_sort K.named K.signature_of sketch.now channel.now))) }
 {
     !is_sort(channel.sort, out_sort::<K>(sketch, channel))
@@ -380,7 +388,8 @@ fn has_wrong_sorts<K: Kinds>(sketch: &Sketch) -> bool
         .any(|c| has_wrong_sort::<K>(sketch, c))
 }
 
-pub(crate) fn has_wrong_capacity(version: i64, channel: &ChannelSketch) -> bool
+/// Whether the capacity is outside of 1 to the ceiling of the version.
+pub fn has_wrong_capacity(version: i64, channel: &ChannelSketch) -> bool
     ensures { result ≡ is_outside (pos 1) (pos (ceiling_in version)) channel.now.capacity }
 {
     is_outside(1, i64::from(ceiling_in(version)), channel.capacity)
@@ -428,7 +437,8 @@ fn is_below(capacity: i64, count: usize) -> bool
     }
 }
 
-pub(crate) fn has_wrong_tokens(channel: &ChannelSketch) -> bool
+/// Whether a start token is not of the sort of the channel, or there are more than its capacity.
+pub fn has_wrong_tokens(channel: &ChannelSketch) -> bool
     ensures { result ≡ has_wrong_tokens channel.now }
 {
     let tokens = channel.tokens.as_slice();

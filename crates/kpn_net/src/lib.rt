@@ -5,7 +5,6 @@
 pub mod check;
 pub mod fault;
 mod form;
-pub mod location;
 pub mod net;
 mod ports;
 pub mod read;
@@ -17,7 +16,6 @@ pub use kpn_model::{
     Act, Answer, Card, Channel, Deed, End, Ends, Entry, Kinds, Listed, Local, Place, Process,
     Signature, Sort, Status, Text, Token,
 };
-pub use location::{Location, locate};
 pub use net::Net;
 pub use read::read_sketch;
 pub use sketch::{ChannelSketch, ProcessSketch, Sketch, TokenSketch};

@@ -7,8 +7,8 @@ use Rattle.kpn_net.specs.declared.fault.NetFault.TheVariants.{Version, Counts, N
 use Rattle.kpn_model.specs.declared.kinds.Card.{Card}
 use Rattle.kpn_model.specs.declared.kinds.Signature.{Signature}
 use Rattle.kpn_net.specs.declared.sketch.Sketch.{Sketch}
-use Rattle.kpn_net.specs.declared.location.Location.{Location}
-use Rattle.kpn_net.specs.declared.location.Location.TheVariants.{Description, Process, Channel}
+use Rattle.kpn_message.specs.declared.location.Location.{Location}
+use Rattle.kpn_message.specs.declared.location.Location.TheVariants.{Description, Process, Channel}
 use Rattle.kpn_model.specs.Name.{is_name}
 use Rattle.kpn_net.specs.Version.{ceiling_in}
 use Rattle.kpn_net.specs.Faults.{is_outside, same_process, same_channel, same_out, same_in, is_sort, has_wrong_tokens, has_unknown_kind, has_wrong_args, has_unused_port, sketched_out_sort, sketched_in_sort, has_fault}

@@ -1,15 +1,13 @@
 //! Where a fault of a sketch is.
 ghost use Rattle.std.specs.Prelude.{◌≡◌, length, IfSome, IfNone};
 ghost use Rattle.std.specs.List.{list_any};
-ghost use Rattle.kpn_net.specs.Location.{clashes_at, IsFirst, HoldsNowhere, process_has_fault, channel_has_fault, IsLocation};
+ghost use Rattle.kpn_message.specs.Location.{clashes_at, IsFirst, HoldsNowhere, process_has_fault, channel_has_fault, IsLocation};
 
-use crate::check::{
+use kpn_net::check::{
     Clash, SameIn, SameName, SameOut, has_unknown_kind, has_unused_port, has_wrong_args,
     has_wrong_capacity, has_wrong_sort, has_wrong_tokens, is_name, lacks_end,
 };
-use crate::fault::NetFault;
-use crate::sketch::{ChannelSketch, ProcessSketch, Sketch};
-use kpn_model::Kinds;
+use kpn_net::{ChannelSketch, Kinds, NetFault, ProcessSketch, Sketch};
 
 /// A place in a sketch: all of it, or one of its processes or channels, by its number.
 #[derive(Clone, Copy, Debug, PartialEq, Eq)]
