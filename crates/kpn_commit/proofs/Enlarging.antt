@@ -16,10 +16,10 @@ use Rattle.kpn_laws.proofs.States.{out_of-writer}
 use Rattle.kpn_state.specs.StateAndHistory.{StateAndHistory, more}
 use Rattle.kpn_state.specs.declared.standing.Standing.{Standing}
 use Rattle.kpn_state.specs.declared.standing.Standing.TheVariants.{Parked}
-use Rattle.kpn_state.specs.Standings.{standing, is_busy, place_after, partner, StandingsFit}
+use Rattle.kpn_state.specs.Standings.{standing, is_busy, standing_after, partner, StandingsFit}
 use Rattle.kpn_commit.specs.Choice.{written_by, awaited_by, awaited, IsSmallest}
 use Rattle.kpn_commit.specs.Settling.{GrowsAndPuts}
-use Rattle.kpn_state.proofs.Placed.{place_within, parked_not_ended}
+use Rattle.kpn_state.proofs.Placed.{standing_within, parked_not_ended}
 use Rattle.kpn_commit.proofs.Idle.{writing, awaits_blocked, smallest_chosen, smallest_artificial}
 use Rattle.kpn_commit.proofs.Growing.{keeps_grown, keeps_put, grown_possible}
 use Rattle.kpn_commit.proofs.Reacting.{acted}
@@ -65,15 +65,15 @@ module _ (kinds : Family) (admits : Card → List ℕ → Option Token → Type 
 
   -- after the put no parked process can go on
   pub keeps_after_put :
-      (s1 : StateAndHistory) (d : Deed) (t : StateAndHistory) (moved : List Standing) → s1 ≡ more s after_growth (Grew c to) → IsDeed kinds net s1.state w a.act d → t ≡ more s1 (after_deed kinds net s1.state w a.next d) (Did w d) → moved ≡ set standings w (place_after d)
+      (s1 : StateAndHistory) (d : Deed) (t : StateAndHistory) (moved : List Standing) → s1 ≡ more s after_growth (Grew c to) → IsDeed kinds net s1.state w a.act d → t ≡ more s1 (after_deed kinds net s1.state w a.next d) (Did w d) → moved ≡ set standings w (standing_after d)
       → StandingsFit kinds admits net (partner net d) t.state moved → StandingsFit kinds admits net None t.state moved
   keeps_after_put s1 d t moved first is entry moves kept =
       let put = deed_put kinds net s1.state w c a.act d writes is in
-      let there : w < length standings = place_within standings w (λ e. parked_not_ended a (sym parked ∙ e)) in
+      let there : w < length standings = standing_within standings w (λ e. parked_not_ended a (sym parked ∙ e)) in
       let now : t.state ≡ after_deed kinds net after_growth w a.next (Put c put.0) = ap (λ (x : StateAndHistory). x.state) entry ∙ ap (λ (x : StateAndHistory). after_deed kinds net x.state w a.next d) first ∙ ap (λ (x : Deed). after_deed kinds net after_growth w a.next x) put.1 in
       let by_put : StandingsFit kinds admits net (partner net (Put c put.0)) (after_deed kinds net after_growth w a.next (Put c put.0)) moved = subst (λ (x : Deed). StandingsFit kinds admits net (partner net x) (after_deed kinds net after_growth w a.next (Put c put.0)) moved) put.1 (subst (λ (M : State). StandingsFit kinds admits net (partner net d) M moved) now kept) in
       subst (λ (M : State). StandingsFit kinds admits net None M moved) (sym now)
-      (keeps_put kinds admits net s.state c to within standings w a.next put.0 moved k is_writer holds there (moves ∙ ap (λ (x : Deed). set standings w (place_after x)) put.1) by_put)
+      (keeps_put kinds admits net s.state c to within standings w a.next put.0 moved k is_writer holds there (moves ∙ ap (λ (x : Deed). set standings w (standing_after x)) put.1) by_put)
 
   module _ (idle : list_any is_busy standings ≡ false) (best : IsSmallest net s.state standings (length standings) (Some (c, w))) (below : capacity s.state c < net.ceiling) (to_is : to ≡ min (capacity s.state c + net.step) net.ceiling) where
     -- the growth is that of the definitions
@@ -89,7 +89,7 @@ module _ (kinds : Family) (admits : Card → List ℕ → Option Token → Type 
 
     -- and so is the put
     pub grows_and_puts :
-        (s1 : StateAndHistory) (d : Deed) (t : StateAndHistory) (moved : List Standing) → s1 ≡ more s after_growth (Grew c to) → IsDeed kinds net s1.state w a.act d → t ≡ more s1 (after_deed kinds net s1.state w a.next d) (Did w d) → moved ≡ set standings w (place_after d)
+        (s1 : StateAndHistory) (d : Deed) (t : StateAndHistory) (moved : List Standing) → s1 ≡ more s after_growth (Grew c to) → IsDeed kinds net s1.state w a.act d → t ≡ more s1 (after_deed kinds net s1.state w a.next d) (Did w d) → moved ≡ set standings w (standing_after d)
         → GrowsAndPuts kinds net s standings t moved
     grows_and_puts s1 d t moved first is entry moves =
         let put = deed_put kinds net s1.state w c a.act d writes is in
@@ -106,5 +106,5 @@ module _ (kinds : Family) (admits : Card → List ℕ → Option Token → Type 
           wanted = a;
           parked = parked;
           token = put.0;
-          puts = acted kinds net s2 standings w a (Put c put.0) t moved (k.wanted w a parked) is_put entry_put (moves ∙ ap (λ (x : Deed). set standings w (place_after x)) put.1);
+          puts = acted kinds net s2 standings w a (Put c put.0) t moved (k.wanted w a parked) is_put entry_put (moves ∙ ap (λ (x : Deed). set standings w (standing_after x)) put.1);
         }

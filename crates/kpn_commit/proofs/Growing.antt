@@ -15,8 +15,8 @@ use Rattle.kpn_laws.proofs.States.{out_of-writer, tokens_set_same, tokens_set_ot
 use Rattle.kpn_laws.proofs.Steps.{capacity_after}
 use Rattle.kpn_state.specs.declared.standing.Standing.{Standing}
 use Rattle.kpn_state.specs.declared.standing.Standing.TheVariants.{Parked}
-use Rattle.kpn_state.specs.Standings.{standing, place_after, partner, StandingsFit}
-use Rattle.kpn_state.proofs.Placed.{place_set_same, place_set_other, acted_not_parked}
+use Rattle.kpn_state.specs.Standings.{standing, standing_after, partner, StandingsFit}
+use Rattle.kpn_state.proofs.Placed.{standing_set_same, standing_set_other, acted_not_parked}
 use Rattle.kpn_commit.proofs.Keeping.{keeps_all}
 
 no_process : (p : ℕ) → None ≡ Some p → ⊥
@@ -101,11 +101,11 @@ module _ (kinds : Family) (admits : Card → List ℕ → Option Token → Type 
   -- after the growth and the put no parked process can go on
   pub keeps_put :
       (standings : List Standing) (w : ℕ) (next : List ℕ) (t : Token) (moved : List Standing) → StandingsFit kinds admits net None M standings → (channel_of net c).writer ≡ w → 1 ≤ length (tokens M c)
-      → w < length standings → moved ≡ set standings w (place_after (Put c t))
+      → w < length standings → moved ≡ set standings w (standing_after (Put c t))
       → StandingsFit kinds admits net (partner net (Put c t)) (after_deed kinds net grown w next (Put c t)) moved → StandingsFit kinds admits net None (after_deed kinds net grown w next (Put c t)) moved
   keeps_put standings w next t moved k writer some there is kept =
       keeps_all kinds admits net (after_deed kinds net grown w next (Put c t)) moved (partner net (Put c t)) kept
       (λ q a s at can.
-      let here : standing (set standings w (place_after (Put c t))) q ≡ Parked a = ap (λ (l : List Standing). standing l q) (sym is) ∙ at in
-      let other : q ≢ w = λ e. acted_not_parked (Put c t) a (sym (place_set_same standings w (place_after (Put c t)) there) ∙ ap (λ y. standing (set standings w (place_after (Put c t))) y) (sym e) ∙ here) in
-      k.blocked q a (λ f. no_process q f) (sym (place_set_other standings w q (place_after (Put c t)) other) ∙ here) (possible_unput w next t q a.act writer other some can))
+      let here : standing (set standings w (standing_after (Put c t))) q ≡ Parked a = ap (λ (l : List Standing). standing l q) (sym is) ∙ at in
+      let other : q ≢ w = λ e. acted_not_parked (Put c t) a (sym (standing_set_same standings w (standing_after (Put c t)) there) ∙ ap (λ y. standing (set standings w (standing_after (Put c t))) y) (sym e) ∙ here) in
+      k.blocked q a (λ f. no_process q f) (sym (standing_set_other standings w q (standing_after (Put c t)) other) ∙ here) (possible_unput w next t q a.act writer other some can))

@@ -35,13 +35,13 @@ writing net p c Stop e = cc
 module _ (kinds : Family) (admits : Card → List ℕ → Option Token → Type 0) (net : Network) (M : State) (standings : List Standing) (k : StandingsFit kinds admits net None M standings) where
   -- a process that wants something and is neither ready nor out is parked with it
   pub wants_parked : (p : ℕ) (a : Answer) → is_busy (standing standings p) ≡ false → wants kinds net M p ≡ Some a → standing standings p ≡ Parked a
-  wants_parked p a idle w = by_place (standing standings p) refl idle
+  wants_parked p a idle w = by_standing (standing standings p) refl idle
     where
-      by_place : (x : Standing) → standing standings p ≡ x → is_busy x ≡ false → standing standings p ≡ Parked a
-      by_place Ready e h = cc
-      by_place Out e h = cc
-      by_place (Parked b) e h = let same : b ≡ a = same_Some _ _ (sym (k.wanted p b e) ∙ w) in e ∙ ap (λ (x : Answer). Parked x) same
-      by_place Stopped e h = absurd (done_wants_none kinds net p (status M p) a (k.stopped p e) w)
+      by_standing : (x : Standing) → standing standings p ≡ x → is_busy x ≡ false → standing standings p ≡ Parked a
+      by_standing Ready e h = cc
+      by_standing Out e h = cc
+      by_standing (Parked b) e h = let same : b ≡ a = same_Some _ _ (sym (k.wanted p b e) ∙ w) in e ∙ ap (λ (x : Answer). Parked x) same
+      by_standing Stopped e h = absurd (done_wants_none kinds net p (status M p) a (k.stopped p e) w)
 
   -- a process that can go on is ready or out
   pub enabled_busy : (p : ℕ) → IsEnabled kinds net M p → is_busy (standing standings p) ≡ true

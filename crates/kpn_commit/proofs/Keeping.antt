@@ -16,18 +16,18 @@ use Rattle.kpn_laws.proofs.WellTypedDeeds.{sorted_deed}
 use Rattle.kpn_laws.proofs.Steps.{after, processes_after, channels_after, live_within, status_after_same, status_after_other, capacity_after}
 use Rattle.kpn_state.specs.declared.standing.Standing.{Standing}
 use Rattle.kpn_state.specs.declared.standing.Standing.TheVariants.{Parked, Stopped as Ended}
-use Rattle.kpn_state.specs.Standings.{standing, place_after, partner, StandingsFit}
-use Rattle.kpn_state.proofs.Placed.{place_set_same, place_set_other, acted_not_parked}
+use Rattle.kpn_state.specs.Standings.{standing, standing_after, partner, StandingsFit}
+use Rattle.kpn_state.proofs.Placed.{standing_set_same, standing_set_other, acted_not_parked}
 use Rattle.kpn_state.proofs.Contradictions.{none_some}
 use Rattle.kpn_commit.proofs.Deeds.{possible_before, partner_back}
 
 -- a process has stopped after its deed exactly when its standing says so
-ended_after : (a : Answer) (d : Deed) → place_after d ≡ Ended → after (Some a) d ≡ Done
+ended_after : (a : Answer) (d : Deed) → standing_after d ≡ Ended → after (Some a) d ≡ Done
 ended_after a (Took c t) e = cc
 ended_after a (Put c t) e = cc
 ended_after a Stopped e = refl
 
-after_ended : (a : Answer) (d : Deed) → after (Some a) d ≡ Done → place_after d ≡ Ended
+after_ended : (a : Answer) (d : Deed) → after (Some a) d ≡ Done → standing_after d ≡ Ended
 after_ended a (Took c t) e = cc
 after_ended a (Put c t) e = cc
 after_ended a Stopped e = refl
@@ -62,20 +62,20 @@ module _ (kinds : Family) (admits : Card → List ℕ → Option Token → Type 
         smallest = k.smallest;
         greatest = k.greatest;
         stopped = λ q e. ⊎_elim
-            (λ (s : q ≡ p). absurd (moves (sym (place_set_same standings p x within) ∙ ap (λ y. standing (set standings p x) y) (sym s) ∙ e)))
-            (λ o. k.stopped q (sym (place_set_other standings p q x o) ∙ e))
+            (λ (s : q ≡ p). absurd (moves (sym (standing_set_same standings p x within) ∙ ap (λ y. standing (set standings p x) y) (sym s) ∙ e)))
+            (λ o. k.stopped q (sym (standing_set_other standings p q x o) ∙ e))
             (cases_eq q p);
         done = λ q e. ⊎_elim
             (λ (s : q ≡ p). absurd (live (ap (λ y. status M y) (sym s) ∙ e)))
-            (λ o. place_set_other standings p q x o ∙ k.done q e)
+            (λ o. standing_set_other standings p q x o ∙ k.done q e)
             (cases_eq q p);
         wanted = λ q a e. ⊎_elim
-            (λ (s : q ≡ p). ap (λ y. wants kinds net M y) s ∙ (h a (sym (place_set_same standings p x within) ∙ ap (λ y. standing (set standings p x) y) (sym s) ∙ e)).0)
-            (λ o. k.wanted q a (sym (place_set_other standings p q x o) ∙ e))
+            (λ (s : q ≡ p). ap (λ y. wants kinds net M y) s ∙ (h a (sym (standing_set_same standings p x within) ∙ ap (λ y. standing (set standings p x) y) (sym s) ∙ e)).0)
+            (λ o. k.wanted q a (sym (standing_set_other standings p q x o) ∙ e))
             (cases_eq q p);
         blocked = λ q a ne e. ⊎_elim
-            (λ (s : q ≡ p). subst (λ y. IsPossible kinds net M y a.act → ⊥) (sym s) (h a (sym (place_set_same standings p x within) ∙ ap (λ y. standing (set standings p x) y) (sym s) ∙ e)).1)
-            (λ o. k.blocked q a ne (sym (place_set_other standings p q x o) ∙ e))
+            (λ (s : q ≡ p). subst (λ y. IsPossible kinds net M y a.act → ⊥) (sym s) (h a (sym (standing_set_same standings p x within) ∙ ap (λ y. standing (set standings p x) y) (sym s) ∙ e)).1)
+            (λ o. k.blocked q a ne (sym (standing_set_other standings p q x o) ∙ e))
             (cases_eq q p);
       }
 
@@ -84,34 +84,34 @@ module _ (kinds : Family) (admits : Card → List ℕ → Option Token → Type 
     pub keeps_deed :
         (M : State) (standings : List Standing) (p : ℕ) (a : Answer) (d : Deed) → StandingsFit kinds admits net (Some p) M standings → p < length standings
         → wants kinds net M p ≡ Some a → IsDeed kinds net M p a.act d → NamesPort signature (card_of net p) a.act → LeadsOn signature admits (card_of net p) a (read_by d)
-        → StandingsFit kinds admits net (partner net d) (after_deed kinds net M p a.next d) (set standings p (place_after d))
+        → StandingsFit kinds admits net (partner net d) (after_deed kinds net M p a.next d) (set standings p (standing_after d))
     keeps_deed M standings p a d k within w is names leads =
         let N = after_deed kinds net M p a.next d in
-        let ps = set standings p (place_after d) in
-        let here : standing ps p ≡ place_after d = place_set_same standings p (place_after d) within in
+        let ps = set standings p (standing_after d) in
+        let here : standing ps p ≡ standing_after d = standing_set_same standings p (standing_after d) within in
         let doer : status N p ≡ after (Some a) d = status_after_same kinds net M p a d (live_within kinds net M p a w) in
         record {
           processes = processes_after kinds net M p a.next d ∙ k.processes;
           channels = channels_after kinds net M p a.next d ∙ k.channels;
-          one_each = length-set standings p (place_after d) ∙ k.one_each;
+          one_each = length-set standings p (standing_after d) ∙ k.one_each;
           well_typed = sorted_deed signature admits kinds net valid M k.well_typed p a w names d is leads k.channels;
           smallest = λ c h. subst (λ n. 1 ≤ n) (sym (capacity_after kinds net M p c a.next d)) (k.smallest c h);
           greatest = λ c. subst (λ n. n ≤ net.ceiling) (sym (capacity_after kinds net M p c a.next d)) (k.greatest c);
           stopped = λ q e. ⊎_elim
               (λ (s : q ≡ p). ap (λ y. status N y) s ∙ doer ∙ ended_after a d (sym here ∙ ap (λ y. standing ps y) (sym s) ∙ e))
-              (λ o. status_after_other kinds net M p q a.next d o ∙ k.stopped q (sym (place_set_other standings p q (place_after d) o) ∙ e))
+              (λ o. status_after_other kinds net M p q a.next d o ∙ k.stopped q (sym (standing_set_other standings p q (standing_after d) o) ∙ e))
               (cases_eq q p);
           done = λ q e. ⊎_elim
               (λ (s : q ≡ p). ap (λ y. standing ps y) s ∙ here ∙ after_ended a d (sym doer ∙ ap (λ y. status N y) (sym s) ∙ e))
-              (λ o. place_set_other standings p q (place_after d) o ∙ k.done q (sym (status_after_other kinds net M p q a.next d o) ∙ e))
+              (λ o. standing_set_other standings p q (standing_after d) o ∙ k.done q (sym (status_after_other kinds net M p q a.next d o) ∙ e))
               (cases_eq q p);
           wanted = λ q b e. ⊎_elim
               (λ (s : q ≡ p). absurd (acted_not_parked d b (sym here ∙ ap (λ y. standing ps y) (sym s) ∙ e)))
-              (λ o. ap (λ s. answered kinds net q s) (status_after_other kinds net M p q a.next d o) ∙ k.wanted q b (sym (place_set_other standings p q (place_after d) o) ∙ e))
+              (λ o. ap (λ s. answered kinds net q s) (status_after_other kinds net M p q a.next d o) ∙ k.wanted q b (sym (standing_set_other standings p q (standing_after d) o) ∙ e))
               (cases_eq q p);
           blocked = λ q b ne e can. ⊎_elim
               (λ (s : q ≡ p). acted_not_parked d b (sym here ∙ ap (λ y. standing ps y) (sym s) ∙ e))
-              (λ o. k.blocked q b (λ f. o (sym (some_same p q f))) (sym (place_set_other standings p q (place_after d) o) ∙ e) (possible_before kinds net M p a d q b.act is o ne can))
+              (λ o. k.blocked q b (λ f. o (sym (some_same p q f))) (sym (standing_set_other standings p q (standing_after d) o) ∙ e) (possible_before kinds net M p a d q b.act is o ne can))
               (cases_eq q p);
         }
 
@@ -119,17 +119,17 @@ module _ (kinds : Family) (admits : Card → List ℕ → Option Token → Type 
   pub keeps_handed :
       (M : State) (standings : List Standing) (p : ℕ) (a : Answer) (d : Deed) (q : ℕ) (b : Answer) (e : Deed) (N : State) (after_both : List Standing)
       → StandingsFit kinds admits net (Some p) M standings → p < length standings → IsDeed kinds net M p a.act d
-      → standing (set standings p (place_after d)) q ≡ Parked b → IsDeed kinds net (after_deed kinds net M p a.next d) q b.act e
-      → after_both ≡ set (set standings p (place_after d)) q (place_after e)
+      → standing (set standings p (standing_after d)) q ≡ Parked b → IsDeed kinds net (after_deed kinds net M p a.next d) q b.act e
+      → after_both ≡ set (set standings p (standing_after d)) q (standing_after e)
       → StandingsFit kinds admits net (partner net e) N after_both → StandingsFit kinds admits net None N after_both
   keeps_handed M standings p a d q b e N both k within is parked ie moved kept =
-      let here : standing (set standings p (place_after d)) p ≡ place_after d = place_set_same standings p (place_after d) within in
-      let other : q ≢ p = λ s. acted_not_parked d b (sym here ∙ ap (λ y. standing (set standings p (place_after d)) y) (sym s) ∙ parked) in
-      let before : standing standings q ≡ Parked b = sym (place_set_other standings p q (place_after d) other) ∙ parked in
+      let here : standing (set standings p (standing_after d)) p ≡ standing_after d = standing_set_same standings p (standing_after d) within in
+      let other : q ≢ p = λ s. acted_not_parked d b (sym here ∙ ap (λ y. standing (set standings p (standing_after d)) y) (sym s) ∙ parked) in
+      let before : standing standings q ≡ Parked b = sym (standing_set_other standings p q (standing_after d) other) ∙ parked in
       let cant = k.blocked q b (λ f. other (sym (some_same p q f))) before in
       keeps_all N both (partner net e) kept (λ r x s at can.
       let same : r ≡ p = partner_back kinds net M p a d q b.act e r is other cant ie s in
       acted_not_parked d x
-      (sym here ∙ ap (λ y. standing (set standings p (place_after d)) y) (sym same)
-      ∙ sym (place_set_other (set standings p (place_after d)) q r (place_after e) (λ f. other (sym f ∙ same)))
+      (sym here ∙ ap (λ y. standing (set standings p (standing_after d)) y) (sym same)
+      ∙ sym (standing_set_other (set standings p (standing_after d)) q r (standing_after e) (λ f. other (sym f ∙ same)))
       ∙ ap (λ (l : List Standing). standing l r) (sym moved) ∙ at))

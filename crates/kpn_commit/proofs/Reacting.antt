@@ -11,7 +11,7 @@ use Rattle.kpn_model.specs.Semantics.{State, wants, IsEnabled, IsPossible, IsDee
 use Rattle.kpn_state.specs.StateAndHistory.{StateAndHistory, more}
 use Rattle.kpn_state.specs.declared.standing.Standing.{Standing}
 use Rattle.kpn_state.specs.declared.standing.Standing.TheVariants.{Parked}
-use Rattle.kpn_state.specs.Standings.{standing, place_after, partner, StandingsFit}
+use Rattle.kpn_state.specs.Standings.{standing, standing_after, partner, StandingsFit}
 use Rattle.kpn_commit.specs.Reactions.{Acted, Handed}
 
 module _ (kinds : Family) (net : Network) where
@@ -24,7 +24,7 @@ module _ (kinds : Family) (net : Network) where
   -- a deed of what a process wants is a step of that process
   pub acted :
       (s : StateAndHistory) (standings : List Standing) (p : ℕ) (a : Answer) (d : Deed) (t : StateAndHistory) (moved : List Standing)
-      → wants kinds net s.state p ≡ Some a → IsDeed kinds net s.state p a.act d → t ≡ more s (after_deed kinds net s.state p a.next d) (Did p d) → moved ≡ set standings p (place_after d)
+      → wants kinds net s.state p ≡ Some a → IsDeed kinds net s.state p a.act d → t ≡ more s (after_deed kinds net s.state p a.next d) (Did p d) → moved ≡ set standings p (standing_after d)
       → Acted kinds net s standings p d t moved
   acted s standings p a d t moved w is entry moves =
       let leaves : t.state ≡ after_deed kinds net s.state p a.next d = ap (λ (x : StateAndHistory). x.state) entry in
@@ -38,13 +38,13 @@ module _ (kinds : Family) (net : Network) where
   pub handed :
       (admits : Card → List ℕ → Option Token → Type 0) (s : StateAndHistory) (standings : List Standing) (p : ℕ) (a : Answer) (d : Deed) (m : StateAndHistory) (between : List Standing) (q : ℕ) (b : Answer) (e : Deed) (t : StateAndHistory) (moved : List Standing)
       → Acted kinds net s standings p d m between → partner net d ≡ Some q → standing between q ≡ Parked b → StandingsFit kinds admits net (partner net d) m.state between
-      → IsDeed kinds net m.state q b.act e → t ≡ more m (after_deed kinds net m.state q b.next e) (Did q e) → moved ≡ set between q (place_after e)
+      → IsDeed kinds net m.state q b.act e → t ≡ more m (after_deed kinds net m.state q b.next e) (Did q e) → moved ≡ set between q (standing_after e)
       → Handed kinds net s standings p t moved
   handed admits s standings p a d m between q b e t moved first at parked k is entry moves =
       record {
         deed = d;
         between = m;
-        places_between = between;
+        standings_between = between;
         first = first;
         other = q;
         wanted = b;

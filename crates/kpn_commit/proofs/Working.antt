@@ -13,9 +13,9 @@ use Rattle.kpn_state.specs.declared.standing.Standing.{Standing}
 use Rattle.kpn_state.specs.declared.standing.Standing.TheVariants.{Ready}
 use Rattle.kpn_commit.specs.declared.react.Reaction.{Reaction}
 use Rattle.kpn_commit.specs.declared.react.Reaction.TheVariants.{Waits, Acts, HandsOn}
-use Rattle.kpn_state.specs.Standings.{standing, is_busy, place_after, partner}
+use Rattle.kpn_state.specs.Standings.{standing, is_busy, standing_after, partner}
 use Rattle.kpn_commit.specs.Reactions.{Handed, Reacts}
-use Rattle.kpn_state.proofs.Placed.{place_set_same, place_set_other, acted_not_parked, busy_at}
+use Rattle.kpn_state.proofs.Placed.{standing_set_same, standing_set_other, acted_not_parked, busy_at}
 use Rattle.kpn_state.proofs.Contradictions.{true_false}
 
 -- one more entry makes the history longer by one
@@ -23,7 +23,7 @@ pub longer : (s t : StateAndHistory) (M : State) (e : Entry) → t ≡ more s M 
 longer s t M e is = (ap (λ (x : StateAndHistory). length x.history) is ∙ length-append s.history (e ∷ []), ap (λ (x : StateAndHistory). x.room) is)
 
 -- a process whose deed has a process at its other end is ready afterwards
-partner_ready : (net : Network) (d : Deed) (q : ℕ) → partner net d ≡ Some q → place_after d ≡ Ready
+partner_ready : (net : Network) (d : Deed) (q : ℕ) → partner net d ≡ Some q → standing_after d ≡ Ready
 partner_ready net (Took c t) q e = refl
 partner_ready net (Put c t) q e = refl
 partner_ready net Stopped q e = cc
@@ -32,9 +32,9 @@ module _ (kinds : Family) (net : Network) where
   -- the process that handed on is ready
   pub handed_busy : (s : StateAndHistory) (standings : List Standing) (p : ℕ) (t : StateAndHistory) (moved : List Standing) → p < length standings → Handed kinds net s standings p t moved → list_any is_busy moved ≡ true
   handed_busy s standings p t moved within h =
-      let here : standing h.places_between p ≡ place_after h.deed = ap (λ (l : List Standing). standing l p) h.first.moves ∙ place_set_same standings p (place_after h.deed) within in
-      let other : p ≢ h.other = λ e. acted_not_parked h.deed h.wanted (sym here ∙ ap (λ x. standing h.places_between x) e ∙ h.parked) in
-      let still : standing moved p ≡ Ready = ap (λ (l : List Standing). standing l p) h.second.moves ∙ place_set_other h.places_between h.other p (place_after h.handed) other ∙ here ∙ partner_ready net h.deed h.other h.at_other_end in
+      let here : standing h.standings_between p ≡ standing_after h.deed = ap (λ (l : List Standing). standing l p) h.first.moves ∙ standing_set_same standings p (standing_after h.deed) within in
+      let other : p ≢ h.other = λ e. acted_not_parked h.deed h.wanted (sym here ∙ ap (λ x. standing h.standings_between x) e ∙ h.parked) in
+      let still : standing moved p ≡ Ready = ap (λ (l : List Standing). standing l p) h.second.moves ∙ standing_set_other h.standings_between h.other p (standing_after h.handed) other ∙ here ∙ partner_ready net h.deed h.other h.at_other_end in
       busy_at moved p (ap is_busy still)
 
   -- if no process is ready or out after a reaction, the reaction appended at most one entry

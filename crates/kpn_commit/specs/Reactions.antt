@@ -10,26 +10,26 @@ use Rattle.kpn_state.specs.declared.standing.Standing.{Standing}
 use Rattle.kpn_state.specs.declared.standing.Standing.TheVariants.{Parked}
 use Rattle.kpn_commit.specs.declared.react.Reaction.{Reaction}
 use Rattle.kpn_commit.specs.declared.react.Reaction.TheVariants.{Waits, Acts, HandsOn}
-use Rattle.kpn_state.specs.Standings.{standing, place_after, partner}
+use Rattle.kpn_state.specs.Standings.{standing, standing_after, partner}
 
 -- p does what it wants: one entry, and p moves on
 pub record Acted (kinds : Family) (net : Network) (s : StateAndHistory) (standings : List Standing) (p : ℕ) (d : Deed) (t : StateAndHistory) (moved : List Standing) : Type 0 where
   pub does : Does kinds net s.state p d t.state
   pub entry : t ≡ more s t.state (Did p d)
-  pub moves : moved ≡ set standings p (place_after d)
+  pub moves : moved ≡ set standings p (standing_after d)
 
 -- p does what it wants, and then the parked process at the other end of the channel does
 pub record Handed (kinds : Family) (net : Network) (s : StateAndHistory) (standings : List Standing) (p : ℕ) (t : StateAndHistory) (moved : List Standing) : Type 0 where
   pub deed : Deed
   pub between : StateAndHistory
-  pub places_between : List Standing
-  pub first : Acted kinds net s standings p deed between places_between
+  pub standings_between : List Standing
+  pub first : Acted kinds net s standings p deed between standings_between
   pub other : ℕ
   pub wanted : Answer
   pub at_other_end : partner net deed ≡ Some other
-  pub parked : standing places_between other ≡ Parked wanted
+  pub parked : standing standings_between other ≡ Parked wanted
   pub handed : Deed
-  pub second : Acted kinds net between places_between other handed t moved
+  pub second : Acted kinds net between standings_between other handed t moved
 
 -- p answered a: it can't do it and is parked; or it does it; or it does it and the parked process at the other end of the channel
 -- goes on too

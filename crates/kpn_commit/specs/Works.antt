@@ -40,9 +40,9 @@ end_after Enlarged budget entries = if nat_le budget entries then Some Budget el
 pub record Works (kinds : Family) (net : Network) (s : StateAndHistory) (standings : List Standing) (p : ℕ) (a : Answer) (outcome : Outcome) (t : StateAndHistory) (moved : List Standing) (end : Option End) : Type 0 where
   pub reaction : Reaction
   pub between : StateAndHistory
-  pub places_between : List Standing
-  pub reacts : Reacts kinds net s standings p a reaction between places_between
+  pub standings_between : List Standing
+  pub reacts : Reacts kinds net s standings p a reaction between standings_between
   pub settled : Settled
-  pub settles : Settles kinds net between places_between settled t moved
+  pub settles : Settles kinds net between standings_between settled t moved
   pub outcome_is : outcome ≡ outcome_of reaction settled
   pub end_is : end ≡ end_after settled net.budget (length t.history)

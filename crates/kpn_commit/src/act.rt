@@ -6,10 +6,10 @@ ghost use Rattle.kpn_model.specs.Semantics.{wants, IsPossible, IsDeed, after_dee
 ghost use Rattle.kpn_model.specs.declared.history.Entry.TheVariants.{Did};
 ghost use Rattle.kpn_state.specs.StateAndHistory.{more};
 ghost use Rattle.kpn_state.specs.declared.standing.Standing.TheVariants.{Ready};
-ghost use Rattle.kpn_state.specs.Standings.{StandingsFit, standing, place_after, partner, HasChannel};
+ghost use Rattle.kpn_state.specs.Standings.{StandingsFit, standing, standing_after, partner, HasChannel};
 
 use kpn_net::{Act, Answer, Card, Deed, Kinds, Local, Net, Status, Token};
-use kpn_state::standing::place_after;
+use kpn_state::standing::standing_after;
 use kpn_state::{Roster, Store};
 
 /// Reads, if the channel holds a token; otherwise returns `None`, and nothing changes.
@@ -125,7 +125,7 @@ pub fn advance<K: Kinds>(
     requires room { length store.old.history < store.old.room }
     ensures is_deed { IfSome result (IsDeed K.family net.now store.old.state process answer.act) }
     ensures entry { IfSome result (λ deed. store.new ≡ more store.old (after_deed K.family net.now store.old.state process answer.next deed) (Did process deed)) }
-    ensures standing { IfSome result (λ deed. standings.new ≡ set standings.old process (place_after deed)) }
+    ensures standing { IfSome result (λ deed. standings.new ≡ set standings.old process (standing_after deed)) }
     ensures channel { IfSome result (HasChannel net.now) }
     ensures keeps { IfSome result (λ deed. StandingsFit K.family K.admits net.now (partner net.now deed) store.new.state standings.new) }
     ensures cannot { IfNone result (IsPossible K.family net.now store.old.state process answer.act → ⊥) }
@@ -139,6 +139,6 @@ pub fn advance<K: Kinds>(
     };
     let deed = perform(net, store, process, answer)?;
     obey::<K>(card, local, last, deed);
-    standings.update(process, place_after(deed));
+    standings.update(process, standing_after(deed));
     Some(deed)
 }

@@ -8,13 +8,13 @@ use Rattle.kpn_model.specs.Semantics.{State, wants, start, Run}
 use Rattle.kpn_model.specs.Endings.{IsOver}
 use Rattle.kpn_model.specs.declared.history.End.{End}
 use Rattle.kpn_model.specs.Determinacy.{OneDigest, NoneLonger}
-use Rattle.kpn_laws.proofs.Lists.{same_from_fronts, front-length}
+use Rattle.kpn_laws.proofs.Lists.{same_from_prefixes, prefix-length}
 use Rattle.kpn_laws.proofs.Views.{puts, took}
 use Rattle.kpn_laws.proofs.Kept.{fresh_start}
 use Rattle.kpn_laws.proofs.Domination.{dominated_by_growths}
 use Rattle.kpn_laws.proofs.Standstill.{same_deeds, same_stand}
 use Rattle.kpn_laws.proofs.Causes.{over_quiet, cause_same}
-use Rattle.kpn_laws.proofs.Growths.{growths_front}
+use Rattle.kpn_laws.proofs.Growths.{growths_prefix}
 use Rattle.kpn_laws.proofs.Streams.{put_on_deeds, taken_deeds}
 use Rattle.kpn_laws.proofs.Totals.{total, total_le, entries_total}
 
@@ -27,7 +27,7 @@ module _ (kinds : Family) (net : Network) where
       let S = start kinds net in
       let quiet = over_quiet kinds net M a over in
       let quiet' = over_quiet kinds net N b over' in
-      let grew : growths E ≡ growths F = same_from_fronts _ _ (growths_front kinds net S (fresh_start kinds net) F N b run' over' E M run) (growths_front kinds net S (fresh_start kinds net) E M a run over F N run') in
+      let grew : growths E ≡ growths F = same_from_prefixes _ _ (growths_prefix kinds net S (fresh_start kinds net) F N b run' over' E M run) (growths_prefix kinds net S (fresh_start kinds net) E M a run over F N run') in
       let state : M ≡ N = same_stand kinds net S (fresh_start kinds net) E F M N run quiet run' quiet' grew in
       let did : (p : ℕ) → deeds E p ≡ deeds F p = same_deeds kinds net S (fresh_start kinds net) E F M N run quiet run' quiet' grew in
       let cause : a ≡ b = cause_same kinds net N a b (subst (λ x. IsOver kinds net x a) state over) over' in
@@ -59,9 +59,9 @@ module _ (kinds : Family) (net : Network) where
       → length F ≤ length E
   none_longer E F M N a run over run' =
       let S = start kinds net in
-      let front = growths_front kinds net S (fresh_start kinds net) E M a run over F N run' in
-      let g = front-length _ _ front in
-      let d = total_le kinds net (length net.processes) (λ p. length (deeds F p)) (λ p. length (deeds E p)) (λ p. front-length _ _ (dominated_by_growths kinds net S (fresh_start kinds net) E M run (over_quiet kinds net M a over) F N run' front p)) in
+      let front = growths_prefix kinds net S (fresh_start kinds net) E M a run over F N run' in
+      let g = prefix-length _ _ front in
+      let d = total_le kinds net (length net.processes) (λ p. length (deeds F p)) (λ p. length (deeds E p)) (λ p. prefix-length _ _ (dominated_by_growths kinds net S (fresh_start kinds net) E M run (over_quiet kinds net M a over) F N run' front p)) in
       let e = entries_total kinds net S (fresh_start kinds net) E M run in
       let f = entries_total kinds net S (fresh_start kinds net) F N run' in
       omega arith

@@ -12,8 +12,8 @@ use Rattle.kpn_model.specs.History.{deeds, growths}
 use Rattle.kpn_model.specs.Network.{Network, channel_of, Family}
 use Rattle.kpn_model.specs.Semantics.{State, tokens, capacity, answered, wants, IsDeed, Step, Run, IsBlocked, IsPossible, IsEnabled, IsQuiet, Does}
 use Rattle.kpn_model.specs.declared.kinds.Answer.{Answer}
-use Rattle.kpn_laws.proofs.Lists.{front_trans, front_of_push, front-length, front_cases, front_to_push}
-use Rattle.kpn_laws.proofs.Views.{puts, took, deeds_push_grew, growths_push_did, growths_push_grew, puts_front, took_front}
+use Rattle.kpn_laws.proofs.Lists.{prefix_trans, prefix_of_push, prefix-length, prefix_cases, prefix_to_push}
+use Rattle.kpn_laws.proofs.Views.{puts, took, deeds_push_grew, growths_push_did, growths_push_grew, puts_prefix, took_prefix}
 use Rattle.kpn_laws.proofs.States.{in_of-reader, out_of-writer}
 use Rattle.kpn_laws.proofs.Steps.{took_read, put_write, stopped_stop}
 use Rattle.kpn_laws.proofs.Follows.{status_by, follows_same}
@@ -21,7 +21,7 @@ use Rattle.kpn_laws.proofs.Runs.{run_induction}
 use Rattle.kpn_laws.proofs.Kept.{IsFresh, Kept}
 use Rattle.kpn_laws.proofs.KeptByDeeds.{deed_follows}
 use Rattle.kpn_laws.proofs.KeptByRuns.{kept_run}
-use Rattle.kpn_laws.proofs.InLine.{at_deeds_push}
+use Rattle.kpn_laws.proofs.Comparable.{at_deeds_push}
 
 module _ (kinds : Family) (net : Network) where
   module _ (S S' : State) (E : List Entry) (M : State) (k : Kept kinds net S E M) (H : List Entry) (K : State) (j : Kept kinds net S' H K) (front : (q : ℕ) → IsPrefixOf (deeds H q) (deeds E q)) where
@@ -34,7 +34,7 @@ module _ (kinds : Family) (net : Network) where
     tokens_left : (p c : ℕ) (t : Token) (rest : List Token) → deeds H p ≡ deeds E p → (channel_of net c).reader ≡ p → tokens K c ≡ t ∷ rest → tokens M c ≢ []
     tokens_left p c t rest same reader e none =
         let w = (channel_of net c).writer in
-        let x = puts_front (deeds H w) (deeds E w) c (front w) in
+        let x = puts_prefix (deeds H w) (deeds E w) c (front w) in
         let a : (channel_of net c).tokens ++ puts (deeds E w) c ≡ took (deeds E p) c ++ tokens M c = k.fifo c ∙ ap (λ r. took (deeds E r) c ++ tokens M c) reader in
         let b : (channel_of net c).tokens ++ puts (deeds H w) c ≡ took (deeds E p) c ++ t ∷ rest = j.fifo c
         ∙ ap (λ r. took (deeds H r) c ++ tokens K c) reader ∙ ap (λ l. took l c ++ tokens K c) same ∙ ap (λ l. took (deeds E p) c ++ l) e in
@@ -48,7 +48,7 @@ module _ (kinds : Family) (net : Network) where
     fewer_tokens : (p c : ℕ) → deeds H p ≡ deeds E p → (channel_of net c).writer ≡ p → length (tokens M c) ≤ length (tokens K c)
     fewer_tokens p c same writer =
         let r = (channel_of net c).reader in
-        let x = front-length _ _ (took_front (deeds H r) (deeds E r) c (front r)) in
+        let x = prefix-length _ _ (took_prefix (deeds H r) (deeds E r) c (front r)) in
         let a : (channel_of net c).tokens ++ puts (deeds E p) c ≡ took (deeds E r) c ++ tokens M c = ap (λ w. (channel_of net c).tokens ++ puts (deeds E w) c) (sym writer)
         ∙ k.fifo c in
         let b : (channel_of net c).tokens ++ puts (deeds E p) c ≡ took (deeds H r) c ++ tokens K c = ap (λ l. (channel_of net c).tokens ++ puts l c) (sym same)
@@ -108,15 +108,15 @@ module _ (kinds : Family) (net : Network) where
           (⊎_elim
           (λ (same : deeds H p ≡ deeds E p). absurd (quiet p (enabled_too S S' E M k H K j ih p d L same s (λ c b. rm p c b))))
           (λ (m : (e : Deed) × ((rest : List Deed) × (deeds E p ≡ deeds H p ++ e ∷ rest))).
-          front_to_push (deeds H p) (deeds E p) m.1.0 m.0 d m.1.1
+          prefix_to_push (deeds H p) (deeds E p) m.1.0 m.0 d m.1.1
           (follows_same kinds net (deeds H) (deeds E) p (deeds H p) d m.0 (λ x. inl (ih x)) now (k.follows p (deeds H p) m.0 m.1.0 m.1.1)))
-          (front_cases (deeds H p) (deeds E p) (ih p)))
+          (prefix_cases (deeds H p) (deeds E p) (ih p)))
           ih q
 
   -- if the growths with one more entry are a prefix of those of E, so are the growths without it
   pub growths_down : (E H : List Entry) (e : Entry) → IsPrefixOf (growths (H ++ e ∷ [])) (growths E) → IsPrefixOf (growths H) (growths E)
   growths_down E H (Did p d) f = subst (λ g. IsPrefixOf g (growths E)) (growths_push_did H p d) f
-  growths_down E H (Grew c to) f = front_trans _ _ _ (front_of_push (growths H) (c, to)) (subst (λ g. IsPrefixOf g (growths E)) (growths_push_grew H c to) f)
+  growths_down E H (Grew c to) f = prefix_trans _ _ _ (prefix_of_push (growths H) (c, to)) (subst (λ g. IsPrefixOf g (growths E)) (growths_push_grew H c to) f)
 
   -- a run whose growths are a prefix of those of a run to a quiet state does no more than that run
   pub dominated_by_growths :

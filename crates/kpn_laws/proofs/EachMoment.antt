@@ -13,7 +13,7 @@ use Rattle.kpn_model.specs.declared.kinds.Act.TheVariants.{Read, Write, Stop}
 use Rattle.kpn_model.specs.declared.kinds.Answer.{Answer}
 use Rattle.kpn_model.specs.declared.history.End.TheVariants.{Budget}
 use Rattle.kpn_model.specs.Determinacy.{IsRun}
-use Rattle.kpn_model.specs.Moments.{OneState, FrontsAreRuns, HistoryTellsState, BudgetSuffices, EnabledCanDo, OneCause}
+use Rattle.kpn_model.specs.Moments.{OneState, PrefixesAreRuns, HistoryTellsState, BudgetSuffices, EnabledCanDo, OneCause}
 use Rattle.kpn_model.specs.Endings.{MayEnd}
 use Rattle.kpn_laws.proofs.Runs.{run_one, run_split}
 use Rattle.kpn_laws.proofs.Kept.{fresh_start}
@@ -84,8 +84,8 @@ pub one_state : (kinds : Family) → OneState kinds
 one_state kinds net S M N E = run_one kinds net E S M N
 
 -- a prefix of a run is a run
-pub fronts : (kinds : Family) → FrontsAreRuns kinds
-fronts kinds net S N E F = run_split kinds net E F S N
+pub prefixes : (kinds : Family) → PrefixesAreRuns kinds
+prefixes kinds net S N E F = run_split kinds net E F S N
 
 -- the history determines what each channel holds
 pub history_tells_state : (kinds : Family) → HistoryTellsState kinds

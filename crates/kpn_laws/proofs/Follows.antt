@@ -9,8 +9,8 @@ use Rattle.kpn_model.specs.declared.history.Status.{Status}
 use Rattle.kpn_model.specs.Semantics.{status, answered, start}
 use Rattle.kpn_model.specs.declared.kinds.Act.TheVariants.{Read, Write, Stop}
 use Rattle.kpn_model.specs.declared.kinds.Answer.{Answer}
-use Rattle.kpn_laws.proofs.Lists.{same_next, in_line_after}
-use Rattle.kpn_laws.proofs.Views.{puts, took, puts_in_line, puts_front}
+use Rattle.kpn_laws.proofs.Lists.{same_next, comparable_after}
+use Rattle.kpn_laws.proofs.Views.{puts, took, puts_comparable, puts_prefix}
 use Rattle.kpn_laws.proofs.Steps.{after}
 
 module _ (kinds : Family) (net : Network) where
@@ -66,7 +66,7 @@ module _ (kinds : Family) (net : Network) where
   pub follows_more : (D D' : ℕ → List Deed) (p : ℕ) (ds : List Deed) (d : Deed) → ((q : ℕ) → IsPrefixOf (D q) (D' q)) → Follows D p ds d → Follows D' p ds d
   follows_more D D' p ds (Took c t) more f =
       let w = (channel_of net c).writer in
-      let x = puts_front (D w) (D' w) c (more w) in
+      let x = puts_prefix (D w) (D' w) c (more w) in
       record {
         answer = f.answer;
         wanted = f.wanted;
@@ -90,7 +90,7 @@ module _ (kinds : Family) (net : Network) where
       let e : c ≡ b = cc in
       let w = (channel_of net c).writer in
       let g' : (channel_of net c).tokens ++ puts (D' w) c ≡ took ds c ++ u ∷ g.rest = subst (λ x. (channel_of net x).tokens ++ puts (D' (channel_of net x).writer) x ≡ took ds x ++ u ∷ g.rest) (sym e) g.next in
-      let h = same_next ((channel_of net c).tokens ++ puts (D w) c) ((channel_of net c).tokens ++ puts (D' w) c) (took ds c) f.rest g.rest t u (in_line_after (channel_of net c).tokens _ _ (puts_in_line (D w) (D' w) c (line w))) f.next g' in
+      let h = same_next ((channel_of net c).tokens ++ puts (D w) c) ((channel_of net c).tokens ++ puts (D' w) c) (took ds c) f.rest g.rest t u (comparable_after (channel_of net c).tokens _ _ (puts_comparable (D w) (D' w) c (line w))) f.next g' in
       cc
 
   -- if a process has done the same in two runs, and the deeds of the others are prefix-comparable, it does the same next in both

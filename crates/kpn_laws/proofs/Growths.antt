@@ -8,7 +8,7 @@ use Rattle.kpn_model.specs.Network.{Network, Family}
 use Rattle.kpn_model.specs.Semantics.{State, capacity, Step, Run, Grows}
 use Rattle.kpn_model.specs.Endings.{IsOver}
 use Rattle.kpn_model.specs.declared.history.End.{End}
-use Rattle.kpn_laws.proofs.Lists.{push_split, front_cases, front_to_push}
+use Rattle.kpn_laws.proofs.Lists.{push_split, prefix_cases, prefix_to_push}
 use Rattle.kpn_laws.proofs.Views.{growths_push_did, growths_push_grew}
 use Rattle.kpn_laws.proofs.Runs.{run_induction}
 use Rattle.kpn_laws.proofs.Kept.{IsFresh}
@@ -53,10 +53,10 @@ module _ (kinds : Family) (net : Network) where
   pair_same c to g p q = λ i. (p i, q i)
 
   -- the growths of any run are a prefix of those of a run that is over
-  pub growths_front :
+  pub growths_prefix :
       (S : State) → IsFresh kinds net S → (E : List Entry) (M : State) (a : End) → Run kinds net S E M → IsOver kinds net M a
       → (F : List Entry) (N : State) → Run kinds net S F N → IsPrefixOf (growths F) (growths E)
-  growths_front S fresh E M a run over =
+  growths_prefix S fresh E M a run over =
       run_induction kinds net (λ H _. IsPrefixOf (growths H) (growths E)) S (growths E, refl) (λ H K e L before ih s. step H K e L before ih s)
     where
       step :
@@ -75,5 +75,5 @@ module _ (kinds : Family) (net : Network) where
           let one : c ≡ m.0.0 = chosen_same kinds net K c m.0.0 s.chosen there.chosen in
           let two : to ≡ m.0.1 = s.to_is ∙ ap (λ x. min (capacity K x + net.step) net.ceiling) one ∙ sym there.to_is in
           let pair = pair_same c to m.0 one two in
-          subst (λ g. IsPrefixOf g (growths E)) (sym (growths_push_grew H c to)) (front_to_push (growths H) (growths E) m.1.0 m.0 (c, to) m.1.1 pair))
-          (front_cases (growths H) (growths E) ih)
+          subst (λ g. IsPrefixOf g (growths E)) (sym (growths_push_grew H c to)) (prefix_to_push (growths H) (growths E) m.1.0 m.0 (c, to) m.1.1 pair))
+          (prefix_cases (growths H) (growths E) ih)

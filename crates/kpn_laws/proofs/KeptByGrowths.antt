@@ -7,7 +7,7 @@ use Rattle.kpn_model.specs.declared.history.Entry.TheVariants.{Grew}
 use Rattle.kpn_model.specs.History.{deeds, growths, grown}
 use Rattle.kpn_model.specs.Network.{Network, channel_of, Family}
 use Rattle.kpn_model.specs.Semantics.{State, tokens, capacity, with_channel, IsBlocked}
-use Rattle.kpn_laws.proofs.Lists.{front_push_cases}
+use Rattle.kpn_laws.proofs.Lists.{prefix_push_cases}
 use Rattle.kpn_laws.proofs.Views.{puts, took, deeds_push_grew, growths_push_grew, grown_push}
 use Rattle.kpn_laws.proofs.States.{out_of-writer, tokens_set_same, tokens_set_other, capacity_set_same, capacity_set_other}
 use Rattle.kpn_laws.proofs.Follows.{status_by, follows_more}
@@ -56,7 +56,7 @@ module _ (kinds : Family) (net : Network) where
         let same = ap (λ x. grown (capacity S b) x b) (e ∙ sym (growths_push_grew H c to)) in
         omega arith)
         (λ (g : IsPrefixOf gs (growths H)). let before = k.rising gs g b in let more' = no_less c to within more b in omega arith)
-        (front_push_cases gs (growths H) (c, to) (subst (λ x. IsPrefixOf gs x) (growths_push_grew H c to) f))
+        (prefix_push_cases gs (growths H) (c, to) (subst (λ x. IsPrefixOf gs x) (growths_push_grew H c to) f))
 
     -- a growth leaves each channel's tokens
     pub tokens_grew : (c to : ℕ) → c < length M.channels → (b : ℕ) → tokens (with_channel M c (tokens M c) to) b ≡ tokens M b

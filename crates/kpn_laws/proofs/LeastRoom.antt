@@ -9,7 +9,7 @@ use Rattle.kpn_model.specs.Network.{Network, channel_of, Family, resized}
 use Rattle.kpn_model.specs.Semantics.{State, tokens, capacity, answered, wants, with_channel, start, Step, Run, Grows, IsPossible, IsBlocked, IsQuiet, IsArtificial, IsChosen}
 use Rattle.kpn_laws.specs.Sufficient.{IsBoundedBy, EndsWithin, LastsWithin, Suffices}
 use Rattle.kpn_laws.specs.LeastRoom.{IsDominated, Dominates, ChosenHasFewer, GrowsBelow, StaysBelow, CeilingSuffices, LeastPossible}
-use Rattle.kpn_laws.proofs.Lists.{same_from_fronts, front-length}
+use Rattle.kpn_laws.proofs.Lists.{same_from_prefixes, prefix-length}
 use Rattle.kpn_laws.proofs.States.{capacity_set_same, capacity_set_other}
 use Rattle.kpn_laws.proofs.Steps.{capacity_after}
 use Rattle.kpn_laws.proofs.Follows.{status_by}
@@ -40,7 +40,7 @@ module _ (kinds : Family) (net : Network) where
     -- and then it has no fewer entries, growths apart
     pub is_dominated : ((p : ℕ) → IsPrefixOf (deeds F p) (deeds E p)) → IsDominated F E
     is_dominated front =
-        let d = total_le kinds net (length net.processes) (λ p. length (deeds F p)) (λ p. length (deeds E p)) (λ p. front-length _ _ (front p)) in
+        let d = total_le kinds net (length net.processes) (λ p. length (deeds F p)) (λ p. length (deeds E p)) (λ p. prefix-length _ _ (front p)) in
         let e = entries_total kinds net S fresh E M run in
         let f = entries_total kinds net S' fresh' F N run' in
         record { deeds = front; entries = omega arith }
@@ -95,7 +95,7 @@ module _ (kinds : Family) (net : Network) where
       let up : IsBoundedBy N (capacity M c) = λ d. (let most = s.bounded d in omega arith) in
       let ahead = chosen_dominates sizes E F M N c run artificial chosen s.final.run up in
       let behind = end_dominates b s E M run in
-      let same : (p : ℕ) → deeds E p ≡ deeds F p = λ p. same_from_fronts _ _ (behind.deeds p) (ahead.deeds p) in
+      let same : (p : ℕ) → deeds E p ≡ deeds F p = λ p. same_from_prefixes _ _ (behind.deeds p) (ahead.deeds p) in
       none_blocked kinds net N s.cause s.natural over chosen.writer c
       (blocked_too (start kinds net) (start kinds (resized net sizes)) E F M N (fresh_start kinds net) (fresh_resized kinds net sizes) run
       (run_resized kinds net sizes F N s.final.run) same (over_quiet kinds net N s.cause over) chosen.writer c chosen.blocked)

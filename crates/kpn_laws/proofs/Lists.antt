@@ -13,8 +13,8 @@ nil_left [] s e = refl
 nil_left (x ∷ r) s e = cc
 
 -- two lists that are prefixes of each other are equal
-pub same_from_fronts : {X : Type 0} (xs ys : List X) → IsPrefixOf xs ys → IsPrefixOf ys xs → xs ≡ ys
-same_from_fronts xs ys a b =
+pub same_from_prefixes : {X : Type 0} (xs ys : List X) → IsPrefixOf xs ys → IsPrefixOf ys xs → xs ≡ ys
+same_from_prefixes xs ys a b =
     let e : xs ++ (a.0 ++ b.0) ≡ xs = sym (append_assoc xs a.0 b.0) ∙ ap (λ l. l ++ b.0) a.1 ∙ b.1 in
     let n = nil_left a.0 b.0 (nil_of_self xs (a.0 ++ b.0) e) in
     sym (append-nil xs) ∙ ap (λ l. xs ++ l) (sym n) ∙ a.1
@@ -31,53 +31,53 @@ push_split (a ∷ xs) (b ∷ ys) zs x y e =
     elim (push_split xs ys zs x y f) [ inl p ↦ (let p0 = p.0 in let p1 = p.1 in inl (cc, p1)) | inr p ↦ (let q = p.1 in inr (p.0, cc)) ]
 
 -- a list stays prefix-comparable to ys with one more element, if ys goes on with that element
-pub in_line_push :
+pub comparable_push :
     {X : Type 0} (xs ys : List X) (d : X) → ArePrefixComparable xs ys → ((e : X) (rest : List X) → ys ≡ xs ++ e ∷ rest → d ≡ e) → ArePrefixComparable (xs ++ d ∷ []) ys
-in_line_push xs ys d (inr b) h = inr (b.0 ++ d ∷ [], sym (append_assoc ys b.0 (d ∷ [])) ∙ ap (λ l. l ++ d ∷ []) b.1)
-in_line_push xs ys d (inl ([], e)) h = inr (d ∷ [], ap (λ l. l ++ d ∷ []) (sym e ∙ append-nil xs))
-in_line_push xs ys d (inl (f ∷ rest, e)) h =
+comparable_push xs ys d (inr b) h = inr (b.0 ++ d ∷ [], sym (append_assoc ys b.0 (d ∷ [])) ∙ ap (λ l. l ++ d ∷ []) b.1)
+comparable_push xs ys d (inl ([], e)) h = inr (d ∷ [], ap (λ l. l ++ d ∷ []) (sym e ∙ append-nil xs))
+comparable_push xs ys d (inl (f ∷ rest, e)) h =
     let g = h f rest (sym e) in
     inl (rest, append_assoc xs (d ∷ []) rest ∙ ap (λ x. xs ++ x ∷ rest) g ∙ e)
 
 -- the same for a list and one of its prefixes
-same_next_in_front : {X : Type 0} (k r s w xs ys : List X) (t u : X) → xs ++ w ≡ ys → xs ≡ k ++ t ∷ r → ys ≡ k ++ u ∷ s → t ≡ u
-same_next_in_front k r s w xs ys t u a e f =
+same_next_in_prefix : {X : Type 0} (k r s w xs ys : List X) (t u : X) → xs ++ w ≡ ys → xs ≡ k ++ t ∷ r → ys ≡ k ++ u ∷ s → t ≡ u
+same_next_in_prefix k r s w xs ys t u a e f =
     let h : t ∷ (r ++ w) ≡ u ∷ s = append_cancel_left k _ _ (sym (append_assoc k (t ∷ r) w) ∙ ap (λ l. l ++ w) (sym e) ∙ a ∙ f) in
     cc
 
 -- two prefix-comparable lists go on with the same element
 pub same_next : {X : Type 0} (xs ys k r s : List X) (t u : X) → ArePrefixComparable xs ys → xs ≡ k ++ t ∷ r → ys ≡ k ++ u ∷ s → t ≡ u
-same_next xs ys k r s t u (inl a) e f = same_next_in_front k r s a.0 xs ys t u a.1 e f
-same_next xs ys k r s t u (inr b) e f = sym (same_next_in_front k s r b.0 ys xs u t b.1 f e)
+same_next xs ys k r s t u (inl a) e f = same_next_in_prefix k r s a.0 xs ys t u a.1 e f
+same_next xs ys k r s t u (inr b) e f = sym (same_next_in_prefix k s r b.0 ys xs u t b.1 f e)
 
 -- a prefix of a prefix is a prefix
-pub front_trans : {X : Type 0} (xs ys zs : List X) → IsPrefixOf xs ys → IsPrefixOf ys zs → IsPrefixOf xs zs
-front_trans xs ys zs a b = (a.0 ++ b.0, sym (append_assoc xs a.0 b.0) ∙ ap (λ l. l ++ b.0) a.1 ∙ b.1)
+pub prefix_trans : {X : Type 0} (xs ys zs : List X) → IsPrefixOf xs ys → IsPrefixOf ys zs → IsPrefixOf xs zs
+prefix_trans xs ys zs a b = (a.0 ++ b.0, sym (append_assoc xs a.0 b.0) ∙ ap (λ l. l ++ b.0) a.1 ∙ b.1)
 
 -- a list is a prefix of itself with one more element
-pub front_of_push : {X : Type 0} (xs : List X) (x : X) → IsPrefixOf xs (xs ++ x ∷ [])
-front_of_push xs x = (x ∷ [], refl)
+pub prefix_of_push : {X : Type 0} (xs : List X) (x : X) → IsPrefixOf xs (xs ++ x ∷ [])
+prefix_of_push xs x = (x ∷ [], refl)
 
 -- a prefix is no longer than the whole
-pub front-length : {X : Type 0} (xs ys : List X) → IsPrefixOf xs ys → length xs ≤ length ys
-front-length xs ys a = omega (arith, length-append xs a.0, ap length a.1)
+pub prefix-length : {X : Type 0} (xs ys : List X) → IsPrefixOf xs ys → length xs ≤ length ys
+prefix-length xs ys a = omega (arith, length-append xs a.0, ap length a.1)
 
 -- a prefix is the whole, or the whole goes on after it
-pub front_cases : {X : Type 0} (xs ys : List X) → IsPrefixOf xs ys → (xs ≡ ys) ⊎ ((e : X) × ((rest : List X) × (ys ≡ xs ++ e ∷ rest)))
-front_cases xs ys ([], e) = inl (sym (append-nil xs) ∙ e)
-front_cases xs ys (f ∷ rest, e) = inr (f, (rest, sym e))
+pub prefix_cases : {X : Type 0} (xs ys : List X) → IsPrefixOf xs ys → (xs ≡ ys) ⊎ ((e : X) × ((rest : List X) × (ys ≡ xs ++ e ∷ rest)))
+prefix_cases xs ys ([], e) = inl (sym (append-nil xs) ∙ e)
+prefix_cases xs ys (f ∷ rest, e) = inr (f, (rest, sym e))
 
 -- a prefix with the next element of the whole is a prefix
-pub front_to_push : {X : Type 0} (xs ys rest : List X) (e d : X) → ys ≡ xs ++ e ∷ rest → d ≡ e → IsPrefixOf (xs ++ d ∷ []) ys
-front_to_push xs ys rest e d h g = (rest, append_assoc xs (d ∷ []) rest ∙ ap (λ x. xs ++ x ∷ rest) g ∙ sym h)
+pub prefix_to_push : {X : Type 0} (xs ys rest : List X) (e d : X) → ys ≡ xs ++ e ∷ rest → d ≡ e → IsPrefixOf (xs ++ d ∷ []) ys
+prefix_to_push xs ys rest e d h g = (rest, append_assoc xs (d ∷ []) rest ∙ ap (λ x. xs ++ x ∷ rest) g ∙ sym h)
 
 -- prefix-comparable lists stay so with the same list before both
-pub in_line_after : {X : Type 0} (ts xs ys : List X) → ArePrefixComparable xs ys → ArePrefixComparable (ts ++ xs) (ts ++ ys)
-in_line_after ts xs ys (inl a) = inl (a.0, append_assoc ts xs a.0 ∙ ap (λ l. ts ++ l) a.1)
-in_line_after ts xs ys (inr b) = inr (b.0, append_assoc ts ys b.0 ∙ ap (λ l. ts ++ l) b.1)
+pub comparable_after : {X : Type 0} (ts xs ys : List X) → ArePrefixComparable xs ys → ArePrefixComparable (ts ++ xs) (ts ++ ys)
+comparable_after ts xs ys (inl a) = inl (a.0, append_assoc ts xs a.0 ∙ ap (λ l. ts ++ l) a.1)
+comparable_after ts xs ys (inr b) = inr (b.0, append_assoc ts ys b.0 ∙ ap (λ l. ts ++ l) b.1)
 
 -- the prefixes of a list with one more element
-pub front_push_cases : {X : Type 0} (gs xs : List X) (x : X) → IsPrefixOf gs (xs ++ x ∷ []) → (gs ≡ xs ++ x ∷ []) ⊎ IsPrefixOf gs xs
-front_push_cases gs xs x ([], e) = inl (sym (append-nil gs) ∙ e)
-front_push_cases gs xs x (y ∷ ys, e) =
+pub prefix_push_cases : {X : Type 0} (gs xs : List X) (x : X) → IsPrefixOf gs (xs ++ x ∷ []) → (gs ≡ xs ++ x ∷ []) ⊎ IsPrefixOf gs xs
+prefix_push_cases gs xs x ([], e) = inl (sym (append-nil gs) ∙ e)
+prefix_push_cases gs xs x (y ∷ ys, e) =
     ⊎_elim (λ p. inr ([], append-nil gs ∙ sym p.0)) (λ q. inr (y ∷ q.0, sym q.1)) (push_split xs gs ys x y (sym e))

@@ -7,12 +7,12 @@ use Rattle.kpn_model.specs.History.{deeds, put_on, stream, place_of}
 use Rattle.kpn_model.specs.Network.{Network, channel_of, Family, resized}
 use Rattle.kpn_model.specs.Semantics.{State, status, answered, wants, start, Run, IsBlocked, IsQuiet}
 use Rattle.kpn_model.specs.declared.history.End.{End}
-use Rattle.kpn_laws.proofs.Lists.{same_from_fronts, in_line_after}
-use Rattle.kpn_laws.proofs.Views.{puts, puts_in_line}
+use Rattle.kpn_laws.proofs.Lists.{same_from_prefixes, comparable_after}
+use Rattle.kpn_laws.proofs.Views.{puts, puts_comparable}
 use Rattle.kpn_laws.proofs.Follows.{status_by}
 use Rattle.kpn_laws.proofs.Kept.{IsFresh, fresh_start}
 use Rattle.kpn_laws.proofs.KeptByRuns.{kept_run}
-use Rattle.kpn_laws.proofs.InLine.{runs_in_line}
+use Rattle.kpn_laws.proofs.Comparable.{runs_comparable}
 use Rattle.kpn_laws.proofs.Domination.{dominated}
 use Rattle.kpn_laws.proofs.Causes.{over_quiet, none_blocked}
 use Rattle.kpn_laws.proofs.Streams.{put_on_deeds}
@@ -21,20 +21,20 @@ use Rattle.kpn_laws.proofs.Resized.{resize-tokens, wired_resized, fresh_resized,
 
 module _ (kinds : Family) (net : Network) (sizes : ℕ → ℕ) where
   -- in any two runs, what each process does is prefix-comparable, and so is each stream
-  all_in_line_here : (E F : List Entry) (M N : State) → IsRun kinds net E M → IsRun kinds (resized net sizes) F N → AreAllPrefixComparable net (resized net sizes) E F
-  all_in_line_here E F M N run run' =
+  all_comparable_here : (E F : List Entry) (M N : State) → IsRun kinds net E M → IsRun kinds (resized net sizes) F N → AreAllPrefixComparable net (resized net sizes) E F
+  all_comparable_here E F M N run run' =
       let S = start kinds net in
       let S' = start kinds (resized net sizes) in
       let r = run_resized kinds net sizes F N run' in
-      let line = runs_in_line kinds net S S' (fresh_start kinds net) (fresh_resized kinds net sizes) F N r E M run in
+      let line = runs_comparable kinds net S S' (fresh_start kinds net) (fresh_resized kinds net sizes) F N r E M run in
       record {
         deeds = line;
         streams = λ c.
             let w = (channel_of net c).writer in
             let put : ArePrefixComparable (put_on E c) (put_on F c) =
             subst (λ l. ArePrefixComparable l (put_on F c)) (sym (put_on_deeds kinds net S E M run c))
-            (subst (λ l. ArePrefixComparable (puts (deeds E w) c) l) (sym (put_on_deeds kinds net S' F N r c)) (puts_in_line (deeds E w) (deeds F w) c (line w))) in
-            subst (λ l. ArePrefixComparable (stream net E c) (l ++ put_on F c)) (sym (resize-tokens net.channels sizes c)) (in_line_after (channel_of net c).tokens _ _ put);
+            (subst (λ l. ArePrefixComparable (puts (deeds E w) c) l) (sym (put_on_deeds kinds net S' F N r c)) (puts_comparable (deeds E w) (deeds F w) c (line w))) in
+            subst (λ l. ArePrefixComparable (stream net E c) (l ++ put_on F c)) (sym (resize-tokens net.channels sizes c)) (comparable_after (channel_of net c).tokens _ _ put);
       }
 
   -- a run to a quiet state without a blocked writer has all that is done in any other
@@ -54,7 +54,7 @@ module _ (kinds : Family) (net : Network) (sizes : ℕ → ℕ) where
       let f = fresh_start kinds net in
       let r = run_resized kinds net sizes F N y.run in
       let over = over_alike kinds (resized net sizes) net (wired_resized net sizes) N b y.over in
-      let did : (p : ℕ) → deeds E p ≡ deeds F p = λ p. same_from_fronts _ _
+      let did : (p : ℕ) → deeds E p ≡ deeds F p = λ p. same_from_prefixes _ _
       (dominates S' S (fresh_resized kinds net sizes) f F E N M r (over_quiet kinds net N b over) (none_blocked kinds net N b m over) x.run p)
       (dominates S S' f (fresh_resized kinds net sizes) E F M N x.run (over_quiet kinds net M a x.over) (none_blocked kinds net M a n x.over) r p) in
       let k = kept_run kinds net S f E M x.run in
@@ -75,5 +75,5 @@ pub one_outcome : (kinds : Family) → OneOutcome kinds
 one_outcome kinds net sizes E F M N a b x n y m = one_outcome_here kinds net sizes E F M N a b x n y m
 
 -- any two runs are prefix-comparable
-pub all_in_line : (kinds : Family) → AllPrefixComparable kinds
-all_in_line kinds net sizes E F M N x y = all_in_line_here kinds net sizes E F M N x y
+pub all_comparable : (kinds : Family) → AllPrefixComparable kinds
+all_comparable kinds net sizes E F M N x y = all_comparable_here kinds net sizes E F M N x y

@@ -6,7 +6,7 @@ use Rattle.kpn_model.specs.History.{deeds, growths, grown}
 use Rattle.kpn_model.specs.Network.{Network, channel_of, Family}
 use Rattle.kpn_model.specs.declared.history.Status.TheVariants.{Done}
 use Rattle.kpn_model.specs.Semantics.{Held, State, nothing_held, status, tokens, capacity, Run, IsQuiet}
-use Rattle.kpn_laws.proofs.Lists.{same_from_fronts}
+use Rattle.kpn_laws.proofs.Lists.{same_from_prefixes}
 use Rattle.kpn_laws.proofs.Views.{puts, took}
 use Rattle.kpn_laws.proofs.Follows.{status_by}
 use Rattle.kpn_laws.proofs.Kept.{IsFresh, Kept}
@@ -40,7 +40,7 @@ module _ (kinds : Family) (net : Network) where
       (S : State) → IsFresh kinds net S → (E F : List Entry) (M N : State) → Run kinds net S E M → IsQuiet kinds net M → Run kinds net S F N
       → IsQuiet kinds net N → growths E ≡ growths F → (p : ℕ) → deeds E p ≡ deeds F p
   same_deeds S fresh E F M N run quiet run' quiet' grew p =
-      same_from_fronts _ _
+      same_from_prefixes _ _
       (dominated_by_growths kinds net S fresh F N run' quiet' E M run ([], append-nil _ ∙ grew) p)
       (dominated_by_growths kinds net S fresh E M run quiet F N run' ([], append-nil _ ∙ sym grew) p)
 

@@ -143,14 +143,14 @@ pub took_other : (b c : ℕ) (t : Token) → (b == c) ≡ false → took (Took b
 took_other b c t h = ap (λ x. if x then t ∷ [] else []) h
 
 -- what is put by prefix-comparable lists of deeds is prefix-comparable
-pub puts_in_line : (xs ys : List Deed) (c : ℕ) → ArePrefixComparable xs ys → ArePrefixComparable (puts xs c) (puts ys c)
-puts_in_line xs ys c (inl a) = inl (puts a.0 c, sym (puts-append xs a.0 c) ∙ ap (λ l. puts l c) a.1)
-puts_in_line xs ys c (inr b) = inr (puts b.0 c, sym (puts-append ys b.0 c) ∙ ap (λ l. puts l c) b.1)
+pub puts_comparable : (xs ys : List Deed) (c : ℕ) → ArePrefixComparable xs ys → ArePrefixComparable (puts xs c) (puts ys c)
+puts_comparable xs ys c (inl a) = inl (puts a.0 c, sym (puts-append xs a.0 c) ∙ ap (λ l. puts l c) a.1)
+puts_comparable xs ys c (inr b) = inr (puts b.0 c, sym (puts-append ys b.0 c) ∙ ap (λ l. puts l c) b.1)
 
 -- what a prefix of a list of deeds puts is a prefix of what the list puts
-pub puts_front : (xs ys : List Deed) (c : ℕ) → IsPrefixOf xs ys → IsPrefixOf (puts xs c) (puts ys c)
-puts_front xs ys c a = (puts a.0 c, sym (puts-append xs a.0 c) ∙ ap (λ l. puts l c) a.1)
+pub puts_prefix : (xs ys : List Deed) (c : ℕ) → IsPrefixOf xs ys → IsPrefixOf (puts xs c) (puts ys c)
+puts_prefix xs ys c a = (puts a.0 c, sym (puts-append xs a.0 c) ∙ ap (λ l. puts l c) a.1)
 
 -- what a prefix of a list of deeds takes is a prefix of what the list takes
-pub took_front : (xs ys : List Deed) (c : ℕ) → IsPrefixOf xs ys → IsPrefixOf (took xs c) (took ys c)
-took_front xs ys c a = (took a.0 c, sym (took-append xs a.0 c) ∙ ap (λ l. took l c) a.1)
+pub took_prefix : (xs ys : List Deed) (c : ℕ) → IsPrefixOf xs ys → IsPrefixOf (took xs c) (took ys c)
+took_prefix xs ys c a = (took a.0 c, sym (took-append xs a.0 c) ∙ ap (λ l. took l c) a.1)

@@ -1,7 +1,7 @@
 //! Whichever process goes on next, the outcome is the same.
 ghost use Rattle.kpn_model.specs.Network.{Family};
 ghost use Rattle.kpn_model.specs.Determinacy.{OneDigest, NoneLonger, OneOutcome, AllPrefixComparable};
-ghost use Rattle.kpn_model.specs.Moments.{OneState, FrontsAreRuns, AlwaysWithin, HistoryTellsState, BudgetSuffices, EnabledCanDo, OneCause};
+ghost use Rattle.kpn_model.specs.Moments.{OneState, PrefixesAreRuns, AlwaysWithin, HistoryTellsState, BudgetSuffices, EnabledCanDo, OneCause};
 
 use crate::run::moments;
 use kpn_model::Kinds;
@@ -13,13 +13,13 @@ use kpn_model::Kinds;
 /// same deeds, streams, rests, growths in order, last capacities and number of entries. `none_longer`:
 /// no run is longer than one that is over. `one_outcome`: whatever the starting capacities, runs that
 /// terminate or end in a deadlock have the same deeds, streams and places (growth is Parks's, 1995).
-/// `all_in_line`: in any two runs cut anywhere, from any starting capacities, the deeds of each process
+/// `all_comparable`: in any two runs cut anywhere, from any starting capacities, the deeds of each process
 /// are prefix-comparable (one list begins with the other), and so are the streams.
 pub fn determinacy()
     ensures one_digest { (kinds : Family) → OneDigest kinds }
     ensures none_longer { (kinds : Family) → NoneLonger kinds }
     ensures one_outcome { (kinds : Family) → OneOutcome kinds }
-    ensures all_in_line { (kinds : Family) → AllPrefixComparable kinds }
+    ensures all_comparable { (kinds : Family) → AllPrefixComparable kinds }
 {}
 
 /// Does nothing: the laws of [`determinacy`] and of `moments` for a family that
@@ -28,9 +28,9 @@ pub fn determinacy_of<K: Kinds>()
     ensures one_digest { OneDigest K.family }
     ensures none_longer { NoneLonger K.family }
     ensures one_outcome { OneOutcome K.family }
-    ensures all_in_line { AllPrefixComparable K.family }
+    ensures all_comparable { AllPrefixComparable K.family }
     ensures one_state { OneState K.family }
-    ensures fronts { FrontsAreRuns K.family }
+    ensures prefixes { PrefixesAreRuns K.family }
     ensures within { AlwaysWithin K.family }
     ensures told { HistoryTellsState K.family }
     ensures budget { BudgetSuffices K.family }

@@ -3,7 +3,7 @@ ghost use Rattle.std.specs.Prelude.{Option};
 ghost use Rattle.kpn_model.specs.declared.kinds.Card.{Card};
 ghost use Rattle.kpn_model.specs.declared.kinds.Signature.{Signature};
 ghost use Rattle.kpn_model.specs.Network.{Family};
-ghost use Rattle.kpn_model.specs.Moments.{OneState, FrontsAreRuns, AlwaysWithin, HistoryTellsState, BudgetSuffices, EnabledCanDo, OneCause};
+ghost use Rattle.kpn_model.specs.Moments.{OneState, PrefixesAreRuns, AlwaysWithin, HistoryTellsState, BudgetSuffices, EnabledCanDo, OneCause};
 ghost use Rattle.kpn_model.specs.Valid.{StaysWellTyped};
 ghost use Rattle.kpn_laws.specs.ValidRuns.{StartsWithin, StaysWithin};
 
@@ -12,14 +12,14 @@ use kpn_model::Kinds;
 /// Does nothing: what it ensures are the laws of the moments of a run, for every family of kinds and
 /// every network.
 ///
-/// `one_state`: a history leads from a state to one state. `fronts`: a prefix of a history is a run
+/// `one_state`: a history leads from a state to one state. `prefixes`: a prefix of a history is a run
 /// too, and the rest goes on from where it leads. `within`: a network that begins with no channel above
 /// its capacity never has one. `told`: the history determines what a channel holds, and its capacity.
 /// `budget`: no run ends because of its budget if one that is over has fewer entries. `enabled`: a
 /// process is enabled exactly when it can do a deed. `one_cause`: a run is over for at most one cause.
 pub fn moments()
     ensures one_state { (kinds : Family) → OneState kinds }
-    ensures fronts { (kinds : Family) → FrontsAreRuns kinds }
+    ensures prefixes { (kinds : Family) → PrefixesAreRuns kinds }
     ensures within { (kinds : Family) → AlwaysWithin kinds }
     ensures told { (kinds : Family) → HistoryTellsState kinds }
     ensures budget { (kinds : Family) → BudgetSuffices kinds }

@@ -21,7 +21,7 @@ use Rattle.kpn_commit.specs.Works.{end_after}
 use Rattle.kpn_machine.specs.MachineView.{MachineView, state_and_history_of}
 use Rattle.kpn_machine.specs.Commits.{EndsAs, WorksOn, Commits}
 use Rattle.kpn_commit.specs.declared.outcome.Outcome.TheVariants.{Done, Parked as Parks, LaidBack}
-use Rattle.kpn_state.proofs.Placed.{place_set_same, place_within, busy_at}
+use Rattle.kpn_state.proofs.Placed.{standing_set_same, standing_within, busy_at}
 use Rattle.kpn_state.proofs.Contradictions.{true_false}
 use Rattle.kpn_state.specs.Standings.{standing}
 
@@ -65,8 +65,8 @@ module _ (kinds : Family) (net : Network) where
   -- after a growth its writer is ready
   grown_busy : (s : StateAndHistory) (standings : List Standing) (t : StateAndHistory) (moved : List Standing) → GrowsAndPuts kinds net s standings t moved → list_any is_busy moved ≡ true
   grown_busy s standings t moved g =
-      let within = place_within standings g.writer (λ f. parked_ended (sym g.parked ∙ f)) in
-      busy_at moved g.writer (ap is_busy (ap (λ (l : List Standing). standing l g.writer) g.puts.moves ∙ place_set_same standings g.writer Ready within))
+      let within = standing_within standings g.writer (λ f. parked_ended (sym g.parked ∙ f)) in
+      busy_at moved g.writer (ap is_busy (ap (λ (l : List Standing). standing l g.writer) g.puts.moves ∙ standing_set_same standings g.writer Ready within))
     where
       parked_ended : Parked g.wanted ≡ Stopped → ⊥
       parked_ended e = cc
@@ -114,11 +114,11 @@ module _ (kinds : Family) where
       subst (λ (net : Network). EndsAs kinds (record t { network = net })) (sym h.network)
       (record {
         over = λ cause c.
-            let e = ends_over kinds n w.between w.places_between (state_and_history_of t) t.standings n.budget (length t.history) w.settled w.settles cause c in
+            let e = ends_over kinds n w.between w.standings_between (state_and_history_of t) t.standings n.budget (length t.history) w.settled w.settles cause c in
             (λ x. e.0 (sym is ∙ x), λ x. is ∙ e.1 x);
-        memory = λ x. ends_memory kinds n w.between w.places_between (state_and_history_of t) t.standings n.budget (length t.history) w.settled w.settles (sym is ∙ x);
-        budget = λ x. ends_budget kinds n w.between w.places_between (state_and_history_of t) t.standings n.budget (length t.history) w.settled w.settles (sym is ∙ x);
-        none = λ x. ends_none kinds n w.between w.places_between (state_and_history_of t) t.standings n.budget (length t.history) w.settled (sym is ∙ x);
+        memory = λ x. ends_memory kinds n w.between w.standings_between (state_and_history_of t) t.standings n.budget (length t.history) w.settled w.settles (sym is ∙ x);
+        budget = λ x. ends_budget kinds n w.between w.standings_between (state_and_history_of t) t.standings n.budget (length t.history) w.settled w.settles (sym is ∙ x);
+        none = λ x. ends_none kinds n w.between w.standings_between (state_and_history_of t) t.standings n.budget (length t.history) w.settled (sym is ∙ x);
       })
 
   -- if the run had not ended, a commit works on the answer

@@ -86,4 +86,4 @@ module _ (kinds : Family) (net : Network) where
       → Works kinds net s standings p a o t moved end → GoesOn s t (number o)
   works_goes s standings p a o t moved end w =
       subst (λ n. GoesOn s t n) (number_is w.reaction w.settled ∙ ap number (sym w.outcome_is))
-      (goes_both s w.between t (acted_entries w.reaction) (settled_entries w.settled) (reaction_goes s standings p a w.reaction w.between w.places_between w.reacts) (settled_goes w.between w.places_between w.settled t moved w.settles))
+      (goes_both s w.between t (acted_entries w.reaction) (settled_entries w.settled) (reaction_goes s standings p a w.reaction w.between w.standings_between w.reacts) (settled_goes w.between w.standings_between w.settled t moved w.settles))

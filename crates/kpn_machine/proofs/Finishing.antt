@@ -14,7 +14,7 @@ use Rattle.kpn_commit.specs.declared.outcome.Outcome.TheVariants.{Done, Parked a
 use Rattle.kpn_state.specs.Standings.{standing, is_busy, is_out}
 use Rattle.kpn_machine.specs.MachineView.{MachineView, TakesOut}
 use Rattle.kpn_machine.specs.Commits.{Commits, Appends, ContinuesRun, number}
-use Rattle.kpn_state.proofs.Placed.{place_set_other}
+use Rattle.kpn_state.proofs.Placed.{standing_set_other}
 use Rattle.kpn_state.proofs.Contradictions.{true_false}
 use Rattle.kpn_machine.proofs.Entries.{run_both}
 
@@ -106,7 +106,7 @@ module _ (kinds : Family) where
     round_none_out none back others p e =
         let standings = ap (λ (x : MachineView). x.standings) taken.after in
         ⊎_elim (λ (x : p ≡ i.process). back (ap (λ y. standing t.standings y) (sym x) ∙ e))
-        (λ ne. none p (sym (place_set_other s.standings i.process p Out ne) ∙ ap (λ (l : List Standing). standing l p) (sym standings) ∙ (others p ne).0 e)) (cases_eq p i.process)
+        (λ ne. none p (sym (standing_set_other s.standings i.process p Out ne) ∙ ap (λ (l : List Standing). standing l p) (sym standings) ∙ (others p ne).0 e)) (cases_eq p i.process)
 
     pub round_network : t.network ≡ s.network
     round_network = commits_network mid i o t commits ∙ ap (λ (x : MachineView). x.network) taken.after

@@ -19,7 +19,7 @@ use Rattle.kpn_model.specs.Determinacy.{IsRun}
 use Rattle.kpn_model.specs.Moments.{IsWithin, AtEachMoment}
 use Rattle.kpn_model.specs.Valid.{IsValid, IsWellTyped, StaysWellTyped}
 use Rattle.kpn_laws.specs.ValidRuns.{StaysWithin}
-use Rattle.kpn_laws.proofs.EachMoment.{enabled_can_do, fronts}
+use Rattle.kpn_laws.proofs.EachMoment.{enabled_can_do, prefixes}
 use Rattle.kpn_body.specs.Input.{Input, answer_to}
 use Rattle.kpn_state.specs.StateAndHistory.{StateAndHistory, state_and_history}
 use Rattle.kpn_state.specs.declared.standing.Standing.{Standing}
@@ -37,7 +37,7 @@ use Rattle.kpn_model.specs.Endings.{HasStopped, MayEnd, MayStand}
 use Rattle.kpn_commit.specs.Works.{Works, acted_entries, settled_entries, outcome_of, end_after}
 use Rattle.kpn_machine.specs.MachineView.{MachineView, machine_view, IsOutAt, HasBodies, waits, stays_in, IsSound, IsFaithful}
 use Rattle.kpn_machine.specs.Commits.{number, Appends, WorksOn, Commits, TellsEnabled}
-use Rattle.kpn_state.proofs.Placed.{place_set_same, place_set_other, place_within, busy_at, out_not_ended, ready_not_ended}
+use Rattle.kpn_state.proofs.Placed.{standing_set_same, standing_set_other, standing_within, busy_at, out_not_ended, ready_not_ended}
 use Rattle.kpn_state.proofs.Contradictions.{none_some, true_false}
 use Rattle.kpn_commit.proofs.Keeping.{keeps_moved}
 use Rattle.kpn_commit.proofs.Idle.{enabled_busy}
@@ -81,8 +81,8 @@ module _ (kinds : Family) (net : Network) where
   busy_follows s standings (Ended end) t moved budget entries h e = cc
   busy_follows s standings Enlarged t moved budget entries h e =
       let g = h.1 in
-      let within : g.writer < length standings = place_within standings g.writer (λ f. parked_ended g.wanted (sym g.parked ∙ f)) in
-      busy_at moved g.writer (ap is_busy (ap (λ (l : List Standing). standing l g.writer) g.puts.moves ∙ place_set_same standings g.writer Ready within))
+      let within : g.writer < length standings = standing_within standings g.writer (λ f. parked_ended g.wanted (sym g.parked ∙ f)) in
+      busy_at moved g.writer (ap is_busy (ap (λ (l : List Standing). standing l g.writer) g.puts.moves ∙ standing_set_same standings g.writer Ready within))
     where
       parked_ended : (a : Answer) → Parked a ≡ Stopped → ⊥
       parked_ended a f = cc
@@ -126,7 +126,7 @@ module _ (kinds : Family) (admits : Card → List ℕ → Option Token → Type 
   -- what holds of every state that a run leads to holds at each moment of a run
   at_each_moment : (net : Network) (E : List Entry) (M : State) (P : State → Type 0) → IsRun kinds net E M → ((F : List Entry) (N : State) → IsRun kinds net F N → P N) → AtEachMoment kinds net E P
   at_each_moment net E M P run holds F G is =
-      let parts = fronts kinds net (start kinds net) M F G (subst (λ H. IsRun kinds net H M) (sym is) run) in
+      let parts = prefixes kinds net (start kinds net) M F G (subst (λ H. IsRun kinds net H M) (sym is) run) in
       (parts.0, parts.1, holds F parts.0 parts.1)
 
   pub sound_faithful :
@@ -166,8 +166,8 @@ module _ (kinds : Family) (admits : Card → List ℕ → Option Token → Type 
 
     pub sound_taken : (p : ℕ) → end ≡ None → standing standings p ≡ Ready → IsSound kinds admits (machine_view net M E (set standings p Out) end commits) room (set bodies p None)
     sound_taken p none ready =
-        let within : p < length standings = place_within standings p (λ e. ready_not_ended (sym ready ∙ e)) in
-        let now : standing (set standings p Out) p ≡ Out = place_set_same standings p Out within in
+        let within : p < length standings = standing_within standings p (λ e. ready_not_ended (sym ready ∙ e)) in
+        let now : standing (set standings p Out) p ≡ Out = standing_set_same standings p Out within in
         let count = waits_moved standings p Out within in
         let was : waits (standing standings p) ≡ 0 = ap waits ready in
         let asked = h.asked none in
@@ -178,7 +178,7 @@ module _ (kinds : Family) (admits : Card → List ℕ → Option Token → Type 
           room_is = h.room_is;
           many_bodies = length-set bodies p None ∙ h.many_bodies;
           has_bodies = λ q there n. ⊎_elim (λ (s : q ≡ p). absurd (n (ap (λ x. standing (set standings p Out) x) s ∙ now)))
-              (λ o. get_or-set_other bodies p q None None o ∙ h.has_bodies q there (λ e. n (place_set_other standings p q Out o ∙ e)))
+              (λ o. get_or-set_other bodies p q None None o ∙ h.has_bodies q there (λ e. n (standing_set_other standings p q Out o ∙ e)))
               (cases_eq q p);
           few = h.few;
           ends = h.ends;
@@ -194,14 +194,14 @@ module _ (kinds : Family) (admits : Card → List ℕ → Option Token → Type 
 
     module _ (i : Input) (out : IsOutAt net M standings i) where
       pub out_within : i.process < length standings
-      out_within = place_within standings i.process (λ e. out_not_ended (sym out.out ∙ e))
+      out_within = standing_within standings i.process (λ e. out_not_ended (sym out.out ∙ e))
 
       out_bodies : i.process < length bodies
       out_bodies = let a = out_within in let b = h.many_bodies in let c = h.keeps.one_each in omega arith
 
       pub sound_back : end ≢ None → IsSound kinds admits (machine_view net M E (set standings i.process Ready) end (commits + 1)) room (set bodies i.process (Some i.card))
       sound_back over =
-          let now : standing (set standings i.process Ready) i.process ≡ Ready = place_set_same standings i.process Ready out_within in
+          let now : standing (set standings i.process Ready) i.process ≡ Ready = standing_set_same standings i.process Ready out_within in
           let count = in_moved standings i.process Ready out_within in
           let was : stays_in (standing standings i.process) ≡ 0 = ap stays_in out.out in
           let laid = h.laid in
@@ -210,7 +210,7 @@ module _ (kinds : Family) (admits : Card → List ℕ → Option Token → Type 
             keeps = keeps_moved kinds admits net M standings i.process Ready h.keeps out_within ready_not_ended (busy_live i.process Out out.out out_not_ended) (λ a e. absurd (ready_not_parked a e));
             room_is = h.room_is;
             many_bodies = length-set bodies i.process (Some i.card) ∙ h.many_bodies;
-            has_bodies = bodies_back net standings (set standings i.process Ready) bodies i.process i.card out_bodies out.card h.has_bodies (λ q o e. place_set_other standings i.process q Ready o ∙ e);
+            has_bodies = bodies_back net standings (set standings i.process Ready) bodies i.process i.card out_bodies out.card h.has_bodies (λ q o e. standing_set_other standings i.process q Ready o ∙ e);
             few = h.few;
             ends = h.ends;
             busy = λ e. busy_at (set standings i.process Ready) i.process (ap is_busy now);
@@ -240,7 +240,7 @@ module _ (kinds : Family) (admits : Card → List ℕ → Option Token → Type 
         pub worked_tells : TellsEnabled kinds old i.process o
         worked_tells =
             subst (λ x. TellsEnabled kinds old i.process x) (sym w.outcome_is)
-            (tells kinds net M E room standings end commits w.between w.places_between (state_and_history N F left) moved i.process (answer_to kinds i) w.reaction w.settled out_within w.reacts w.settles)
+            (tells kinds net M E room standings end commits w.between w.standings_between (state_and_history N F left) moved i.process (answer_to kinds i) w.reaction w.settled out_within w.reacts w.settles)
 
         pub worked_back : standing moved i.process ≢ Out
         worked_back = works_back kinds net (state_and_history M E room) standings i.process (answer_to kinds i) o (state_and_history N F left) moved stop w out_within
@@ -254,7 +254,7 @@ module _ (kinds : Family) (admits : Card → List ℕ → Option Token → Type 
           network = refl;
           commits = refl;
           works = v;
-          grows = λ not. grows_exactly kinds net v.between v.places_between v.settled (state_and_history N F (net.budget + 2)) moved net.budget (length F) v.settles (λ e. not (v.end_is ∙ e));
+          grows = λ not. grows_exactly kinds net v.between v.standings_between v.settled (state_and_history N F (net.budget + 2)) moved net.budget (length F) v.settles (λ e. not (v.end_is ∙ e));
         }
 
         pub worked_commits : Commits kinds old i o new
@@ -287,9 +287,9 @@ module _ (kinds : Family) (admits : Card → List ℕ → Option Token → Type 
               many_bodies = length-set bodies i.process (Some i.card) ∙ h.many_bodies;
               has_bodies = bodies_back net standings moved bodies i.process i.card out_bodies out.card h.has_bodies (works_out kinds net (state_and_history M E room) standings i.process (answer_to kinds i) o (state_and_history N F left) moved stop w);
               few = few;
-              ends = subst (λ e. MayStand kinds net F N e) (sym w.end_is) (end_follows kinds net w.between w.places_between w.settled (state_and_history N F left) moved few w.settles);
-              busy = λ e. busy_follows kinds net w.between w.places_between w.settled (state_and_history N F left) moved net.budget (length F) w.settles (sym w.end_is ∙ e);
-              idle = λ cause e not. idle_follows kinds net w.between w.places_between w.settled (state_and_history N F left) moved net.budget (length F) cause w.settles (sym w.end_is ∙ e) not;
+              ends = subst (λ e. MayStand kinds net F N e) (sym w.end_is) (end_follows kinds net w.between w.standings_between w.settled (state_and_history N F left) moved few w.settles);
+              busy = λ e. busy_follows kinds net w.between w.standings_between w.settled (state_and_history N F left) moved net.budget (length F) w.settles (sym w.end_is ∙ e);
+              idle = λ cause e not. idle_follows kinds net w.between w.standings_between w.settled (state_and_history N F left) moved net.budget (length F) cause w.settles (sym w.end_is ∙ e) not;
               asked = λ e. omega arith;
               laid = omega arith;
             }

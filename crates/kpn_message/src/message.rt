@@ -40,12 +40,12 @@ fn push_syntax(out: &mut String, text: &[u8], error: &toml::de::Error) -> Result
     let Some(span) = error.span() else {
         return Ok(());
     };
-    let (line, column) = place_after(text.get(..span.start).unwrap_or(text));
+    let (line, column) = line_and_column(text.get(..span.start).unwrap_or(text));
     write!(out, "line {line}, column {column}: {}", error.message())
 }
 
 /// The line and the column of what follows, both from 1. A column counts characters.
-fn place_after(before: &[u8]) -> (usize, usize) {
+fn line_and_column(before: &[u8]) -> (usize, usize) {
     let mut line = 1usize;
     let mut column = 1usize;
     for byte in before {

@@ -27,8 +27,8 @@ abbrev pub OneState : Family → Type 0
 OneState kinds = (net : Network) (S M N : State) (E : List Entry) → Run kinds net S E M → Run kinds net S E N → M ≡ N
 
 -- a prefix of a history is a run too, to a state from which the rest goes on
-abbrev pub FrontsAreRuns : Family → Type 0
-FrontsAreRuns kinds = (net : Network) (S N : State) (E F : List Entry) → Run kinds net S (E ++ F) N → (M : State) × Run kinds net S E M × Run kinds net M F N
+abbrev pub PrefixesAreRuns : Family → Type 0
+PrefixesAreRuns kinds = (net : Network) (S N : State) (E F : List Entry) → Run kinds net S (E ++ F) N → (M : State) × Run kinds net S E M × Run kinds net M F N
 
 abbrev pub AlwaysWithin : Family → Type 0
 AlwaysWithin kinds = (net : Network) → IsWithin (start kinds net) → (E : List Entry) (M : State) → IsRun kinds net E M → IsWithin M

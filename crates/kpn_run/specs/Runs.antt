@@ -34,8 +34,8 @@ abbrev pub SparesBudget : Family → Network → End → Type 0
 SparesBudget kinds net cause = (F : List Entry) (N : State) (b : End) → IsFinal kinds net F N b → length F < net.budget → cause ≢ Budget
 
 -- the deeds and the streams of this history and of any run of the network, from any starting capacities, are prefix-comparable
-abbrev pub IsInLine : Family → Network → List Entry → Type 0
-IsInLine kinds net history = (sizes : ℕ → ℕ) (F : List Entry) (N : State) → IsRun kinds (resized net sizes) F N → AreAllPrefixComparable net (resized net sizes) history F
+abbrev pub IsComparable : Family → Network → List Entry → Type 0
+IsComparable kinds net history = (sizes : ℕ → ℕ) (F : List Entry) (N : State) → IsRun kinds (resized net sizes) F N → AreAllPrefixComparable net (resized net sizes) history F
 
 -- what contracts see of a worker's slot: its seat, and whether an answer of the worker was refused
 pub record AtSlot : Type 0 where

@@ -5,7 +5,7 @@ ghost use Rattle.kpn_machine.specs.declared.opening.OpenFault.{OpenFault as Open
 ghost use Rattle.kpn_machine.specs.Opening.{cards_of, IsOpenFault};
 ghost use Rattle.kpn_machine.specs.MachineView.{IsFresh};
 ghost use Rattle.kpn_laws.specs.RoomOfRun.{TakesLeastRoom};
-ghost use Rattle.kpn_run.specs.Runs.{IsFinish, IsInLine, SparesBudget, StaysWithinCapacities};
+ghost use Rattle.kpn_run.specs.Runs.{IsFinish, IsComparable, SparesBudget, StaysWithinCapacities};
 ghost use Rattle.kpn_body.specs.Input.{Input};
 
 use crate::finish::Finish;
@@ -77,7 +77,7 @@ pub fn run<B: Body, R: Wait + Clock + Threads + Sync, G: Gate>(
     ensures finish { IfOk result (IsFinish B.Kinds.family net) }
     ensures within { IfOk result (λ f. StaysWithinCapacities B.Kinds.family net f.machine.history) }
     ensures budget { IfOk result (λ f. SparesBudget B.Kinds.family net f.cause) }
-    ensures in_line { IfOk result (λ f. IsInLine B.Kinds.family net f.machine.history) }
+    ensures comparable { IfOk result (λ f. IsComparable B.Kinds.family net f.machine.history) }
     ensures room { IfOk result (λ f. TakesLeastRoom B.Kinds.family net f.machine.history f.machine.state) }
     ensures cards { OnOk result (map B.card bodies.items ≡ cards_of net.processes) }
     ensures workers { (n : NetV) (bs : _) → result ≡ Err (RunFault.Workers n bs) → (n ≡ net) × (bs ≡ bodies) × ((workers ≡ 0) ⊎ (16 < workers)) }
@@ -117,7 +117,7 @@ fn run_machine<B: Body, R: Wait + Clock + Threads + Sync, G: Gate>(
     ensures finish { IfOk result (IsFinish B.Kinds.family machine.network) }
     ensures within { IfOk result (λ f. StaysWithinCapacities B.Kinds.family machine.network f.machine.history) }
     ensures budget { IfOk result (λ f. SparesBudget B.Kinds.family machine.network f.cause) }
-    ensures in_line { IfOk result (λ f. IsInLine B.Kinds.family machine.network f.machine.history) }
+    ensures comparable { IfOk result (λ f. IsComparable B.Kinds.family machine.network f.machine.history) }
     ensures room { IfOk result (λ f. TakesLeastRoom B.Kinds.family machine.network f.machine.history f.machine.state) }
     ensures workers { (n : NetV) (bs : _) → result ≢ Err (RunFault.Workers n bs) }
     ensures open { (n : NetV) (bs : _) (fault : OpenFaultV) → result ≢ Err (RunFault.Open n bs fault) }
@@ -140,7 +140,7 @@ fn run_machine<B: Body, R: Wait + Clock + Threads + Sync, G: Gate>(
 fn told_by_laws<K: Kinds>(finish: &Finish<K>)
     ensures within { StaysWithinCapacities K.family finish.now.machine.network finish.now.machine.history }
     ensures budget { SparesBudget K.family finish.now.machine.network finish.now.cause }
-    ensures in_line { IsInLine K.family finish.now.machine.network finish.now.machine.history }
+    ensures comparable { IsComparable K.family finish.now.machine.network finish.now.machine.history }
     ensures room { TakesLeastRoom K.family finish.now.machine.network finish.now.machine.history finish.now.machine.state }
 {
     determinacy_of::<K>();

@@ -8,24 +8,24 @@ use Rattle.kpn_model.specs.declared.history.Deed.{Deed}
 use Rattle.kpn_model.specs.declared.history.Deed.TheVariants.{Took, Put, Stopped}
 use Rattle.kpn_state.specs.declared.standing.Standing.{Standing}
 use Rattle.kpn_state.specs.declared.standing.Standing.TheVariants.{Ready, Out, Parked, Stopped as Ended}
-use Rattle.kpn_state.specs.Standings.{standing, is_busy, is_ready, has_stopped, place_after}
+use Rattle.kpn_state.specs.Standings.{standing, is_busy, is_ready, has_stopped, standing_after}
 use Rattle.kpn_state.proofs.Contradictions.{true_false}
 
 -- the process that is moved has its new standing
-pub place_set_same : (standings : List Standing) (p : ℕ) (x : Standing) → p < length standings → standing (set standings p x) p ≡ x
-place_set_same standings p x h = get_or-set_same standings p x Ended h
+pub standing_set_same : (standings : List Standing) (p : ℕ) (x : Standing) → p < length standings → standing (set standings p x) p ≡ x
+standing_set_same standings p x h = get_or-set_same standings p x Ended h
 
 -- and each other its old one
-pub place_set_other : (standings : List Standing) (p q : ℕ) (x : Standing) → q ≢ p → standing (set standings p x) q ≡ standing standings q
-place_set_other standings p q x h = get_or-set_other standings p q x Ended h
+pub standing_set_other : (standings : List Standing) (p q : ℕ) (x : Standing) → q ≢ p → standing (set standings p x) q ≡ standing standings q
+standing_set_other standings p q x h = get_or-set_other standings p q x Ended h
 
 -- a process that has not stopped is one of the list
-pub place_within : (standings : List Standing) (p : ℕ) → standing standings p ≢ Ended → p < length standings
-place_within standings p h = ⊎_elim (λ within. within) (λ past. absurd (h (get_or_past standings p Ended past))) (cases_lt p (length standings))
+pub standing_within : (standings : List Standing) (p : ℕ) → standing standings p ≢ Ended → p < length standings
+standing_within standings p h = ⊎_elim (λ within. within) (λ past. absurd (h (get_or_past standings p Ended past))) (cases_lt p (length standings))
 
 -- what no process of the list has, none has
 pub none_past : (standings : List Standing) (p : ℕ) (x : Standing) → x ≢ Ended → ((q : ℕ) → q < length standings → standing standings q ≢ x) → standing standings p ≢ x
-none_past standings p x other h e = h p (place_within standings p (λ f. other (sym e ∙ f))) e
+none_past standings p x other h e = h p (standing_within standings p (λ f. other (sym e ∙ f))) e
 
 pub ready_not_ended : Ready ≢ Ended
 ready_not_ended e = cc
@@ -37,13 +37,13 @@ pub parked_not_ended : (a : Answer) → Parked a ≢ Ended
 parked_not_ended a e = cc
 
 -- after its deed a process isn't parked
-pub acted_not_parked : (d : Deed) (a : Answer) → place_after d ≢ Parked a
+pub acted_not_parked : (d : Deed) (a : Answer) → standing_after d ≢ Parked a
 acted_not_parked (Took c t) a e = cc
 acted_not_parked (Put c t) a e = cc
 acted_not_parked Stopped a e = cc
 
 -- nor out
-pub acted_not_out : (d : Deed) → place_after d ≢ Out
+pub acted_not_out : (d : Deed) → standing_after d ≢ Out
 acted_not_out (Took c t) e = cc
 acted_not_out (Put c t) e = cc
 acted_not_out Stopped e = cc

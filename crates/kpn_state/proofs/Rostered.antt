@@ -8,7 +8,7 @@ use Rattle.kpn_state.specs.declared.standing.Standing.{Standing}
 use Rattle.kpn_state.specs.declared.standing.Standing.TheVariants.{Ready, Out, Parked, Stopped}
 use Rattle.kpn_state.specs.Standings.{standing, is_busy, is_ready, is_out, has_stopped}
 use Rattle.kpn_state.specs.Rosters.{times, Agrees, queue_after}
-use Rattle.kpn_state.proofs.Placed.{place_set_same, place_set_other, place_within, ready_not_ended}
+use Rattle.kpn_state.proofs.Placed.{standing_set_same, standing_set_other, standing_within, ready_not_ended}
 
 abbrev one_if : Bool → ℕ
 one_if b = cond b 1 0
@@ -94,22 +94,22 @@ stopped_counted (Parked a ∷ xs) =
     sym (ne_eqb (count_by has_stopped (Parked a ∷ xs)) (suc (length xs)) (λ e. omega arith))
 
 -- the list with one more process
-place_last : (standings : List Standing) (p : ℕ) (x : Standing) → p ≡ length standings → standing (standings ++ x ∷ []) p ≡ x
-place_last [] zero x e = refl
-place_last [] (suc p) x e = absurd (omega arith)
-place_last (y ∷ ys) zero x e = absurd (omega arith)
-place_last (y ∷ ys) (suc p) x e = place_last ys p x (omega arith)
+standing_last : (standings : List Standing) (p : ℕ) (x : Standing) → p ≡ length standings → standing (standings ++ x ∷ []) p ≡ x
+standing_last [] zero x e = refl
+standing_last [] (suc p) x e = absurd (omega arith)
+standing_last (y ∷ ys) zero x e = absurd (omega arith)
+standing_last (y ∷ ys) (suc p) x e = standing_last ys p x (omega arith)
 
-place_before : (standings : List Standing) (p : ℕ) (x : Standing) → p ≢ length standings → standing (standings ++ x ∷ []) p ≡ standing standings p
-place_before [] zero x n = absurd (n refl)
-place_before [] (suc p) x n = refl
-place_before (y ∷ ys) zero x n = refl
-place_before (y ∷ ys) (suc p) x n = place_before ys p x (λ e. n (omega arith))
+standing_before : (standings : List Standing) (p : ℕ) (x : Standing) → p ≢ length standings → standing (standings ++ x ∷ []) p ≡ standing standings p
+standing_before [] zero x n = absurd (n refl)
+standing_before [] (suc p) x n = refl
+standing_before (y ∷ ys) zero x n = refl
+standing_before (y ∷ ys) (suc p) x n = standing_before ys p x (λ e. n (omega arith))
 
-place_past : (standings : List Standing) (p : ℕ) → p ≡ length standings → standing standings p ≡ Stopped
-place_past [] p e = refl
-place_past (y ∷ ys) zero e = absurd (omega arith)
-place_past (y ∷ ys) (suc p) e = place_past ys p (omega arith)
+standing_past : (standings : List Standing) (p : ℕ) → p ≡ length standings → standing standings p ≡ Stopped
+standing_past [] p e = refl
+standing_past (y ∷ ys) zero e = absurd (omega arith)
+standing_past (y ∷ ys) (suc p) e = standing_past ys p (omega arith)
 
 pub kept_none : (room : ℕ) → Agrees [] [] room 0 0
 kept_none room = record { queued = λ p. refl; ready = refl; room_for_all = omega arith; out_is = refl; stopped_is = refl }
@@ -119,14 +119,14 @@ kept_more standings queue room out stopped n is k below =
     record {
       queued = λ p. times_push queue n p ∙ ⊎_elim
           (λ (e : p ≡ n).
-          let none : times queue p ≡ 0 = k.queued p ∙ ap (weight is_ready) (place_past standings p (e ∙ is)) in
+          let none : times queue p ≡ 0 = k.queued p ∙ ap (weight is_ready) (standing_past standings p (e ∙ is)) in
           let one = one_here n p (sym e) in
-          let here : weight is_ready (standing (standings ++ Ready ∷ []) p) ≡ 1 = ap (weight is_ready) (place_last standings p Ready (e ∙ is)) in
+          let here : weight is_ready (standing (standings ++ Ready ∷ []) p) ≡ 1 = ap (weight is_ready) (standing_last standings p Ready (e ∙ is)) in
           omega arith)
           (λ (ne : p ≢ n).
           let other = none_there n p (λ e. ne (sym e)) in
           let before = k.queued p in
-          let same = ap (weight is_ready) (place_before standings p Ready (λ e. ne (e ∙ sym is))) in
+          let same = ap (weight is_ready) (standing_before standings p Ready (λ e. ne (e ∙ sym is))) in
           omega arith)
           (cases_eq p n);
       ready = let l = length-append queue (n ∷ []) in let c = sum_by_push (weight is_ready) standings Ready in let r = k.ready in omega arith;
@@ -178,21 +178,21 @@ module _ (standings : List Standing) (queue : List ℕ) (room out stopped : ℕ)
         (λ (e : q ≡ p).
         let none : times queue q ≡ 0 = k.queued q ∙ ap (λ y. weight is_ready (standing standings y)) e ∙ ap one_if (not_ready (standing standings p) idle) in
         let one = one_here p q (sym e) in
-        let here : weight is_ready (standing (set standings p x) q) ≡ 1 = ap (λ y. weight is_ready (standing (set standings p x) y)) e ∙ ap (weight is_ready) (place_set_same standings p x within) ∙ ap one_if r in
+        let here : weight is_ready (standing (set standings p x) q) ≡ 1 = ap (λ y. weight is_ready (standing (set standings p x) y)) e ∙ ap (weight is_ready) (standing_set_same standings p x within) ∙ ap one_if r in
         omega arith)
         (λ (ne : q ≢ p).
         let other = none_there p q (λ e. ne (sym e)) in
         let before = k.queued q in
-        let same = ap (weight is_ready) (place_set_other standings p q x ne) in
+        let same = ap (weight is_ready) (standing_set_other standings p q x ne) in
         omega arith)
         (cases_eq q p)
     queued_moved x false r q =
         ⊎_elim
         (λ (e : q ≡ p).
         let none : times queue q ≡ 0 = k.queued q ∙ ap (λ y. weight is_ready (standing standings y)) e ∙ ap one_if (not_ready (standing standings p) idle) in
-        let here : weight is_ready (standing (set standings p x) q) ≡ 0 = ap (λ y. weight is_ready (standing (set standings p x) y)) e ∙ ap (weight is_ready) (place_set_same standings p x within) ∙ ap one_if r in
+        let here : weight is_ready (standing (set standings p x) q) ≡ 0 = ap (λ y. weight is_ready (standing (set standings p x) y)) e ∙ ap (weight is_ready) (standing_set_same standings p x within) ∙ ap one_if r in
         omega arith)
-        (λ (ne : q ≢ p). k.queued q ∙ sym (ap (weight is_ready) (place_set_other standings p q x ne)))
+        (λ (ne : q ≢ p). k.queued q ∙ sym (ap (weight is_ready) (standing_set_other standings p q x ne)))
         (cases_eq q p)
 
     longer : (x : Standing) (b : Bool) → is_ready x ≡ b → length (cond b (queue ++ p ∷ []) queue) ≡ length queue + weight is_ready x
@@ -229,7 +229,7 @@ module _ (standings : List Standing) (queue : List ℕ) (room out stopped : ℕ)
       passes false h = let n : times queue p ≡ 0 = k.queued p ∙ ap one_if h in let l = at_least queue e in absurd (omega arith)
 
   pub front_within : (p : ℕ) → slice_get queue 0 ≡ Some p → p < length standings
-  front_within p e = place_within standings p (λ f. ready_not_ended (sym (front_ready p e) ∙ f))
+  front_within p e = standing_within standings p (λ f. ready_not_ended (sym (front_ready p e) ∙ f))
 
   pub kept_sent : (p : ℕ) → slice_get queue 0 ≡ Some p → Agrees (set standings p Out) (drop 1 queue) room (out + 1) stopped
   kept_sent p e =
@@ -243,11 +243,11 @@ module _ (standings : List Standing) (queue : List ℕ) (room out stopped : ℕ)
             (λ (s : q ≡ p).
             let one = one_here p q (sym s) in
             let was : weight is_ready (standing standings q) ≡ 1 = ap (λ y. weight is_ready (standing standings y)) s ∙ ap (weight is_ready) ready in
-            let is : weight is_ready (standing (set standings p Out) q) ≡ 0 = ap (λ y. weight is_ready (standing (set standings p Out) y)) s ∙ ap (weight is_ready) (place_set_same standings p Out within) in
+            let is : weight is_ready (standing (set standings p Out) q) ≡ 0 = ap (λ y. weight is_ready (standing (set standings p Out) y)) s ∙ ap (weight is_ready) (standing_set_same standings p Out within) in
             omega arith)
             (λ (ne : q ≢ p).
             let other = none_there p q (λ e. ne (sym e)) in
-            let same = ap (weight is_ready) (place_set_other standings p q Out ne) in
+            let same = ap (weight is_ready) (standing_set_other standings p q Out ne) in
             omega arith)
             (cases_eq q p);
         ready =

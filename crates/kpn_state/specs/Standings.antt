@@ -49,10 +49,10 @@ has_stopped (Parked a) = false
 has_stopped Ended = true
 
 -- the standing of a process after its deed
-abbrev pub place_after : Deed → Standing
-place_after (Took c t) = Ready
-place_after (Put c t) = Ready
-place_after Stopped = Ended
+abbrev pub standing_after : Deed → Standing
+standing_after (Took c t) = Ready
+standing_after (Put c t) = Ready
+standing_after Stopped = Ended
 
 -- the process at the other end of the deed's channel
 abbrev pub partner : Network → Deed → Option ℕ

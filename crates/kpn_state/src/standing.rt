@@ -3,7 +3,7 @@ ghost use Rattle.std.specs.Prelude.{◌≡◌, ◌≢◌, ◌<◌, length, IfSom
 ghost use Rattle.std.specs.List.{list_all};
 ghost use Rattle.kpn_model.specs.declared.kinds.Answer.{Answer as AnswerV};
 ghost use Rattle.kpn_state.specs.declared.standing.Standing.TheVariants.{Parked};
-ghost use Rattle.kpn_state.specs.Standings.{standing, is_ready, parked_answer, place_after, partner, HasChannel};
+ghost use Rattle.kpn_state.specs.Standings.{standing, is_ready, parked_answer, standing_after, partner, HasChannel};
 
 use kpn_net::{Answer, Deed, Kinds, Net};
 
@@ -18,8 +18,8 @@ pub enum Standing {
 }
 
 /// Returns the standing of a process after its deed.
-pub fn place_after(deed: Deed) -> Standing
-    ensures { result ≡ place_after deed }
+pub fn standing_after(deed: Deed) -> Standing
+    ensures { result ≡ standing_after deed }
 {
     match deed {
         Deed::Took { .. } | Deed::Put { .. } => Standing::Ready,

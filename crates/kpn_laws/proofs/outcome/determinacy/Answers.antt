@@ -1,6 +1,6 @@
 -- The laws of determinacy.
 use Rattle.kpn_laws.proofs.Digests.{one_digest, no_longer}
-use Rattle.kpn_laws.proofs.Outcomes.{one_outcome, all_in_line}
+use Rattle.kpn_laws.proofs.Outcomes.{one_outcome, all_comparable}
 use Rattle.kpn_laws.proofs.outcome.determinacy.Goals as goal
 
 pub returns-clause-one_digest : goal.returns-clause-one_digest
@@ -12,5 +12,5 @@ returns-clause-none_longer c = no_longer
 pub returns-clause-one_outcome : goal.returns-clause-one_outcome
 returns-clause-one_outcome c = one_outcome
 
-pub returns-clause-all_in_line : goal.returns-clause-all_in_line
-returns-clause-all_in_line c = all_in_line
+pub returns-clause-all_comparable : goal.returns-clause-all_comparable
+returns-clause-all_comparable c = all_comparable

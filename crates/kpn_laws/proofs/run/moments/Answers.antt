@@ -1,13 +1,13 @@
 -- The laws of the moments of a run.
-use Rattle.kpn_laws.proofs.EachMoment.{one_state, fronts, history_tells_state, budget_suffices, enabled_can_do, one_cause}
+use Rattle.kpn_laws.proofs.EachMoment.{one_state, prefixes, history_tells_state, budget_suffices, enabled_can_do, one_cause}
 use Rattle.kpn_laws.proofs.Within.{always_within}
 use Rattle.kpn_laws.proofs.run.moments.Goals as goal
 
 pub returns-clause-one_state : goal.returns-clause-one_state
 returns-clause-one_state c = one_state
 
-pub returns-clause-fronts : goal.returns-clause-fronts
-returns-clause-fronts c = fronts
+pub returns-clause-prefixes : goal.returns-clause-prefixes
+returns-clause-prefixes c = prefixes
 
 pub returns-clause-within : goal.returns-clause-within
 returns-clause-within c = always_within

@@ -3,7 +3,7 @@ use Rattle.std.proofs.Common.{◌∙◌, ap, subst, sym}
 use Rattle.kpn_model.specs.Network.{Network}
 use Rattle.kpn_machine.specs.Opening.{cards_of}
 use Rattle.kpn_machine.specs.MachineView.{MachineView}
-use Rattle.kpn_run.specs.Runs.{IsFinish, StaysWithinCapacities, SparesBudget, IsInLine}
+use Rattle.kpn_run.specs.Runs.{IsFinish, StaysWithinCapacities, SparesBudget, IsComparable}
 use Rattle.kpn_run.proofs.executor.run.Goals as goal
 
 pub returns-in-Ok-run_machine-clause-finish : goal.returns-in-Ok-run_machine-clause-finish
@@ -32,10 +32,10 @@ returns-in-Ok-run_machine-clause-budget g c =
     subst (λ (n : Network). SparesBudget g.B.Kinds.Kinds.family n c.in-Ok-run_machine.finish.cause) (ap (λ (m : MachineView). m.network) c.in-Ok.ensures.opened)
     c.in-Ok-run_machine.ensures.budget
 
-pub returns-in-Ok-run_machine-clause-in_line : goal.returns-in-Ok-run_machine-clause-in_line
-returns-in-Ok-run_machine-clause-in_line g c =
-    subst (λ (n : Network). IsInLine g.B.Kinds.Kinds.family n c.in-Ok-run_machine.finish.machine.history) (ap (λ (m : MachineView). m.network) c.in-Ok.ensures.opened)
-    c.in-Ok-run_machine.ensures.in_line
+pub returns-in-Ok-run_machine-clause-comparable : goal.returns-in-Ok-run_machine-clause-comparable
+returns-in-Ok-run_machine-clause-comparable g c =
+    subst (λ (n : Network). IsComparable g.B.Kinds.Kinds.family n c.in-Ok-run_machine.finish.machine.history) (ap (λ (m : MachineView). m.network) c.in-Ok.ensures.opened)
+    c.in-Ok-run_machine.ensures.comparable
 
 pub returns-in-Err-run_machine-clause-lost : goal.returns-in-Err-run_machine-clause-lost
 returns-in-Err-run_machine-clause-lost g c = λ a b is. (c.in-Ok.ensures.cards, c.in-Err-run_machine.ensures.lost a b is)

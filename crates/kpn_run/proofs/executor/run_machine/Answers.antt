@@ -3,7 +3,7 @@ use Rattle.std.proofs.Common.{◌∙◌, ap, subst}
 use Rattle.kpn_model.specs.Network.{Network}
 use Rattle.kpn_machine.specs.Opening.{cards_of}
 use Rattle.kpn_machine.specs.MachineView.{MachineView}
-use Rattle.kpn_run.specs.Runs.{IsFinish, StaysWithinCapacities, SparesBudget, IsInLine}
+use Rattle.kpn_run.specs.Runs.{IsFinish, StaysWithinCapacities, SparesBudget, IsComparable}
 use Rattle.kpn_run.proofs.executor.run_machine.Goals as goal
 
 pub returns-in-Ok-run_named-clause-finish : goal.returns-in-Ok-run_named-clause-finish
@@ -28,8 +28,8 @@ returns-in-Ok-run_named-clause-budget g c =
     subst (λ (n : Network). SparesBudget g.B.Kinds.Kinds.family n finish.cause)
     (c.in-Ok-run_named.ensures.finish.network ∙ ap (λ (m : MachineView). m.network) c.in-Ok.ensures.0) c.told_by_laws.ensures.budget
 
-pub returns-in-Ok-run_named-clause-in_line : goal.returns-in-Ok-run_named-clause-in_line
-returns-in-Ok-run_named-clause-in_line g c =
+pub returns-in-Ok-run_named-clause-comparable : goal.returns-in-Ok-run_named-clause-comparable
+returns-in-Ok-run_named-clause-comparable g c =
     let finish = c.in-Ok-run_named.finish in
-    subst (λ (n : Network). IsInLine g.B.Kinds.Kinds.family n finish.machine.history)
-    (c.in-Ok-run_named.ensures.finish.network ∙ ap (λ (m : MachineView). m.network) c.in-Ok.ensures.0) c.told_by_laws.ensures.in_line
+    subst (λ (n : Network). IsComparable g.B.Kinds.Kinds.family n finish.machine.history)
+    (c.in-Ok-run_named.ensures.finish.network ∙ ap (λ (m : MachineView). m.network) c.in-Ok.ensures.0) c.told_by_laws.ensures.comparable

@@ -12,7 +12,7 @@ returns-clause-within g c = λ E F is.
     let machine = c.args.finish.now.machine in
     let net = machine.network in
     let run = subst (λ l. IsRun kinds net l machine.state) (sym is) c.end.ensures.finish.run in
-    let front = c.determinacy_of.ensures.fronts net (start kinds net) machine.state E F run in
+    let front = c.determinacy_of.ensures.prefixes net (start kinds net) machine.state E F run in
     let valid = subst (λ (n : Network). IsValid g.K.Kinds.signature_of n) c.net.ensures c.assure_valid.ensures.valid in
     (front.0, front.1, c.valid_runs.ensures.within g.K.Kinds.signature_of kinds net valid E front.0 front.1)
 
@@ -22,7 +22,7 @@ returns-clause-budget g c = λ F N b over short.
     let machine = c.args.finish.now.machine in
     c.determinacy_of.ensures.budget machine.network machine.history F machine.state N c.args.finish.now.cause b f.run f.bound over short
 
-pub returns-clause-in_line : goal.returns-clause-in_line
-returns-clause-in_line g c = λ sizes F N run.
+pub returns-clause-comparable : goal.returns-clause-comparable
+returns-clause-comparable g c = λ sizes F N run.
     let machine = c.args.finish.now.machine in
-    c.determinacy_of.ensures.all_in_line machine.network sizes machine.history F machine.state N c.end.ensures.finish.run run
+    c.determinacy_of.ensures.all_comparable machine.network sizes machine.history F machine.state N c.end.ensures.finish.run run

@@ -2,7 +2,7 @@
 use Rattle.std.proofs.Common.{[], append-nil, sym, ◌∙◌, arith, refl}
 use Rattle.std.proofs.lemmas.List.{map-set}
 use Rattle.kpn_machine.specs.MachineView.{IsOutAt}
-use Rattle.kpn_state.proofs.Placed.{place_set_same}
+use Rattle.kpn_state.proofs.Placed.{standing_set_same}
 use Rattle.kpn_machine.proofs.Ends.{commits_end}
 use Rattle.kpn_machine.proofs.Sound.{sound_back, sound_worked, worked_appends, worked_tells, worked_back, worked_others, worked_commits, commits_fit, out_within, none_of, some_of, ready_not_out}
 use Rattle.kpn_machine.proofs.machine.Machine.commit_asked.Goals as goal
@@ -30,7 +30,7 @@ returns-then-is_some-clause-appends g c = rw (← c.self.view_is) (record { entr
 pub returns-then-is_some-clause-back : goal.returns-then-is_some-clause-back
 returns-then-is_some-clause-back g c =
     let out : IsOutAt c.self.inside.net c.self.inside.store.state c.self.inside.standings c.args.finished = rw (← c.self.view_is) at c.requires in
-    λ e. ready_not_out (sym (place_set_same _ _ _ (out_within g.B.Kinds.Kinds.family g.B.Kinds.Kinds.admits _ _ _ _ _ _ _ _ c.self.invariant.0 c.args.finished out)) ∙ rw (c.update.ensures, c.process-process.ensures) at e)
+    λ e. ready_not_out (sym (standing_set_same _ _ _ (out_within g.B.Kinds.Kinds.family g.B.Kinds.Kinds.admits _ _ _ _ _ _ _ _ c.self.invariant.0 c.args.finished out)) ∙ rw (c.update.ensures, c.process-process.ensures) at e)
 
 pub invariant_of-self-2 : goal.invariant_of-self-2
 invariant_of-self-2 g c =

@@ -8,7 +8,7 @@ use Rattle.kpn_model.specs.declared.history.Entry.TheVariants.{Did, Grew}
 use Rattle.kpn_model.specs.History.{deeds}
 use Rattle.kpn_model.specs.Network.{Network, Family}
 use Rattle.kpn_model.specs.Semantics.{State, Step, Run}
-use Rattle.kpn_laws.proofs.Lists.{in_line_push}
+use Rattle.kpn_laws.proofs.Lists.{comparable_push}
 use Rattle.kpn_laws.proofs.Views.{deeds_push_same, deeds_push_other, deeds_push_grew}
 use Rattle.kpn_laws.proofs.Follows.{follows_same}
 use Rattle.kpn_laws.proofs.Runs.{run_induction}
@@ -28,19 +28,19 @@ module _ (kinds : Family) (net : Network) where
       (cases_eq q p)
 
   -- the deeds of a process in any two runs are prefix-comparable
-  pub runs_in_line :
+  pub runs_comparable :
       (S S' : State) → IsFresh kinds net S → IsFresh kinds net S' → (F : List Entry) (N : State) → Run kinds net S' F N → (E : List Entry) (M : State)
       → Run kinds net S E M → (p : ℕ) → ArePrefixComparable (deeds E p) (deeds F p)
-  runs_in_line S S' fresh fresh' F N run' =
+  runs_comparable S S' fresh fresh' F N run' =
       let kf = kept_run kinds net S' fresh' F N run' in
       run_induction kinds net (λ H _. (q : ℕ) → ArePrefixComparable (deeds H q) (deeds F q)) S (λ q. inl (deeds F q, refl))
-      (λ H M e K before ih s. in_line_step H M e K (kept_run kinds net S fresh H M before) kf ih s)
+      (λ H M e K before ih s. comparable_step H M e K (kept_run kinds net S fresh H M before) kf ih s)
     where
-      in_line_step :
+      comparable_step :
           (H : List Entry) (M : State) (e : Entry) (K : State) → Kept kinds net S H M → Kept kinds net S' F N
           → ((q : ℕ) → ArePrefixComparable (deeds H q) (deeds F q)) → Step kinds net M e K → (q : ℕ) → ArePrefixComparable (deeds (H ++ e ∷ []) q) (deeds F q)
-      in_line_step H M (Grew c to) K k kf ih s q = subst (λ l. ArePrefixComparable l (deeds F q)) (sym (deeds_push_grew H c to q)) (ih q)
-      in_line_step H M (Did p d) K k kf ih s q =
+      comparable_step H M (Grew c to) K k kf ih s q = subst (λ l. ArePrefixComparable l (deeds F q)) (sym (deeds_push_grew H c to q)) (ih q)
+      comparable_step H M (Did p d) K k kf ih s q =
           let now = deed_follows kinds net S H M k p d s.answer s.wanted s.is_deed in
           at_deeds_push (λ q l. ArePrefixComparable l (deeds F q)) H p d
-          (in_line_push (deeds H p) (deeds F p) d (ih p) (λ e rest h. follows_same kinds net (deeds H) (deeds F) p (deeds H p) d e ih now (kf.follows p (deeds H p) e rest h))) ih q
+          (comparable_push (deeds H p) (deeds F p) d (ih p) (λ e rest h. follows_same kinds net (deeds H) (deeds F) p (deeds H p) d e ih now (kf.follows p (deeds H p) e rest h))) ih q
