@@ -1,5 +1,5 @@
 -- What `Net::check` returns is what is loaded.
-use Rattle.std.proofs.Common.{◌≡◌, ◌≢◌, ℕ, Bool, true, false, cond, List, [], ◌∷◌, Option, Some, None, Result, Ok, Err, IfOk, IfErr, IfSome, refl, ◌∙◌, inl}
+use Rattle.std.proofs.Common.{◌≡◌, ◌≢◌, ℕ, Bool, true, false, cond, List, [], ◌∷◌, Option, Some, None, Result, Ok, Err, IfOk, IfErr, IfSome, refl, ◌∙◌}
 use Rattle.std.specs.List.{find}
 use Rattle.kpn_net.specs.declared.fault.NetFault.{NetFault}
 use Rattle.kpn_net.specs.declared.fault.NetFault.TheVariants.{NotToml, Keys, Version, Counts, Name, Kind, Args, NoEnd, Twice, Unused, Sorts, Capacity, Budget, Memory, Input, Tokens, Step}
@@ -10,8 +10,7 @@ use Rattle.kpn_net.specs.Description.{Describes}
 use Rattle.kpn_net.specs.Faults.{first_fault, has_fault}
 use Rattle.kpn_model.specs.Network.{Network}
 use Rattle.kpn_net.specs.Sketched.{net_of}
-use Rattle.kpn_front.specs.Loading.{Loads, IsWhole, IsLoadFault, IsTextOf}
-use Rattle.kpn_front.specs.declared.load.Refused.{Refused}
+use Rattle.kpn_front.specs.Loading.{Loads, IsWhole, IsLoadFault}
 
 -- if an item is found, first or later, it passes the test
 found_at : {A : Type 0} (p : A → Bool) (y x : A) (rest : Option A) (b : Bool) → p y ≡ b → (rest ≡ Some x → p x ≡ true) → cond b (Some y) rest ≡ Some x → p x ≡ true
@@ -59,8 +58,3 @@ module _ (named : List ℕ → Option (ℕ × ℕ)) (signature : Card → Option
   pub loads_known : (failed : Bool) (known : Option (List ℕ)) (text : List ℕ) (r : Result Network NetFault) → IfSome known (λ t. text ≡ t) → failed ≡ false → Loads named signature false text r → IfSome known (λ t. Loads named signature failed t r)
   loads_known failed None text r same e h = tt
   loads_known failed (Some t) text r same e h = rw (← same, e) h
-
--- the text that is handed back is all that the source had
-pub text_known : (known : Option (List ℕ)) (text : List ℕ) (refused : Refused) → IfSome known (λ t. text ≡ t) → refused.text.items ≡ text → IfSome known (λ t. IsTextOf t refused)
-text_known None text refused same e = tt
-text_known (Some t) text refused same e = inl (e ∙ same)
