@@ -1,4 +1,6 @@
 //! The message of a refused description.
+ghost use Rattle.std.specs.Prelude.{◌≡◌, ◌≢◌, ◌⊎◌, [], IfSome, string_bytes};
+
 use crate::channels::push_channel;
 use crate::keys::push_misfit;
 use crate::location::{Location, locate};
@@ -19,7 +21,10 @@ pub fn message_of<K: Kinds>(
     text: &[u8],
     fault: NetFault,
     kinds: &str,
-) -> Option<String> {
+) -> Option<String>
+    ensures plain { (fault ≡ NetFault.Memory) ⊎ (fault ≡ NetFault.Input) → result ≡ None }
+    ensures said { IfSome result (λ message. string_bytes message ≢ []) }
+{
     let mut out = String::new(alloc);
     match fault {
         NetFault::Memory | NetFault::Input => return None,

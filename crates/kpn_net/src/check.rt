@@ -47,6 +47,7 @@ fn begins_with_letter(bytes: &[u8]) -> bool
     }
 }
 
+/// Whether this may be a name: 1 to 16 of `a` to `z`, `0` to `9` and `_`, the first a letter.
 pub fn is_name(text: &str) -> bool
     ensures { result ≡ is_name text.now }
 {
@@ -123,6 +124,7 @@ fn any_clash<T, C: Clash<T>>(items: &[T]) -> bool
     false
 }
 
+/// The sort of a port; `None` if there is no port of this number.
 pub fn port_sort(ports: &[Option<Sort>; 3], port: i64) -> Option<Sort>
     ensures { result ≡ port_sort ports.now port }
 {
@@ -132,6 +134,7 @@ pub fn port_sort(ports: &[Option<Sort>; 3], port: i64) -> Option<Sort>
     }
 }
 
+/// Whether the sort was found, and is this one.
 pub fn is_sort(sort: Sort, found: Option<Sort>) -> bool
     ensures { result ≡ is_sort sort found }
 {
@@ -160,6 +163,7 @@ pub(crate) fn card_with(kind: u16, args: &[i64]) -> Card
     }
 }
 
+/// The ports of a process; `None` if the family has no kind of its name, or refuses its arguments.
 pub fn signature_of<K: Kinds>(process: &ProcessSketch) -> Option<Signature>
     ensures { result ≡ signature_of K.named K.signature_of process.now }
 {
@@ -174,6 +178,7 @@ pub fn has_unknown_kind<K: Kinds>(process: &ProcessSketch) -> bool
     K::named(process.kind.as_str()).is_none()
 }
 
+/// Whether the kind of the process takes another number of arguments, or is unknown.
 pub fn takes_other_count<K: Kinds>(process: &ProcessSketch) -> bool
     ensures { result ≡ takes_other_count K.named K.signature_of process.now }
 {
@@ -203,12 +208,14 @@ fn signature_named<K: Kinds>(sketch: &Sketch, name: &str) -> Option<Signature>
     signature_of::<K>(process)
 }
 
+/// The first process with this name.
 pub fn process_named<'a>(processes: &'a [ProcessSketch], name: &str) -> Option<&'a ProcessSketch>
     ensures { option_copied result ≡ find (λ p. bytes_eq p.name name.now) processes.now }
 {
     processes.iter().find(|p| p.name.as_str() == name)
 }
 
+/// The sort of the output port that a channel begins at; `None` if there is none.
 pub fn out_sort<K: Kinds>(sketch: &Sketch, channel: &ChannelSketch) -> Option<Sort>
     ensures { result ≡ sketched_out_sort K.named K.signature_of sketch.now channel.now }
 {
@@ -216,6 +223,7 @@ pub fn out_sort<K: Kinds>(sketch: &Sketch, channel: &ChannelSketch) -> Option<So
     port_sort(&signature.outs, channel.out)
 }
 
+/// The sort of the input port that a channel ends at; `None` if there is none.
 pub fn in_sort<K: Kinds>(sketch: &Sketch, channel: &ChannelSketch) -> Option<Sort>
     ensures { result ≡ sketched_in_sort K.named K.signature_of sketch.now channel.now }
 {
@@ -239,6 +247,7 @@ fn leads_to(channels: &[ChannelSketch], name: &str, port: i64) -> bool
         .any(|c| c.to.as_str() == name && c.input == port)
 }
 
+/// Whether a process with this name and signature has this output port, and no channel leads from it.
 pub fn is_unused_out<K: Kinds>(
     sketch: &Sketch,
     name: &str,
@@ -251,6 +260,7 @@ pub fn is_unused_out<K: Kinds>(
         && !leads_from(sketch.channels.as_slice(), name, port)
 }
 
+/// Whether a process with this name and signature has this input port, and no channel leads to it.
 pub fn is_unused_in<K: Kinds>(sketch: &Sketch, name: &str, signature: &Signature, port: i64) -> bool
     ensures { result ≡ is_unused_in K.named K.signature_of sketch.now name.now signature.now port }
 {
@@ -412,6 +422,7 @@ fn has_wrong_budget<K: Kinds>(sketch: &Sketch) -> bool
     is_outside(1, greatest, sketch.budget)
 }
 
+/// Whether a start token is of this sort: words are integers from 0 on, flags are booleans.
 pub fn is_token(sort: Sort, token: TokenSketch) -> bool
     ensures { result ≡ is_token sort token }
 {

@@ -11,7 +11,7 @@ use std::test::Fail;
 
 /// A counter and a sink, with their names, arguments and ports. What they do doesn't matter here: each
 /// stops at once.
-struct CountAndSink;
+pub(crate) struct CountAndSink;
 
 impl Kinds for CountAndSink {
     ghost use Rattle.kpn_model.specs.declared.kinds.Act.TheVariants.{Stop};
