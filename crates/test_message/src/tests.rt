@@ -2,7 +2,8 @@
 use kpn_message::message_of;
 use kpn_net::{Net, NetFault, read_sketch};
 use kpn_standard::Standard;
-use std::alloc::Global;
+use std::alloc::{AllocError, Global};
+use std::process::Abort;
 use std::test::Fail;
 
 const KINDS: &str = "count and sink";
@@ -49,8 +50,9 @@ to = \"s1\"
 tokens = []
 ";
 
-/// What stands in the text, what stands there in its place, the number of the fault and the message.
-static EDITS: [(&str, &str, u8, &str); 42] = [
+/// Edits that make no TOML, or other keys: what stands in the text, what stands there in its place, the
+/// number of the fault and the message.
+static KEYS: [(&str, &str, u8, &str); 15] = [
     (
         "version = 2",
         "version = ",
@@ -131,6 +133,10 @@ static EDITS: [(&str, &str, u8, &str); 42] = [
         2,
         "channel[2]: key \"tokens\" is unknown; the keys are name, from, to, out, in, sort, capacity",
     ),
+];
+
+/// The same of names, kinds, arguments and unused ports.
+static PROCESSES: [(&str, &str, u8, &str); 13] = [
     (
         "name = \"src\"",
         "name = \"Src\"",
@@ -192,6 +198,28 @@ static EDITS: [(&str, &str, u8, &str); 42] = [
         "process \"two\": kind \"weave\" does not take args [0, 1]",
     ),
     (
+        "kind = \"copy\"",
+        "kind = \"switch\"",
+        10,
+        "process \"two\": input 1 is the end of no channel",
+    ),
+    (
+        "kind = \"count\"\nargs = [1, 3]",
+        "kind = \"copy\"",
+        10,
+        "process \"src\": input 0 is the end of no channel",
+    ),
+    (
+        "[[channel]]\nname = \"c1\"\nfrom = \"two\"\nto = \"s0\"\ncapacity = 7\n",
+        "",
+        10,
+        "process \"two\": output 0 is the end of no channel",
+    ),
+];
+
+/// The same of channels, and of the budget and the step.
+static CHANNELS: [(&str, &str, u8, &str); 14] = [
+    (
         "from = \"src\"",
         "from = \"scr\"",
         8,
@@ -226,24 +254,6 @@ static EDITS: [(&str, &str, u8, &str); 42] = [
         "to = \"s0\"",
         9,
         "channel \"c2\": input 0 of process \"s0\" is the end of channel \"c1\" already",
-    ),
-    (
-        "kind = \"copy\"",
-        "kind = \"switch\"",
-        10,
-        "process \"two\": input 1 is the end of no channel",
-    ),
-    (
-        "kind = \"count\"\nargs = [1, 3]",
-        "kind = \"copy\"",
-        10,
-        "process \"src\": input 0 is the end of no channel",
-    ),
-    (
-        "[[channel]]\nname = \"c1\"\nfrom = \"two\"\nto = \"s0\"\ncapacity = 7\n",
-        "",
-        10,
-        "process \"two\": output 0 is the end of no channel",
     ),
     (
         "capacity = 7",
@@ -365,14 +375,40 @@ fn is_told(alloc: Global, text: &[u8], number: u8, message: &str) -> bool {
     }
 }
 
+/// The edited text is refused by this number, and with this message.
+fn tells_of_edit<R: Abort>(
+    rt: &R,
+    alloc: Global,
+    old: &str,
+    new: &str,
+    number: u8,
+    message: &str,
+) -> Result<(), AllocError> {
+    let text = TEXT.replace(alloc, old, new)?;
+    assert!(rt; is_told(alloc, text.as_bytes(), number, message), "{new}");
+    Ok(())
+}
+
 #[test]
-fn each_edit_has_its_message(rt: HostRuntime) -> Result<(), Fail> {
-    for (old, new, number, message) in EDITS {
-        let text = TEXT.replace(rt.alloc(), old, new)?;
-        assert!(rt;
-            is_told(rt.alloc(), text.as_bytes(), number, message),
-            "{new}"
-        );
+fn edits_of_keys_have_their_messages(rt: HostRuntime) -> Result<(), Fail> {
+    for (old, new, number, message) in KEYS {
+        tells_of_edit(&rt, rt.alloc(), old, new, number, message)?;
+    }
+    Ok(())
+}
+
+#[test]
+fn edits_of_processes_have_their_messages(rt: HostRuntime) -> Result<(), Fail> {
+    for (old, new, number, message) in PROCESSES {
+        tells_of_edit(&rt, rt.alloc(), old, new, number, message)?;
+    }
+    Ok(())
+}
+
+#[test]
+fn edits_of_channels_have_their_messages(rt: HostRuntime) -> Result<(), Fail> {
+    for (old, new, number, message) in CHANNELS {
+        tells_of_edit(&rt, rt.alloc(), old, new, number, message)?;
     }
     Ok(())
 }
