@@ -1,7 +1,7 @@
 //! What is wrong with a channel.
 use crate::processes::NAME_FORM;
 use crate::quoted::Quoted;
-use kpn_net::check::{is_name, is_sort, is_token, out_sort, process_named};
+use kpn_net::check::{Clash, SameIn, SameOut, is_name, is_sort, is_token, out_sort, process_named};
 use kpn_net::version::ceiling_in;
 use kpn_net::{ChannelSketch, Kinds, NetFault, Sketch, Sort, TokenSketch};
 use std::alloc::AllocError;
@@ -87,15 +87,13 @@ fn push_shared(
 
 /// The name of the channel that begins at the same port.
 fn same_out<'a>(earlier: &'a [ChannelSketch], channel: &ChannelSketch) -> Option<&'a str> {
-    let other = earlier.iter().find(|c| c.from.as_str() == channel.from.as_str()
-        && c.out == channel.out)?;
+    let other = earlier.iter().find(|c| SameOut::clash(c, channel))?;
     Some(other.name.as_str())
 }
 
 /// The name of the channel that ends at the same port.
 fn same_in<'a>(earlier: &'a [ChannelSketch], channel: &ChannelSketch) -> Option<&'a str> {
-    let other = earlier.iter().find(|c| c.to.as_str() == channel.to.as_str()
-        && c.input == channel.input)?;
+    let other = earlier.iter().find(|c| SameIn::clash(c, channel))?;
     Some(other.name.as_str())
 }
 
