@@ -79,7 +79,12 @@ fn serve_choice<I: Source, O: Sink, R: Wait + Clock + Threads + Sync>(
             return Served {
                 status: say_refused(&refused.fault, sink),
                 fault: Some(refused.fault),
-                message: message_of::<Standard>(alloc, refused.text.as_slice(), refused.fault, KINDS),
+                message: message_of::<Standard>(
+                    alloc,
+                    refused.text.as_slice(),
+                    refused.fault,
+                    KINDS,
+                ),
             };
         }
     };

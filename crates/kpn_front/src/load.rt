@@ -33,10 +33,7 @@ pub fn load<K: Kinds, S: Source>(alloc: Global, source: &mut S) -> Result<Net<K>
 }
 
 /// The same as `load`, but it hands back the text of a refused description beside the fault.
-pub fn load_or_refuse<K: Kinds, S: Source>(
-    alloc: Global,
-    source: &mut S,
-) -> Result<Net<K>, Refused>
+pub fn load_or_refuse<K: Kinds, S: Source>(alloc: Global, source: &mut S) -> Result<Net<K>, Refused>
     ensures loads { S.has_failed source.old ≡ false → IfSome (S.remaining source.old) (λ text. Loads K.named K.signature_of (S.has_failed source.new) text (without_text result)) }
     ensures text { IfSome (S.remaining source.old) (λ text. IfErr result (IsTextOf text)) }
     ensures failed { S.has_failed source.old ≡ false → S.has_failed source.new ≡ true → without_text result ≡ Err NetFault.Input }
