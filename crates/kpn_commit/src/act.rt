@@ -130,7 +130,7 @@ pub fn advance<K: Kinds>(
     ensures keeps { IfSome result (λ deed. StandingsFit K.family K.admits net.now (partner net.now deed) store.new.state standings.new) }
     ensures cannot { IfNone result (IsPossible K.family net.now store.old.state process answer.act → ⊥) }
     ensures same { IfNone result (store.new ≡ store.old) }
-    ensures same_places { IfNone result (standings.new ≡ standings.old) }
+    ensures same_standings { IfNone result (standings.new ≡ standings.old) }
 {
     net.assure_valid();
     let card = net.card(process);

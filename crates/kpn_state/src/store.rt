@@ -131,7 +131,7 @@ impl Store {
     pub fn put(&mut self, process: usize, channel: usize, next: Local, token: Token)
         requires process { process < length self.old.state.processes }
         requires channel { channel < length self.old.state.channels }
-        requires standing { length (tokens self.old.state channel) < capacity self.old.state channel }
+        requires space { length (tokens self.old.state channel) < capacity self.old.state channel }
         requires room { length self.old.history < self.old.room }
         ensures { self.new ≡ more self.old (with_channel (with_status self.old.state process (Live next None)) channel (tokens self.old.state channel ++ token ∷ []) (capacity self.old.state channel)) (Did process (Put channel token)) }
     {

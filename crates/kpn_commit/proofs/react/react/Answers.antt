@@ -30,7 +30,7 @@ pub returns-in-None-clause-keeps : goal.returns-in-None-clause-keeps
 returns-in-None-clause-keeps g c =
     let kinds = g.K.Kinds.family in
     let net = c.args.net.now in
-    rw (c.in-None.ensures.same, c.in-None.ensures.same_places)
+    rw (c.in-None.ensures.same, c.in-None.ensures.same_standings)
     (keeps_all kinds g.K.Kinds.admits net c.advance.new.store.state c.advance.new.standings _ c.in-Some.ensures.keeps
     (λ q a e at can.
     let here : standing c.advance.new.standings c.in-Some-partner.other ≡ Parked c.in-Some-parked.wanted = rw c.as_slice.ensures.value at c.in-Some-parked.ensures.some in
