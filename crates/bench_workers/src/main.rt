@@ -30,7 +30,7 @@ struct Burning {
 impl Model for Burning {
     ghost use Rattle.std.specs.Prelude.{IsSome};
     ghost use Rattle.kpn_model.specs.declared.kinds.Card.{Card};
-    ghost use Rattle.kpn_body.specs.Standard.{signature};
+    ghost use Rattle.kpn_body.specs.StandardKinds.{signature};
 
     ghost Value = { Card };
 

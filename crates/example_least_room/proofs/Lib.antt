@@ -1,1 +1,1 @@
-pub mod ParksCase
+pub mod LongerParksCase

@@ -2,7 +2,7 @@
 //! hand.
 ghost use Rattle.std.specs.Prelude.{◌≡◌, ◌<◌, All, IfSome, IsSome, Some, length, slice_get};
 ghost use Rattle.kpn_standard.specs.Standard.{standard};
-ghost use Rattle.kpn_body.specs.Standard.{signature, Admitted};
+ghost use Rattle.kpn_body.specs.StandardKinds.{signature, Admitted};
 ghost use Rattle.kpn_machine.specs.Opening.{cards_of};
 ghost use Rattle.test_laws.specs.WorkedRoom.{longer_parks_case as the_case};
 

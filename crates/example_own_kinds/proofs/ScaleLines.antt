@@ -2,7 +2,7 @@
 use Rattle.std.proofs.Common.{◌≡◌, ℕ, ◌<◌, ◌^◌, List, Some, arith, sym, subst}
 use Rattle.kpn_model.specs.declared.kinds.Card.{Card}
 use Rattle.kpn_model.specs.declared.token.Token.TheVariants.{Word}
-use Rattle.kpn_body.specs.Standard.{card, one, Admitted, scale_writes}
+use Rattle.kpn_body.specs.StandardKinds.{card, one, Admitted, scale_writes}
 
 -- a scale that has read a word
 pub scale_admitted : (c : Card) (args : List ℕ) (w : ℕ) → c ≡ card 6 args → w < 2 ^ 64 → Admitted c (one 1) (Some (Word w))

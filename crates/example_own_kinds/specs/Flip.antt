@@ -1,8 +1,6 @@
 -- The family whose one kind is flip: it reads a flag and writes the other, for ever.
 use Rattle.std.specs.Prelude.{◌≡◌, ℕ, ◌==◌, ◌&&◌, not, Bool, if◌then◌else◌, List, [], ◌∷◌, Option, Some, None, codes}
 use Rattle.std.specs.Str.{bytes_eq}
-use Rattle.kpn_model.specs.declared.token.Sort.{Sort}
-use Rattle.kpn_model.specs.declared.token.Sort.TheVariants.{Flags}
 use Rattle.kpn_model.specs.declared.token.Token.{Token}
 use Rattle.kpn_model.specs.declared.token.Token.TheVariants.{Word, Flag}
 use Rattle.kpn_model.specs.declared.kinds.Card.{Card}
@@ -11,6 +9,7 @@ use Rattle.kpn_model.specs.declared.kinds.Act.TheVariants.{Read, Write}
 use Rattle.kpn_model.specs.declared.kinds.Answer.{Answer}
 use Rattle.kpn_model.specs.Network.{Family}
 use Rattle.kpn_standard.specs.Locals.{at}
+use Rattle.kpn_standard.specs.Table.{one_flag}
 
 -- the number of the kind with this name, and how many arguments it takes
 abbrev pub number_named : List ℕ → Option (ℕ × ℕ)
@@ -19,10 +18,6 @@ number_named name = if bytes_eq name (codes "flip") then Some (0, 0) else None
 -- the one card
 abbrev pub flip : Card
 flip = record { kind = 0; args = 0 ∷ 0 ∷ 0 ∷ [] }
-
--- an input and an output of flags
-abbrev pub one_flag : List (Option Sort)
-one_flag = Some Flags ∷ None ∷ None ∷ []
 
 abbrev pub is_flip : Card → Bool
 is_flip card = (card.kind == 0) && ((at card.args 0 == 0) && ((at card.args 1 == 0) && (at card.args 2 == 0)))
@@ -38,10 +33,10 @@ abbrev pub after_read : List ℕ
 after_read = 1 ∷ 0 ∷ 0 ∷ 0 ∷ []
 
 -- the lines of the table: the local state, by the token of the read just done
-abbrev pub HasLine : List ℕ → Option Token → Type 0
-HasLine local None = local ≡ before_read
-HasLine local (Some (Flag f)) = local ≡ after_read
-HasLine local (Some (Word n)) = ⊥
+abbrev pub FlipLine : List ℕ → Option Token → Type 0
+FlipLine local None = local ≡ before_read
+FlipLine local (Some (Flag f)) = local ≡ after_read
+FlipLine local (Some (Word n)) = ⊥
 
 -- the answer of each line: the next local state, and the act
 abbrev pub answer : Option Token → Answer

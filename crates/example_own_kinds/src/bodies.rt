@@ -2,7 +2,7 @@
 ghost use Rattle.std.specs.Prelude.{◌≡◌, ◌<◌, IsSome, IfOk, Some, None, length, map, slice_get};
 ghost use Rattle.kpn_standard.specs.Standard.{standard};
 ghost use Rattle.kpn_model.specs.Valid.{IsValid};
-ghost use Rattle.kpn_body.specs.Standard.{signature, Admitted};
+ghost use Rattle.kpn_body.specs.StandardKinds.{signature, Admitted};
 
 use crate::asked::first_answer;
 use kpn_body::{Body, Call, Standard, StandardBody, answer};

@@ -1,7 +1,7 @@
 //! A family of a caller's own: one kind, `flip`, which reads a flag and writes the other, for ever.
 ghost use Rattle.std.specs.Prelude.{◌≡◌, IsSome, IfOk, option_map};
 ghost use Rattle.kpn_body.specs.Calls.{IsCallable, Answers, answers_prop};
-ghost use Rattle.example_own_kinds.specs.Flip.{number_named, ports, HasLine, answer, flips, flip};
+ghost use Rattle.example_own_kinds.specs.Flip.{number_named, ports, FlipLine, answer, flips, flip};
 
 use crate::asked::answer_of;
 use kpn_body::{Body, Call};
@@ -19,7 +19,7 @@ impl Kinds for Flips {
 
     ghost family = { flips };
 
-    ghost admits = { λ card. HasLine };
+    ghost admits = { λ card. FlipLine };
 
     fn named(name: &str) -> Option<(u16, usize)> {
         match name {
@@ -71,8 +71,8 @@ pub struct FlipBody {
     card: Card,
     call: Call,
     ghost signed: { IsSome (ports card) },
-    ghost callable: { IsCallable HasLine (pre call) },
-    ghost answers: { Answers HasLine (post call) (flips.answer card) } by { answers_prop _ _ _ },
+    ghost callable: { IsCallable FlipLine (pre call) },
+    ghost answers: { Answers FlipLine (post call) (flips.answer card) } by { answers_prop _ _ _ },
 }
 
 impl FlipBody {
@@ -80,8 +80,8 @@ impl FlipBody {
     /// the table, and `call` must then return the line's answer.
     pub fn new(card: Card, call: Call) -> Self
         requires signed { IsSome (ports card) }
-        requires callable { IsCallable HasLine (pre call) }
-        requires answers { Answers HasLine (post call) (flips.answer card) }
+        requires callable { IsCallable FlipLine (pre call) }
+        requires answers { Answers FlipLine (post call) (flips.answer card) }
         ensures { result.card ≡ card }
     {
         FlipBody { card, call }
@@ -110,7 +110,7 @@ pub fn flip_answer(alloc: Global, read: Option<bool>) -> Result<Answer, AllocErr
     let call: Call = Box::new(
         alloc,
         move |local: Local, last: Option<Token>| -> Answer
-            requires { HasLine local last }
+            requires { FlipLine local last }
             ensures { result ≡ flips.answer flip local last }
         { line_of(last) },
     )?;

@@ -2,7 +2,7 @@
 ghost use Rattle.std.specs.Prelude.{◌≡◌, ◌*◌, ◌%◌, ◌^◌, ◌∷◌, [], IfOk};
 ghost use Rattle.kpn_standard.specs.Standard.{standard};
 ghost use Rattle.kpn_standard.specs.Locals.{says};
-ghost use Rattle.kpn_body.specs.Standard.{card, Admitted};
+ghost use Rattle.kpn_body.specs.StandardKinds.{card, Admitted};
 
 use crate::asked::answer_of;
 use kpn_body::{Call, StandardBody};

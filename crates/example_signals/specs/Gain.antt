@@ -1,7 +1,7 @@
 -- gain: reads a word and writes its product by a factor, or the greatest word if the product is greater, for ever.
 use Rattle.std.specs.Prelude.{◌≡◌, ℕ, ◌*◌, ◌-◌, ◌^◌, ◌<◌, ◌==◌, ◌&&◌, min, Bool, if◌then◌else◌, List, [], ◌∷◌, Option, Some, None, codes}
 use Rattle.std.specs.Str.{bytes_eq}
-use Rattle.kpn_compute.specs.Table.{Sort, Words, Token, Word, Flag, Card, Signature, Read, Write, Answer, Family, at}
+use Rattle.kpn_compute.specs.KindTable.{Token, Word, Flag, Card, Signature, Read, Write, Answer, Family, at, one_word}
 
 -- the number of the kind of a name, and how many arguments it takes: the factor
 abbrev pub number_named : List ℕ → Option (ℕ × ℕ)
@@ -11,9 +11,6 @@ abbrev pub is_gain : Card → Bool
 is_gain card = (card.kind == 0) && ((at card.args 1 == 0) && (at card.args 2 == 0))
 
 -- an input and an output of words
-abbrev pub one_word : List (Option Sort)
-one_word = Some Words ∷ None ∷ None ∷ []
-
 abbrev pub ports : Card → Option Signature
 ports card = if is_gain card then Some (record { ins = one_word; outs = one_word }) else None
 
@@ -25,10 +22,10 @@ abbrev pub after_read : List ℕ
 after_read = 1 ∷ 0 ∷ 0 ∷ 0 ∷ []
 
 -- the lines of the table: the local state, by the token of the read just done
-abbrev pub HasLine : List ℕ → Option Token → Type 0
-HasLine local None = local ≡ before_read
-HasLine local (Some (Word w)) = (local ≡ after_read) × (w < 2 ^ 64)
-HasLine local (Some (Flag f)) = ⊥
+abbrev pub GainLine : List ℕ → Option Token → Type 0
+GainLine local None = local ≡ before_read
+GainLine local (Some (Word w)) = (local ≡ after_read) × (w < 2 ^ 64)
+GainLine local (Some (Flag f)) = ⊥
 
 -- the product, or the greatest word
 abbrev pub amplified : ℕ → ℕ → ℕ

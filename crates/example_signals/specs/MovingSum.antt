@@ -1,7 +1,7 @@
 -- moving_sum: reads a word and writes the sum of it and the three words before it, modulo 2^64, for ever.
 use Rattle.std.specs.Prelude.{ℕ, ◌+◌, ◌%◌, ◌^◌, ◌==◌, ◌&&◌, Bool, if◌then◌else◌, List, [], ◌∷◌, Option, Some, None, codes}
 use Rattle.std.specs.Str.{bytes_eq}
-use Rattle.kpn_compute.specs.Table.{Card, at}
+use Rattle.kpn_compute.specs.KindTable.{Card, at}
 
 -- the number of the kind of a name, and how many arguments it takes
 abbrev pub number_named : List ℕ → Option (ℕ × ℕ)

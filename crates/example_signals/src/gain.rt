@@ -1,6 +1,6 @@
 //! A family from its table: `gain` reads a word and writes its product by a factor, or the greatest
 //! word if the product is greater, for ever.
-ghost use Rattle.example_signals.specs.Gain.{number_named, ports, HasLine, gains};
+ghost use Rattle.example_signals.specs.Gain.{number_named, ports, GainLine, gains};
 
 use kpn_compute::Computes;
 use kpn_net::{Act, Answer, Card, Kinds, Local, Signature, Sort, Token};
@@ -16,7 +16,7 @@ impl Kinds for Gains {
 
     ghost family = { gains };
 
-    ghost admits = { λ card. HasLine };
+    ghost admits = { λ card. GainLine };
 
     fn named(name: &str) -> Option<(u16, usize)> {
         match name {

@@ -1,2 +1,2 @@
-pub mod Entries
+pub mod CommandEntries
 pub mod Subcommands

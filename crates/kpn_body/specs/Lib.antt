@@ -1,4 +1,4 @@
 pub mod Equal
 pub mod Calls
 pub mod Input
-pub mod Standard
+pub mod StandardKinds

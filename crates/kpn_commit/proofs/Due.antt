@@ -1,5 +1,5 @@
 -- A growth follows exactly when it is due.
-use Rattle.std.proofs.Common.{◌≡◌, ◌≢◌, ◌↔◌, List, Some, Bool, true, false, refl, ap, ℕ}
+use Rattle.std.proofs.Common.{◌≡◌, ◌≢◌, ◌↔◌, List, Some, false, refl, ap, ℕ}
 use Rattle.std.specs.List.{list_any}
 use Rattle.kpn_model.specs.declared.history.End.{End}
 use Rattle.kpn_model.specs.declared.history.End.TheVariants.{Terminated, Deadlock, Ceiling, Budget, Memory}

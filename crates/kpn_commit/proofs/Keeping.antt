@@ -32,7 +32,7 @@ after_ended a (Took c t) e = cc
 after_ended a (Put c t) e = cc
 after_ended a Stopped e = refl
 
-some_same : (p q : ℕ) → Some p ≡ Some q → p ≡ q
+pub some_same : (p q : ℕ) → Some p ≡ Some q → p ≡ q
 some_same p q e = cc
 
 module _ (kinds : Family) (admits : Card → List ℕ → Option Token → Type 0) (net : Network) where

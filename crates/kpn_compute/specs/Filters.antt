@@ -2,17 +2,12 @@
 use Rattle.std.specs.Prelude.{◌≡◌, ℕ, ◌<◌, ◌^◌, if◌then◌else◌, Bool, true, List, [], ◌∷◌, Option, Some, None}
 use Rattle.kpn_model.specs.declared.token.Token.{Token}
 use Rattle.kpn_model.specs.declared.token.Token.TheVariants.{Word, Flag}
-use Rattle.kpn_model.specs.declared.token.Sort.{Sort}
-use Rattle.kpn_model.specs.declared.token.Sort.TheVariants.{Words}
 use Rattle.kpn_model.specs.declared.kinds.Card.{Card}
 use Rattle.kpn_model.specs.declared.kinds.Signature.{Signature}
 use Rattle.kpn_model.specs.declared.kinds.Act.TheVariants.{Read, Write}
 use Rattle.kpn_model.specs.declared.kinds.Answer.{Answer}
 use Rattle.kpn_model.specs.Network.{Family}
-
--- an input and an output of words
-abbrev pub one_word : List (Option Sort)
-one_word = Some Words ∷ None ∷ None ∷ []
+use Rattle.kpn_standard.specs.Table.{one_word}
 
 -- the ports of a card, if it is accepted
 abbrev pub ports_if : Bool → Option Signature

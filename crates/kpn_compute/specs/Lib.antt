@@ -1,3 +1,3 @@
 pub mod Both
 pub mod Filters
-pub mod Table
+pub mod KindTable

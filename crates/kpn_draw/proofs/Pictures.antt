@@ -1,14 +1,14 @@
 -- The picture of a run's report is that of its digest.
-use Rattle.std.proofs.Common.{◌≡◌, ℕ, Bool, true, false, List, Option, refl, ap}
+use Rattle.std.proofs.Common.{◌≡◌, Bool, true, false, List, Option, refl, ap}
 use Rattle.kpn_model.specs.declared.history.End.{End}
 use Rattle.kpn_model.specs.declared.history.Entry.{Entry}
 use Rattle.kpn_model.specs.Network.{Network}
 use Rattle.kpn_model.specs.Semantics.{State}
-use Rattle.kpn_model.specs.History.{Digest, digest}
+use Rattle.kpn_model.specs.History.{digest}
 use Rattle.kpn_model.specs.Determinacy.{IsFinal}
 use Rattle.kpn_standard.specs.Standard.{standard}
 use Rattle.kpn_report.specs.declared.detail.Detail.{Detail}
-use Rattle.kpn_report.specs.Digested.{IsReport}
+use Rattle.kpn_report.specs.Reported.{IsReport}
 use Rattle.kpn_model.specs.Endings.{has_report}
 use Rattle.kpn_run.specs.Reports.{IsEveryRuns}
 use Rattle.kpn_draw.specs.Drawing.{digest_picture, report_picture, run_picture}

@@ -47,7 +47,7 @@ pub record DrawsRun (net : Network) (status : Status) (text : List ℕ) : Type 0
   pub settled : has_report cause ≡ true → (F : List Entry) (N : State) (b : End) → IsFinal standard net F N b → text ≡ digest_picture net (digest standard net b F N)
 
 -- an answer of a worker was refused
-pub record TellsLost (status : Status) (text : List ℕ) : Type 0 where
+pub record DrawsLost (status : Status) (text : List ℕ) : Type 0 where
   pub status_is : status ≡ Lost
   pub text_is : text ≡ lost_line
 
@@ -63,7 +63,7 @@ DrawsEnd net status text = TellsRefused status text ⊎ DrawsRun net status text
 -- what is drawn of a network: itself, or as a run by this number of workers left it; or why not
 abbrev pub DrawsOf : Option ℕ → Network → Status → List ℕ → Type 0
 DrawsOf None net status text = TellsRefused status text ⊎ DrawsNet net status text
-DrawsOf (Some workers) net status text = TellsLost status text ⊎ DrawsEnd net status text
+DrawsOf (Some workers) net status text = DrawsLost status text ⊎ DrawsEnd net status text
 
 -- what is drawn of a description that was loaded, or written of one that was refused
 abbrev pub DrawsLoaded : Option ℕ → Result Network NetFault → Status → List ℕ → Type 0

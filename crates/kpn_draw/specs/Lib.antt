@@ -1,3 +1,3 @@
-pub mod Command
-pub mod Choices
+pub mod DrawCommand
+pub mod DrawChoices
 pub mod Drawing

@@ -2,7 +2,7 @@
 ghost use Rattle.std.specs.Prelude.{◌+◌, None};
 ghost use Rattle.kpn_execute.specs.Execution.{Writes};
 ghost use Rattle.kpn_front.specs.Loading.{ReadsAtMost, longest};
-ghost use Rattle.kpn_draw.specs.Choices.{HasFewWorkers};
+ghost use Rattle.kpn_draw.specs.DrawChoices.{HasFewIfRun};
 ghost use Rattle.kpn_draw.specs.Drawing.{Draws, DrawsOf};
 
 use crate::running::draw_run;
@@ -37,7 +37,7 @@ pub(crate) fn serve<I: Source, O: Sink, R: Wait + Clock + Threads + Sync>(
     source: &mut I,
     sink: &mut O,
 ) -> Served
-    requires { HasFewWorkers workers }
+    requires { HasFewIfRun workers }
     ensures drawn { Draws workers (I.remaining source.old) (I.has_failed source.old) (I.has_failed source.new) (O.takes sink.old) (O.contents sink.old) (O.contents sink.new) result.status result.fault }
     ensures taken { ReadsAtMost (longest + 1) (I.remaining source.old) (I.remaining source.new) }
 {

@@ -1,7 +1,7 @@
 //! Draws Kahn process networks that are described in TOML, for Graphviz.
 #![tactic(auto)]
 
-ghost use Rattle.kpn_draw.specs.Choices.{HasFewWorkers};
+ghost use Rattle.kpn_draw.specs.DrawChoices.{HasFewIfRun};
 
 mod drawing;
 mod running;
@@ -53,7 +53,7 @@ fn serve_choice<R: Files + Input + Print + AllocGlobal + Wait + Clock + Threads 
     rt: &R,
     choice: &Choice<'_>,
 ) -> Served
-    requires { HasFewWorkers choice.now.workers }
+    requires { HasFewIfRun choice.now.workers }
 {
     let mut sink = Fallible::new(io::writer(rt));
     let Some(path) = choice.file else {

@@ -1,5 +1,5 @@
 //! Worked command lines, and worked pictures.
-ghost use Rattle.kpn_draw.specs.Choices.{HasFewWorkers};
+ghost use Rattle.kpn_draw.specs.DrawChoices.{HasFewIfRun};
 
 use crate::drawing::serve;
 use crate::words::{Choice, WordsFault, read_words};
@@ -48,7 +48,7 @@ fn told<R: AllocGlobal + Wait + Clock + Threads + Sync>(
     text: &str,
     workers: Option<usize>,
 ) -> Result<Vec<u8>, AllocError>
-    requires { HasFewWorkers workers }
+    requires { HasFewIfRun workers }
 {
     let mut source = text.as_bytes();
     let mut written = Vec::new(rt.alloc());

@@ -5,8 +5,8 @@ ghost use Rattle.std.specs.Str.{bytes_eq};
 ghost use Rattle.clap.specs.Words.{FailsBy, app_of, fault_of, first_of, found_of, matches_of, rows_of, rule_of};
 ghost use Rattle.clap.specs.declared.builder.command.Command.TheViews.{out-Command as fields_of};
 ghost use Rattle.kpn_args.specs.Choices.{IsRefusedWorkers, IsWorkers, WorkersFrom};
-ghost use Rattle.kpn_draw.specs.Command.{kpn_draw, run_rule, workers_rule, file_rule};
-ghost use Rattle.kpn_draw.specs.Choices.{AreTaken, HasFewWorkers, IsChoice, IsChoiceOf, IsWordsFault, asks_for_help, is_run};
+ghost use Rattle.kpn_draw.specs.DrawCommand.{kpn_draw, run_rule, draw_workers_rule, file_rule};
+ghost use Rattle.kpn_draw.specs.DrawChoices.{AreDrawTaken, HasFewIfRun, IsDrawChoice, IsDrawChoiceOf, IsDrawFault, asks_for_draw_help, is_run};
 
 use clap::error::ErrorKind;
 use clap::{Arg, ArgAction, ArgMatches, Command};
@@ -50,7 +50,7 @@ impl WordsFault {
     /// Whether the arguments ask for help or for the version. Their text then goes to standard output,
     /// otherwise to standard error.
     pub(crate) fn asks_for_help(&self) -> bool
-        ensures { result ≡ asks_for_help self.now }
+        ensures { result ≡ asks_for_draw_help self.now }
     {
         match self {
             WordsFault::Parser(error) => matches!(
@@ -63,7 +63,7 @@ impl WordsFault {
 
     /// Returns `Success` if help or the version was asked for, and otherwise `WrongArguments`.
     pub(crate) fn status(&self) -> Status
-        ensures { result ≡ (if asks_for_help self.now then Status.Success else Status.WrongArguments) }
+        ensures { result ≡ (if asks_for_draw_help self.now then Status.Success else Status.WrongArguments) }
     {
         if self.asks_for_help() {
             Status::Success
@@ -74,9 +74,9 @@ impl WordsFault {
 }
 
 impl fmt::Display for WordsFault {
-    ghost use Rattle.kpn_draw.specs.Choices.{text_of};
+    ghost use Rattle.kpn_draw.specs.DrawChoices.{text_of_draw_fault};
 
-    ghost output = { text_of };
+    ghost output = { text_of_draw_fault };
 
     fn fmt<W: fmt::Write>(&self, f: &mut fmt::Formatter<W>) -> fmt::Result {
         match self {
@@ -97,9 +97,9 @@ impl error::Error for WordsFault {}
 /// them (a call for help or for the version is one), or if memory was refused. `Workers` if the command
 /// line accepts the arguments, but the text of `--workers` is not a number from 1 to 16.
 pub(crate) fn read_words<'a>(alloc: Global, words: &'a [&'a str]) -> Result<Choice<'a>, WordsFault>
-    ensures ok { IfOk result (IsChoice (map (λ w. w.now) words.entry.now)) }
-    ensures workers { IfOk result (λ c. HasFewWorkers c.workers) }
-    ensures fault { IfErr result (IsWordsFault (map (λ w. w.now) words.entry.now)) }
+    ensures ok { IfOk result (IsDrawChoice (map (λ w. w.now) words.entry.now)) }
+    ensures workers { IfOk result (λ c. HasFewIfRun c.workers) }
+    ensures fault { IfErr result (IsDrawFault (map (λ w. w.now) words.entry.now)) }
 {
     let matches = matches_of(alloc, words)?;
     choice_of(&matches)
@@ -107,8 +107,8 @@ pub(crate) fn read_words<'a>(alloc: Global, words: &'a [&'a str]) -> Result<Choi
 
 /// The choice that the entries of the command line ask for.
 fn choice_of<'a>(matches: &ArgMatches<'a>) -> Result<Choice<'a>, WordsFault>
-    ensures ok { IfOk result (IsChoiceOf (rows_of (found_of matches.now))) }
-    ensures few { IfOk result (λ c. HasFewWorkers c.workers) }
+    ensures ok { IfOk result (IsDrawChoiceOf (rows_of (found_of matches.now))) }
+    ensures few { IfOk result (λ c. HasFewIfRun c.workers) }
     ensures workers { IfErr result (λ e. (e ≡ WordsFault.Workers) × IsRefusedWorkers (first_of (codes "workers") (rows_of (found_of matches.now)))) }
 {
     let count = workers_in(text_in(matches, "workers"))?;
@@ -172,9 +172,9 @@ fn text_in<'a>(matches: &ArgMatches<'a>, id: &str) -> Option<&'a str>
 
 /// Parses the arguments.
 fn matches_of<'a>(alloc: Global, words: &'a [&'a str]) -> Result<ArgMatches<'a>, WordsFault>
-    ensures taken { IfOk result (λ m. AreTaken (map (λ w. w.now) words.entry.now)) }
+    ensures taken { IfOk result (λ m. AreDrawTaken (map (λ w. w.now) words.entry.now)) }
     ensures matches { IfOk result (λ m. rows_of (found_of m) ≡ matches_of kpn_draw (map (λ w. w.now) words.entry.now)) }
-    ensures fault { IfErr result (IsWordsFault (map (λ w. w.now) words.entry.now)) }
+    ensures fault { IfErr result (IsDrawFault (map (λ w. w.now) words.entry.now)) }
 {
     parse(alloc, words).map_err(WordsFault::Parser)
 }
@@ -210,7 +210,7 @@ fn run<'a>(alloc: Global) -> Arg<'a>
 }
 
 fn workers<'a>(alloc: Global) -> Arg<'a>
-    ensures rule { rule_of result ≡ workers_rule }
+    ensures rule { rule_of result ≡ draw_workers_rule }
     ensures local { result.global ≡ false }
 {
     Arg::new(alloc, "workers")

@@ -5,5 +5,5 @@ pub mod Seats
 pub mod Opened
 pub mod Finishing
 pub mod Ends
-pub mod Cards
+pub mod NetworkCards
 pub mod Fresh

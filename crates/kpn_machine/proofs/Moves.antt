@@ -26,7 +26,7 @@ use Rattle.kpn_state.proofs.Placed.{standing_set_same, standing_set_other, acted
 parked_not_out : (a : Answer) → Parked a ≢ Out
 parked_not_out a e = cc
 
-ready_not_out : Ready ≢ Out
+pub ready_not_out : Ready ≢ Out
 ready_not_out e = cc
 
 -- a process is out or it isn't

@@ -307,6 +307,3 @@ some_of (Some x) e f = cc
 -- a true test
 pub is_true : (b : Bool) → b ≡ true → IsTrue b
 is_true b e = e
-
-pub ready_not_out : Ready ≢ Out
-ready_not_out e = cc

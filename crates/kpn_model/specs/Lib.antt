@@ -7,3 +7,4 @@ pub mod Determinacy
 pub mod Moments
 pub mod Name
 pub mod Valid
+pub mod Parts

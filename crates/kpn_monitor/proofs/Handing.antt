@@ -15,7 +15,7 @@ use Rattle.kpn_commit.specs.declared.outcome.Outcome.{Outcome}
 use Rattle.kpn_commit.specs.declared.outcome.Outcome.TheVariants.{Done, Parked, LaidBack}
 use Rattle.kpn_machine.specs.MachineView.{MachineView, TakesOut}
 use Rattle.kpn_machine.specs.Commits.{Commits, Appends, number}
-use Rattle.kpn_monitor.specs.Names.{Shares, Holding}
+use Rattle.kpn_monitor.specs.Names.{Holding}
 use Rattle.kpn_monitor.specs.Kept.{WasCommitted}
 use Rattle.kpn_monitor.specs.Hands.{AreAnswers, TakesOutAll, CommitsAll, WereCommitted}
 
@@ -113,7 +113,7 @@ gave_many before between after i o first same noted =
 pub dealt_out : (s : MachineView) (before after : Holding) (m : MachineView) (i : Input) (t : MachineView) → after ≡ record before { tasks = before.tasks ++ i ∷ [] } → TakesOut m i t → TakesOutAll s before.tasks m → TakesOutAll s after.tasks t
 dealt_out s before after m i t is one all = subst (λ (h : Holding). TakesOutAll s h.tasks t) (sym is) (takes_more s before.tasks m i t all one)
 
-one_at : {X : Type 0} (P : X → Type 0) (y : X) → P y → (k : ℕ) (d : X) → k < 1 → P (slice_index_or (y ∷ []) k d)
+pub one_at : {X : Type 0} (P : X → Type 0) (y : X) → P y → (k : ℕ) (d : X) → k < 1 → P (slice_index_or (y ∷ []) k d)
 one_at P y p zero d lt = p
 one_at P y p (suc k) d lt = absurd (omega arith)
 

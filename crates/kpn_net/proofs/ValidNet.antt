@@ -27,7 +27,7 @@ use Rattle.kpn_net.specs.Version.{is_two, greatest_budget_in}
 use Rattle.kpn_model.specs.Network.{Network, no_process, card_of}
 use Rattle.kpn_net.specs.Sketched.{net_of, process_in, token_in, channel_in, index_of}
 use Rattle.kpn_model.specs.Valid.{HasEnds, JustOne, IsValid, IsOfSort}
-use Rattle.kpn_net.proofs.Lists.{none_passes, no_pair_passes, none_found, All-map, All-unmap, AllPairs-map, slice_get-map, found_index, none_passes_get, JustOne-map}
+use Rattle.kpn_net.proofs.SketchLists.{none_passes, no_pair_passes, none_found, All-map, All-unmap, AllPairs-map, slice_get-map, found_index, none_passes_get, JustOne-map}
 use Rattle.kpn_net.proofs.ValidEnds.{just_one}
 use Rattle.kpn_net.proofs.ValidTokens.{tokens_of_sort, no_more_than}
 

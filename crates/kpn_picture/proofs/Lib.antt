@@ -1,3 +1,3 @@
 pub mod Names
 pub mod Parts
-pub mod Steps
+pub mod CycleSteps

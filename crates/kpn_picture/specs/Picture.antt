@@ -11,6 +11,7 @@ use Rattle.kpn_model.specs.declared.history.Place.TheVariants.{Stopped, Reads, W
 use Rattle.kpn_model.specs.declared.history.End.{End}
 use Rattle.kpn_model.specs.declared.history.End.TheVariants.{Terminated, Deadlock, Ceiling, Budget, Memory}
 use Rattle.kpn_model.specs.Network.{Network, card_of, channel_of}
+use Rattle.kpn_model.specs.Parts.{process_name, channel_name, lines_upto}
 use Rattle.kpn_picture.specs.Waits.{is_on_cycle, is_jammed}
 
 -- the lines above all processes
@@ -25,17 +26,17 @@ abbrev pub IsPlain : List ℕ → Type 0
 IsPlain text = All (λ b. (b ≢ 34) × (b ≢ 92) × (b ≢ 10)) text
 
 -- how a run ended
-abbrev pub end_text : End → List ℕ
-end_text Terminated = codes "terminated"
-end_text Deadlock = codes "deadlock"
-end_text Ceiling = codes "a channel at the ceiling would have to grow"
-end_text Budget = codes "budget spent"
-end_text Memory = codes "memory refused"
+abbrev pub caption_text : End → List ℕ
+caption_text Terminated = codes "terminated"
+caption_text Deadlock = codes "deadlock"
+caption_text Ceiling = codes "a channel at the ceiling would have to grow"
+caption_text Budget = codes "budget spent"
+caption_text Memory = codes "memory refused"
 
 -- the line of the end of a run, if there is one
-abbrev pub end_line : Option End → List ℕ
-end_line None = []
-end_line (Some end) = codes "  label=\"" ++ end_text end ++ codes "\";\n"
+abbrev pub caption : Option End → List ℕ
+caption None = []
+caption (Some end) = codes "  label=\"" ++ caption_text end ++ codes "\";\n"
 
 abbrev pub argument_part : ℕ → List ℕ
 argument_part n = codes " " ++ decimal n
@@ -85,33 +86,27 @@ abbrev pub kind_text : (ℕ → List ℕ × ℕ) → Card → List ℕ
 kind_text title card = let t = title card.kind in t.0 ++ flat_map argument_part (take t.1 card.args)
 
 module _ (net : Network) where
-  abbrev pub process_name : ℕ → List ℕ
-  process_name p = option_map_or (λ x. x.name) (slice_get net.processes p) []
-
-  abbrev pub channel_name : ℕ → List ℕ
-  channel_name c = option_map_or (λ x. x.name) (slice_get net.channels c) []
-
   -- the place in which a run left a process
-  abbrev pub place_text : Place → List ℕ
-  place_text Stopped = codes "\\nended"
-  place_text (Reads c) = codes "\\nwaits to read " ++ channel_name c
-  place_text (Writes c) = codes "\\nwaits to write " ++ channel_name c
+  abbrev pub place_label : Place → List ℕ
+  place_label Stopped = codes "\\nended"
+  place_label (Reads c) = codes "\\nwaits to read " ++ channel_name net c
+  place_label (Writes c) = codes "\\nwaits to write " ++ channel_name net c
 
   module _ (title : ℕ → List ℕ × ℕ) (places : List Place) where
     -- process p, as a box: its name, its kind and its place, if that is known
-    abbrev pub process_line : ℕ → List ℕ
-    process_line p =
-        box_opening (process_name p) ++ kind_text title (card_of net p) ++ option_map_or place_text (slice_get places p) []
+    abbrev pub node_line : ℕ → List ℕ
+    node_line p =
+        box_opening (process_name net p) ++ kind_text title (card_of net p) ++ option_map_or place_label (slice_get places p) []
         ++ closing (process_look (is_on_cycle net places p) (slice_get places p))
 
   -- how the line of channel c begins, up to its capacity
   abbrev pub edge_opening : ℕ → List ℕ
-  edge_opening c = let l = channel_of net c in arrow (process_name l.writer) (process_name l.reader) ++ label_opening (channel_name c) l.sort
+  edge_opening c = let l = channel_of net c in arrow (process_name net l.writer) (process_name net l.reader) ++ label_opening (channel_name net c) l.sort
 
   module _ (places : List Place) (capacities : List ℕ) (rests : List (List Token)) where
     -- what channel c holds, and its capacity: at the end, if that is known, and else at first
-    abbrev pub held : ℕ → ℕ
-    held c = length (option_map_or (λ rest. rest) (slice_get rests c) (channel_of net c).tokens)
+    abbrev pub held_tokens : ℕ → ℕ
+    held_tokens c = length (option_map_or (λ rest. rest) (slice_get rests c) (channel_of net c).tokens)
 
     abbrev pub last_capacity : ℕ → ℕ
     last_capacity c = option_map_or (λ n. n) (slice_get capacities c) (channel_of net c).capacity
@@ -120,18 +115,13 @@ module _ (net : Network) where
     has_grown c = not ((channel_of net c).capacity == last_capacity c)
 
     -- channel c, as an edge from its writer to its reader: its name, its sort, its capacity and what it holds
-    abbrev pub channel_line : ℕ → List ℕ
-    channel_line c =
-        edge_opening c ++ capacity_text (channel_of net c).capacity (last_capacity c) ++ held_part (held c)
+    abbrev pub edge_line : ℕ → List ℕ
+    edge_line c =
+        edge_opening c ++ capacity_text (channel_of net c).capacity (last_capacity c) ++ held_part (held_tokens c)
         ++ closing (edge_look (is_jammed net places c) (has_grown c))
-
--- the texts of the first n lines
-abbrev pub lines_upto : (ℕ → List ℕ) → ℕ → List ℕ
-lines_upto line zero = []
-lines_upto line (suc n) = lines_upto line n ++ line n
 
 -- the picture of a network, and of a run with this end that left it like this
 abbrev pub picture : (ℕ → List ℕ × ℕ) → Network → Option End → List Place → List ℕ → List (List Token) → List ℕ
 picture title net end places capacities rests =
-    head ++ end_line end ++ lines_upto (process_line net title places) (length net.processes)
-    ++ lines_upto (channel_line net places capacities rests) (length net.channels) ++ codes "}\n"
+    head ++ caption end ++ lines_upto (node_line net title places) (length net.processes)
+    ++ lines_upto (edge_line net places capacities rests) (length net.channels) ++ codes "}\n"

@@ -1,7 +1,8 @@
 //! Channels, as edges.
 ghost use Rattle.std.specs.Prelude.{◌≡◌, ◌++◌, ◌<◌, OnOk, length, string_bytes};
 ghost use Rattle.kpn_picture.specs.Waits.{is_jammed};
-ghost use Rattle.kpn_picture.specs.Picture.{process_name, channel_name, arrow, label_opening, edge_opening, edge_look, has_grown, capacity_text, held_part, held, last_capacity, channel_line, lines_upto};
+ghost use Rattle.kpn_model.specs.Parts.{process_name, channel_name, lines_upto};
+ghost use Rattle.kpn_picture.specs.Picture.{arrow, label_opening, edge_opening, edge_look, has_grown, capacity_text, held_part, held_tokens, last_capacity, edge_line};
 
 use crate::looks::{edge_look, push_closing, sort_text};
 use crate::picture::Left;
@@ -53,9 +54,9 @@ fn push_held(out: &mut String, tokens: usize) -> Result<(), AllocError>
 }
 
 /// How many tokens a channel holds at the end, if that is known, and else at first.
-fn held<K: Kinds>(net: &Net<K>, left: &Left<'_>, c: usize) -> usize
+fn held_tokens<K: Kinds>(net: &Net<K>, left: &Left<'_>, c: usize) -> usize
     requires { c < length net.now.channels }
-    ensures { result ≡ held net.now left.now.places.now left.now.capacities.now left.now.rests.now c }
+    ensures { result ≡ held_tokens net.now left.now.places.now left.now.capacities.now left.now.rests.now c }
 {
     match left.rests.get(c) {
         Some(rest) => rest.as_slice().len(),
@@ -119,11 +120,11 @@ fn push_channel<K: Kinds>(
     c: usize,
 ) -> Result<(), AllocError>
     requires { c < length net.now.channels }
-    ensures { OnOk result (string_bytes out.new ≡ string_bytes out.old ++ channel_line net.now left.now.places.now left.now.capacities.now left.now.rests.now c) }
+    ensures { OnOk result (string_bytes out.new ≡ string_bytes out.old ++ edge_line net.now left.now.places.now left.now.capacities.now left.now.rests.now c) }
 {
     push_opening(out, net, c)?;
     push_capacity(out, net.capacity(c), last_capacity(net, left, c))?;
-    push_held(out, held(net, left, c))?;
+    push_held(out, held_tokens(net, left, c))?;
     push_closing(out, look(net, left, c))?;
     Ok(())
 }
@@ -134,7 +135,7 @@ pub(crate) fn push_channels<K: Kinds>(
     net: &Net<K>,
     left: &Left<'_>,
 ) -> Result<(), AllocError>
-    ensures { OnOk result (string_bytes out.new ≡ string_bytes out.old ++ lines_upto (channel_line net.now left.now.places.now left.now.capacities.now left.now.rests.now) (length net.now.channels)) }
+    ensures { OnOk result (string_bytes out.new ≡ string_bytes out.old ++ lines_upto (edge_line net.now left.now.places.now left.now.capacities.now left.now.rests.now) (length net.now.channels)) }
 {
     for c in 0..net.channels() {
         push_channel(out, net, left, c)?;

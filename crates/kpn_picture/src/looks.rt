@@ -1,6 +1,6 @@
 //! How processes and channels look.
 ghost use Rattle.std.specs.Prelude.{◌≡◌, ◌++◌, OnOk, string_bytes};
-ghost use Rattle.kpn_picture.specs.Picture.{closing, edge_look, process_look, end_text, sort_text};
+ghost use Rattle.kpn_picture.specs.Picture.{closing, edge_look, process_look, caption_text, sort_text};
 
 use kpn_net::{End, Place, Sort};
 use std::alloc::AllocError;
@@ -30,8 +30,8 @@ pub(crate) fn process_look(is_on_cycle: bool, place: Option<Place>) -> &'static 
 }
 
 /// How a run ended.
-pub(crate) fn end_text(end: End) -> &'static str
-    ensures { result.now ≡ end_text end }
+pub(crate) fn caption_text(end: End) -> &'static str
+    ensures { result.now ≡ caption_text end }
 {
     match end {
         End::Terminated => "terminated",

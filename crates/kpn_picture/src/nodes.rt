@@ -3,7 +3,8 @@ ghost use Rattle.std.specs.Prelude.{◌≡◌, ◌++◌, ◌<◌, [], OnOk, IsSo
 ghost use Rattle.std.specs.List.{flat_map};
 ghost use Rattle.std.specs.Option.{option_map_or};
 ghost use Rattle.kpn_model.specs.Network.{card_of};
-ghost use Rattle.kpn_picture.specs.Picture.{argument_part, box_opening, kind_text, place_text, process_line, lines_upto};
+ghost use Rattle.kpn_model.specs.Parts.{lines_upto};
+ghost use Rattle.kpn_picture.specs.Picture.{argument_part, box_opening, kind_text, place_label, node_line};
 
 use crate::edges::{channel_name, process_name};
 use crate::looks::{process_look, push_closing};
@@ -38,7 +39,7 @@ fn push_place<K: Kinds>(
     net: &Net<K>,
     place: Option<Place>,
 ) -> Result<(), AllocError>
-    ensures { OnOk result (string_bytes out.new ≡ string_bytes out.old ++ option_map_or (place_text net.now) place []) }
+    ensures { OnOk result (string_bytes out.new ≡ string_bytes out.old ++ option_map_or (place_label net.now) place []) }
 {
     match place {
         Some(Place::Stopped) => out.push_str("\\nended"),
@@ -79,7 +80,7 @@ fn push_process<K: Titled>(
     p: usize,
 ) -> Result<(), AllocError>
     requires { p < length net.now.processes }
-    ensures { OnOk result (string_bytes out.new ≡ string_bytes out.old ++ process_line net.now K.title places.now p) }
+    ensures { OnOk result (string_bytes out.new ≡ string_bytes out.old ++ node_line net.now K.title places.now p) }
 {
     let name = process_name(net, p);
     let place = place_at(places, p);
@@ -97,7 +98,7 @@ pub(crate) fn push_processes<K: Titled>(
     net: &Net<K>,
     places: &[Place],
 ) -> Result<(), AllocError>
-    ensures { OnOk result (string_bytes out.new ≡ string_bytes out.old ++ lines_upto (process_line net.now K.title places.now) (length net.now.processes)) }
+    ensures { OnOk result (string_bytes out.new ≡ string_bytes out.old ++ lines_upto (node_line net.now K.title places.now) (length net.now.processes)) }
 {
     for p in 0..net.processes() {
         push_process(out, net, places, p)?;

@@ -1,9 +1,9 @@
 //! The picture of a network.
 ghost use Rattle.std.specs.Prelude.{All, ◌≡◌, ◌++◌, OnOk, IfOk, string_bytes};
-ghost use Rattle.kpn_picture.specs.Picture.{IsPlain, end_line, head, picture};
+ghost use Rattle.kpn_picture.specs.Picture.{IsPlain, caption, head, picture};
 
 use crate::edges::push_channels;
-use crate::looks::end_text;
+use crate::looks::caption_text;
 use crate::nodes::push_processes;
 use crate::titles::Titled;
 use kpn_net::{End, Kinds, Listed, Net, Place, Token};
@@ -39,11 +39,11 @@ fn names_are_plain<K: Kinds>(net: &Net<K>)
 
 /// Appends the line of the end of a run, if there is one.
 fn push_end(out: &mut String, end: Option<End>) -> Result<(), AllocError>
-    ensures { OnOk result (string_bytes out.new ≡ string_bytes out.old ++ end_line end) }
+    ensures { OnOk result (string_bytes out.new ≡ string_bytes out.old ++ caption end) }
 {
     match end {
         Some(end) => {
-            let text = end_text(end);
+            let text = caption_text(end);
             write!(out, "  label=\"{text}\";\n")
         }
         None => Ok(()),
@@ -52,7 +52,7 @@ fn push_end(out: &mut String, end: Option<End>) -> Result<(), AllocError>
 
 /// The lines above all processes, with the end of a run, if there is one.
 fn head(alloc: Global, end: Option<End>) -> Result<String, AllocError>
-    ensures { IfOk result (λ text. string_bytes text ≡ head ++ end_line end) }
+    ensures { IfOk result (λ text. string_bytes text ≡ head ++ caption end) }
 {
     let mut out = String::from_str(alloc, HEAD)?;
     push_end(&mut out, end)?;

@@ -12,7 +12,8 @@ use Rattle.kpn_model.specs.declared.history.Place.{Place}
 use Rattle.kpn_model.specs.History.{digest, stream, put_on, taken, growths, grown}
 use Rattle.kpn_report.specs.declared.account.Account.{Account}
 use Rattle.kpn_report.specs.Tally.{account, KeepsAccounts}
-use Rattle.kpn_report.specs.Text.{end_line, lines_upto, channel_line, put_count, left_count, digest_line, digest_text, text}
+use Rattle.kpn_model.specs.Parts.{lines_upto}
+use Rattle.kpn_report.specs.Text.{end_line, channel_line, put_count, left_count, digest_line, digest_text, text}
 use Rattle.kpn_report.specs.Counted.{counted_line, counted_text, shown_of}
 use Rattle.kpn_model.specs.Endings.{has_report}
 

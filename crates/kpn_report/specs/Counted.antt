@@ -7,7 +7,8 @@ use Rattle.kpn_model.specs.Network.{Network, channel_of}
 use Rattle.kpn_model.specs.History.{stream, each_channel}
 use Rattle.kpn_report.specs.declared.account.Account.{Account}
 use Rattle.kpn_report.specs.Tally.{account_at}
-use Rattle.kpn_report.specs.Text.{lines_upto, process_line, channel_line, growth_line, stream_line}
+use Rattle.kpn_model.specs.Parts.{lines_upto}
+use Rattle.kpn_report.specs.Text.{process_line, channel_line, growth_line, stream_line}
 
 -- the line of channel c: what is left are its start tokens and those put on it, without those taken
 abbrev pub counted_line : Network → List Account → ℕ → List ℕ

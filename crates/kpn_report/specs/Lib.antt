@@ -1,4 +1,4 @@
 pub mod Tally
 pub mod Text
-pub mod Digested
+pub mod Reported
 pub mod Counted

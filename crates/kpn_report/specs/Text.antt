@@ -1,6 +1,5 @@
 -- The text of a report.
-use Rattle.std.specs.Prelude.{ℕ, ◌-◌, zero, suc, true, false, codes, decimal, List, [], ◌++◌, length, slice_index, slice_index_or, slice_get, Option, Some, None}
-use Rattle.std.specs.Option.{option_map_or}
+use Rattle.std.specs.Prelude.{ℕ, ◌-◌, true, false, codes, decimal, List, [], ◌++◌, length, slice_index, slice_index_or, Option, Some, None}
 use Rattle.std.specs.List.{flat_map}
 use Rattle.kpn_model.specs.declared.token.Token.{Token}
 use Rattle.kpn_model.specs.declared.token.Token.TheVariants.{Word, Flag}
@@ -10,13 +9,9 @@ use Rattle.kpn_model.specs.declared.history.End.{End}
 use Rattle.kpn_model.specs.declared.history.End.TheVariants.{Terminated, Deadlock, Ceiling, Budget, Memory}
 use Rattle.kpn_model.specs.declared.history.Entry.{Entry}
 use Rattle.kpn_model.specs.Network.{Family, Network, channel_of}
+use Rattle.kpn_model.specs.Parts.{process_name, channel_name, lines_upto}
 use Rattle.kpn_model.specs.Semantics.{State}
 use Rattle.kpn_model.specs.History.{Digest, digest}
-
--- the texts of the first n lines
-abbrev pub lines_upto : (ℕ → List ℕ) → ℕ → List ℕ
-lines_upto line zero = []
-lines_upto line (suc n) = lines_upto line n ++ line n
 
 abbrev pub token_text : Token → List ℕ
 token_text (Word n) = decimal n
@@ -37,32 +32,26 @@ abbrev pub token_part : Token → List ℕ
 token_part t = codes " " ++ token_text t
 
 module _ (net : Network) where
-  abbrev pub process_name : ℕ → List ℕ
-  process_name p = option_map_or (λ x. x.name) (slice_get net.processes p) []
-
-  abbrev pub channel_name : ℕ → List ℕ
-  channel_name c = option_map_or (λ x. x.name) (slice_get net.channels c) []
-
   abbrev pub place_text : Place → List ℕ
   place_text Stopped = codes "stopped"
-  place_text (Reads c) = codes "reads " ++ channel_name c
-  place_text (Writes c) = codes "writes " ++ channel_name c
+  place_text (Reads c) = codes "reads " ++ channel_name net c
+  place_text (Writes c) = codes "writes " ++ channel_name net c
 
   abbrev pub growth_line : ℕ × ℕ → List ℕ
-  growth_line g = codes "grew " ++ channel_name g.0 ++ codes " " ++ decimal g.1 ++ codes "\n"
+  growth_line g = codes "grew " ++ channel_name net g.0 ++ codes " " ++ decimal g.1 ++ codes "\n"
 
   abbrev pub process_line : List Place → List ℕ → ℕ → List ℕ
   process_line places steps p =
-      codes "process " ++ process_name p ++ codes " " ++ place_text (slice_index_or places p Stopped)
+      codes "process " ++ process_name net p ++ codes " " ++ place_text (slice_index_or places p Stopped)
       ++ codes " steps " ++ decimal (slice_index steps p) ++ codes "\n"
 
   abbrev pub channel_line : ℕ → ℕ → ℕ → ℕ → List ℕ
   channel_line put left capacity c =
-      codes "channel " ++ channel_name c ++ codes " put " ++ decimal put
+      codes "channel " ++ channel_name net c ++ codes " put " ++ decimal put
       ++ codes " left " ++ decimal left ++ codes " capacity " ++ decimal capacity ++ codes "\n"
 
   abbrev pub stream_line : List Token → ℕ → List ℕ
-  stream_line tokens c = codes "stream " ++ channel_name c ++ flat_map token_part tokens ++ codes "\n"
+  stream_line tokens c = codes "stream " ++ channel_name net c ++ flat_map token_part tokens ++ codes "\n"
 
   module _ (d : Digest) where
     -- how many tokens were put on a channel: its stream without its start tokens

@@ -1,7 +1,8 @@
 //! The lines of a report.
 ghost use Rattle.std.specs.Prelude.{◌≡◌, ◌++◌, ◌<◌, OnOk, IfOk, length, string_bytes};
 ghost use Rattle.std.specs.List.{flat_map};
-ghost use Rattle.kpn_report.specs.Text.{channel_name, process_line, channel_line, growth_line, token_part, lines_upto, end_text, end_line, stream_line};
+ghost use Rattle.kpn_model.specs.Parts.{channel_name, lines_upto};
+ghost use Rattle.kpn_report.specs.Text.{process_line, channel_line, growth_line, token_part, end_text, end_line, stream_line};
 
 use kpn_net::{End, Kinds, Net, Place, Token};
 use std::alloc::{AllocError, Global};

@@ -1,7 +1,8 @@
 //! The text of a report, from its detail.
 ghost use Rattle.std.specs.Prelude.{◌≡◌, ◌++◌, ◌<◌, [], OnOk, IfOk, length, slice_index_or, string_bytes};
-ghost use Rattle.kpn_report.specs.Text.{put_count, digest_line, lines_upto, digest_text};
-ghost use Rattle.kpn_report.specs.Digested.{digest_of, report_text};
+ghost use Rattle.kpn_model.specs.Parts.{lines_upto};
+ghost use Rattle.kpn_report.specs.Text.{put_count, digest_line, digest_text};
+ghost use Rattle.kpn_report.specs.Reported.{digest_of, report_text};
 
 use crate::detail::{Detail, Report};
 use crate::lines::{end_line, push_channel, push_growths, push_processes, push_stream};

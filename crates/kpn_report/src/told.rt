@@ -6,7 +6,8 @@ ghost use Rattle.kpn_model.specs.History.{stream, each_process, each_channel, pl
 ghost use Rattle.kpn_model.specs.declared.history.End.TheVariants.{Terminated};
 ghost use Rattle.kpn_report.specs.Tally.{account_at};
 ghost use Rattle.kpn_report.specs.Counted.{counted_line, counted_text, shown_of};
-ghost use Rattle.kpn_report.specs.Text.{lines_upto, digest_text, text};
+ghost use Rattle.kpn_model.specs.Parts.{lines_upto};
+ghost use Rattle.kpn_report.specs.Text.{digest_text, text};
 ghost use Rattle.kpn_model.specs.Endings.{has_report};
 
 use crate::account::Account;

@@ -1,5 +1,5 @@
 -- Lists of slots and of seats, read from the back.
-use Rattle.std.proofs.Common.{◌≡◌, ℕ, ◌+◌, ◌<◌, zero, suc, List, [], ◌∷◌, ◌++◌, length, take, drop, refl, subst, arith, length-append}
+use Rattle.std.proofs.Common.{◌≡◌, ℕ, ◌+◌, ◌<◌, suc, List, [], ◌∷◌, ◌++◌, length, take, drop, refl, subst, arith, length-append}
 use Rattle.std.specs.Prelude.{slice_index_or, slice_get, Option, Some, None, IfNone, IsSome, IsNone, Result, Err, IsOk}
 use Rattle.std.specs.List.{All, sum_by}
 use Rattle.std.proofs.lemmas.List.{get_or_append_left}
@@ -7,6 +7,7 @@ use Rattle.std.proofs.Math.Seq.{get_or-append_seam, take-append_seam}
 use Rattle.std.proofs.lemmas.List.Sums.{sum_by-append, sum_by-cons}
 use Rattle.std.proofs.lemmas.List.Elements.{All-append}
 use Rattle.kpn_monitor.specs.Names.{Shares}
+use Rattle.kpn_monitor.proofs.Handing.{one_at}
 use Rattle.kpn_run.specs.Runs.{AtSlot, HasMet}
 
 all_front : {X : Type 0} (P : X → Type 0) (xs ys : List X) → All P (xs ++ ys) → All P xs
@@ -14,10 +15,6 @@ all_front P xs ys h = λ k d lt. subst P (get_or_append_left xs ys d k lt) (h k 
 
 all_last : {X : Type 0} (P : X → Type 0) (xs : List X) (y : X) → All P (xs ++ y ∷ []) → P y
 all_last P xs y h = subst P (get_or-append_seam xs y [] y) (h (length xs) y (omega (arith, length-append xs (y ∷ []))))
-
-one_at : {X : Type 0} (P : X → Type 0) (y : X) → P y → (k : ℕ) (d : X) → k < 1 → P (slice_index_or (y ∷ []) k d)
-one_at P y p zero d lt = p
-one_at P y p (suc k) d lt = absurd (omega arith)
 
 pub front_met : (all rest : List AtSlot) (b : AtSlot) → all ≡ rest ++ b ∷ [] → All HasMet all → All HasMet rest
 front_met all rest b is met = all_front HasMet rest (b ∷ []) (rw is at met)

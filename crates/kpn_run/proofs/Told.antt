@@ -18,7 +18,7 @@ use Rattle.kpn_state.specs.Standings.{standing, parked_answer}
 use Rattle.kpn_state.proofs.Placed.{idle_at}
 use Rattle.kpn_machine.specs.MachineView.{MachineView, IsFaithful}
 use Rattle.kpn_report.specs.declared.detail.Detail.{Detail}
-use Rattle.kpn_report.specs.Digested.{IsReport}
+use Rattle.kpn_report.specs.Reported.{IsReport}
 use Rattle.kpn_run.specs.Runs.{FinishedRun, IsFinish}
 use Rattle.kpn_run.specs.Reports.{IsEveryRuns, IsOutcome}
 

@@ -8,7 +8,7 @@ use Rattle.kpn_model.specs.History.{deeds, stream, place_of, each_process, each_
 use Rattle.kpn_model.specs.Determinacy.{IsFinal}
 use Rattle.kpn_model.specs.Endings.{IsNatural, has_report}
 use Rattle.kpn_report.specs.declared.detail.Detail.{Detail}
-use Rattle.kpn_report.specs.Digested.{digest_with}
+use Rattle.kpn_report.specs.Reported.{digest_with}
 
 -- the end and the detail are those of every run of the network that is over
 abbrev pub IsEveryRuns : Family → Network → End → Option Detail → Type 0

@@ -1,7 +1,7 @@
 //! The report of a run that is over, and the stream of a channel.
 ghost use Rattle.std.specs.Prelude.{◌≡◌, ◌<◌, ◌∷◌, ◌++◌, [], length, IfOk, MatchOption, OnOk};
 ghost use Rattle.kpn_model.specs.History.{put_on, stream};
-ghost use Rattle.kpn_report.specs.Digested.{IsReport};
+ghost use Rattle.kpn_report.specs.Reported.{IsReport};
 ghost use Rattle.kpn_run.specs.Reports.{IsEveryRuns, IsOutcome};
 
 use crate::finish::Finish;

@@ -2,7 +2,7 @@
 use Rattle.std.proofs.Common.{◌≡◌, ℕ, ◌+◌, ◌≤◌, List, Option, Some, None, IsSome, refl, arith}
 use Rattle.kpn_model.specs.declared.token.Token.{Token}
 use Rattle.kpn_standard.specs.Locals.{at, got, two, IsLocal, LastFits}
-use Rattle.kpn_standard.specs.Copies.{take, copy, prefix, TakeLine, CopyLine, PrefixLine, take_reads, take_writes, take_stops, copy_reads, copy_writes_first, copy_writes_second, prefix_begins, prefix_reads, prefix_writes}
+use Rattle.kpn_standard.specs.Copies.{take_answer, copy_answer, prefix_answer, TakeLine, CopyLine, PrefixLine, take_reads, take_writes, take_stops, copy_reads, copy_writes_first, copy_writes_second, prefix_begins, prefix_reads, prefix_writes}
 use Rattle.kpn_standard.specs.Table.{one_word, two_words}
 use Rattle.kpn_standard.specs.Signatures.{card, signature}
 use Rattle.kpn_standard.specs.Admitted.{Admitted}
@@ -23,7 +23,7 @@ module _ (args : List ℕ) (small : AreArguments args) (signed : IsSome (signatu
       }
 
   -- an answer of take is lawful
-  pub take_lawful : (local : List ℕ) (last : Option Token) → IsLocal local → LastFits last → TakeLine (at args 0) local last → IsLawful (card 2 args) (take args local (got last))
+  pub take_lawful : (local : List ℕ) (last : Option Token) → IsLocal local → LastFits last → TakeLine (at args 0) local last → IsLawful (card 2 args) (take_answer args local (got last))
   take_lawful local last fits last_fits (take_reads {i = i} h) =
       by_test (λ a. IsLawful (card 2 args) a) i (at args 0) _ _
       (λ _. reads_word _ _ take_ports _ 0 (omega arith) refl (λ w below. (record { local_fits = omega arith; last_fits = below; line = take_writes h })))
@@ -39,7 +39,7 @@ module _ (args : List ℕ) (small : AreArguments args) (signed : IsSome (signatu
   copy_ports = has_ports _ _ _ signed
 
   -- an answer of copy is lawful
-  pub copy_lawful : (local : List ℕ) (last : Option Token) → IsLocal local → LastFits last → CopyLine local last → IsLawful (card 3 args) (copy args local (got last))
+  pub copy_lawful : (local : List ℕ) (last : Option Token) → IsLocal local → LastFits last → CopyLine local last → IsLawful (card 3 args) (copy_answer args local (got last))
   copy_lawful local last fits last_fits copy_reads =
       reads_word _ _ copy_ports _ 0 (omega arith) refl (λ w below. (record { local_fits = omega arith; last_fits = below; line = copy_writes_first }))
   copy_lawful local last fits last_fits copy_writes_first =
@@ -53,7 +53,7 @@ module _ (args : List ℕ) (small : AreArguments args) (signed : IsSome (signatu
   prefix_ports = has_ports _ _ _ signed
 
   -- an answer of prefix is lawful
-  pub prefix_lawful : (local : List ℕ) (last : Option Token) → IsLocal local → LastFits last → PrefixLine local last → IsLawful (card 4 args) (prefix args local (got last))
+  pub prefix_lawful : (local : List ℕ) (last : Option Token) → IsLocal local → LastFits last → PrefixLine local last → IsLawful (card 4 args) (prefix_answer args local (got last))
   prefix_lawful local last fits last_fits prefix_begins =
       writes _ _ prefix_ports _ 0 (omega arith) _ refl (small.first) (record { local_fits = omega arith; last_fits = tt; line = prefix_reads })
   prefix_lawful local last fits last_fits prefix_reads =

@@ -4,7 +4,7 @@ use Rattle.std.proofs.lemmas.Bool.{and_parts}
 use Rattle.kpn_model.specs.declared.token.Token.{Token}
 use Rattle.kpn_model.specs.declared.token.Token.TheVariants.{Word}
 use Rattle.kpn_standard.specs.Locals.{at, got, one, IsLocal, LastFits}
-use Rattle.kpn_standard.specs.Ends.{count, sink, CountLine, SinkLine, count_writes, count_stops, sink_reads_first, sink_reads_next, sink_reads_none, sink_stops}
+use Rattle.kpn_standard.specs.Ends.{count_answer, sink_answer, CountLine, SinkLine, count_writes, count_stops, sink_reads_first, sink_reads_next, sink_reads_none, sink_stops}
 use Rattle.kpn_standard.specs.Table.{no_port, one_word}
 use Rattle.kpn_standard.specs.Signatures.{card, signature}
 use Rattle.kpn_standard.specs.Admitted.{Admitted}
@@ -29,7 +29,7 @@ module _ (args : List ℕ) (small : AreArguments args) (signed : IsSome (signatu
       }
 
   -- an answer of count is lawful
-  pub count_lawful : (local : List ℕ) (last : Option Token) → IsLocal local → LastFits last → CountLine (at args 1) local last → IsLawful (card 0 args) (count args local (got last))
+  pub count_lawful : (local : List ℕ) (last : Option Token) → IsLocal local → LastFits last → CountLine (at args 1) local last → IsLawful (card 0 args) (count_answer args local (got last))
   count_lawful local last fits last_fits (count_writes {i = i} h) =
       by_test (λ a. IsLawful (card 0 args) a) i (at args 1) _ _
       (λ below. writes _ _ count_ports _ 0 (omega arith) _ refl (omega (arith, count_sum)) (count_admitted (i + 1) (omega arith)))
@@ -54,14 +54,14 @@ module _ (args : List ℕ) (small : AreArguments args) (signed : IsSome (signatu
       }
 
   -- an answer of sink after i reads is lawful
-  sink_reads : (i : ℕ) → IsLawful (card 1 args) (sink args (one i) (Word 0))
+  sink_reads : (i : ℕ) → IsLawful (card 1 args) (sink_answer args (one i) (Word 0))
   sink_reads i =
       by_test (λ a. IsLawful (card 1 args) a) i (at args 0) _ _
       (λ h. reads_word _ _ sink_ports _ 0 (omega arith) refl (λ w fits. sink_admitted i w h fits))
       (λ above. stops _ _)
 
   -- an answer of sink is lawful
-  pub sink_lawful : (local : List ℕ) (last : Option Token) → IsLocal local → LastFits last → SinkLine (at args 0) local last → IsLawful (card 1 args) (sink args local (got last))
+  pub sink_lawful : (local : List ℕ) (last : Option Token) → IsLocal local → LastFits last → SinkLine (at args 0) local last → IsLawful (card 1 args) (sink_answer args local (got last))
   sink_lawful local last fits last_fits (sink_reads_first h) =
       sink_reads 0
   sink_lawful local last fits last_fits (sink_reads_next {i = i} _ h) =

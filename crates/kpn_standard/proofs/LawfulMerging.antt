@@ -4,7 +4,7 @@ use Rattle.std.proofs.lemmas.Bool.{and_parts}
 use Rattle.kpn_model.specs.declared.token.Token.{Token}
 use Rattle.kpn_model.specs.declared.token.Token.TheVariants.{Word}
 use Rattle.kpn_standard.specs.Locals.{at, got, two, IsLocal, LastFits}
-use Rattle.kpn_standard.specs.Merging.{emit, weave, merge, WeaveLine, MergeLine, weave_reads_first, weave_writes_first, weave_turns_to_second, weave_reads_second, weave_writes_second, weave_turns_to_first, merge_reads_first, merge_reads_second, merge_has_second, merge_refills_first, merge_refills_second, merge_has_first}
+use Rattle.kpn_standard.specs.Merging.{emit, weave_answer, merge_answer, WeaveLine, MergeLine, weave_reads_first, weave_writes_first, weave_turns_to_second, weave_reads_second, weave_writes_second, weave_turns_to_first, merge_reads_first, merge_reads_second, merge_has_second, merge_refills_first, merge_refills_second, merge_has_first}
 use Rattle.kpn_standard.specs.Table.{one_word, two_words}
 use Rattle.kpn_standard.specs.Signatures.{card, signature}
 use Rattle.kpn_standard.proofs.Laws.{IsLawful, AreArguments, passes, has_ports, by_test, below_or_at, reads_word, writes}
@@ -27,7 +27,7 @@ module _ (args : List ℕ) (small : AreArguments args) (signed : IsSome (signatu
   weave_second = ltb-true _ _ (and_parts _ _ weave_counts).1
 
   -- an answer of weave is lawful
-  pub weave_lawful : (local : List ℕ) (last : Option Token) → IsLocal local → LastFits last → WeaveLine (at args 0) (at args 1) local last → IsLawful (card 7 args) (weave args local (got last))
+  pub weave_lawful : (local : List ℕ) (last : Option Token) → IsLocal local → LastFits last → WeaveLine (at args 0) (at args 1) local last → IsLawful (card 7 args) (weave_answer args local (got last))
   weave_lawful local last fits last_fits (weave_reads_first {i = i} h) =
       reads_word _ _ weave_ports _ 0 (omega arith) refl (λ w below. record { local_fits = omega arith; last_fits = below; line = below_or_at (WeaveLine (at args 0) (at args 1) (two 1 i) (Some (Word w))) (i + 1) (at args 0) (omega arith) weave_writes_first weave_turns_to_second })
   weave_lawful local last fits last_fits (weave_writes_first {i = i} h) =
@@ -64,7 +64,7 @@ module _ (args : List ℕ) (small : AreArguments args) (signed : IsSome (signatu
       (λ _. writes _ _ merge_ports _ 0 (omega arith) _ refl x_fits (record { local_fits = omega arith; last_fits = tt; line = merge_reads_first })))
 
   -- an answer of merge is lawful
-  pub merge_lawful : (local : List ℕ) (last : Option Token) → IsLocal local → LastFits last → MergeLine local last → IsLawful (card 8 args) (merge args local (got last))
+  pub merge_lawful : (local : List ℕ) (last : Option Token) → IsLocal local → LastFits last → MergeLine local last → IsLawful (card 8 args) (merge_answer args local (got last))
   merge_lawful local last fits last_fits merge_reads_first =
       reads_word _ _ merge_ports _ 0 (omega arith) refl (λ w below. (record { local_fits = omega arith; last_fits = below; line = merge_reads_second }))
   merge_lawful local last fits last_fits merge_reads_second =

@@ -7,8 +7,8 @@ use Rattle.kpn_model.specs.declared.kinds.Answer.{Answer}
 use Rattle.kpn_standard.specs.Locals.{at, one, two, says, word}
 
 -- add: reads a word of each input, writes their sum modulo 2^64
-abbrev pub add : List ℕ → List ℕ → Token → Answer
-add args l t =
+abbrev pub add_answer : List ℕ → List ℕ → Token → Answer
+add_answer args l t =
     if at l 0 == 0 then says 1 0 0 (Read 0) else
     if at l 0 == 1 then says 2 (word t) 0 (Read 1) else
     says 0 0 0 (Write 0 (Word ((at l 1 + word t) % 2 ^ 64)))
@@ -19,8 +19,8 @@ pub data AddLine : List ℕ → Option Token → Type 0 where
   add_writes : {x y : ℕ} → AddLine (two 2 x) (Some (Word y))
 
 -- scale: reads a word, writes its product by the argument modulo 2^64
-abbrev pub scale : List ℕ → List ℕ → Token → Answer
-scale args l t = if at l 0 == 0 then says 1 0 0 (Read 0) else says 0 0 0 (Write 0 (Word ((at args 0 * word t) % 2 ^ 64)))
+abbrev pub scale_answer : List ℕ → List ℕ → Token → Answer
+scale_answer args l t = if at l 0 == 0 then says 1 0 0 (Read 0) else says 0 0 0 (Write 0 (Word ((at args 0 * word t) % 2 ^ 64)))
 
 pub data ScaleLine : List ℕ → Option Token → Type 0 where
   scale_reads : ScaleLine (one 0) None

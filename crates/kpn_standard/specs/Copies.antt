@@ -7,8 +7,8 @@ use Rattle.kpn_model.specs.declared.kinds.Answer.{Answer}
 use Rattle.kpn_standard.specs.Locals.{at, one, two, says, stays, word}
 
 -- take: reads and writes n words, then stops
-abbrev pub take : List ℕ → List ℕ → Token → Answer
-take args l t =
+abbrev pub take_answer : List ℕ → List ℕ → Token → Answer
+take_answer args l t =
     if at l 0 == 1 then says 0 (at l 1 + 1) 0 (Write 0 t) else
     if nat_lt (at l 1) (at args 0) then says 1 (at l 1) 0 (Read 0) else
     stays l
@@ -19,8 +19,8 @@ pub data TakeLine (n : ℕ) : List ℕ → Option Token → Type 0 where
   take_stops : {i : ℕ} → i ≡ n → TakeLine n (two 0 i) None
 
 -- copy: reads a word, writes it to output 0 and then to output 1
-abbrev pub copy : List ℕ → List ℕ → Token → Answer
-copy args l t =
+abbrev pub copy_answer : List ℕ → List ℕ → Token → Answer
+copy_answer args l t =
     if at l 0 == 0 then says 1 0 0 (Read 0) else
     if at l 0 == 1 then says 2 (word t) 0 (Write 0 t) else
     says 0 0 0 (Write 1 (Word (at l 1)))
@@ -31,8 +31,8 @@ pub data CopyLine : List ℕ → Option Token → Type 0 where
   copy_writes_second : {t : ℕ} → CopyLine (two 2 t) None
 
 -- prefix: writes a word of its own, then reads and writes
-abbrev pub prefix : List ℕ → List ℕ → Token → Answer
-prefix args l t =
+abbrev pub prefix_answer : List ℕ → List ℕ → Token → Answer
+prefix_answer args l t =
     if at l 0 == 0 then says 1 0 0 (Write 0 (Word (at args 0))) else
     if at l 0 == 1 then says 2 0 0 (Read 0) else
     says 1 0 0 (Write 0 t)

@@ -7,16 +7,16 @@ use Rattle.kpn_model.specs.declared.kinds.Answer.{Answer}
 use Rattle.kpn_standard.specs.Locals.{at, one, says, stays}
 
 -- count: writes n words, from a first one on, then stops
-abbrev pub count : List ℕ → List ℕ → Token → Answer
-count args l t = if nat_lt (at l 0) (at args 1) then says (at l 0 + 1) 0 0 (Write 0 (Word (at args 0 + at l 0))) else stays l
+abbrev pub count_answer : List ℕ → List ℕ → Token → Answer
+count_answer args l t = if nat_lt (at l 0) (at args 1) then says (at l 0 + 1) 0 0 (Write 0 (Word (at args 0 + at l 0))) else stays l
 
 pub data CountLine (n : ℕ) : List ℕ → Option Token → Type 0 where
   count_writes : {i : ℕ} → i < n → CountLine n (one i) None
   count_stops : {i : ℕ} → i ≡ n → CountLine n (one i) None
 
 -- sink: reads n words, then stops
-abbrev pub sink : List ℕ → List ℕ → Token → Answer
-sink args l t = if nat_lt (at l 0) (at args 0) then says (at l 0 + 1) 0 0 (Read 0) else stays l
+abbrev pub sink_answer : List ℕ → List ℕ → Token → Answer
+sink_answer args l t = if nat_lt (at l 0) (at args 0) then says (at l 0 + 1) 0 0 (Read 0) else stays l
 
 pub data SinkLine (n : ℕ) : List ℕ → Option Token → Type 0 where
   sink_reads_first : 0 < n → SinkLine n (one 0) None

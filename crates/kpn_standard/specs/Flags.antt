@@ -7,16 +7,16 @@ use Rattle.kpn_model.specs.declared.kinds.Answer.{Answer}
 use Rattle.kpn_standard.specs.Locals.{at, one, two, says, word, flag}
 
 -- divides: reads a word, writes whether the argument divides it
-abbrev pub divides : List ℕ → List ℕ → Token → Answer
-divides args l t = if at l 0 == 0 then says 1 0 0 (Read 0) else says 0 0 0 (Write 0 (Flag (word t % at args 0 == 0)))
+abbrev pub divides_answer : List ℕ → List ℕ → Token → Answer
+divides_answer args l t = if at l 0 == 0 then says 1 0 0 (Read 0) else says 0 0 0 (Write 0 (Flag (word t % at args 0 == 0)))
 
 pub data DividesLine : List ℕ → Option Token → Type 0 where
   divides_reads : DividesLine (one 0) None
   divides_writes : {t : ℕ} → DividesLine (one 1) (Some (Word t))
 
 -- switch: reads a flag and then a word, writes the word to the output that the flag selects
-abbrev pub switch : List ℕ → List ℕ → Token → Answer
-switch args l t =
+abbrev pub switch_answer : List ℕ → List ℕ → Token → Answer
+switch_answer args l t =
     if at l 0 == 0 then says 1 0 0 (Read 1) else
     if at l 0 == 1 then (if flag t then says 2 1 0 (Read 0) else says 2 0 0 (Read 0)) else
     says 0 0 0 (Write (at l 1) t)
@@ -28,8 +28,8 @@ pub data SwitchLine : List ℕ → Option Token → Type 0 where
   switch_writes_second : {t : ℕ} → SwitchLine (two 2 1) (Some (Word t))
 
 -- select: reads a flag and then a word of the input that the flag selects, writes the word
-abbrev pub select : List ℕ → List ℕ → Token → Answer
-select args l t =
+abbrev pub select_answer : List ℕ → List ℕ → Token → Answer
+select_answer args l t =
     if at l 0 == 0 then says 1 0 0 (Read 2) else
     if at l 0 == 1 then (if flag t then says 2 0 0 (Read 1) else says 2 0 0 (Read 0)) else
     says 0 0 0 (Write 0 t)

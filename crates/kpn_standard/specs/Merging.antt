@@ -7,8 +7,8 @@ use Rattle.kpn_model.specs.declared.kinds.Answer.{Answer}
 use Rattle.kpn_standard.specs.Locals.{at, one, two, three, says, word}
 
 -- weave: copies a words of input 0 and then b of input 1, in turn
-abbrev pub weave : List ℕ → List ℕ → Token → Answer
-weave args l t =
+abbrev pub weave_answer : List ℕ → List ℕ → Token → Answer
+weave_answer args l t =
     if at l 0 == 0 then says 1 (at l 1) 0 (Read 0) else
     if at l 0 == 1 then (if nat_lt (at l 1 + 1) (at args 0) then says 0 (at l 1 + 1) 0 (Write 0 t) else says 2 0 0 (Write 0 t)) else
     if at l 0 == 2 then says 3 (at l 1) 0 (Read 1) else
@@ -30,8 +30,8 @@ emit x y =
     if nat_lt y x then says 4 x 0 (Write 0 (Word y)) else
     says 0 0 0 (Write 0 (Word x))
 
-abbrev pub merge : List ℕ → List ℕ → Token → Answer
-merge args l t =
+abbrev pub merge_answer : List ℕ → List ℕ → Token → Answer
+merge_answer args l t =
     if at l 0 == 0 then says 1 0 0 (Read 0) else
     if at l 0 == 1 then says 2 (word t) 0 (Read 1) else
     if at l 0 == 2 then emit (at l 1) (word t) else

@@ -7,27 +7,27 @@ use Rattle.kpn_model.specs.Network.{Family}
 use Rattle.kpn_standard.specs.declared.kind.Kind.{Kind}
 use Rattle.kpn_standard.specs.declared.kind.Kind.TheVariants.{Count, Sink, Take, Copy, Prefix, Add, Scale, Weave, Merge, Divides, Switch, Select}
 use Rattle.kpn_standard.specs.Locals.{stays, got}
-use Rattle.kpn_standard.specs.Ends.{count, sink}
-use Rattle.kpn_standard.specs.Copies.{take, copy, prefix}
-use Rattle.kpn_standard.specs.Arithmetic.{add, scale}
-use Rattle.kpn_standard.specs.Merging.{weave, merge}
-use Rattle.kpn_standard.specs.Flags.{divides, switch, select}
+use Rattle.kpn_standard.specs.Ends.{count_answer, sink_answer}
+use Rattle.kpn_standard.specs.Copies.{take_answer, copy_answer, prefix_answer}
+use Rattle.kpn_standard.specs.Arithmetic.{add_answer, scale_answer}
+use Rattle.kpn_standard.specs.Merging.{weave_answer, merge_answer}
+use Rattle.kpn_standard.specs.Flags.{divides_answer, switch_answer, select_answer}
 use Rattle.kpn_standard.specs.Table.{numbered}
 
 -- what a kind answers, by its arguments, its local state and the token of the read just done
 abbrev pub answer_of : Kind → List ℕ → List ℕ → Token → Answer
-answer_of Count = count
-answer_of Sink = sink
-answer_of Take = take
-answer_of Copy = copy
-answer_of Prefix = prefix
-answer_of Add = add
-answer_of Scale = scale
-answer_of Weave = weave
-answer_of Merge = merge
-answer_of Divides = divides
-answer_of Switch = switch
-answer_of Select = select
+answer_of Count = count_answer
+answer_of Sink = sink_answer
+answer_of Take = take_answer
+answer_of Copy = copy_answer
+answer_of Prefix = prefix_answer
+answer_of Add = add_answer
+answer_of Scale = scale_answer
+answer_of Weave = weave_answer
+answer_of Merge = merge_answer
+answer_of Divides = divides_answer
+answer_of Switch = switch_answer
+answer_of Select = select_answer
 
 -- the answer of the kind with this number; a card of any other number stops
 abbrev pub answer_by_number : ℕ → List ℕ → List ℕ → Token → Answer

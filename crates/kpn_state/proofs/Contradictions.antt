@@ -1,5 +1,5 @@
 -- What can't be.
-use Rattle.std.proofs.Common.{◌≡◌, Bool, true, false, Option, Some, None}
+use Rattle.std.proofs.Common.{◌≡◌, Bool, true, false, Some, None}
 
 pub true_false : (b : Bool) → b ≡ true → b ≡ false → ⊥
 true_false b x y = cc

@@ -1,6 +1,6 @@
 -- The standings of the processes when one is moved and the others stay.
 use Rattle.std.proofs.Common.{◌≡◌, ◌≢◌, ⊎_elim, List, [], ◌∷◌, length, refl, sym, ◌∙◌, ℕ, zero, suc, ◌<◌, ◌||◌, ◌&&◌, Bool, true, false, set, get_or-set_same, get_or-set_other}
-use Rattle.std.proofs.lemmas.Bool.{cases_lt}
+use Rattle.std.proofs.lemmas.Bool.{cases_lt, and_parts, or_parts}
 use Rattle.std.proofs.lemmas.List.{get_or_past}
 use Rattle.std.specs.List.{list_any, list_all}
 use Rattle.kpn_model.specs.declared.kinds.Answer.{Answer}
@@ -52,27 +52,11 @@ acted_not_out Stopped e = cc
 pub parked_same : (a b : Answer) → Parked a ≡ Parked b → a ≡ b
 parked_same a b e = cc
 
-or_left : (a b : Bool) → (a || b) ≡ false → a ≡ false
-or_left true b e = cc
-or_left false b e = refl
-
-or_right : (a b : Bool) → (a || b) ≡ false → b ≡ false
-or_right true b e = cc
-or_right false b e = e
-
-and_left : (a b : Bool) → (a && b) ≡ true → a ≡ true
-and_left true b e = refl
-and_left false b e = cc
-
-and_right : (a b : Bool) → (a && b) ≡ true → b ≡ true
-and_right true b e = e
-and_right false b e = cc
-
 -- if no process is busy, this one isn't
 pub idle_at : (standings : List Standing) (p : ℕ) → list_any is_busy standings ≡ false → is_busy (standing standings p) ≡ false
 idle_at [] p h = refl
-idle_at (x ∷ xs) zero h = or_left (is_busy x) _ h
-idle_at (x ∷ xs) (suc p) h = idle_at xs p (or_right (is_busy x) _ h)
+idle_at (x ∷ xs) zero h = (or_parts (is_busy x) _ h).0
+idle_at (x ∷ xs) (suc p) h = idle_at xs p (or_parts (is_busy x) _ h).1
 
 -- if this process is busy, some is
 pub busy_at : (standings : List Standing) (p : ℕ) → is_busy (standing standings p) ≡ true → list_any is_busy standings ≡ true
@@ -85,26 +69,26 @@ busy_at standings p h = by_cases _ refl
 -- if all have stopped, this one has
 pub stopped_at : (standings : List Standing) (p : ℕ) → list_all has_stopped standings ≡ true → standing standings p ≡ Ended
 stopped_at [] p h = refl
-stopped_at (x ∷ xs) zero h = ended x (and_left (has_stopped x) _ h)
+stopped_at (x ∷ xs) zero h = ended x (and_parts (has_stopped x) _ h).0
   where
     ended : (x : Standing) → has_stopped x ≡ true → x ≡ Ended
     ended Ready e = cc
     ended Out e = cc
     ended (Parked a) e = cc
     ended Ended e = refl
-stopped_at (x ∷ xs) (suc p) h = stopped_at xs p (and_right (has_stopped x) _ h)
+stopped_at (x ∷ xs) (suc p) h = stopped_at xs p (and_parts (has_stopped x) _ h).1
 
 -- if all are ready, this one isn't out
 pub ready_not_out_at : (standings : List Standing) (p : ℕ) → list_all is_ready standings ≡ true → standing standings p ≢ Out
 ready_not_out_at [] p h e = cc
-ready_not_out_at (x ∷ xs) zero h e = not_out x (and_left (is_ready x) _ h) e
+ready_not_out_at (x ∷ xs) zero h e = not_out x (and_parts (is_ready x) _ h).0 e
   where
     not_out : (x : Standing) → is_ready x ≡ true → x ≢ Out
     not_out Ready h e = cc
     not_out Out h e = cc
     not_out (Parked a) h e = cc
     not_out Ended h e = cc
-ready_not_out_at (x ∷ xs) (suc p) h e = ready_not_out_at xs p (and_right (is_ready x) _ h) e
+ready_not_out_at (x ∷ xs) (suc p) h e = ready_not_out_at xs p (and_parts (is_ready x) _ h).1 e
 
 -- if not all have stopped, some has not
 pub one_live : (standings : List Standing) → list_all has_stopped standings ≡ false → (p : ℕ) × (standing standings p ≢ Ended)

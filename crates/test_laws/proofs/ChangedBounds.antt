@@ -9,7 +9,7 @@ use Rattle.kpn_model.specs.Semantics.{State, start, tokens, capacity, with_chann
 use Rattle.kpn_model.specs.History.{growths}
 use Rattle.kpn_standard.specs.Standard.{standard}
 use Rattle.kpn_laws.specs.Sufficient.{EndsWithin}
-use Rattle.test_laws.specs.Ends.{counter_into_sink}
+use Rattle.test_laws.specs.WorkedEnds.{counter_into_sink}
 use Rattle.test_laws.specs.Growing.{growth_step}
 use Rattle.test_laws.specs.WorkedRoom.{longer_parks_case}
 use Rattle.test_laws.specs.ChangedRules.{RunBy, EarlyGrowth}

@@ -13,7 +13,7 @@ use Rattle.kpn_model.specs.Semantics.{State, start, tokens, with_channel, after_
 use Rattle.kpn_model.specs.History.{Digest}
 use Rattle.kpn_model.specs.Moments.{IsWithin}
 use Rattle.kpn_standard.specs.Standard.{standard}
-use Rattle.test_laws.specs.Ends.{counter_into_sink}
+use Rattle.test_laws.specs.WorkedEnds.{counter_into_sink}
 use Rattle.test_laws.specs.Growing.{counter_outlives_sink, equal_capacities}
 use Rattle.test_laws.specs.ChangedRules.{RunBy, OneDigestBy, AlwaysWithinBy, EarlyGrowth, IsDeedAnyway, PutIntoFull, AnyOfEqual, TakenTells}
 use Rattle.kpn_laws.proofs.Schedule.{Go, Grow}

@@ -1,6 +1,6 @@
 mod Led
 mod WorkedNetworks
 mod Counterexamples
-mod WorkedRoom
+pub mod WorkedRoom
 mod ChangedBounds
 mod ParksCase

@@ -60,6 +60,14 @@ pub two_places_suffice : TwoPlacesSuffice
 unfolding ends_in_two ends_by
 two_places_suffice = (ends_in_two, refl)
 
+-- each channel begins with a capacity of at most one
+pub begins_with_one : (c : ℕ) → (channel_of longer_parks_case c).capacity ≤ 1
+begins_with_one zero = omega arith
+begins_with_one (suc zero) = omega arith
+begins_with_one (suc (suc zero)) = omega arith
+begins_with_one (suc (suc (suc zero))) = omega arith
+begins_with_one (suc (suc (suc (suc c)))) = omega arith
+
 -- so no channel of it ever has three
 pub never_three : NeverThree
 never_three E M run c =
@@ -67,13 +75,6 @@ never_three E M run c =
     (λ (same : capacity M c ≡ (channel_of longer_parks_case c).capacity). let one = begins_with_one c in omega arith)
     (λ few. few)
     (stays_below standard longer_parks_case 2 (inl ends_in_two) E M run c)
-  where
-    begins_with_one : (c : ℕ) → (channel_of longer_parks_case c).capacity ≤ 1
-    begins_with_one zero = omega arith
-    begins_with_one (suc zero) = omega arith
-    begins_with_one (suc (suc zero)) = omega arith
-    begins_with_one (suc (suc (suc zero))) = omega arith
-    begins_with_one (suc (suc (suc (suc c)))) = omega arith
 
 -- the token taken, and put back
 abbrev once_round : List Entry × State

@@ -1,5 +1,5 @@
 pub mod Building
-pub mod Ends
+pub mod WorkedEnds
 pub mod Growing
 pub mod Computing
 pub mod WorkedRoom

@@ -1,5 +1,5 @@
 //! Networks whose outcome is written out.
-ghost use Rattle.test_laws.specs.Ends.{CounterIntoSink, SinkWaitsForOneMore, SinkStopsEarly, NothingToCount, DeadFromTheStart, StartTokens};
+ghost use Rattle.test_laws.specs.WorkedEnds.{CounterIntoSink, SinkWaitsForOneMore, SinkStopsEarly, NothingToCount, DeadFromTheStart, StartTokens};
 ghost use Rattle.test_laws.specs.Growing.{CounterOutlivesSink, EqualCapacities, SmallestFullChannelGrows, FullChannelOfStoppedWriter, GrowthStep, CeilingReached, ParksCase};
 ghost use Rattle.test_laws.specs.Computing.{ProductsWrap, SwitchedByFlags, RunningSums, MergedInOrder};
 

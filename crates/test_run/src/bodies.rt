@@ -1,6 +1,6 @@
 //! Networks of the standard kinds, with bodies that have no closure.
 ghost use Rattle.std.specs.Prelude.{◌≡◌, ◌<◌, All, IsSome, Some, length, slice_get};
-ghost use Rattle.kpn_body.specs.Standard.{signature};
+ghost use Rattle.kpn_body.specs.StandardKinds.{signature};
 
 use kpn_body::{Body, Standard, answer};
 use kpn_machine::cards_of;

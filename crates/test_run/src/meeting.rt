@@ -1,7 +1,7 @@
 //! Two closures that wait for each other.
 ghost use Rattle.std.specs.Prelude.{◌≡◌, IsSome};
 ghost use Rattle.kpn_standard.specs.Standard.{standard};
-ghost use Rattle.kpn_body.specs.Standard.{signature, Admitted};
+ghost use Rattle.kpn_body.specs.StandardKinds.{signature, Admitted};
 
 use crate::bodies::{Parts, parts_of};
 use crate::due::COUNTER_ENDS;

@@ -1,7 +1,7 @@
 -- What the law says of the run that ended.
 use Rattle.std.proofs.Common.{◌∙◌, ap, arith, length}
 use Rattle.kpn_model.specs.History.{growths}
-use Rattle.example_least_room.proofs.ParksCase.{counted, never_three, few_growths, few_entries, no_ceiling, no_budget}
+use Rattle.example_least_room.proofs.LongerParksCase.{counted, never_three, few_growths, few_entries, no_ceiling, no_budget}
 use Rattle.example_least_room.proofs.running.finish.Goals as goal
 
 pub returns-clause-growths : goal.returns-clause-growths

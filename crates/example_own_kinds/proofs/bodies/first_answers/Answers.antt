@@ -1,6 +1,7 @@
 use Rattle.std.proofs.Common.{ap, Some, None, sym, ◌∙◌, ◌≤◌, length, arith}
 use Rattle.kpn_standard.specs.Standard.{standard}
-use Rattle.example_own_kinds.proofs.Cards.{one_more, of_all}
+use Rattle.kpn_body.proofs.Cards.{one_more}
+use Rattle.example_own_kinds.proofs.AnswersOfAll.{answers_of_all}
 use Rattle.example_own_kinds.proofs.bodies.first_answers.Goals as goal
 
 pub loop-process-preserved : goal.loop-process-preserved
@@ -9,4 +10,4 @@ loop-process-preserved c = one_more (λ b. b.card) _ _ _ _ c.new-in-loop-process
 pub returns : goal.returns
 returns c =
     let long : length c.args.net.now.processes ≤ c.loop-process.process = omega arith in
-    rw (← of_all (λ b. b.card) (λ p. p.card) (λ card. standard.answer card (standard.start card) None) c.loop-process.bodies.items c.args.net.now.processes c.loop-process.process c.loop-process.invariant long) c.each_first_answer.ensures
+    rw (← answers_of_all (λ b. b.card) (λ p. p.card) (λ card. standard.answer card (standard.start card) None) c.loop-process.bodies.items c.args.net.now.processes c.loop-process.process c.loop-process.invariant long) c.each_first_answer.ensures

@@ -1,13 +1,11 @@
 -- One more body, with the next card.
-use Rattle.std.proofs.Common.{◌≡◌, ap, map, Some, sym, ◌∙◌, subst, Option, List}
-use Rattle.std.specs.Option.{IfSome}
-use Rattle.kpn_machine.specs.Opening.{cards_of}
-use Rattle.kpn_machine.proofs.Cards.{one_more, of_all}
+use Rattle.std.proofs.Common.{◌≡◌, ap, Some, sym, ◌∙◌}
+use Rattle.kpn_body.proofs.Cards.{one_more, of_all}
 use Rattle.example_own_kinds.proofs.runs.run_with_cards.Goals as goal
 
 pub loop-process-preserved : goal.loop-process-preserved
 loop-process-preserved g c = record {
-  front = one_more (λ b. b.card) _ _ _ _ c.new-in-loop-process.result c.loop-process.invariant.front c.in_ok-push.ensures.items (c.signed_card-card.ensures.is ∙ ap (λ x. Some x) (sym c.new-in-loop-process.ensures));
+  first = one_more (λ b. b.card) _ _ _ _ c.new-in-loop-process.result c.loop-process.invariant.first c.in_ok-push.ensures.items (c.signed_card-card.ensures.is ∙ ap (λ x. Some x) (sym c.new-in-loop-process.ensures));
   same = c.loop-process.invariant.same;
 }
 
@@ -21,7 +19,7 @@ pub execute-requires-clause-cards : goal.execute-requires-clause-cards
 execute-requires-clause-cards g c κs within =
     let some = sym c.loop-process.invariant.same ∙ c.in-Some.is in
     let cards = rw some at c.requires.cards in
-    of_all (λ b. b.card) _ _ _ c.loop-process.invariant.front c.loop-process-test.false ∙ cards
+    of_all (λ b. b.card) _ _ _ c.loop-process.invariant.first c.loop-process-test.false ∙ cards
 
 pub returns-clause-ok : goal.returns-clause-ok
 returns-clause-ok g c =

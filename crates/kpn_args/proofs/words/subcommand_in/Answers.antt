@@ -1,4 +1,4 @@
-use Rattle.kpn_args.proofs.Entries.{rows_of_pair}
+use Rattle.kpn_args.proofs.CommandEntries.{rows_of_pair}
 use Rattle.kpn_args.proofs.words.subcommand_in.Goals as goal
 
 pub returns : goal.returns

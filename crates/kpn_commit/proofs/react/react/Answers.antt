@@ -1,11 +1,11 @@
 -- A deed, and the deed that it enables.
-use Rattle.std.proofs.Common.{◌≡◌, ℕ, sym, ap, ◌∙◌, Some, subst}
+use Rattle.std.proofs.Common.{◌≡◌, sym, ap, ◌∙◌, subst}
 use Rattle.kpn_model.specs.declared.kinds.Answer.{Answer}
 use Rattle.kpn_model.specs.Semantics.{IsPossible}
 use Rattle.kpn_state.specs.declared.standing.Standing.TheVariants.{Parked}
 use Rattle.kpn_state.specs.Standings.{standing}
 use Rattle.kpn_state.proofs.Placed.{parked_same}
-use Rattle.kpn_commit.proofs.Keeping.{keeps_sparing, keeps_all, keeps_handed}
+use Rattle.kpn_commit.proofs.Keeping.{some_same, keeps_sparing, keeps_all, keeps_handed}
 use Rattle.kpn_commit.proofs.Reacting.{acted, handed}
 use Rattle.kpn_commit.proofs.react.react.Goals as goal
 
@@ -37,6 +37,3 @@ returns-in-None-clause-keeps g c =
     let same : q ≡ c.in-Some-partner.other = some_same _ _ (sym e ∙ sym c.in-Some-partner.ensures) in
     let answer : a ≡ c.in-Some-parked.wanted = parked_same _ _ (sym at ∙ ap (λ x. standing c.advance.new.standings x) same ∙ here) in
     c.in-None.ensures.cannot (subst (λ (x : Answer). IsPossible kinds net c.advance.new.store.state c.in-Some-partner.other x.act) answer (subst (λ x. IsPossible kinds net c.advance.new.store.state x a.act) same can))))
-  where
-    some_same : (p q : ℕ) → Some p ≡ Some q → p ≡ q
-    some_same p q e = cc

@@ -2,7 +2,7 @@
 use Rattle.std.proofs.Common.{◌≤◌, ◌∙◌, ap, sym, Some, length, map, arith}
 use Rattle.std.proofs.lemmas.List.{length-map}
 use Rattle.kpn_model.specs.declared.parts.Process.{Process}
-use Rattle.kpn_compute.proofs.Cards.{one_more, of_all}
+use Rattle.kpn_body.proofs.Cards.{one_more, of_all}
 use Rattle.kpn_compute.proofs.bodies.bodies_of.Goals as goal
 
 pub loop-process-preserved : goal.loop-process-preserved

@@ -1,9 +1,9 @@
 use Rattle.std.proofs.Common.{◌≡◌, map}
-use Rattle.kpn_machine.proofs.Cards.{IsFront}
+use Rattle.kpn_body.proofs.Cards.{AreFirst}
 use Rattle.kpn_execute.proofs.standard.make_and_execute.Given as goal
 
 abbrev pub invariant-loop-process : goal.invariant-loop-process
 invariant-loop-process g l = record {
-  front : IsFront (map (λ b. b.card) l.bodies.items) l.cards l.process;
+  first : AreFirst (map (λ b. b.card) l.bodies.items) l.cards l.process;
   same : l.net ≡ l.fn.net;
 }

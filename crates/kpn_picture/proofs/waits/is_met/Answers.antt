@@ -1,5 +1,5 @@
 use Rattle.std.proofs.Common.{◌∙◌, rules, arith}
-use Rattle.kpn_picture.proofs.Steps.{met_next}
+use Rattle.kpn_picture.proofs.CycleSteps.{met_next}
 use Rattle.kpn_picture.proofs.waits.is_met.Goals as goal
 
 pub loop-step-preserved : goal.loop-step-preserved

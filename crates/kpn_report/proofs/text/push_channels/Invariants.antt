@@ -1,6 +1,7 @@
 use Rattle.std.proofs.Common.{◌≡◌, ◌++◌, string_bytes}
-use Rattle.kpn_report.specs.Text.{lines_upto, digest_line}
-use Rattle.kpn_report.specs.Digested.{digest_of}
+use Rattle.kpn_model.specs.Parts.{lines_upto}
+use Rattle.kpn_report.specs.Text.{digest_line}
+use Rattle.kpn_report.specs.Reported.{digest_of}
 use Rattle.kpn_report.proofs.text.push_channels.Given as goal
 
 abbrev pub invariant-loop-c : goal.invariant-loop-c

@@ -4,7 +4,8 @@ use Rattle.std.proofs.lemmas.List.{map-set}
 use Rattle.kpn_machine.specs.MachineView.{IsOutAt}
 use Rattle.kpn_state.proofs.Placed.{standing_set_same}
 use Rattle.kpn_machine.proofs.Ends.{commits_end}
-use Rattle.kpn_machine.proofs.Sound.{sound_back, sound_worked, worked_appends, worked_tells, worked_back, worked_others, worked_commits, commits_fit, out_within, none_of, some_of, ready_not_out}
+use Rattle.kpn_machine.proofs.Moves.{ready_not_out}
+use Rattle.kpn_machine.proofs.Sound.{sound_back, sound_worked, worked_appends, worked_tells, worked_back, worked_others, worked_commits, commits_fit, out_within, none_of, some_of}
 use Rattle.kpn_machine.proofs.machine.Machine.commit_asked.Goals as goal
 
 pub overflow_add-self : goal.overflow_add-self

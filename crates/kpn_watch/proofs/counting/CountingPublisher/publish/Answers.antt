@@ -3,7 +3,7 @@ use Rattle.std.proofs.Common.{length, subst, sym, ap, ◌∙◌, arith}
 use mathlib.Core.List.{IsPrefix}
 use Rattle.kpn_model.specs.History.{growths as growths_of}
 use Rattle.kpn_watch.specs.Boards.{Published}
-use Rattle.kpn_watch.proofs.Growths.{told}
+use Rattle.kpn_watch.proofs.CountedGrowths.{told}
 use Rattle.kpn_watch.proofs.Words.{growths_le}
 use Rattle.kpn_watch.proofs.counting.CountingPublisher.publish.Goals as goal
 

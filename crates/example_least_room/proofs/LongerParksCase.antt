@@ -1,5 +1,5 @@
 -- What the law of the least room says of Parks's case with a counter of five.
-use Rattle.std.proofs.Common.{◌≡◌, ◌≢◌, ℕ, ◌<◌, ◌≤◌, ⊎_elim, inl, zero, suc, List, Option, ◌∷◌, refl, sym, cond, ◌+◌, Some, length, ap, arith, subst}
+use Rattle.std.proofs.Common.{◌≡◌, ◌≢◌, ℕ, ◌<◌, ◌≤◌, ⊎_elim, inl, List, Option, ◌∷◌, refl, sym, cond, ◌+◌, Some, length, ap, arith, subst}
 use Rattle.std.specs.List.{count_by}
 use Rattle.std.proofs.lemmas.List.Recursion.{is_count_by}
 use Rattle.kpn_model.specs.declared.token.Token.{Token}
@@ -15,6 +15,7 @@ use Rattle.kpn_model.specs.History.{growths}
 use Rattle.kpn_standard.specs.Standard.{standard}
 use Rattle.kpn_laws.specs.RoomOfRun.{TakesAtMost, TakesLeastRoom}
 use Rattle.test_laws.specs.WorkedRoom.{longer_parks_case, TwoPlacesSuffice}
+use Rattle.test_laws.proofs.WorkedRoom.{begins_with_one}
 use Rattle.example_least_room.specs.Growth.{entry_grows}
 use Rattle.kpn_machine.specs.MachineView.{MachineView, IsFaithful}
 
@@ -32,14 +33,6 @@ at_the_case :
     (kinds : Family) (net : Network) (E : List Entry) (M : State) → kinds ≡ standard → net ≡ longer_parks_case → TakesLeastRoom kinds net E M
     → TakesLeastRoom standard longer_parks_case E M
 at_the_case kinds net E M family is room = subst (λ n. TakesLeastRoom standard n E M) is (subst (λ k. TakesLeastRoom k net E M) family room)
-
--- each channel begins with a capacity of at most one
-begins_with_one : (c : ℕ) → (channel_of longer_parks_case c).capacity ≤ 1
-begins_with_one zero = omega arith
-begins_with_one (suc zero) = omega arith
-begins_with_one (suc (suc zero)) = omega arith
-begins_with_one (suc (suc (suc zero))) = omega arith
-begins_with_one (suc (suc (suc (suc c)))) = omega arith
 
 module _ (s : MachineView) (two : TwoPlacesSuffice) (room : TakesLeastRoom standard longer_parks_case s.history s.state) where
   within_two : TakesAtMost standard longer_parks_case s.history s.state 2

@@ -6,15 +6,15 @@ use Rattle.clap.specs.declared.builder.action.ArgAction.TheVariants.{SetTrue}
 abbrev pub run_rule : Rule
 run_rule = record (new_rule (codes "run")) { long = Some (codes "run"); action = Some SetTrue }
 
-abbrev pub workers_rule : Rule
-workers_rule = record (new_rule (codes "workers")) { long = Some (codes "workers"); value_names = 1 }
+abbrev pub draw_workers_rule : Rule
+draw_workers_rule = record (new_rule (codes "workers")) { long = Some (codes "workers"); value_names = 1 }
 
 -- it has no name of its own, so it is a positional argument
 abbrev pub file_rule : Rule
 file_rule = record (new_rule (codes "file")) { value_names = 1 }
 
-abbrev pub bare_command : App
-bare_command = let a = new_app (codes "kpn-draw") in record a { top = record a.top { has_version = true } }
+abbrev pub bare_draw : App
+bare_draw = let a = new_app (codes "kpn-draw") in record a { top = record a.top { has_version = true } }
 
 abbrev pub kpn_draw : App
-kpn_draw = with_rule (with_rule (with_rule bare_command run_rule) workers_rule) file_rule
+kpn_draw = with_rule (with_rule (with_rule bare_draw run_rule) draw_workers_rule) file_rule

@@ -10,3 +10,4 @@ pub use Rattle.kpn_model.specs.declared.kinds.Act.TheVariants.{Read, Write, Stop
 pub use Rattle.kpn_model.specs.declared.kinds.Answer.{Answer}
 pub use Rattle.kpn_model.specs.Network.{Family}
 pub use Rattle.kpn_standard.specs.Locals.{at}
+pub use Rattle.kpn_standard.specs.Table.{one_word, one_flag}

@@ -7,7 +7,7 @@ use Rattle.kpn_args.specs.Choices.{IsRefusedWorkers, WorkersFrom, is_text_asked_
 use Rattle.kpn_draw.specs.declared.words.Choice.{Choice}
 use Rattle.kpn_draw.specs.declared.words.WordsFault.{WordsFault}
 use Rattle.kpn_draw.specs.declared.words.WordsFault.TheVariants.{Parser, Workers}
-use Rattle.kpn_draw.specs.Command.{kpn_draw}
+use Rattle.kpn_draw.specs.DrawCommand.{kpn_draw}
 
 -- a run is asked for
 abbrev pub is_run : List Row → Bool
@@ -15,35 +15,35 @@ is_run rows = option_map_or (λ t. bytes_eq t (codes "true")) (first_of (codes "
 
 -- the choice is what the entries of the command line ask for: the file of the description, and the number of workers of its run,
 -- if it is to be run
-pub record IsChoiceOf (rows : List Row) (choice : Choice) : Type 0 where
+pub record IsDrawChoiceOf (rows : List Row) (choice : Choice) : Type 0 where
   pub file : option_map (λ s. s.now) choice.file ≡ first_of (codes "file") rows
   pub count : ℕ
   pub read : WorkersFrom (first_of (codes "workers") rows) count
   pub workers : choice.workers ≡ (if is_run rows then Some count else None)
 
 -- the workers of a run are 1 to 16
-abbrev pub HasFewWorkers : Option ℕ → Type 0
-HasFewWorkers workers = IfSome workers (λ n. (1 ≤ n) × (n ≤ 16))
+abbrev pub HasFewIfRun : Option ℕ → Type 0
+HasFewIfRun workers = IfSome workers (λ n. (1 ≤ n) × (n ≤ 16))
 
 -- the command line accepts the arguments
-abbrev pub AreTaken : List Text → Type 0
-AreTaken words = fault_of kpn_draw words ≡ []
+abbrev pub AreDrawTaken : List Text → Type 0
+AreDrawTaken words = fault_of kpn_draw words ≡ []
 
-abbrev pub IsChoice : List Text → Choice → Type 0
-IsChoice words choice = AreTaken words × IsChoiceOf (matches_of kpn_draw words) choice
+abbrev pub IsDrawChoice : List Text → Choice → Type 0
+IsDrawChoice words choice = AreDrawTaken words × IsDrawChoiceOf (matches_of kpn_draw words) choice
 
 -- the command line refuses the arguments with this kind of error, or memory was refused; or it accepts them, and the text of
 -- `--workers` is no number of workers
-abbrev pub IsWordsFault : List Text → WordsFault → Type 0
-IsWordsFault words (Parser e) = HasKind (fault_of kpn_draw words) e
-IsWordsFault words Workers = AreTaken words × IsRefusedWorkers (first_of (codes "workers") (matches_of kpn_draw words))
+abbrev pub IsDrawFault : List Text → WordsFault → Type 0
+IsDrawFault words (Parser e) = HasKind (fault_of kpn_draw words) e
+IsDrawFault words Workers = AreDrawTaken words × IsRefusedWorkers (first_of (codes "workers") (matches_of kpn_draw words))
 
 -- the arguments ask for the help or the version
-abbrev pub asks_for_help : WordsFault → Bool
-asks_for_help (Parser e) = is_text_asked_for (kind_of e)
-asks_for_help Workers = false
+abbrev pub asks_for_draw_help : WordsFault → Bool
+asks_for_draw_help (Parser e) = is_text_asked_for (kind_of e)
+asks_for_draw_help Workers = false
 
 -- the text for the user, if it is not clap's own
-abbrev pub text_of : WordsFault → Option Text
-text_of (Parser e) = None
-text_of Workers = Some (codes "error: --workers takes a number from 1 to 16\n\nFor more information, try 'kpn-draw --help'.\n")
+abbrev pub text_of_draw_fault : WordsFault → Option Text
+text_of_draw_fault (Parser e) = None
+text_of_draw_fault Workers = Some (codes "error: --workers takes a number from 1 to 16\n\nFor more information, try 'kpn-draw --help'.\n")
