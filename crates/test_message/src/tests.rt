@@ -1,5 +1,5 @@
 //! Edits of a description, each with the number of its fault and its message.
-use kpn_message::message_of;
+use kpn_message::{Location, locate, message_of};
 use kpn_net::{Net, NetFault, read_sketch};
 use kpn_standard::Standard;
 use std::alloc::{AllocError, Global};
@@ -439,5 +439,34 @@ fn two_faults_have_a_plain_line(rt: HostRuntime) -> Result<(), Fail> {
         assert_eq!(rt; fault.number(), number);
         assert_eq!(rt; format!(in rt.alloc(); "{fault}")?.as_str(), line);
     }
+    Ok(())
+}
+
+/// The second process is of an unknown kind, and the second channel holds nothing.
+const PLACES: &[u8] = b"version = 1
+process = [
+  { name = \"src\", kind = \"count\", args = [1, 3] },
+  { name = \"odd\", kind = \"cuont\" },
+]
+channel = [
+  { name = \"c0\", from = \"src\", to = \"odd\" },
+  { name = \"c1\", from = \"src\", to = \"odd\", capacity = 0 },
+]
+";
+
+#[test]
+fn locates_a_process_a_channel_and_neither(rt: HostRuntime) -> Result<(), Fail> {
+    let sketch = read_sketch(rt.alloc(), PLACES).map_err(|_| "not read")?;
+    let found = [
+        locate::<Standard>(&sketch, NetFault::Kind),
+        locate::<Standard>(&sketch, NetFault::Capacity),
+        locate::<Standard>(&sketch, NetFault::Budget),
+    ];
+    let due = [
+        Location::Process(1),
+        Location::Channel(1),
+        Location::Description,
+    ];
+    assert!(rt; found == due);
     Ok(())
 }
