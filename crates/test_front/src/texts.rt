@@ -3,7 +3,7 @@ ghost use Rattle.std.specs.Prelude.{◌≡◌, ◌<◌, ◌+◌, ◌^◌, ◌==�
 ghost use Rattle.std.specs.Str.{bytes_eq};
 
 use kpn_front::Status;
-use kpn_front::load::load;
+use kpn_front::load::{Refused, load, load_or_refuse};
 use kpn_front::say::{say_checked, say_lost, say_refused};
 use kpn_front::streams::Fallible;
 use kpn_net::{Act, Answer, Card, Kinds, Local, Net, NetFault, Signature, Sort, Token};
@@ -446,4 +446,19 @@ fn writes_lines(rt: HostRuntime) -> Result<(), Fail> {
 fn answers_refused_memory_by_its_fault(rt: HostRuntime) {
     let number = number_of(rt.alloc(), COUNTER.as_bytes());
     assert!(rt; number == 0 || number == 14, "{number}");
+}
+
+#[test]
+fn hands_back_a_refused_text(rt: HostRuntime) -> Result<(), Fail> {
+    let text: &[u8] = b"version = 1\nprocess = []\n";
+    let mut source = text;
+    let loaded: Result<Net<CountAndSink>, Refused> = load_or_refuse(rt.alloc(), &mut source);
+    match loaded {
+        Ok(_) => Err("accepted".into()),
+        Err(refused) => {
+            assert!(rt; refused.fault.number() == 4);
+            assert!(rt; refused.text.as_slice() == text);
+            Ok(())
+        }
+    }
 }
