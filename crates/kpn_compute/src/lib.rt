@@ -6,8 +6,6 @@ pub mod bodies;
 pub mod both;
 pub mod computes;
 pub mod filters;
-#[cfg(test)]
-mod tests;
 
 pub use bodies::{CardBody, bodies_of};
 pub use both::{Both, NO_KIND};

@@ -5,8 +5,6 @@ mod edges;
 mod looks;
 mod nodes;
 mod picture;
-#[cfg(test)]
-mod tests;
 mod titles;
 mod waits;
 

@@ -5,4 +5,3 @@ pub mod LawfulArithmetic
 pub mod LawfulMerging
 pub mod LawfulFlags
 pub mod LawfulKinds
-pub mod Lines

@@ -9,8 +9,6 @@ pub mod flags;
 pub mod kind;
 pub mod merging;
 pub mod standard;
-#[cfg(test)]
-mod tests;
 mod token;
 
 pub use answers::answer;

@@ -306,47 +306,46 @@ static CHANNELS: [(&str, &str, u8, &str); 14] = [
 ];
 
 /// Whole texts of version 1, and of no network.
-static TEXTS: [(&[u8], u8, &str); 11] = [
-    (b"\xff", 1, "line 1, column 1: invalid UTF-8"),
+static TEXTS: [(&str, u8, &str); 10] = [
     (
-        b"version = 1\n[[process]\n",
+        "version = 1\n[[process]\n",
         1,
         "line 2, column 11: unclosed array table, expected `]]`",
     ),
-    (b"", 2, "key \"version\" is missing"),
-    (b"version = 1\n", 2, "key \"process\" is missing"),
+    ("", 2, "key \"version\" is missing"),
+    ("version = 1\n", 2, "key \"process\" is missing"),
     (
-        b"version = 1\nprocess = 3\n",
+        "version = 1\nprocess = 3\n",
         2,
         "key \"process\" must be an array of tables",
     ),
     (
-        b"version = 1\nprocess = [1]\n",
+        "version = 1\nprocess = [1]\n",
         2,
         "process[0]: it must be a table",
     ),
     (
-        b"version = 0\nprocess = []\n",
+        "version = 0\nprocess = []\n",
         3,
         "version 0; it must be 1 or 2",
     ),
     (
-        b"version = 1\nprocess = []\n",
+        "version = 1\nprocess = []\n",
         4,
         "0 processes; there must be 1 to 64",
     ),
     (
-        b"version = 1\nbudget = 1000001\n[[process]]\nname = \"a\"\nkind = \"copy\"\n[[channel]]\nname = \"c\"\nfrom = \"a\"\nto = \"a\"\ncapacity = 65536\n[[channel]]\nname = \"d\"\nfrom = \"a\"\nout = 1\nto = \"a\"\n",
+        "version = 1\nbudget = 1000001\n[[process]]\nname = \"a\"\nkind = \"copy\"\n[[channel]]\nname = \"c\"\nfrom = \"a\"\nto = \"a\"\ncapacity = 65536\n[[channel]]\nname = \"d\"\nfrom = \"a\"\nout = 1\nto = \"a\"\n",
         9,
         "channel \"d\": input 0 of process \"a\" is the end of channel \"c\" already",
     ),
     (
-        b"version = 1\nprocess = [{ name = \"a\", kind = \"count\", args = [1, 3] }, { name = \"d\", kind = \"divides\", args = [2] }, { name = \"s\", kind = \"sink\", args = [3] }]\nchannel = [{ name = \"x\", from = \"a\", to = \"d\" }, { name = \"y\", from = \"d\", to = \"s\", sort = \"flags\" }]\n",
+        "version = 1\nprocess = [{ name = \"a\", kind = \"count\", args = [1, 3] }, { name = \"d\", kind = \"divides\", args = [2] }, { name = \"s\", kind = \"sink\", args = [3] }]\nchannel = [{ name = \"x\", from = \"a\", to = \"d\" }, { name = \"y\", from = \"d\", to = \"s\", sort = \"flags\" }]\n",
         11,
         "channel \"y\": sort flags; input 0 of process \"s\" is of words",
     ),
     (
-        b"version = 2\nprocess = [{ name = \"a\", kind = \"count\", args = [1, 3] }, { name = \"b\", kind = \"count\", args = [1, 3] }, { name = \"d\", kind = \"divides\", args = [2] }, { name = \"w\", kind = \"switch\" }, { name = \"s\", kind = \"sink\", args = [3] }, { name = \"t\", kind = \"sink\", args = [3] }]\nchannel = [{ name = \"x\", from = \"a\", to = \"d\" }, { name = \"y\", from = \"b\", to = \"w\" }, { name = \"f\", from = \"d\", to = \"w\", in = 1, sort = \"flags\", tokens = [true, 1], capacity = 2 }, { name = \"u\", from = \"w\", to = \"s\" }, { name = \"v\", from = \"w\", out = 1, to = \"t\" }]\n",
+        "version = 2\nprocess = [{ name = \"a\", kind = \"count\", args = [1, 3] }, { name = \"b\", kind = \"count\", args = [1, 3] }, { name = \"d\", kind = \"divides\", args = [2] }, { name = \"w\", kind = \"switch\" }, { name = \"s\", kind = \"sink\", args = [3] }, { name = \"t\", kind = \"sink\", args = [3] }]\nchannel = [{ name = \"x\", from = \"a\", to = \"d\" }, { name = \"y\", from = \"b\", to = \"w\" }, { name = \"f\", from = \"d\", to = \"w\", in = 1, sort = \"flags\", tokens = [true, 1], capacity = 2 }, { name = \"u\", from = \"w\", to = \"s\" }, { name = \"v\", from = \"w\", out = 1, to = \"t\" }]\n",
         16,
         "channel \"f\": tokens[1] is no boolean; the sort is flags",
     ),
@@ -416,8 +415,13 @@ fn edits_of_channels_have_their_messages(rt: HostRuntime) -> Result<(), Fail> {
 #[test]
 fn each_text_has_its_message(rt: HostRuntime) -> Result<(), Fail> {
     for (text, number, message) in TEXTS {
-        assert!(rt; is_told(rt.alloc(), text, number, message), "{message}");
+        assert!(rt;
+            is_told(rt.alloc(), text.as_bytes(), number, message),
+            "{message}"
+        );
     }
+    let message = "line 1, column 1: invalid UTF-8";
+    assert!(rt; is_told(rt.alloc(), &[0xff], 1, message), "{message}");
     Ok(())
 }
 
@@ -443,7 +447,7 @@ fn two_faults_have_a_plain_line(rt: HostRuntime) -> Result<(), Fail> {
 }
 
 /// The second process is of an unknown kind, and the second channel holds nothing.
-const PLACES: &[u8] = b"version = 1
+const PLACES: &str = "version = 1
 process = [
   { name = \"src\", kind = \"count\", args = [1, 3] },
   { name = \"odd\", kind = \"cuont\" },
@@ -456,7 +460,7 @@ channel = [
 
 #[test]
 fn locates_a_process_a_channel_and_neither(rt: HostRuntime) -> Result<(), Fail> {
-    let sketch = read_sketch(rt.alloc(), PLACES).map_err(|_| "not read")?;
+    let sketch = read_sketch(rt.alloc(), PLACES.as_bytes())?;
     let found = [
         locate::<Standard>(&sketch, NetFault::Kind),
         locate::<Standard>(&sketch, NetFault::Capacity),

@@ -11,7 +11,7 @@ use std::alloc::Global;
 use std::test::Fail;
 
 /// Of these, `src` and `snk` and the channel between them, `c0`, are as they should be.
-const TEXT: &[u8] = b"version = 2
+const TEXT: &str = "version = 2
 process = [
   { name = \"src\", kind = \"count\", args = [1, 3] },
   { name = \"snk\", kind = \"sink\", args = [3] },
@@ -57,7 +57,7 @@ static CHANNELS: [Row; 4] = [
 ];
 
 fn sketch_of(alloc: Global) -> Result<Sketch, Fail> {
-    Ok(read_sketch(alloc, TEXT).map_err(|_| "not read")?)
+    Ok(read_sketch(alloc, TEXT.as_bytes())?)
 }
 
 fn holds_of_process(sketch: &Sketch, process: &ProcessSketch) -> [bool; 4] {

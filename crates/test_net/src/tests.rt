@@ -61,7 +61,7 @@ impl Kinds for CountAndSink {
 }
 
 /// A counter of three into a sink of three.
-const COUNTER: &[u8] = b"version = 1
+const COUNTER: &str = "version = 1
 
 [[process]]
 name = \"src\"
@@ -83,8 +83,8 @@ capacity = 1
 #[test]
 fn describes_a_counter_into_a_sink(rt: HostRuntime) -> Result<(), Fail> {
     let alloc = rt.alloc();
-    let sketch = read_sketch(alloc, COUNTER).map_err(|_| "not read")?;
-    let net: Net<CountAndSink> = Net::check(alloc, &sketch).map_err(|_| "refused")?;
+    let sketch = read_sketch(alloc, COUNTER.as_bytes())?;
+    let net: Net<CountAndSink> = Net::check(alloc, &sketch)?;
     assert!(rt; net.processes() == 2 && net.channels() == 1);
     let cards = [
         Card {
@@ -126,7 +126,7 @@ fn describes_a_counter_into_a_sink(rt: HostRuntime) -> Result<(), Fail> {
 }
 
 /// The same of version 2, with start tokens, a step, and the greatest budget.
-const COUNTER_AND_TOKENS: &[u8] = b"version = 2
+const COUNTER_AND_TOKENS: &str = "version = 2
 budget = 2000000
 step = 1024
 
@@ -151,8 +151,8 @@ tokens = [7, 9223372036854775807]
 #[test]
 fn describes_start_tokens_and_a_step(rt: HostRuntime) -> Result<(), Fail> {
     let alloc = rt.alloc();
-    let sketch = read_sketch(alloc, COUNTER_AND_TOKENS).map_err(|_| "not read")?;
-    let net: Net<CountAndSink> = Net::check(alloc, &sketch).map_err(|_| "refused")?;
+    let sketch = read_sketch(alloc, COUNTER_AND_TOKENS.as_bytes())?;
+    let net: Net<CountAndSink> = Net::check(alloc, &sketch)?;
     assert!(rt; net.channels() == 1 && sketch.channels.as_slice().len() == 1);
     let tokens = [Token::Word(7), Token::Word(9223372036854775807)];
     assert!(rt; net.tokens(0) == tokens.as_slice());

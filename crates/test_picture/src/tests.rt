@@ -1,6 +1,6 @@
 //! Worked pictures: of a counter, of a network with flags and start tokens, and of the ends of runs.
-use crate::{Left, Titled, is_jammed, picture_of};
 use kpn_net::{Card, End, Listed, Net, Place, Token, read_sketch};
+use kpn_picture::{Left, Titled, is_jammed, picture_of};
 use kpn_standard::Standard;
 use std::alloc::{AllocError, Global};
 use std::test::Fail;
@@ -27,8 +27,8 @@ fn picture_of_start(
 }
 
 fn net_of(alloc: Global, text: &str) -> Result<Net<Standard>, Fail> {
-    let sketch = read_sketch(alloc, text.as_bytes()).map_err(|_| "no description")?;
-    Net::check(alloc, &sketch).map_err(|_| "no network".into())
+    let sketch = read_sketch(alloc, text.as_bytes())?;
+    Ok(Net::check(alloc, &sketch)?)
 }
 
 const COUNTER: &str = r#"version = 1

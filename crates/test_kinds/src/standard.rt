@@ -1,8 +1,11 @@
 //! Each line of each kind, with numbers of its own; the names, the arguments and the ports.
-use crate::*;
 use kpn_model::Act::{Read, Stop, Write};
 use kpn_model::Token::{Flag, Word};
 use kpn_model::{Act, Answer, Card, Kinds, Local, Signature, Sort};
+use kpn_standard::{
+    Kind, Standard, add, answer, copy, count, divides, merge, prefix, scale, select, sink, switch,
+    take, weave,
+};
 use std::process::Abort;
 use std::test::Fail;
 

@@ -1,6 +1,6 @@
 //! The bodies of a network of standard kinds; and names that two families have.
-use crate::*;
 use kpn_body::Body;
+use kpn_compute::{Both, CardBody, Computes, bodies_of};
 use kpn_net::Act::{Read, Write};
 use kpn_net::Token::Word;
 use kpn_net::{Answer, Kinds, Net, NetFault, read_sketch};
