@@ -1,9 +1,9 @@
 -- The description of Parks's case with a counter of five.
 use Rattle.std.specs.Prelude.{ℕ, ℤ, pos, codes, List, [], ◌∷◌}
 use Rattle.kpn_model.specs.declared.token.Sort.TheVariants.{Words}
-use Rattle.kpn_net.specs.declared.sketch.ProcessSketch.{ProcessSketch}
-use Rattle.kpn_net.specs.declared.sketch.ChannelSketch.{ChannelSketch}
-use Rattle.kpn_net.specs.declared.sketch.Sketch.{Sketch}
+use Rattle.kpn_sketch.specs.declared.sketch.ProcessSketch.{ProcessSketch}
+use Rattle.kpn_sketch.specs.declared.sketch.ChannelSketch.{ChannelSketch}
+use Rattle.kpn_sketch.specs.declared.sketch.Sketch.{Sketch}
 
 -- a process with this name, kind and arguments
 abbrev pub process_sketch : List ℕ → List ℕ → List ℤ → ProcessSketch

@@ -1,7 +1,7 @@
 -- What the program writes of a description, and its exit status.
 use Rattle.std.specs.Prelude.{◌≡◌, ◌⊎◌, ℕ, Bool, true, false, List, [], Option, Some, None, IfSome, Result, Ok, Err, if◌then◌else◌}
-use Rattle.kpn_net.specs.declared.fault.NetFault.{NetFault}
-use Rattle.kpn_net.specs.declared.fault.NetFault.TheVariants.{Input}
+use Rattle.kpn_sketch.specs.declared.fault.NetFault.{NetFault}
+use Rattle.kpn_sketch.specs.declared.fault.NetFault.TheVariants.{Input}
 use Rattle.kpn_model.specs.declared.history.Entry.{Entry}
 use Rattle.kpn_model.specs.declared.history.End.{End}
 use Rattle.kpn_model.specs.Network.{Network}

@@ -5,7 +5,7 @@ use Rattle.std.specs.Io.KnownBytes.{Appends}
 use Rattle.kpn_model.specs.declared.history.Entry.{Entry}
 use Rattle.kpn_model.specs.declared.history.End.{End}
 use Rattle.kpn_model.specs.declared.history.End.TheVariants.{Terminated, Deadlock, Ceiling, Budget, Memory}
-use Rattle.kpn_net.specs.declared.fault.NetFault.TheVariants.{Memory as OutOfMemory}
+use Rattle.kpn_sketch.specs.declared.fault.NetFault.TheVariants.{Memory as OutOfMemory}
 use Rattle.kpn_model.specs.Network.{Family, Network}
 use Rattle.kpn_model.specs.Semantics.{State}
 use Rattle.kpn_model.specs.Determinacy.{IsRun, IsFinal}

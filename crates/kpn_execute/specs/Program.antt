@@ -1,7 +1,7 @@
 -- What the program does, from its arguments and its input to what it writes.
 use Rattle.std.specs.Prelude.{◌≡◌, ℕ, Bool, true, false, List, Option, Some, None, IfSome, option_map, Result, Ok, Err}
-use Rattle.kpn_net.specs.declared.fault.NetFault.{NetFault}
-use Rattle.kpn_net.specs.declared.fault.NetFault.TheVariants.{Input}
+use Rattle.kpn_sketch.specs.declared.fault.NetFault.{NetFault}
+use Rattle.kpn_sketch.specs.declared.fault.NetFault.TheVariants.{Input}
 use Rattle.kpn_model.specs.Network.{Network}
 use Rattle.kpn_standard.specs.Standard.{standard}
 use Rattle.kpn_standard.specs.Signatures.{named, signature}

@@ -1,12 +1,12 @@
 -- What `Net::check` returns is what is loaded.
 use Rattle.std.proofs.Common.{◌≡◌, ◌≢◌, ℕ, Bool, true, false, cond, List, [], ◌∷◌, Option, Some, None, Result, Ok, Err, IfOk, IfErr, IfSome, refl, ◌∙◌}
 use Rattle.std.specs.List.{find}
-use Rattle.kpn_net.specs.declared.fault.NetFault.{NetFault}
-use Rattle.kpn_net.specs.declared.fault.NetFault.TheVariants.{NotToml, Keys, Version, Counts, Name, Kind, Args, NoEnd, Twice, Unused, Sorts, Capacity, Budget, Memory, Input, Tokens, Step}
+use Rattle.kpn_sketch.specs.declared.fault.NetFault.{NetFault}
+use Rattle.kpn_sketch.specs.declared.fault.NetFault.TheVariants.{NotToml, Keys, Version, Counts, Name, Kind, Args, NoEnd, Twice, Unused, Sorts, Capacity, Budget, Memory, Input, Tokens, Step}
 use Rattle.kpn_model.specs.declared.kinds.Card.{Card}
 use Rattle.kpn_model.specs.declared.kinds.Signature.{Signature}
-use Rattle.kpn_net.specs.declared.sketch.Sketch.{Sketch}
-use Rattle.kpn_net.specs.Description.{Describes}
+use Rattle.kpn_sketch.specs.declared.sketch.Sketch.{Sketch}
+use Rattle.kpn_sketch.specs.Description.{Describes}
 use Rattle.kpn_net.specs.Faults.{first_fault, has_fault}
 use Rattle.kpn_model.specs.Network.{Network}
 use Rattle.kpn_net.specs.Sketched.{net_of}

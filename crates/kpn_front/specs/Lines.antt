@@ -1,8 +1,8 @@
 -- The lines that the program writes about a description, and its exit status.
 use Rattle.std.specs.Prelude.{ℕ, codes, decimal, List, ◌++◌, length}
-use Rattle.kpn_net.specs.declared.fault.NetFault.{NetFault}
-use Rattle.kpn_net.specs.declared.fault.NetFault.TheVariants.{Memory}
-use Rattle.kpn_net.specs.Fault.{number_of_fault}
+use Rattle.kpn_sketch.specs.declared.fault.NetFault.{NetFault}
+use Rattle.kpn_sketch.specs.declared.fault.NetFault.TheVariants.{Memory}
+use Rattle.kpn_sketch.specs.Fault.{number_of_fault}
 use Rattle.kpn_model.specs.Network.{Network}
 use Rattle.kpn_front.specs.declared.status.Status.{Status}
 use Rattle.kpn_front.specs.declared.status.Status.TheVariants.{Refused, MemoryRefused}

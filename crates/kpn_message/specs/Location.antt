@@ -2,15 +2,15 @@
 use Rattle.std.specs.Prelude.{◌≡◌, ℕ, ◌<◌, pos, Bool, true, false, not, ◌||◌, List, length, take, slice_get, Option, is_none}
 use Rattle.std.specs.Option.{option_map_or}
 use Rattle.std.specs.List.{list_any}
-use Rattle.kpn_net.specs.declared.fault.NetFault.{NetFault}
-use Rattle.kpn_net.specs.declared.fault.NetFault.TheVariants.{Version, Counts, Name, Kind, Args, NoEnd, Twice, Unused, Sorts, Capacity, Budget, Tokens, Step}
+use Rattle.kpn_sketch.specs.declared.fault.NetFault.{NetFault}
+use Rattle.kpn_sketch.specs.declared.fault.NetFault.TheVariants.{Version, Counts, Name, Kind, Args, NoEnd, Twice, Unused, Sorts, Capacity, Budget, Tokens, Step}
 use Rattle.kpn_model.specs.declared.kinds.Card.{Card}
 use Rattle.kpn_model.specs.declared.kinds.Signature.{Signature}
-use Rattle.kpn_net.specs.declared.sketch.Sketch.{Sketch}
+use Rattle.kpn_sketch.specs.declared.sketch.Sketch.{Sketch}
 use Rattle.kpn_message.specs.declared.location.Location.{Location}
 use Rattle.kpn_message.specs.declared.location.Location.TheVariants.{Description, Process, Channel}
 use Rattle.kpn_model.specs.Name.{is_name}
-use Rattle.kpn_net.specs.Version.{ceiling_in}
+use Rattle.kpn_model.specs.Version.{ceiling_in}
 use Rattle.kpn_net.specs.Faults.{is_outside, same_process, same_channel, same_out, same_in, is_sort, has_wrong_tokens, has_unknown_kind, has_wrong_args, has_unused_port, sketched_out_sort, sketched_in_sort, has_fault}
 
 -- the test holds of item k

@@ -8,3 +8,4 @@ pub mod Moments
 pub mod Name
 pub mod Valid
 pub mod Parts
+pub mod Version

@@ -9,6 +9,7 @@ pub mod limits;
 pub mod parts;
 pub mod small;
 pub mod token;
+pub mod version;
 
 pub use history::{Deed, End, Entry, Place, Status};
 pub use kinds::{Act, Answer, Card, Kinds, Local, Signature};

@@ -8,14 +8,14 @@ use Rattle.std.specs.List.{find, list_any, All, AllPairs, AllByRecursion}
 use Rattle.std.specs.Prelude.{unsigned_abs, int_lt, if◌then◌else◌}
 use Rattle.std.specs.Ordering.{int_eq}
 use Rattle.std.specs.Str.{bytes_eq}
-use Rattle.kpn_net.specs.declared.fault.NetFault.{NetFault}
-use Rattle.kpn_net.specs.declared.fault.NetFault.TheVariants.{Version, Counts, Name, Kind, Args, NoEnd, Twice, Unused, Sorts, Capacity, Budget, Tokens, Step}
+use Rattle.kpn_sketch.specs.declared.fault.NetFault.{NetFault}
+use Rattle.kpn_sketch.specs.declared.fault.NetFault.TheVariants.{Version, Counts, Name, Kind, Args, NoEnd, Twice, Unused, Sorts, Capacity, Budget, Tokens, Step}
 use Rattle.kpn_model.specs.declared.limits.TheConstants.{MOST_PROCESSES, MOST_CHANNELS, CEILING, HIGH_CEILING, GREATEST_BUDGET, GREATEST_HIGH_BUDGET, GREATEST_STEP}
 use Rattle.kpn_model.specs.declared.token.Sort.{Sort}
 use Rattle.kpn_model.specs.declared.token.Sort.TheVariants.{Words, Flags}
-use Rattle.kpn_net.specs.declared.sketch.ProcessSketch.{ProcessSketch}
-use Rattle.kpn_net.specs.declared.sketch.ChannelSketch.{ChannelSketch}
-use Rattle.kpn_net.specs.declared.sketch.Sketch.{Sketch}
+use Rattle.kpn_sketch.specs.declared.sketch.ProcessSketch.{ProcessSketch}
+use Rattle.kpn_sketch.specs.declared.sketch.ChannelSketch.{ChannelSketch}
+use Rattle.kpn_sketch.specs.declared.sketch.Sketch.{Sketch}
 use Rattle.kpn_model.specs.declared.parts.Process.{Process}
 use Rattle.kpn_model.specs.declared.parts.Channel.{Channel}
 use Rattle.kpn_model.specs.declared.kinds.Card.{Card}
@@ -23,7 +23,7 @@ use Rattle.kpn_model.specs.declared.kinds.Signature.{Signature}
 use Rattle.kpn_model.specs.Name.{is_name}
 use Rattle.kpn_model.specs.Lawful.{CardFits, Fits, port_at, in_sort, out_sort}
 use Rattle.kpn_net.specs.Faults.{any_pair, is_outside, is_sort, same_process, same_channel, port_sort, card_with, signature_of, has_wrong_args, takes_other_count, sketched_out_sort as sketch_out, sketched_in_sort as sketch_in, is_unused, is_unused_out, is_unused_in, has_unused_port, has_unknown_kind, same_out, same_in, is_token, has_wrong_tokens, has_fault, first_fault}
-use Rattle.kpn_net.specs.Version.{is_two, greatest_budget_in}
+use Rattle.kpn_model.specs.Version.{is_two, greatest_budget_in}
 use Rattle.kpn_model.specs.Network.{Network, no_process, card_of}
 use Rattle.kpn_net.specs.Sketched.{net_of, process_in, token_in, channel_in, index_of}
 use Rattle.kpn_model.specs.Valid.{HasEnds, JustOne, IsValid, IsOfSort}

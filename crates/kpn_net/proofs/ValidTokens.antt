@@ -6,8 +6,8 @@ use Rattle.std.specs.List.{list_any, All, AllByRecursion}
 use Rattle.std.specs.Prelude.{unsigned_abs, int_lt}
 use Rattle.kpn_model.specs.declared.token.Sort.{Sort}
 use Rattle.kpn_model.specs.declared.token.Sort.TheVariants.{Words, Flags}
-use Rattle.kpn_net.specs.declared.sketch.TokenSketch.{TokenSketch}
-use Rattle.kpn_net.specs.declared.sketch.TokenSketch.TheVariants.{Integer, Boolean}
+use Rattle.kpn_sketch.specs.declared.sketch.TokenSketch.{TokenSketch}
+use Rattle.kpn_sketch.specs.declared.sketch.TokenSketch.TheVariants.{Integer, Boolean}
 use Rattle.kpn_model.specs.Lawful.{sort_of, Fits}
 use Rattle.kpn_net.specs.Faults.{is_token}
 use Rattle.kpn_net.specs.Sketched.{token_in}

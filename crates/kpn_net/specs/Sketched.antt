@@ -3,16 +3,16 @@ use Rattle.std.specs.Prelude.{ℕ, List, map, Option, unsigned_abs, unwrap_or, p
 use Rattle.std.specs.Str.{bytes_eq}
 use Rattle.kpn_model.specs.declared.token.Token.{Token}
 use Rattle.kpn_model.specs.declared.token.Token.TheVariants.{Word, Flag}
-use Rattle.kpn_net.specs.declared.sketch.TokenSketch.{TokenSketch}
-use Rattle.kpn_net.specs.declared.sketch.TokenSketch.TheVariants.{Integer, Boolean}
-use Rattle.kpn_net.specs.declared.sketch.ProcessSketch.{ProcessSketch}
-use Rattle.kpn_net.specs.declared.sketch.ChannelSketch.{ChannelSketch}
-use Rattle.kpn_net.specs.declared.sketch.Sketch.{Sketch}
+use Rattle.kpn_sketch.specs.declared.sketch.TokenSketch.{TokenSketch}
+use Rattle.kpn_sketch.specs.declared.sketch.TokenSketch.TheVariants.{Integer, Boolean}
+use Rattle.kpn_sketch.specs.declared.sketch.ProcessSketch.{ProcessSketch}
+use Rattle.kpn_sketch.specs.declared.sketch.ChannelSketch.{ChannelSketch}
+use Rattle.kpn_sketch.specs.declared.sketch.Sketch.{Sketch}
 use Rattle.kpn_model.specs.declared.parts.Process.{Process}
 use Rattle.kpn_model.specs.declared.parts.Channel.{Channel}
 use Rattle.kpn_model.specs.Network.{Network}
 use Rattle.kpn_net.specs.Faults.{card_with}
-use Rattle.kpn_net.specs.Version.{ceiling_in}
+use Rattle.kpn_model.specs.Version.{ceiling_in}
 
 -- the number of the process with this name
 abbrev pub index_of : List ProcessSketch → List ℕ → ℕ

@@ -5,14 +5,13 @@ ghost use Rattle.std.specs.Ordering.{int_eq};
 ghost use Rattle.std.specs.Str.{bytes_eq};
 ghost use Rattle.kpn_model.specs.Lawful.{CardFits};
 ghost use Rattle.kpn_model.specs.Name.{is_letter, is_name_byte, is_name};
-ghost use Rattle.kpn_net.specs.Version.{ceiling_in};
+ghost use Rattle.kpn_model.specs.Version.{ceiling_in};
 ghost use Rattle.kpn_net.specs.Faults.{any_pair, is_outside, same_process, same_channel, same_out, same_in, port_sort, is_sort, is_token, has_wrong_tokens, card_with, signature_of, has_unknown_kind, takes_other_count, has_wrong_args, signature_named, sketched_out_sort, sketched_in_sort, is_unused_out, is_unused_in, is_unused, has_unused_port, has_fault, first_fault};
 
-use crate::fault::NetFault;
-use crate::sketch::{ChannelSketch, ProcessSketch, Sketch, TokenSketch};
-use crate::version::{ceiling_in, greatest_budget_in, is_two};
 use kpn_model::limits::{GREATEST_STEP, MOST_CHANNELS, MOST_PROCESSES};
+use kpn_model::version::{ceiling_in, greatest_budget_in, is_two};
 use kpn_model::{Card, Kinds, Signature, Sort};
+use kpn_sketch::{ChannelSketch, NetFault, ProcessSketch, Sketch, TokenSketch};
 
 fn is_outside(low: i64, high: i64, x: i64) -> bool
     ensures { result ≡ is_outside low high x }

@@ -3,19 +3,14 @@
 #![tactic(auto)]
 
 pub mod check;
-pub mod fault;
-mod form;
 pub mod net;
 mod ports;
-pub mod read;
-pub mod sketch;
-pub mod version;
 
-pub use fault::NetFault;
 pub use kpn_model::{
     Act, Answer, Card, Channel, Deed, End, Ends, Entry, Kinds, Listed, Local, Place, Process,
-    Signature, Sort, Status, Text, Token,
+    Signature, Sort, Status, Text, Token, version,
+};
+pub use kpn_sketch::{
+    ChannelSketch, NetFault, ProcessSketch, Sketch, TokenSketch, fault, read, read_sketch, sketch,
 };
 pub use net::Net;
-pub use read::read_sketch;
-pub use sketch::{ChannelSketch, ProcessSketch, Sketch, TokenSketch};

@@ -8,11 +8,10 @@ ghost use Rattle.kpn_net.specs.Sketched.{net_of, process_in, token_in, channel_i
 ghost use Rattle.kpn_model.specs.Valid.{IsValid};
 
 use crate::check::{card_with, first_fault};
-use crate::fault::NetFault;
 use crate::ports::{Ports, find_in, find_out, table_of};
-use crate::sketch::{ChannelSketch, ProcessSketch, Sketch, TokenSketch};
-use crate::version::ceiling_in;
+use kpn_model::version::ceiling_in;
 use kpn_model::{Card, Channel, Ends, Kinds, Listed, Process, Sort, Text, Token};
+use kpn_sketch::{ChannelSketch, NetFault, ProcessSketch, Sketch, TokenSketch};
 use std::alloc::Global;
 use std::marker::{Model, PhantomData};
 

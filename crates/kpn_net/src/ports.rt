@@ -2,8 +2,8 @@
 ghost use Rattle.std.specs.Prelude.{◌≡◌, ◌<◌, length, IfOk, IfErr, IfSome};
 ghost use Rattle.kpn_net.specs.Ports.{in_at, out_at, ports_at, HasPorts};
 
-use crate::fault::NetFault;
 use kpn_model::Channel;
+use kpn_sketch::NetFault;
 use std::alloc::Global;
 
 /// The numbers of the channels at the inputs and at the outputs of a process.

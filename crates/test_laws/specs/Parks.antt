@@ -3,9 +3,9 @@ use Rattle.std.specs.Prelude.{ℕ, ℤ, pos, codes, List, [], ◌∷◌, ◌==�
 use Rattle.kpn_model.specs.declared.token.Sort.TheVariants.{Words}
 use Rattle.kpn_model.specs.declared.history.End.TheVariants.{Deadlock}
 use Rattle.kpn_model.specs.declared.history.Place.TheVariants.{Stopped, Reads}
-use Rattle.kpn_net.specs.declared.sketch.ProcessSketch.{ProcessSketch}
-use Rattle.kpn_net.specs.declared.sketch.ChannelSketch.{ChannelSketch}
-use Rattle.kpn_net.specs.declared.sketch.Sketch.{Sketch}
+use Rattle.kpn_sketch.specs.declared.sketch.ProcessSketch.{ProcessSketch}
+use Rattle.kpn_sketch.specs.declared.sketch.ChannelSketch.{ChannelSketch}
+use Rattle.kpn_sketch.specs.declared.sketch.Sketch.{Sketch}
 use Rattle.kpn_standard.specs.Signatures.{named}
 use Rattle.kpn_model.specs.Network.{Network, resized}
 use Rattle.kpn_model.specs.History.{Digest}

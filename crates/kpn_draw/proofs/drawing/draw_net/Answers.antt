@@ -1,6 +1,6 @@
 -- The picture is written, or that memory was refused.
 use Rattle.std.proofs.Common.{inl, inr, refl, ◌∙◌}
-use Rattle.kpn_net.specs.declared.fault.NetFault.TheVariants.{Memory}
+use Rattle.kpn_sketch.specs.declared.fault.NetFault.TheVariants.{Memory}
 use Rattle.kpn_front.specs.declared.status.Status.TheVariants.{MemoryRefused, Success}
 use Rattle.kpn_front.specs.Lines.{refused_line}
 use Rattle.kpn_draw.proofs.drawing.draw_net.Goals as goal

@@ -1,6 +1,6 @@
 -- The bodies were made and the network ran, or memory for them was refused.
 use Rattle.std.proofs.Common.{inl, inr, refl}
-use Rattle.kpn_net.specs.declared.fault.NetFault.TheVariants.{Memory}
+use Rattle.kpn_sketch.specs.declared.fault.NetFault.TheVariants.{Memory}
 use Rattle.kpn_front.specs.declared.status.Status.TheVariants.{MemoryRefused}
 use Rattle.kpn_front.specs.Lines.{refused_line}
 use Rattle.kpn_execute.proofs.computed.execute_net.Goals as goal

@@ -1,6 +1,6 @@
 -- If memory for the report is refused, this is written.
 use Rattle.std.proofs.Common.{inl, refl}
-use Rattle.kpn_net.specs.declared.fault.NetFault.TheVariants.{Memory}
+use Rattle.kpn_sketch.specs.declared.fault.NetFault.TheVariants.{Memory}
 use Rattle.kpn_front.specs.declared.status.Status.TheVariants.{MemoryRefused}
 use Rattle.kpn_front.specs.Lines.{refused_line}
 use Rattle.kpn_execute.proofs.running.say_told.Goals as goal

@@ -1,6 +1,6 @@
 -- A run that ended is reported; so is refused memory, and an answer that was refused.
 use Rattle.std.proofs.Common.{inl, inr, refl, ap, ◌∙◌, Err}
-use Rattle.kpn_net.specs.declared.fault.NetFault.TheVariants.{Memory}
+use Rattle.kpn_sketch.specs.declared.fault.NetFault.TheVariants.{Memory}
 use Rattle.kpn_front.specs.declared.status.Status.TheVariants.{Lost, MemoryRefused}
 use Rattle.kpn_front.specs.Lines.{lost_line, refused_line}
 use Rattle.kpn_machine.specs.MachineView.{MachineView}

@@ -1,6 +1,6 @@
 -- Memory for the bodies was refused, or they were made and the network ran.
 use Rattle.std.proofs.Common.{inl, inr, refl}
-use Rattle.kpn_net.specs.declared.fault.NetFault.TheVariants.{Memory}
+use Rattle.kpn_sketch.specs.declared.fault.NetFault.TheVariants.{Memory}
 use Rattle.kpn_front.specs.declared.status.Status.TheVariants.{MemoryRefused}
 use Rattle.kpn_front.specs.Lines.{refused_line}
 use Rattle.kpn_execute.proofs.standard.execute_standard.Goals as goal

@@ -1,8 +1,8 @@
 //! What the version of a description decides.
 ghost use Rattle.std.specs.Prelude.{◌≡◌};
-ghost use Rattle.kpn_net.specs.Version.{is_two, ceiling_in, greatest_budget_in};
+ghost use Rattle.kpn_model.specs.Version.{is_two, ceiling_in, greatest_budget_in};
 
-use kpn_model::limits::{CEILING, GREATEST_BUDGET, GREATEST_HIGH_BUDGET, HIGH_CEILING};
+use crate::limits::{CEILING, GREATEST_BUDGET, GREATEST_HIGH_BUDGET, HIGH_CEILING};
 
 /// Whether the version is 2: channels may have start tokens, and a step may be given.
 pub fn is_two(version: i64) -> bool

@@ -4,17 +4,17 @@ use Rattle.toml.specs.Data.{Data, integer, boolean, Members, as_str, as_integer,
 use Rattle.std.specs.Str.{bytes_eq}
 use Rattle.kpn_model.specs.declared.token.Sort.{Sort}
 use Rattle.kpn_model.specs.declared.token.Sort.TheVariants.{Words, Flags}
-use Rattle.kpn_net.specs.declared.sketch.TokenSketch.{TokenSketch}
-use Rattle.kpn_net.specs.declared.sketch.TokenSketch.TheVariants.{Integer, Boolean}
-use Rattle.kpn_net.specs.declared.sketch.ProcessSketch.{ProcessSketch}
-use Rattle.kpn_net.specs.declared.sketch.ChannelSketch.{ChannelSketch}
-use Rattle.kpn_net.specs.declared.sketch.Sketch.{Sketch}
+use Rattle.kpn_sketch.specs.declared.sketch.TokenSketch.{TokenSketch}
+use Rattle.kpn_sketch.specs.declared.sketch.TokenSketch.TheVariants.{Integer, Boolean}
+use Rattle.kpn_sketch.specs.declared.sketch.ProcessSketch.{ProcessSketch}
+use Rattle.kpn_sketch.specs.declared.sketch.ChannelSketch.{ChannelSketch}
+use Rattle.kpn_sketch.specs.declared.sketch.Sketch.{Sketch}
 use Rattle.toml.specs.Parse.{parse_document}
 use Rattle.kpn_model.specs.declared.limits.TheConstants.{DEFAULT_BUDGET}
-use Rattle.kpn_net.specs.declared.fault.NetFault.{NetFault}
-use Rattle.kpn_net.specs.declared.fault.NetFault.TheVariants.{NotToml, Keys, Memory}
-use Rattle.kpn_net.specs.Form.{required, optional, array_of, has_only}
-use Rattle.kpn_net.specs.Version.{is_two}
+use Rattle.kpn_sketch.specs.declared.fault.NetFault.{NetFault}
+use Rattle.kpn_sketch.specs.declared.fault.NetFault.TheVariants.{NotToml, Keys, Memory}
+use Rattle.kpn_sketch.specs.Form.{required, optional, array_of, has_only}
+use Rattle.kpn_model.specs.Version.{is_two}
 
 infixl 10 ◌>>=◌
 abbrev ◌>>=◌ : {A B : Type 0} → Option A → (A → Option B) → Option B

@@ -2,14 +2,14 @@
 ghost use Rattle.std.specs.Prelude.{◌≡◌, codes, IfOk, IfErr};
 ghost use Rattle.toml.specs.Data.{as_integer};
 ghost use Rattle.toml.specs.View.{table_view};
-ghost use Rattle.kpn_net.specs.Form.{Reads, required, has_only};
-ghost use Rattle.kpn_net.specs.Description.{Describes, IsReadFault, sketch_of, top_keys, channel_keys, channel_from};
+ghost use Rattle.kpn_sketch.specs.Form.{Reads, required, has_only};
+ghost use Rattle.kpn_sketch.specs.Description.{Describes, IsReadFault, sketch_of, top_keys, channel_keys, channel_from};
 
 use crate::fault::NetFault;
 use crate::form::{Form, find, has_only, optional, required};
 use crate::sketch::{ChannelSketch, ProcessSketch, Sketch, TokenSketch};
-use crate::version::is_two;
 use kpn_model::limits::DEFAULT_BUDGET;
+use kpn_model::version::is_two;
 use kpn_model::{Listed, Sort};
 use std::alloc::Global;
 use toml::{Table, Value};
@@ -76,7 +76,7 @@ fn sketch_of(alloc: Global, table: &Table) -> Result<Sketch, NetFault>
 }
 
 impl Form for ProcessSketch {
-    ghost use Rattle.kpn_net.specs.Description.{described_process};
+    ghost use Rattle.kpn_sketch.specs.Description.{described_process};
 
     ghost form = { λ version. described_process };
 
@@ -131,7 +131,7 @@ fn channel_from(alloc: Global, version: i64, table: &Table) -> Result<ChannelSke
 }
 
 impl Form for ChannelSketch {
-    ghost use Rattle.kpn_net.specs.Description.{described_channel};
+    ghost use Rattle.kpn_sketch.specs.Description.{described_channel};
 
     ghost form = { described_channel };
 
@@ -146,7 +146,7 @@ impl Form for ChannelSketch {
 }
 
 impl Form for TokenSketch {
-    ghost use Rattle.kpn_net.specs.Description.{token_of};
+    ghost use Rattle.kpn_sketch.specs.Description.{token_of};
 
     ghost form = { λ version. token_of };
 
@@ -160,7 +160,7 @@ impl Form for TokenSketch {
 }
 
 impl Form for Sort {
-    ghost use Rattle.kpn_net.specs.Description.{described_sort};
+    ghost use Rattle.kpn_sketch.specs.Description.{described_sort};
 
     ghost form = { λ version. described_sort };
 
