@@ -1,8 +1,22 @@
-//! A caller of `kpn_monitor` with two openings, which must-fail edits confuse. A monitor can be opened
-//! only under the names of its own opening, so no seat of another monitor has the type of its seats.
+//! Tests of monitors that threads and watchers share; and a caller with two openings, which must-fail
+//! edits confuse. A monitor can be opened only under the names of its own opening, so no seat of another
+//! monitor has the type of its seats.
 #![tactic(auto)]
 
 ghost use Rattle.std.specs.Prelude.{◌≡◌};
+
+#[cfg(test)]
+mod exchanges;
+#[cfg(test)]
+mod monitors;
+#[cfg(test)]
+mod networks;
+#[cfg(test)]
+mod refusals;
+#[cfg(test)]
+mod scenes;
+#[cfg(test)]
+mod strangers;
 
 use kpn_body::Body;
 use kpn_monitor::{EntryLedger, Monitor, Opening, Seat};

@@ -2,6 +2,7 @@
 use crate::rows::{Due, Edits, Lines, Row, tells};
 use crate::texts::{COUNTER, FLAGS, TWO_FULL};
 use std::test::Fail;
+use test_texts::RUNNING_SUMS;
 
 /// One process that takes two tokens from a channel to itself, which begins with a token.
 const LOOP: &str = "version = 2
@@ -16,52 +17,6 @@ name = \"c0\"
 from = \"k\"
 to = \"k\"
 tokens = [7]
-";
-
-/// Running sums: an adder, whose sums come back to it through a copy. The first of them is a start
-/// token.
-const RUNNING_SUMS: &str = "version = 2
-
-[[process]]
-name = \"s\"
-kind = \"count\"
-args = [1, 3]
-
-[[process]]
-name = \"ad\"
-kind = \"add\"
-
-[[process]]
-name = \"cp\"
-kind = \"copy\"
-
-[[process]]
-name = \"snk\"
-kind = \"sink\"
-args = [3]
-
-[[channel]]
-name = \"c0\"
-from = \"s\"
-to = \"ad\"
-
-[[channel]]
-name = \"c1\"
-from = \"cp\"
-to = \"ad\"
-in = 1
-tokens = [0]
-
-[[channel]]
-name = \"c2\"
-from = \"ad\"
-to = \"cp\"
-
-[[channel]]
-name = \"c3\"
-from = \"cp\"
-out = 1
-to = \"snk\"
 ";
 
 /// A counter to just below the ceiling into a sink of none, over a channel that one growth brings to

@@ -1,11 +1,11 @@
 //! The same network from all starting capacities.
-use crate::texts::{COPIED_AND_WOVEN, ENDLESS, TWO_FULL_CHANNELS};
 use crate::whole::{Whole, shows_endless, shows_whole};
 use kpn_net::Token;
 use kpn_net::Token::Word;
 use std::alloc::Global;
 use std::fmt::Write as _;
 use std::test::Fail;
+use test_texts::{COPIED_AND_WOVEN, ENDLESS, TWO_FULL_CHANNELS};
 
 /// The tokens that each counter writes.
 const COUNTED: &[Token] = &[Word(1), Word(2), Word(3)];

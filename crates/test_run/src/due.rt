@@ -104,6 +104,28 @@ stream c1 1 2 3
     stream: &[Word(1), Word(2), Word(3)],
 };
 
+/// Running sums: they come out, with the start token in front of those that come back.
+pub(crate) const RUNNING_SUMS_END: Due = Due {
+    end: End::Deadlock,
+    entries: 26,
+    processes: 4,
+    stopped: 2,
+    text: "end deadlock
+process s stopped steps 4
+process ad reads c0 steps 9
+process cp reads c2 steps 9
+process snk stopped steps 4
+channel c0 put 3 left 0 capacity 1
+channel c1 put 3 left 1 capacity 1
+channel c2 put 3 left 0 capacity 1
+channel c3 put 3 left 0 capacity 1
+entries 26
+stream c1 0 1 3 6
+",
+    show: 1,
+    stream: &[Word(0), Word(1), Word(3), Word(6)],
+};
+
 /// Compares a run with its expected result, its report to the byte.
 pub(crate) fn compare<K: Kinds, R: Abort>(
     rt: &R,

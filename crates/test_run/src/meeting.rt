@@ -3,10 +3,9 @@ ghost use Rattle.std.specs.Prelude.{◌≡◌, IsSome};
 ghost use Rattle.kpn_standard.specs.Standard.{standard};
 ghost use Rattle.kpn_body.specs.StandardKinds.{signature, Admitted};
 
-use crate::bodies::{Parts, parts_of};
 use crate::due::COUNTER_ENDS;
+use crate::networks::{Parts, parts_of};
 use crate::runs::run_bodies;
-use crate::texts::COUNTER_INTO_SINK;
 use kpn_body::{Call, StandardBody, answer};
 use kpn_net::{Answer, Card, Local, Token};
 use std::alloc::{AllocError, Global};
@@ -17,6 +16,7 @@ use std::sync::{Arc, Wait};
 use std::test::Fail;
 use std::thread;
 use std::thread::Threads;
+use test_texts::COUNTER_INTO_SINK;
 
 /// How often each of two closures was called, and how many have seen that the other was called for
 /// the time at which they meet.

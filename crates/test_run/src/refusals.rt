@@ -2,37 +2,26 @@
 //!
 //! Each test passes whichever request is refused, and prints which one was. What can be tried again is
 //! tried again with what was handed back, and succeeds.
-ghost use Rattle.std.specs.Prelude.{◌≡◌, ◌<◌};
-ghost use Rattle.kpn_machine.specs.MachineView.{IsFresh};
-
-use crate::bodies::bodies_of;
 use crate::due::{WOVEN_ENDS, compare};
-use crate::monitors::{Ended, close_alone, ended_of, seen_by, watcher_of, work_alone};
-use crate::texts::{COPIED_AND_WOVEN, COUNTER_INTO_SMALL_SINK};
 use kpn_body::{Body, Standard};
+use kpn_compute::bodies_of;
 use kpn_front::load::load;
-use kpn_machine::{Machine, OpenFault};
-use kpn_monitor::{EntryLedger, Monitor, Opening};
 use kpn_net::{End, Entry, Kinds, Net, NetFault, Token};
 use kpn_report::Report;
 use kpn_run::{Finish, Open, RunFault, report, run, stream_of};
-use kpn_watch::{Phase, Progress};
 use std::alloc::{AllocError, Global};
-use std::marker::Brand;
 use std::process::Abort;
 use std::rt::Clock;
 use std::sync::Wait;
-use std::sync::ledger::Ledger;
 use std::test::Fail;
 use std::thread::Threads;
+use test_texts::COPIED_AND_WOVEN;
 
 /// Which request for memory was refused, of those after which the test goes on.
 #[derive(Clone, Copy, PartialEq, Eq)]
 enum Refused {
     Nothing,
     Load,
-    Machine,
-    Opening,
     Run,
     Growth,
     Report,
@@ -46,8 +35,6 @@ impl Refused {
         match self {
             Refused::Nothing => "nothing",
             Refused::Load => "load",
-            Refused::Machine => "machine",
-            Refused::Opening => "opening",
             Refused::Run => "run",
             Refused::Growth => "growth",
             Refused::Report => "report",
@@ -192,118 +179,6 @@ fn run_refused<R: Threads + Wait + Clock + Abort + Sync>(
     Ok(first_refused(&[load, run, told]))
 }
 
-/// Opens a machine of a counter and a sink, and tries again with what was handed back if memory was
-/// refused.
-fn machine_again<B: Body, R: Abort>(
-    rt: &R,
-    alloc: Global,
-    net: Net<B::Kinds>,
-    bodies: Vec<B>,
-) -> (Machine<B>, Refused)
-    ensures { IsFresh result.0 }
-{
-    let refused = match Machine::open(alloc, net, bodies) {
-        Ok(machine) => return (machine, Refused::Nothing),
-        Err(refused) => refused,
-    };
-    assert_eq!(rt; refused.fault, OpenFault::Memory);
-    assert_eq!(rt; refused.net.processes(), 2);
-    assert_eq!(rt; refused.bodies.len(), 2);
-    match Machine::open(alloc, refused.net, refused.bodies) {
-        Ok(machine) => (machine, Refused::Machine),
-        Err(_) => panic!(rt; "refused again"),
-    }
-}
-
-/// Puts a machine under a lock, and tries again with the machine that was handed back if memory was
-/// refused.
-fn opening_again<B: Body, R: Abort>(
-    rt: &R,
-    alloc: Global,
-    machine: Machine<B>,
-) -> (Opening<B>, Refused)
-    requires { IsFresh machine }
-{
-    let machine = match Opening::new(alloc, machine) {
-        Ok(opening) => return (opening, Refused::Nothing),
-        Err(machine) => machine,
-    };
-    assert!(rt; machine.is_fresh());
-    match Opening::new(alloc, machine) {
-        Ok(opening) => (opening, Refused::Opening),
-        Err(_) => panic!(rt; "refused again"),
-    }
-}
-
-/// Works alone to the end of a counter of three into a sink of one, and looks at the result.
-fn work_to_the_end<B: Body, E: EntryLedger, O: Ledger, R: Wait + Abort>(
-    rt: &R,
-    alloc: Global,
-    opening: Opening<B>,
-) -> Result<Refused, AllocError>
-    requires network { opening.machine.network ≡ E.net }
-    requires board { opening.board ≡ E.board }
-    requires entries { (opening.entries.name ≡ E.name) × (opening.entries.parts ≡ E.parts) }
-    requires overs { (opening.overs.name ≡ O.name) × (opening.overs.parts ≡ O.parts) }
-{
-    let (monitor, seat) = Monitor::<B, E, O>::open(opening);
-    let mut watcher = watcher_of(rt, &monitor);
-    let seat = work_alone(rt, &monitor, seat);
-    let seen = seen_by(&monitor, &mut watcher);
-    let closed = close_alone(rt, alloc, monitor, seat)?;
-    Ok(growth_refused(rt, ended_of(&closed), seen))
-}
-
-/// The result if the growth was refused its memory: two puts, a take and a stop.
-const BEFORE_THE_GROWTH: Progress = Progress {
-    entries: 4,
-    growths: 0,
-    phase: Phase::Memory,
-};
-
-/// The result if it was not refused.
-const AFTER_ALL: Progress = Progress {
-    entries: 7,
-    growths: 1,
-    phase: Phase::Terminated,
-};
-
-/// Whether the growth was refused its memory, given that the run is over.
-fn growth_refused<R: Abort>(rt: &R, ended: Ended, seen: Progress) -> Refused {
-    assert_eq!(rt; ended.receipts, ended.entries as u64);
-    if ended.end == Some(End::Memory) {
-        assert_eq!(rt; ended.receipts, 4);
-        assert_eq!(rt; seen, BEFORE_THE_GROWTH);
-        return Refused::Growth;
-    }
-    assert_eq!(rt; ended.end, Some(End::Terminated));
-    assert_eq!(rt; ended.receipts, 7);
-    assert_eq!(rt; seen, AFTER_ALL);
-    Refused::Nothing
-}
-
-/// Opens a monitor, and works on it to its end.
-fn open_refused<B: Body, R: Wait + Abort>(
-    rt: &R,
-    alloc: Global,
-    net: Net<B::Kinds>,
-    bodies: Vec<B>,
-) -> Result<Refused, AllocError> {
-    let (machine, first) = machine_again(rt, alloc, net, bodies);
-    let (opening, second) = opening_again(rt, alloc, machine);
-    let third = work_to_the_end::<B, Brand, Brand, R>(rt, alloc, opening)?;
-    Ok(first_refused(&[first, second, third]))
-}
-
-/// Loads a counter of three and a sink of one, and opens a monitor of them. Fails if memory for the
-/// test itself was refused.
-fn monitor_refused<R: Wait + Abort>(rt: &R, alloc: Global) -> Result<Refused, AllocError> {
-    let (net, load) = load_again(rt, alloc, COUNTER_INTO_SMALL_SINK);
-    let bodies = bodies_of(alloc, &net)?;
-    let opened = open_refused(rt, alloc, net, bodies)?;
-    Ok(first_refused(&[load, opened]))
-}
-
 /// The word for what was refused.
 fn told(refused: Result<Refused, AllocError>) -> &'static str {
     refused.unwrap_or(Refused::Elsewhere).word()
@@ -319,13 +194,6 @@ fn a_run_by_one_worker(rt: HostRuntime) -> Result<(), Fail> {
 #[test]
 fn a_run_by_two_workers(rt: HostRuntime) -> Result<(), Fail> {
     let word = told(run_refused(&rt, rt.alloc(), 2));
-    println!(rt; "refused: {word}")?;
-    Ok(())
-}
-
-#[test]
-fn a_monitor_of_one_seat(rt: HostRuntime) -> Result<(), Fail> {
-    let word = told(monitor_refused(&rt, rt.alloc()));
     println!(rt; "refused: {word}")?;
     Ok(())
 }

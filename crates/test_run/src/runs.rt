@@ -1,10 +1,8 @@
 //! Runs by several workers, against values that were worked out by hand.
-use crate::bodies::{Parts, parts_of};
-use crate::due::{COUNTER_ENDS, Due, SMALL_SINK_ENDS, TWO_FULL_END, WOVEN_ENDS, compare};
-use crate::start_tokens::{RUNNING_SUMS, RUNNING_SUMS_END};
-use crate::texts::{
-    COPIED_AND_WOVEN, COUNTER_INTO_SINK, COUNTER_INTO_SMALL_SINK, TWO_FULL_CHANNELS,
+use crate::due::{
+    COUNTER_ENDS, Due, RUNNING_SUMS_END, SMALL_SINK_ENDS, TWO_FULL_END, WOVEN_ENDS, compare,
 };
+use crate::networks::{Parts, parts_of};
 use kpn_body::{Body, Standard};
 use kpn_machine::OpenFault;
 use kpn_net::Net;
@@ -16,6 +14,9 @@ use std::sync::Wait;
 use std::sync::atomic::{AtomicU64, Ordering};
 use std::test::Fail;
 use std::thread::Threads;
+use test_texts::{
+    COPIED_AND_WOVEN, COUNTER_INTO_SINK, COUNTER_INTO_SMALL_SINK, RUNNING_SUMS, TWO_FULL_CHANNELS,
+};
 
 /// A gate that counts how often it is asked: once for each answer, so at least once for each process,
 /// and at most as often as there are entries and processes.

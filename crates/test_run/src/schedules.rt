@@ -1,11 +1,11 @@
 //! Schedules forced by a gate, and schedules of the greatest number of workers.
 use crate::due::{COUNTER_ENDS, Due, WOVEN_ENDS};
 use crate::runs::shows;
-use crate::texts::{COPIED_AND_WOVEN, COUNTER_INTO_SINK, GROWING_CHAIN};
 use kpn_net::End;
 use kpn_net::Token::Word;
 use kpn_run::{Hold, Open};
 use std::test::Fail;
+use test_texts::{COPIED_AND_WOVEN, COUNTER_INTO_SINK, GROWING_CHAIN};
 
 /// A chain whose channels grow in turn, the smallest full one first.
 const CHAIN_GROWS: Due = Due {

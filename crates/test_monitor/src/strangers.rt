@@ -1,12 +1,11 @@
 //! Answers that no monitor asked for: from another monitor, and made a second time.
 ghost use Rattle.std.specs.Prelude.{◌≡◌};
 
-use crate::bodies::{Parts, parts_of};
 use crate::monitors::{
     Ended, close_alone, ended_of, handed_back, next_task, opening_of, outcome_of, seen_by,
     shown_to, watcher_of,
 };
-use crate::texts::COUNTER_INTO_SINK;
+use crate::networks::{Parts, parts_of};
 use kpn_body::{Body, Finished, Task};
 use kpn_machine::Outcome;
 use kpn_monitor::{EntryLedger, Monitor, Opening, Seat};
@@ -18,6 +17,7 @@ use std::process::Abort;
 use std::sync::Wait;
 use std::sync::ledger::Ledger;
 use std::test::Fail;
+use test_texts::COUNTER_INTO_SINK;
 
 /// Opens two monitors.
 fn two_monitors<B: Body, R: Wait + Abort>(
@@ -216,8 +216,8 @@ fn refuse_while_out<B: Body, E: EntryLedger, O: Ledger, R: Wait + Abort>(
 #[test]
 fn an_answer_of_another_monitor(rt: HostRuntime) -> Result<(), Fail> {
     let alloc = rt.alloc();
-    let first = opening_of(alloc, COUNTER_INTO_SINK)?;
-    let second = opening_of(alloc, COUNTER_INTO_SINK)?;
+    let first = opening_of(&rt, alloc, COUNTER_INTO_SINK)?;
+    let second = opening_of(&rt, alloc, COUNTER_INTO_SINK)?;
     two_monitors(&rt, alloc, first, second)?;
     Ok(())
 }
@@ -225,8 +225,8 @@ fn an_answer_of_another_monitor(rt: HostRuntime) -> Result<(), Fail> {
 #[test]
 fn an_answer_comes_a_second_time(rt: HostRuntime) -> Result<(), Fail> {
     let alloc = rt.alloc();
-    let opening = opening_of(alloc, COUNTER_INTO_SINK)?;
-    let Parts { net: _, mut bodies } = parts_of(alloc, COUNTER_INTO_SINK)?;
+    let opening = opening_of(&rt, alloc, COUNTER_INTO_SINK)?;
+    let Parts { net: _, mut bodies } = parts_of(&rt, alloc, COUNTER_INTO_SINK)?;
     bodies.pop();
     let counter = bodies.pop().expect(&rt, "no counter");
     one_monitor(&rt, alloc, opening, unasked(counter))?;

@@ -1,5 +1,5 @@
 -- The names are those of the opening.
-use Rattle.test_run.proofs.refusals.open_refused.Given as goal
+use Rattle.test_monitor.proofs.refusals.open_refused.Given as goal
 
 abbrev pub ghosts-work_to_the_end-E-EntryLedger : goal.ghosts-work_to_the_end-E-EntryLedger
 ghosts-work_to_the_end-E-EntryLedger g a = record { net = a.opening.machine.network; board = a.opening.board }

@@ -1,5 +1,5 @@
 -- The names are those of the openings.
-use Rattle.test_run.proofs.strangers.two_monitors.Given as goal
+use Rattle.test_monitor.proofs.strangers.two_monitors.Given as goal
 
 abbrev pub ghosts-stranger_between-E-EntryLedger : goal.ghosts-stranger_between-E-EntryLedger
 ghosts-stranger_between-E-EntryLedger g a = record { net = a.first.machine.network; board = a.first.board }

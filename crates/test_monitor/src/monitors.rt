@@ -1,8 +1,9 @@
 //! Calls of a monitor, with only such contracts as the scenes need.
 ghost use Rattle.std.specs.Prelude.{◌≡◌};
 
-use crate::bodies::{CardBody, Parts, parts_of};
-use kpn_body::{Body, Finished, Task};
+use crate::networks::{Parts, parts_of};
+use kpn_body::{Body, Finished, Standard, Task};
+use kpn_compute::CardBody;
 use kpn_machine::{Machine, Outcome, Stranger};
 use kpn_monitor::{Closed, EntryLedger, Monitor, Opening, Seat, Taken};
 use kpn_net::{End, Kinds};
@@ -12,7 +13,6 @@ use std::alloc::{AllocError, Global};
 use std::process::Abort;
 use std::sync::Wait;
 use std::sync::ledger::Ledger;
-use std::test::Fail;
 
 /// What is read from a monitor that was closed.
 #[derive(Clone, Copy, PartialEq, Eq)]
@@ -24,13 +24,17 @@ pub(crate) struct Ended {
 }
 
 /// What a monitor of the network of a text is opened with.
-pub(crate) fn opening_of(alloc: Global, text: &str) -> Result<Opening<CardBody>, Fail> {
-    let Parts { net, bodies } = parts_of(alloc, text)?;
+pub(crate) fn opening_of<R: Abort>(
+    rt: &R,
+    alloc: Global,
+    text: &str,
+) -> Result<Opening<CardBody<Standard>>, AllocError> {
+    let Parts { net, bodies } = parts_of(rt, alloc, text)?;
     let Ok(machine) = Machine::open(alloc, net, bodies) else {
-        return Err(AllocError.into());
+        return Err(AllocError);
     };
     let Ok(opening) = Opening::new(alloc, machine) else {
-        return Err(AllocError.into());
+        return Err(AllocError);
     };
     Ok(opening)
 }

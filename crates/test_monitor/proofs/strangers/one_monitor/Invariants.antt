@@ -1,5 +1,5 @@
 -- The names are those of the opening.
-use Rattle.test_run.proofs.strangers.one_monitor.Given as goal
+use Rattle.test_monitor.proofs.strangers.one_monitor.Given as goal
 
 abbrev pub ghosts-second_answer-E-EntryLedger : goal.ghosts-second_answer-E-EntryLedger
 ghosts-second_answer-E-EntryLedger g a = record { net = a.opening.machine.network; board = a.opening.board }

@@ -9,7 +9,6 @@ use crate::monitors::{
     Ended, close_alone, close_with, ended_of, next_task, opening_of, outcome_of, seat_of, seen_by,
     shown_to, two_seats, watcher_of, work_alone,
 };
-use crate::texts::{COPIED_AND_WOVEN, COUNTER_INTO_SINK};
 use kpn_body::Body;
 use kpn_monitor::{CloseFault, Closed, EntryLedger, Monitor, Opening, Seat, Unclosed};
 use kpn_net::{End, Kinds};
@@ -23,6 +22,7 @@ use std::sync::Wait;
 use std::sync::ledger::Ledger;
 use std::test::Fail;
 use std::thread::{Threads, join};
+use test_texts::{COPIED_AND_WOVEN, COUNTER_INTO_SINK};
 
 #[derive(Clone, Copy)]
 enum Scene {
@@ -355,7 +355,7 @@ fn scenes_on_monitors(rt: HostRuntime) -> Result<(), Fail> {
         (COPIED_AND_WOVEN, Scene::MostWatchers),
         (COUNTER_INTO_SINK, Scene::Exchanged),
     ] {
-        let opening = opening_of(rt.alloc(), text)?;
+        let opening = opening_of(&rt, rt.alloc(), text)?;
         play(&rt, rt.alloc(), opening, scene)?;
     }
     Ok(())

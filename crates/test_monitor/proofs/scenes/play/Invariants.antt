@@ -1,5 +1,5 @@
 -- The names are those of the opening.
-use Rattle.test_run.proofs.scenes.play.Given as goal
+use Rattle.test_monitor.proofs.scenes.play.Given as goal
 
 abbrev pub ghosts-watched-E-EntryLedger : goal.ghosts-watched-E-EntryLedger
 ghosts-watched-E-EntryLedger g a = record { net = a.opening.machine.network; board = a.opening.board }

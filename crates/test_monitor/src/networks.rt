@@ -1,0 +1,38 @@
+//! Networks of the standard kinds, with bodies that are a card alone.
+//!
+//! Their type has no closure in it, so that the code of a test can name its monitor.
+use kpn_body::Standard;
+use kpn_compute::{CardBody, bodies_of};
+use kpn_net::{Net, NetFault, read_sketch};
+use std::alloc::{AllocError, Global};
+use std::process::Abort;
+
+/// A network, and a body for each of its processes in order.
+#[derive(Drop)]
+pub(crate) struct Parts {
+    pub(crate) net: Net<Standard>,
+    pub(crate) bodies: Vec<CardBody<Standard>>,
+}
+
+/// The network of a text, with its bodies. Fails if memory was refused.
+pub(crate) fn parts_of<R: Abort>(rt: &R, alloc: Global, text: &str) -> Result<Parts, AllocError> {
+    let net = net_of(rt, alloc, text)?;
+    let bodies = bodies_of(alloc, &net)?;
+    Ok(Parts { net, bodies })
+}
+
+/// The network of a text, which is refused only if memory is.
+fn net_of<R: Abort>(rt: &R, alloc: Global, text: &str) -> Result<Net<Standard>, AllocError> {
+    match check_text(alloc, text) {
+        Ok(net) => Ok(net),
+        Err(fault) => {
+            assert_eq!(rt; fault, NetFault::Memory);
+            Err(AllocError)
+        }
+    }
+}
+
+fn check_text(alloc: Global, text: &str) -> Result<Net<Standard>, NetFault> {
+    let sketch = read_sketch(alloc, text.as_bytes())?;
+    Net::check(alloc, &sketch)
+}

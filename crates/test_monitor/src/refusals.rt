@@ -1,0 +1,170 @@
+//! One request for memory is refused, whichever it is.
+//!
+//! The test passes whichever request is refused, and prints which one was. What can be tried again is
+//! tried again with what was handed back, and succeeds.
+ghost use Rattle.std.specs.Prelude.{◌≡◌};
+ghost use Rattle.kpn_machine.specs.MachineView.{IsFresh};
+
+use crate::monitors::{Ended, close_alone, ended_of, seen_by, watcher_of, work_alone};
+use crate::networks::{Parts, parts_of};
+use kpn_body::Body;
+use kpn_machine::{Machine, OpenFault};
+use kpn_monitor::{EntryLedger, Monitor, Opening};
+use kpn_net::{End, Net};
+use kpn_watch::{Phase, Progress};
+use std::alloc::{AllocError, Global};
+use std::marker::Brand;
+use std::process::Abort;
+use std::sync::Wait;
+use std::sync::ledger::Ledger;
+use std::test::Fail;
+use test_texts::COUNTER_INTO_SMALL_SINK;
+
+/// Which request for memory was refused, of those after which the test goes on.
+#[derive(Clone, Copy, PartialEq, Eq)]
+enum Refused {
+    Nothing,
+    Machine,
+    Opening,
+    Growth,
+    /// One of the test's own requests, for the network, the bodies or the seats.
+    Elsewhere,
+}
+
+impl Refused {
+    fn word(self) -> &'static str {
+        match self {
+            Refused::Nothing => "nothing",
+            Refused::Machine => "machine",
+            Refused::Opening => "opening",
+            Refused::Growth => "growth",
+            Refused::Elsewhere => "elsewhere",
+        }
+    }
+
+    /// This, or the next if nothing was refused before.
+    fn or(self, next: Refused) -> Refused {
+        match self {
+            Refused::Nothing => next,
+            _ => self,
+        }
+    }
+}
+
+/// Opens a machine of a counter and a sink, and tries again with what was handed back if memory was
+/// refused.
+fn machine_again<B: Body, R: Abort>(
+    rt: &R,
+    alloc: Global,
+    net: Net<B::Kinds>,
+    bodies: Vec<B>,
+) -> (Machine<B>, Refused)
+    ensures { IsFresh result.0 }
+{
+    let refused = match Machine::open(alloc, net, bodies) {
+        Ok(machine) => return (machine, Refused::Nothing),
+        Err(refused) => refused,
+    };
+    assert_eq!(rt; refused.fault, OpenFault::Memory);
+    assert_eq!(rt; refused.net.processes(), 2);
+    assert_eq!(rt; refused.bodies.len(), 2);
+    match Machine::open(alloc, refused.net, refused.bodies) {
+        Ok(machine) => (machine, Refused::Machine),
+        Err(_) => panic!(rt; "refused again"),
+    }
+}
+
+/// Puts a machine under a lock, and tries again with the machine that was handed back if memory was
+/// refused.
+fn opening_again<B: Body, R: Abort>(
+    rt: &R,
+    alloc: Global,
+    machine: Machine<B>,
+) -> (Opening<B>, Refused)
+    requires { IsFresh machine }
+{
+    let machine = match Opening::new(alloc, machine) {
+        Ok(opening) => return (opening, Refused::Nothing),
+        Err(machine) => machine,
+    };
+    assert!(rt; machine.is_fresh());
+    match Opening::new(alloc, machine) {
+        Ok(opening) => (opening, Refused::Opening),
+        Err(_) => panic!(rt; "refused again"),
+    }
+}
+
+/// Works alone to the end of a counter of three into a sink of one, and looks at the result.
+fn work_to_the_end<B: Body, E: EntryLedger, O: Ledger, R: Wait + Abort>(
+    rt: &R,
+    alloc: Global,
+    opening: Opening<B>,
+) -> Result<Refused, AllocError>
+    requires network { opening.machine.network ≡ E.net }
+    requires board { opening.board ≡ E.board }
+    requires entries { (opening.entries.name ≡ E.name) × (opening.entries.parts ≡ E.parts) }
+    requires overs { (opening.overs.name ≡ O.name) × (opening.overs.parts ≡ O.parts) }
+{
+    let (monitor, seat) = Monitor::<B, E, O>::open(opening);
+    let mut watcher = watcher_of(rt, &monitor);
+    let seat = work_alone(rt, &monitor, seat);
+    let seen = seen_by(&monitor, &mut watcher);
+    let closed = close_alone(rt, alloc, monitor, seat)?;
+    Ok(growth_refused(rt, ended_of(&closed), seen))
+}
+
+/// The result if the growth was refused its memory: two puts, a take and a stop.
+const BEFORE_THE_GROWTH: Progress = Progress {
+    entries: 4,
+    growths: 0,
+    phase: Phase::Memory,
+};
+
+/// The result if it was not refused.
+const AFTER_ALL: Progress = Progress {
+    entries: 7,
+    growths: 1,
+    phase: Phase::Terminated,
+};
+
+/// Whether the growth was refused its memory, given that the run is over.
+fn growth_refused<R: Abort>(rt: &R, ended: Ended, seen: Progress) -> Refused {
+    assert_eq!(rt; ended.receipts, ended.entries as u64);
+    if ended.end == Some(End::Memory) {
+        assert_eq!(rt; ended.receipts, 4);
+        assert_eq!(rt; seen, BEFORE_THE_GROWTH);
+        return Refused::Growth;
+    }
+    assert_eq!(rt; ended.end, Some(End::Terminated));
+    assert_eq!(rt; ended.receipts, 7);
+    assert_eq!(rt; seen, AFTER_ALL);
+    Refused::Nothing
+}
+
+/// Opens a monitor, and works on it to its end.
+fn open_refused<B: Body, R: Wait + Abort>(
+    rt: &R,
+    alloc: Global,
+    net: Net<B::Kinds>,
+    bodies: Vec<B>,
+) -> Result<Refused, AllocError> {
+    let (machine, first) = machine_again(rt, alloc, net, bodies);
+    let (opening, second) = opening_again(rt, alloc, machine);
+    let third = work_to_the_end::<B, Brand, Brand, R>(rt, alloc, opening)?;
+    Ok(first.or(second).or(third))
+}
+
+/// Opens a monitor of a counter of three and a sink of one, and works on it to its end. Fails if memory
+/// for the test itself was refused.
+fn monitor_refused<R: Wait + Abort>(rt: &R, alloc: Global) -> Result<Refused, AllocError> {
+    let Parts { net, bodies } = parts_of(rt, alloc, COUNTER_INTO_SMALL_SINK)?;
+    open_refused(rt, alloc, net, bodies)
+}
+
+#[test]
+fn a_monitor_of_one_seat(rt: HostRuntime) -> Result<(), Fail> {
+    let refused = monitor_refused(&rt, rt.alloc()).unwrap_or(Refused::Elsewhere);
+    let word = refused.word();
+    println!(rt; "refused: {word}")?;
+    Ok(())
+}

@@ -1,0 +1,23 @@
+//! Networks of the standard kinds, with bodies that are a card alone.
+//!
+//! Their type has no closure in it, as those of `meeting` have.
+use kpn_body::Standard;
+use kpn_compute::{CardBody, bodies_of};
+use kpn_net::{Net, read_sketch};
+use std::alloc::Global;
+use std::test::Fail;
+
+/// A network, and a body for each of its processes in order.
+#[derive(Drop)]
+pub(crate) struct Parts {
+    pub(crate) net: Net<Standard>,
+    pub(crate) bodies: Vec<CardBody<Standard>>,
+}
+
+/// The network of a text, with its bodies.
+pub(crate) fn parts_of(alloc: Global, text: &str) -> Result<Parts, Fail> {
+    let sketch = read_sketch(alloc, text.as_bytes())?;
+    let net = Net::check(alloc, &sketch)?;
+    let bodies = bodies_of(alloc, &net)?;
+    Ok(Parts { net, bodies })
+}
