@@ -6,8 +6,6 @@ pub mod answered;
 pub mod body;
 pub mod standard;
 pub mod task;
-#[cfg(test)]
-mod tests;
 
 pub use answered::Answered;
 pub use body::Body;

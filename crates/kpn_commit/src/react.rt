@@ -3,13 +3,13 @@
 ghost use Rattle.std.specs.Prelude.{◌≡◌, ◌≢◌, ◌<◌, ◌≤◌, ◌+◌, length, Some, None};
 ghost use Rattle.kpn_model.specs.Semantics.{wants, status};
 ghost use Rattle.kpn_model.specs.declared.history.Status.TheVariants.{Done};
-ghost use Rattle.kpn_state.specs.Standings.{StandingsFit, standing};
+ghost use Rattle.kpn_state.specs.Standings.{StandingsFit, standing, partner, HasChannel};
 ghost use Rattle.kpn_state.specs.declared.standing.Standing.TheVariants.{Out};
 ghost use Rattle.kpn_commit.specs.Reactions.{Reacts};
 
 use crate::act::advance;
-use kpn_net::{Answer, Kinds, Net};
-use kpn_state::standing::{parked, partner};
+use kpn_net::{Answer, Deed, Kinds, Net};
+use kpn_state::standing::parked;
 use kpn_state::{Roster, Standing, Store};
 
 /// What a process's answer led to. `Waits`: it could not be done, and the process is parked. `Acts`: it
@@ -53,5 +53,17 @@ pub fn react<K: Kinds>(
     match advance(net, store, standings, other, wanted) {
         Some(_) => Reaction::HandsOn,
         None => Reaction::Acts,
+    }
+}
+
+/// Returns the process at the other end of the deed's channel; `None` if the deed is a stop.
+fn partner<K: Kinds>(net: &Net<K>, deed: Deed) -> Option<usize>
+    requires { HasChannel net.now deed }
+    ensures { result ≡ partner net.now deed }
+{
+    match deed {
+        Deed::Took { channel, .. } => Some(net.ends(channel).writer),
+        Deed::Put { channel, .. } => Some(net.ends(channel).reader),
+        Deed::Stopped => None,
     }
 }

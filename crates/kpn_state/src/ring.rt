@@ -3,7 +3,7 @@ ghost use Rattle.std.specs.Prelude.{◌≡◌, ◌<◌, ◌≤◌, ◌++◌, ◌
 ghost use Rattle.kpn_state.specs.StateAndHistory.{held};
 
 use circular_buffer::HeapCircularBuffer;
-use kpn_net::Token;
+use kpn_model::Token;
 use std::alloc::{AllocError, Global};
 use std::marker::Model;
 

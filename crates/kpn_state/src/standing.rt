@@ -3,9 +3,9 @@ ghost use Rattle.std.specs.Prelude.{◌≡◌, ◌≢◌, ◌<◌, length, IfSom
 ghost use Rattle.std.specs.List.{list_all};
 ghost use Rattle.kpn_model.specs.declared.kinds.Answer.{Answer as AnswerV};
 ghost use Rattle.kpn_state.specs.declared.standing.Standing.TheVariants.{Parked};
-ghost use Rattle.kpn_state.specs.Standings.{standing, is_ready, parked_answer, standing_after, partner, HasChannel};
+ghost use Rattle.kpn_state.specs.Standings.{standing, is_ready, parked_answer, standing_after};
 
-use kpn_net::{Answer, Deed, Kinds, Net};
+use kpn_model::{Answer, Deed};
 
 /// The standing of a process: it may be taken; it was taken and its answer has not come back; its
 /// answer came back and could not be done; or it has stopped.
@@ -24,18 +24,6 @@ pub fn standing_after(deed: Deed) -> Standing
     match deed {
         Deed::Took { .. } | Deed::Put { .. } => Standing::Ready,
         Deed::Stopped => Standing::Stopped,
-    }
-}
-
-/// Returns the process at the other end of the deed's channel; `None` if the deed is a stop.
-pub fn partner<K: Kinds>(net: &Net<K>, deed: Deed) -> Option<usize>
-    requires { HasChannel net.now deed }
-    ensures { result ≡ partner net.now deed }
-{
-    match deed {
-        Deed::Took { channel, .. } => Some(net.ends(channel).writer),
-        Deed::Put { channel, .. } => Some(net.ends(channel).reader),
-        Deed::Stopped => None,
     }
 }
 

@@ -8,7 +8,7 @@ ghost use Rattle.kpn_model.specs.declared.history.Deed.TheVariants.{Took, Put, S
 ghost use Rattle.kpn_state.specs.StateAndHistory.{state, state_and_history, more};
 
 use crate::ring::Ring;
-use kpn_net::{Deed, Entry, Local, Status, Token};
+use kpn_model::{Deed, Entry, Local, Status, Token};
 use std::alloc::AllocError;
 use std::marker::Model;
 

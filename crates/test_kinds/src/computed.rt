@@ -1,4 +1,5 @@
 //! The bodies of a network of standard kinds; and names that two families have.
+use crate::checks::same;
 use kpn_body::Body;
 use kpn_compute::{Both, CardBody, Computes, bodies_of};
 use kpn_net::Act::{Read, Write};
@@ -44,10 +45,10 @@ fn each_process_has_its_body(rt: HostRuntime) -> Result<(), Fail> {
     let net: Net<Standard> = Net::check(rt.alloc(), &sketch)?;
     let answers = first_answers(rt.alloc(), &net)?;
     let expected = [([1, 0, 0, 0], Write(0, Word(5))), ([1, 0, 0, 0], Read(0))];
-    assert_eq!(rt; answers.len(), expected.len());
+    same(&rt, "answers", answers.len(), expected.len());
     for (answer, (next, act)) in answers.iter().zip(expected.iter()) {
-        assert_eq!(rt; answer.next, *next);
-        assert_eq!(rt; answer.act, *act);
+        same(&rt, "next", answer.next, *next);
+        same(&rt, "act", answer.act, *act);
     }
     Ok(())
 }

@@ -1,4 +1,5 @@
 //! Each line of each kind, with numbers of its own; the names, the arguments and the ports.
+use crate::checks::same;
 use kpn_model::Act::{Read, Stop, Write};
 use kpn_model::Token::{Flag, Word};
 use kpn_model::{Act, Answer, Card, Kinds, Local, Signature, Sort};
@@ -11,8 +12,8 @@ use std::test::Fail;
 
 fn agree(rt: &impl Abort, lines: &[(Answer, Local, Act)]) -> Result<(), Fail> {
     for (answer, next, act) in lines {
-        assert_eq!(rt; answer.next, *next);
-        assert_eq!(rt; answer.act, *act);
+        same(rt, "next", answer.next, *next);
+        same(rt, "act", answer.act, *act);
     }
     Ok(())
 }
@@ -468,7 +469,7 @@ fn names_have_numbers_and_counts(rt: HostRuntime) -> Result<(), Fail> {
         ("selec", None),
     ];
     for (name, expected) in names {
-        assert_eq!(rt; Standard::named(name), expected, "{name}");
+        same(&rt, name, Standard::named(name), expected);
     }
     Ok(())
 }
@@ -529,7 +530,8 @@ fn arguments_have_ports(rt: HostRuntime) -> Result<(), Fail> {
     ];
     for (kind, args, ins, outs) in ports_of {
         let signature = Standard::signature(&Card { kind, args });
-        assert_eq!(rt; signature, Some(Signature { ins, outs }), "{kind}");
+        let due = Some(Signature { ins, outs });
+        same(&rt, "ports", (kind, signature), (kind, due));
     }
     Ok(())
 }
@@ -558,7 +560,8 @@ fn other_arguments_are_refused(rt: HostRuntime) -> Result<(), Fail> {
         (65535, [1, 1, 0]),
     ];
     for (kind, args) in refused {
-        assert_eq!(rt; Standard::signature(&Card { kind, args }), None, "{kind}");
+        let signature = Standard::signature(&Card { kind, args });
+        same(&rt, "refused", (kind, signature), (kind, None));
     }
     Ok(())
 }
@@ -572,7 +575,8 @@ fn start_of<K: Kinds>(card: Card) -> Option<Local> {
 fn starts_at_zero(rt: HostRuntime) -> Result<(), Fail> {
     for kind in [3, 5, 8, 10, 11] {
         let card = Card { kind, args: [0; 3] };
-        assert_eq!(rt; start_of::<Standard>(card), Some([0; 4]), "{kind}");
+        let start = start_of::<Standard>(card);
+        same(&rt, "start", (kind, start), (kind, Some([0; 4])));
     }
     Ok(())
 }

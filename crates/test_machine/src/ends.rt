@@ -1,4 +1,5 @@
 //! Runs to their end in the calling thread.
+use crate::checks::same;
 use crate::entries::{GREW, PUT_1};
 use crate::machines::{CardMachine, opened};
 use crate::networks::{Parts, SINK_OF_ONE, SINK_OF_THREE, Sizes, parts_of};
@@ -61,13 +62,6 @@ fn finished_machine<R: Abort>(
     Ok(machine)
 }
 
-/// Compares a machine whose run is over.
-fn assert_over<R: Abort>(rt: &R, machine: &CardMachine, due: &EndOfRun) {
-    let name = due.name;
-    assert_eq!(rt; machine.end(), Some(due.end), "{name}");
-    assert_eq!(rt; machine.commits(), due.commits, "{name}");
-}
-
 /// Compares the places of the processes in the report.
 fn assert_places<R: Abort>(
     rt: &R,
@@ -77,29 +71,46 @@ fn assert_places<R: Abort>(
 ) -> Result<(), AllocError> {
     let name = due.name;
     let places = places_of(alloc, machine.net(), machine.standings())?;
-    assert_eq!(rt; places.as_slice(), due.places.as_slice(), "{name}");
+    same(rt, name, places.as_slice(), due.places.as_slice());
     Ok(())
 }
 
 fn assert_standings<R: Abort>(rt: &R, standings: &[Standing], due: &EndOfRun) {
     let name = due.name;
-    assert_eq!(rt; standings, due.standings.as_slice(), "{name}");
+    same(rt, name, standings, due.standings.as_slice());
 }
 
 /// Compares a history: its length, its first entry, and how often the channel grew.
 fn assert_history<R: Abort>(rt: &R, history: &[Entry], due: &EndOfRun) {
     let name = due.name;
-    assert_eq!(rt; history.len(), 7, "{name}");
-    assert_eq!(rt; history.first().copied(), Some(PUT_1), "{name}");
+    same(rt, name, history.len(), 7);
+    same(rt, name, history.first().copied(), Some(PUT_1));
     let growths = history.iter().filter(|entry| **entry == GREW).count();
-    assert_eq!(rt; growths, due.growths, "{name}");
+    same(rt, name, growths, due.growths);
+}
+
+/// Compares a machine whose run is over.
+fn assert_over<R: Abort>(
+    rt: &R,
+    alloc: Global,
+    machine: &CardMachine,
+    due: &EndOfRun,
+) -> Result<(), AllocError> {
+    let name = due.name;
+    same(rt, name, machine.end(), Some(due.end));
+    same(rt, name, machine.commits(), due.commits);
+    assert_standings(rt, machine.standings(), due);
+    assert_history(rt, machine.history(), due);
+    assert_places(rt, alloc, machine, due)
 }
 
 /// Compares what a machine left behind.
 fn assert_chronicle<R: Abort>(rt: &R, chronicle: &Chronicle<Standard>, due: &EndOfRun) {
     let name = due.name;
-    assert_eq!(rt; chronicle.net().processes(), 2, "{name}");
-    assert_eq!(rt; chronicle.end(), Some(due.end), "{name}");
+    same(rt, name, chronicle.net().processes(), 2);
+    same(rt, name, chronicle.end(), Some(due.end));
+    assert_standings(rt, chronicle.standings(), due);
+    assert_history(rt, chronicle.history(), due);
 }
 
 fn run_alone<R: Abort>(
@@ -109,14 +120,9 @@ fn run_alone<R: Abort>(
     due: &EndOfRun,
 ) -> Result<(), AllocError> {
     let machine = finished_machine(rt, alloc, sizes)?;
-    assert_over(rt, &machine, due);
-    assert_places(rt, alloc, &machine, due)?;
-    assert_standings(rt, machine.standings(), due);
-    assert_history(rt, machine.history(), due);
+    assert_over(rt, alloc, &machine, due)?;
     let chronicle = machine.into_chronicle();
     assert_chronicle(rt, &chronicle, due);
-    assert_standings(rt, chronicle.standings(), due);
-    assert_history(rt, chronicle.history(), due);
     Ok(())
 }
 

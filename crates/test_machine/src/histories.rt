@@ -1,4 +1,5 @@
 //! Histories, commit by commit.
+use crate::checks::same;
 use crate::entries::{COUNTER_STOPPED, GREW, PUT_1, PUT_2, PUT_3, SINK_STOPPED, TOOK_1};
 use crate::machines::{CardMachine, commit_of, machine_of};
 use crate::networks::{SINK_OF_ONE, SINK_OF_THREE, Sizes};
@@ -75,9 +76,9 @@ fn follow<R: Abort>(
 ) -> Result<(), AllocError> {
     let mut machine = machine_of(rt, alloc, sizes)?;
     let outcomes = outcomes_of(rt, alloc, &mut machine, due.processes)?;
-    assert_eq!(rt; outcomes.as_slice(), due.outcomes, "{name}");
-    assert_eq!(rt; machine.history(), due.entries, "{name}");
-    assert_eq!(rt; machine.end(), due.end, "{name}");
+    same(rt, name, outcomes.as_slice(), due.outcomes);
+    same(rt, name, machine.history(), due.entries);
+    same(rt, name, machine.end(), due.end);
     Ok(())
 }
 

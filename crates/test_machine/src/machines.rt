@@ -1,4 +1,5 @@
 //! Calls of a machine, with only such contracts as the tests need.
+use crate::checks::same;
 use crate::networks::{Parts, Sizes, parts_of};
 use kpn_body::{Finished, Standard, Task};
 use kpn_compute::CardBody;
@@ -33,7 +34,7 @@ pub(crate) fn opened<R: Abort>(
     match Machine::open(alloc, net, bodies) {
         Ok(machine) => Ok(machine),
         Err(refused) => {
-            assert_eq!(rt; refused.fault, OpenFault::Memory);
+            same(rt, "fault", refused.fault, OpenFault::Memory);
             Err(AllocError)
         }
     }

@@ -1,5 +1,6 @@
 //! The networks of the tests: a counter from 1 of three tokens, process 0, writes into a sink, process
 //! 1, over channel 0 of capacity one.
+use crate::checks::same;
 use kpn_body::Standard;
 use kpn_compute::{CardBody, bodies_of};
 use kpn_net::{Card, Net, NetFault, read_sketch};
@@ -80,7 +81,7 @@ fn net_of<R: Abort>(rt: &R, alloc: Global, text: &str) -> Result<Net<Standard>, 
     match check_text(alloc, text) {
         Ok(net) => Ok(net),
         Err(fault) => {
-            assert_eq!(rt; fault, NetFault::Memory);
+            same(rt, "fault", fault, NetFault::Memory);
             Err(AllocError)
         }
     }

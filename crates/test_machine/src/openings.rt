@@ -1,4 +1,5 @@
 //! What a machine is opened with, and what it hands back.
+use crate::checks::same;
 use crate::machines::{CardMachine, machine_of, opened};
 use crate::networks::{COUNTER, Parts, SINK, SINK_OF_THREE, parts_of};
 use kpn_body::{Body, Standard};
@@ -11,9 +12,9 @@ use std::test::Fail;
 
 /// Compares the cards of bodies, in order.
 fn assert_cards<R: Abort>(rt: &R, bodies: &[CardBody<Standard>], cards: &[Card], name: &str) {
-    assert_eq!(rt; bodies.len(), cards.len(), "{name}");
+    same(rt, name, bodies.len(), cards.len());
     for (body, card) in bodies.iter().zip(cards.iter()) {
-        assert_eq!(rt; body.card(), *card, "{name}");
+        same(rt, name, body.card(), *card);
     }
 }
 
@@ -27,7 +28,7 @@ fn taken_apart<R: Abort>(rt: &R, machine: CardMachine) -> Parts {
 /// Compares the parts of a machine of a counter and a sink of three.
 fn assert_parts<R: Abort>(rt: &R, alloc: Global, parts: &Parts) -> Result<(), AllocError> {
     let cards = cards_of(alloc, &parts.net)?;
-    assert_eq!(rt; cards.as_slice(), [COUNTER, SINK].as_slice());
+    same(rt, "cards", cards.as_slice(), [COUNTER, SINK].as_slice());
     assert_cards(rt, parts.bodies.as_slice(), &[COUNTER, SINK], "fresh");
     Ok(())
 }
@@ -74,9 +75,9 @@ pub(crate) fn assert_handed_back<R: Abort>(
     due: &Misfit,
 ) {
     let name = due.name;
-    assert_eq!(rt; refused.fault, due.fault, "{name}");
-    assert_eq!(rt; refused.fault.number(), due.number, "{name}");
-    assert_eq!(rt; refused.net.processes(), 2, "{name}");
+    same(rt, name, refused.fault, due.fault);
+    same(rt, name, refused.fault.number(), due.number);
+    same(rt, name, refused.net.processes(), 2);
     assert_cards(rt, refused.bodies.as_slice(), due.cards, name);
 }
 

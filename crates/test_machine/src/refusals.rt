@@ -1,4 +1,5 @@
 //! One request for memory is refused, whichever it is.
+use crate::checks::same;
 use crate::entries::{PUT_1, PUT_2, SINK_STOPPED, TOOK_1};
 use crate::machines::{CardMachine, CardTask, commit_of, take};
 use crate::networks::{COUNTER, Parts, SINK_OF_ONE, parts_of};
@@ -74,21 +75,21 @@ fn grow<R: Abort>(
 ) -> Result<Refused, AllocError> {
     for process in [0, 1, 0, 1] {
         let outcome = commit_of(rt, machine, tasks, process)?;
-        assert_eq!(rt; outcome, Done(1), "process {process}");
+        same(rt, "before", (process, outcome), (process, Done(1)));
     }
     let outcome = commit_of(rt, machine, tasks, 0)?;
     if machine.end() == Some(End::Memory) {
-        assert_eq!(rt; outcome, Parked(0));
+        same(rt, "outcome", outcome, Parked(0));
         return Ok(Refused::Growth);
     }
-    assert_eq!(rt; outcome, Parked(2));
+    same(rt, "outcome", outcome, Parked(2));
     Ok(Refused::Nothing)
 }
 
 /// Compares a machine that ended because its growth was refused.
 fn assert_ended<R: Abort>(rt: &R, machine: &mut CardMachine) {
     let entries = [PUT_1, TOOK_1, PUT_2, SINK_STOPPED];
-    assert_eq!(rt; machine.history(), entries.as_slice());
+    same(rt, "history", machine.history(), entries.as_slice());
     assert!(rt; take(machine).is_none());
 }
 
@@ -97,14 +98,26 @@ fn growing_run<R: Abort>(rt: &R, alloc: Global) -> Result<Refused, AllocError> {
     let Parts { net, bodies } = parts_of(rt, alloc, SINK_OF_ONE)?;
     let mut tasks = Vec::with_capacity(alloc, 2)?;
     let (mut machine, refused) = open_again(rt, alloc, net, bodies);
-    if let Refused::Growth = grow(rt, &mut machine, &mut tasks)? {
-        assert_ended(rt, &mut machine);
+    match grow_to_the_end(rt, &mut machine, &mut tasks)? {
+        Refused::Growth => Ok(Refused::Growth),
+        _ => Ok(refused),
+    }
+}
+
+/// Commits all answers, and returns whether the growth was refused.
+fn grow_to_the_end<R: Abort>(
+    rt: &R,
+    machine: &mut CardMachine,
+    tasks: &mut Vec<CardTask>,
+) -> Result<Refused, AllocError> {
+    if let Refused::Growth = grow(rt, machine, tasks)? {
+        assert_ended(rt, machine);
         return Ok(Refused::Growth);
     }
-    let outcome = commit_of(rt, &mut machine, &mut tasks, 0)?;
-    assert_eq!(rt; outcome, Done(1));
-    assert_eq!(rt; machine.end(), Some(End::Terminated));
-    Ok(refused)
+    let outcome = commit_of(rt, machine, tasks, 0)?;
+    same(rt, "outcome", outcome, Done(1));
+    same(rt, "end", machine.end(), Some(End::Terminated));
+    Ok(Refused::Nothing)
 }
 
 /// Passes whichever request for memory is refused, and prints which one was.

@@ -1,4 +1,5 @@
 //! The standings of the processes, from the opening to the end.
+use crate::checks::same;
 use crate::entries::PUT_1;
 use crate::machines::{CardMachine, CardTask, commit_of, machine_of, take, take_all};
 use crate::networks::{SINK_OF_THREE, Sizes};
@@ -115,8 +116,8 @@ fn counts_of(machine: &CardMachine) -> Counts {
 }
 
 fn assert_stand<R: Abort>(rt: &R, machine: &CardMachine, due: &Stand, moment: &str) {
-    assert_eq!(rt; machine.standings(), due.standings.as_slice(), "{moment}");
-    assert_eq!(rt; counts_of(machine), due.counts, "{moment}");
+    same(rt, moment, machine.standings(), due.standings.as_slice());
+    same(rt, moment, counts_of(machine), due.counts);
 }
 
 /// Takes both processes, one after the other.
@@ -156,14 +157,24 @@ fn come_back<R: Abort>(
     Ok(())
 }
 
+/// Looks at the standings from the opening to the end.
+fn follow_standings<R: Abort>(
+    rt: &R,
+    alloc: Global,
+    machine: &mut CardMachine,
+) -> Result<(), AllocError> {
+    let mut tasks = Vec::with_capacity(alloc, 2)?;
+    same(rt, "channels", machine.net().channels(), 1);
+    go_out(rt, machine, &mut tasks)?;
+    come_back(rt, machine, &mut tasks)?;
+    same(rt, "end", machine.end(), Some(End::Terminated));
+    Ok(())
+}
+
 #[test]
 fn a_machine_tells_where_its_processes_stand(rt: HostRuntime) -> Result<(), Fail> {
     let mut machine = machine_of(&rt, rt.alloc(), SINK_OF_THREE)?;
-    let mut tasks = Vec::with_capacity(rt.alloc(), 2)?;
-    assert_eq!(rt; machine.net().channels(), 1);
-    go_out(&rt, &mut machine, &mut tasks)?;
-    come_back(&rt, &mut machine, &mut tasks)?;
-    assert_eq!(rt; machine.end(), Some(End::Terminated));
+    follow_standings(&rt, rt.alloc(), &mut machine)?;
     Ok(())
 }
 
@@ -196,13 +207,20 @@ fn answer_late<R: Abort>(
 ) -> Result<(), AllocError> {
     let mut tasks = Vec::with_capacity(alloc, 2)?;
     let outcome = commit_of(rt, machine, &mut tasks, 0)?;
-    assert_eq!(rt; outcome, Done(1));
-    assert_eq!(rt; machine.end(), Some(End::Budget));
+    same(rt, "outcome", outcome, Done(1));
+    same(rt, "end", machine.end(), Some(End::Budget));
     assert_stand(rt, machine, &ONE_LATE, "the budget is spent");
     let outcome = commit_of(rt, machine, &mut tasks, 1)?;
-    assert_eq!(rt; outcome, LaidBack);
+    same(rt, "outcome", outcome, LaidBack);
     assert_stand(rt, machine, &LAID_BACK, "laid back");
     Ok(())
+}
+
+/// Compares a machine whose budget of one entry is spent.
+fn assert_spent<R: Abort>(rt: &R, machine: &mut CardMachine) {
+    same(rt, "end", machine.end(), Some(End::Budget));
+    same(rt, "history", machine.history(), [PUT_1].as_slice());
+    assert!(rt; take(machine).is_none());
 }
 
 #[test]
@@ -213,8 +231,6 @@ fn an_answer_after_the_end_is_laid_back(rt: HostRuntime) -> Result<(), Fail> {
     };
     let mut machine = machine_of(&rt, rt.alloc(), sizes)?;
     answer_late(&rt, rt.alloc(), &mut machine)?;
-    assert_eq!(rt; machine.end(), Some(End::Budget));
-    assert_eq!(rt; machine.history(), [PUT_1].as_slice());
-    assert!(rt; take(&mut machine).is_none());
+    assert_spent(&rt, &mut machine);
     Ok(())
 }

@@ -1,6 +1,7 @@
 //! Answers that a machine did not ask for.
 ghost use Rattle.std.specs.Prelude.{IsSome, None};
 
+use crate::checks::same;
 use crate::entries::PUT_1;
 use crate::machines::{
     CardFinished, CardMachine, CardTask, answer_of, commit_of, handed_back, machine_of, outcome_of,
@@ -41,10 +42,10 @@ fn answer_of_another_body<R: Abort>(rt: &R, alloc: Global) -> Result<CardFinishe
 
 /// Compares the counter's first answer.
 fn assert_first_answer<R: Abort>(rt: &R, finished: &CardFinished) {
-    assert_eq!(rt; finished.process(), 0);
-    assert_eq!(rt; finished.card(), COUNTER);
-    assert_eq!(rt; finished.local(), [0, 0, 0, 0]);
-    assert_eq!(rt; finished.last(), None);
+    same(rt, "process", finished.process(), 0);
+    same(rt, "card", finished.card(), COUNTER);
+    same(rt, "local", finished.local(), [0, 0, 0, 0]);
+    same(rt, "last", finished.last(), None);
 }
 
 /// Commits the counter's first answer again, which is handed back and changes nothing.
@@ -56,8 +57,8 @@ fn refuse_again<R: Abort>(
     assert!(rt; !machine.has_asked(&finished));
     let finished = handed_back(rt, machine, finished);
     assert_first_answer(rt, &finished);
-    assert_eq!(rt; machine.history(), [PUT_1].as_slice());
-    assert_eq!(rt; machine.commits(), 1);
+    same(rt, "history", machine.history(), [PUT_1].as_slice());
+    same(rt, "commits", machine.commits(), 1);
     finished
 }
 
@@ -75,9 +76,9 @@ fn counter_answers<R: Abort>(
 /// Commits the counter's first answer, which was asked for.
 fn accept_first<R: Abort>(rt: &R, machine: &mut CardMachine, finished: CardFinished) {
     let outcome = outcome_of(rt, machine, finished);
-    assert_eq!(rt; outcome, Done(1));
-    assert_eq!(rt; machine.history(), [PUT_1].as_slice());
-    assert_eq!(rt; machine.commits(), 1);
+    same(rt, "outcome", outcome, Done(1));
+    same(rt, "history", machine.history(), [PUT_1].as_slice());
+    same(rt, "commits", machine.commits(), 1);
 }
 
 /// Commits the counter's first answer while the counter is not out; it is handed back and changes
@@ -96,10 +97,10 @@ fn refuse_fresh<R: Abort>(
 /// Takes the task of the counter after its first token.
 fn second_task<R: Abort>(rt: &R, machine: &mut CardMachine) -> CardTask {
     let task = take(machine).expect(rt, "the counter is not ready");
-    assert_eq!(rt; task.process(), 0);
-    assert_eq!(rt; task.card(), COUNTER);
-    assert_eq!(rt; task.local(), [1, 0, 0, 0]);
-    assert_eq!(rt; task.last(), None);
+    same(rt, "process", task.process(), 0);
+    same(rt, "card", task.card(), COUNTER);
+    same(rt, "local", task.local(), [1, 0, 0, 0]);
+    same(rt, "last", task.last(), None);
     task
 }
 
@@ -109,20 +110,43 @@ fn refuse_while_out<R: Abort>(rt: &R, machine: &mut CardMachine, finished: CardF
     let task = second_task(rt, machine);
     refuse_again(rt, machine, finished);
     let outcome = outcome_of(rt, machine, task.call());
-    assert_eq!(rt; outcome, Parked(0));
-    assert_eq!(rt; machine.commits(), 2);
+    same(rt, "outcome", outcome, Parked(0));
+    same(rt, "commits", machine.commits(), 2);
+}
+
+/// Commits the counter's first answer, and then the same from another body.
+fn answer_twice<R: Abort>(
+    rt: &R,
+    alloc: Global,
+    machine: &mut CardMachine,
+) -> Result<(), AllocError> {
+    let second = answer_of_another_body(rt, alloc)?;
+    let finished = counter_answers(rt, alloc, machine)?;
+    accept_first(rt, machine, finished);
+    let second = refuse_again(rt, machine, second);
+    refuse_while_out(rt, machine, second);
+    Ok(())
 }
 
 /// The counter's first answer comes a second time: while the counter is ready, and while it is out in
 /// another state.
 #[test]
 fn an_answer_that_was_not_asked_for_is_handed_back(rt: HostRuntime) -> Result<(), Fail> {
-    let second = answer_of_another_body(&rt, rt.alloc())?;
     let mut machine = machine_of(&rt, rt.alloc(), SINK_OF_THREE)?;
-    let finished = counter_answers(&rt, rt.alloc(), &mut machine)?;
-    accept_first(&rt, &mut machine, finished);
-    let second = refuse_again(&rt, &mut machine, second);
-    refuse_while_out(&rt, &mut machine, second);
+    answer_twice(&rt, rt.alloc(), &mut machine)?;
+    Ok(())
+}
+
+/// Commits the counter's answer from one machine to the other, and then to the machine that asked.
+fn ask_one<R: Abort>(
+    rt: &R,
+    alloc: Global,
+    one: &mut CardMachine,
+    other: &mut CardMachine,
+) -> Result<(), AllocError> {
+    let finished = counter_answers(rt, alloc, one)?;
+    let finished = refuse_fresh(rt, other, finished);
+    accept_first(rt, one, finished);
     Ok(())
 }
 
@@ -132,9 +156,7 @@ fn an_answer_that_was_not_asked_for_is_handed_back(rt: HostRuntime) -> Result<()
 fn an_answer_of_another_machine_is_handed_back(rt: HostRuntime) -> Result<(), Fail> {
     let mut one = machine_of(&rt, rt.alloc(), SINK_OF_THREE)?;
     let mut other = machine_of(&rt, rt.alloc(), SINK_OF_THREE)?;
-    let finished = counter_answers(&rt, rt.alloc(), &mut one)?;
-    let finished = refuse_fresh(&rt, &mut other, finished);
-    accept_first(&rt, &mut one, finished);
+    ask_one(&rt, rt.alloc(), &mut one, &mut other)?;
     Ok(())
 }
 
@@ -146,8 +168,22 @@ fn park_second<R: Abort>(
 ) -> Result<(), AllocError> {
     let mut tasks = Vec::with_capacity(alloc, 2)?;
     let outcome = commit_of(rt, machine, &mut tasks, 0)?;
-    assert_eq!(rt; outcome, Parked(0));
+    same(rt, "outcome", outcome, Parked(0));
     Ok(())
+}
+
+/// Commits to the second machine the counter's answer from the first, and then its own.
+fn ask_both<R: Abort>(
+    rt: &R,
+    alloc: Global,
+    one: &mut CardMachine,
+    other: &mut CardMachine,
+) -> Result<(), AllocError> {
+    let finished = counter_answers(rt, alloc, one)?;
+    let own = counter_answers(rt, alloc, other)?;
+    accept_first(rt, other, finished);
+    refuse_again(rt, other, own);
+    park_second(rt, alloc, other)
 }
 
 /// If both machines ask the same, the answer from one is as good as the answer from the other; the one
@@ -156,12 +192,19 @@ fn park_second<R: Abort>(
 fn an_answer_to_the_same_question_is_taken_once(rt: HostRuntime) -> Result<(), Fail> {
     let mut one = machine_of(&rt, rt.alloc(), SINK_OF_THREE)?;
     let mut other = machine_of(&rt, rt.alloc(), SINK_OF_THREE)?;
-    let finished = counter_answers(&rt, rt.alloc(), &mut one)?;
-    let own = counter_answers(&rt, rt.alloc(), &mut other)?;
-    accept_first(&rt, &mut other, finished);
-    refuse_again(&rt, &mut other, own);
-    park_second(&rt, rt.alloc(), &mut other)?;
+    ask_both(&rt, rt.alloc(), &mut one, &mut other)?;
     Ok(())
+}
+
+/// Commits the counter's first answer, which was asked for, at once.
+fn take_at_once<R: Abort>(rt: &R, machine: &mut CardMachine, finished: CardFinished) {
+    if !machine.has_asked(&finished) {
+        panic!(rt; "the counter's answer was not asked for");
+    }
+    let outcome = machine.commit_asked(finished);
+    same(rt, "outcome", outcome, Done(1));
+    same(rt, "history", machine.history(), [PUT_1].as_slice());
+    same(rt, "commits", machine.commits(), 1);
 }
 
 /// The counter's first answer is taken without being compared again, since the machine said that it had
@@ -170,12 +213,6 @@ fn an_answer_to_the_same_question_is_taken_once(rt: HostRuntime) -> Result<(), F
 fn an_answer_that_was_asked_for_is_taken_at_once(rt: HostRuntime) -> Result<(), Fail> {
     let mut machine = machine_of(&rt, rt.alloc(), SINK_OF_THREE)?;
     let finished = counter_answers(&rt, rt.alloc(), &mut machine)?;
-    if !machine.has_asked(&finished) {
-        panic!(&rt; "the counter's answer was not asked for");
-    }
-    let outcome = machine.commit_asked(finished);
-    assert_eq!(&rt; outcome, Done(1));
-    assert_eq!(&rt; machine.history(), [PUT_1].as_slice());
-    assert_eq!(&rt; machine.commits(), 1);
+    take_at_once(&rt, &mut machine, finished);
     Ok(())
 }

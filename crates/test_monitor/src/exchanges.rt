@@ -1,6 +1,9 @@
 //! Hands that a caller exchanges at a monitor.
 ghost use Rattle.std.specs.Prelude.{◌≡◌, length};
 
+use crate::checks::same;
+use crate::monitors::{close_alone, ended_of, seen_by, watcher_of};
+use crate::scenes::COUNTER_ENDED;
 use kpn_body::Body;
 use kpn_machine::Outcome;
 use kpn_monitor::{EntryLedger, Hand, Monitor, Next, Opening, Rest, Seat};
@@ -21,6 +24,13 @@ struct Round {
     entries: usize,
     next: Next,
 }
+
+/// What a watcher is shown of the counter of three and its sink at their end.
+const SHOWN: Progress = Progress {
+    entries: 8,
+    growths: 0,
+    phase: Phase::Terminated,
+};
 
 /// Calls all tasks of a hand, and returns how many there were.
 fn call_all<B: Body, R: Wait>(rt: &R, hand: &mut Hand<B>) -> usize
@@ -69,8 +79,38 @@ fn play_round<B: Body, E: EntryLedger, O: Ledger, R: Wait + Abort>(
     }
 }
 
-/// One hand plays a counter of three into a sink of three to its end. In each round but the first both
-/// processes do their next act. Once the hand asks for no task, and once it is idle.
+/// Plays the rounds. In each but the first both processes do their next act; once the hand asks for no
+/// task, and at last it is idle.
+fn play_rounds<B: Body, E: EntryLedger, O: Ledger, R: Wait + Clock + Abort>(
+    rt: &R,
+    alloc: Global,
+    monitor: &Monitor<B, E, O>,
+    seat: &mut Seat<E, O>,
+) -> Result<(), AllocError> {
+    let mut hand = Hand::new(alloc, 1)?;
+    let due = [
+        (16, 0, 0, Next::Tasks),
+        (16, 2, 2, Next::Tasks),
+        (0, 2, 2, Next::Nothing),
+        (16, 0, 0, Next::Tasks),
+        (16, 2, 2, Next::Tasks),
+        (16, 2, 2, Next::Over(End::Terminated)),
+    ];
+    for (most, called, entries, next) in due {
+        let round = play_round(rt, monitor, &mut hand, seat, most);
+        let due = Round {
+            called,
+            entries,
+            next,
+        };
+        same(rt, "round", round, due);
+    }
+    let rested = monitor.rest(rt, &mut hand, Rest::Idle, Duration::from_millis(1));
+    assert!(rt; !rested);
+    Ok(())
+}
+
+/// One hand plays a counter of three into a sink of three to its end.
 pub(crate) fn exchanged<B: Body, E: EntryLedger, O: Ledger, R: Wait + Clock + Abort>(
     rt: &R,
     alloc: Global,
@@ -82,43 +122,10 @@ pub(crate) fn exchanged<B: Body, E: EntryLedger, O: Ledger, R: Wait + Clock + Ab
     requires overs { (opening.overs.name ≡ O.name) × (opening.overs.parts ≡ O.parts) }
 {
     let (monitor, mut seat) = Monitor::<B, E, O>::open(opening);
-    let Ok(mut watcher) = monitor.watch(rt) else {
-        panic!(rt; "no watcher");
-    };
-    let mut hand = Hand::new(alloc, 1)?;
-    let due = [
-        (16, 0, 0, Next::Tasks),
-        (16, 2, 2, Next::Tasks),
-        (0, 2, 2, Next::Nothing),
-        (16, 0, 0, Next::Tasks),
-        (16, 2, 2, Next::Tasks),
-        (16, 2, 2, Next::Over(End::Terminated)),
-    ];
-    for (most, called, entries, next) in due {
-        let round = play_round(rt, &monitor, &mut hand, &mut seat, most);
-        assert_eq!(rt;
-            round,
-            Round {
-                called,
-                entries,
-                next
-            }
-        );
-    }
-    let rested = monitor.rest(rt, &mut hand, Rest::Idle, Duration::from_millis(1));
-    assert!(rt; !rested);
-    let shown = Progress {
-        entries: 8,
-        growths: 0,
-        phase: Phase::Terminated,
-    };
-    assert!(rt; monitor.look(&mut watcher) == shown);
-    let mut seats = Vec::new(alloc);
-    seats.push(seat)?;
-    let Ok(closed) = monitor.close(seats) else {
-        panic!(rt; "not closed");
-    };
-    assert_eq!(rt; closed.end(), Some(End::Terminated));
-    assert_eq!(rt; closed.receipts(), 8);
+    let mut watcher = watcher_of(rt, &monitor);
+    play_rounds(rt, alloc, &monitor, &mut seat)?;
+    same(rt, "shown", seen_by(&monitor, &mut watcher), SHOWN);
+    let closed = close_alone(rt, alloc, monitor, seat)?;
+    same(rt, "ended", ended_of(&closed), COUNTER_ENDED);
     Ok(())
 }

@@ -6,6 +6,8 @@
 ghost use Rattle.std.specs.Prelude.{◌≡◌};
 
 #[cfg(test)]
+mod checks;
+#[cfg(test)]
 mod exchanges;
 #[cfg(test)]
 mod monitors;

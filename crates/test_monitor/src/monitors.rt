@@ -15,7 +15,7 @@ use std::sync::Wait;
 use std::sync::ledger::Ledger;
 
 /// What is read from a monitor that was closed.
-#[derive(Clone, Copy, PartialEq, Eq)]
+#[derive(Clone, Copy, Debug, PartialEq, Eq)]
 pub(crate) struct Ended {
     pub(crate) end: Option<End>,
     pub(crate) receipts: u64,

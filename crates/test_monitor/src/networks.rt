@@ -1,6 +1,7 @@
 //! Networks of the standard kinds, with bodies that are a card alone.
 //!
 //! Their type has no closure in it, so that the code of a test can name its monitor.
+use crate::checks::same;
 use kpn_body::Standard;
 use kpn_compute::{CardBody, bodies_of};
 use kpn_net::{Net, NetFault, read_sketch};
@@ -26,7 +27,7 @@ fn net_of<R: Abort>(rt: &R, alloc: Global, text: &str) -> Result<Net<Standard>, 
     match check_text(alloc, text) {
         Ok(net) => Ok(net),
         Err(fault) => {
-            assert_eq!(rt; fault, NetFault::Memory);
+            same(rt, "fault", fault, NetFault::Memory);
             Err(AllocError)
         }
     }

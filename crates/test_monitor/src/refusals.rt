@@ -5,6 +5,7 @@
 ghost use Rattle.std.specs.Prelude.{◌≡◌};
 ghost use Rattle.kpn_machine.specs.MachineView.{IsFresh};
 
+use crate::checks::same;
 use crate::monitors::{Ended, close_alone, ended_of, seen_by, watcher_of, work_alone};
 use crate::networks::{Parts, parts_of};
 use kpn_body::Body;
@@ -65,9 +66,9 @@ fn machine_again<B: Body, R: Abort>(
         Ok(machine) => return (machine, Refused::Nothing),
         Err(refused) => refused,
     };
-    assert_eq!(rt; refused.fault, OpenFault::Memory);
-    assert_eq!(rt; refused.net.processes(), 2);
-    assert_eq!(rt; refused.bodies.len(), 2);
+    same(rt, "fault", refused.fault, OpenFault::Memory);
+    same(rt, "processes", refused.net.processes(), 2);
+    same(rt, "bodies", refused.bodies.len(), 2);
     match Machine::open(alloc, refused.net, refused.bodies) {
         Ok(machine) => (machine, Refused::Machine),
         Err(_) => panic!(rt; "refused again"),
@@ -129,15 +130,15 @@ const AFTER_ALL: Progress = Progress {
 
 /// Whether the growth was refused its memory, given that the run is over.
 fn growth_refused<R: Abort>(rt: &R, ended: Ended, seen: Progress) -> Refused {
-    assert_eq!(rt; ended.receipts, ended.entries as u64);
+    same(rt, "receipts", ended.receipts, ended.entries as u64);
     if ended.end == Some(End::Memory) {
-        assert_eq!(rt; ended.receipts, 4);
-        assert_eq!(rt; seen, BEFORE_THE_GROWTH);
+        same(rt, "receipts", ended.receipts, 4);
+        same(rt, "seen", seen, BEFORE_THE_GROWTH);
         return Refused::Growth;
     }
-    assert_eq!(rt; ended.end, Some(End::Terminated));
-    assert_eq!(rt; ended.receipts, 7);
-    assert_eq!(rt; seen, AFTER_ALL);
+    same(rt, "end", ended.end, Some(End::Terminated));
+    same(rt, "receipts", ended.receipts, 7);
+    same(rt, "seen", seen, AFTER_ALL);
     Refused::Nothing
 }
 

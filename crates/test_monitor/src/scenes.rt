@@ -4,6 +4,7 @@
 //! over them.
 ghost use Rattle.std.specs.Prelude.{◌≡◌, ◌<◌, [], All, IfOk, IfSome};
 
+use crate::checks::same;
 use crate::exchanges::exchanged;
 use crate::monitors::{
     Ended, close_alone, close_with, ended_of, next_task, opening_of, outcome_of, seat_of, seen_by,
@@ -58,7 +59,7 @@ const WOVEN_ENDED: Ended = Ended {
 };
 
 /// A counter of three into a sink of three.
-const COUNTER_ENDED: Ended = Ended {
+pub(crate) const COUNTER_ENDED: Ended = Ended {
     end: Some(End::Terminated),
     receipts: 8,
     entries: 8,
@@ -129,9 +130,9 @@ fn settles<B: Body, E: EntryLedger, O: Ledger, R: Abort>(
     all.push(seats.0)?;
     all.push(seats.1)?;
     let mut closed = close_with(rt, monitor, all);
-    assert!(rt; ended_of(&closed) == WOVEN_ENDED);
-    assert!(rt; shown_to(&mut closed, watchers.0) == WOVEN);
-    assert!(rt; shown_to(&mut closed, watchers.1) == WOVEN);
+    same(rt, "ended", ended_of(&closed), WOVEN_ENDED);
+    same(rt, "shown", shown_to(&mut closed, watchers.0), WOVEN);
+    same(rt, "shown", shown_to(&mut closed, watchers.1), WOVEN);
     Ok(())
 }
 
@@ -180,9 +181,9 @@ fn watched<
     let (one, other) = two_seats(rt, seat);
     let first = watcher_of(rt, &monitor);
     let mut second = watcher_of(rt, &monitor);
-    assert!(rt; seen_by(&monitor, &mut second) == NOTHING);
+    same(rt, "seen", seen_by(&monitor, &mut second), NOTHING);
     let (one, other, mut first) = work_watched(rt, &monitor, one, other, first);
-    assert!(rt; seen_by(&monitor, &mut first) == WOVEN);
+    same(rt, "seen", seen_by(&monitor, &mut first), WOVEN);
     settles(rt, alloc, monitor, (one, other), (first, second))
 }
 
@@ -203,7 +204,7 @@ fn not_closed<B: Body, E: EntryLedger, O: Ledger, R: Abort>(
         seats,
         fault,
     } = unclosed;
-    assert_eq!(rt; fault, CloseFault::SeatsMissing);
+    same(rt, "fault", fault, CloseFault::SeatsMissing);
     Ok((monitor, seats))
 }
 
@@ -223,7 +224,7 @@ fn missing_seat<B: Body, E: EntryLedger, O: Ledger, R: Wait + Abort>(
     let (monitor, mut seats) = not_closed(rt, alloc, monitor, other)?;
     seats.push(seat)?;
     let closed = close_with(rt, monitor, seats);
-    assert!(rt; ended_of(&closed) == COUNTER_ENDED);
+    same(rt, "ended", ended_of(&closed), COUNTER_ENDED);
     Ok(())
 }
 
@@ -261,9 +262,9 @@ fn answer_once<B: Body, E: EntryLedger, O: Ledger, R: Wait + Abort>(
 /// The run has not ended, and has no entry if the one task was dropped.
 fn has_no_end<R: Abort>(rt: &R, ended: Ended, dropped: bool) {
     assert!(rt; ended.end.is_none());
-    assert_eq!(rt; ended.entries as u64, ended.receipts);
+    same(rt, "entries", ended.entries as u64, ended.receipts);
     if dropped {
-        assert_eq!(rt; ended.receipts, 0);
+        same(rt, "receipts", ended.receipts, 0);
     }
 }
 
@@ -296,13 +297,13 @@ fn all_look<B: Body, E: EntryLedger, O: Ledger>(
     requires after { All (λ w. w.board ≡ E.board) looked.old.items }
     ensures { All (λ w. w.board ≡ E.board) looked.new.items }
 {
-    let mut same = true;
+    let mut alike = true;
     while let Some(mut watcher) = watchers.pop() {
         let seen = seen_by(monitor, &mut watcher);
-        same = same && seen == due;
+        alike = alike && seen == due;
         looked.push(watcher)?;
     }
-    Ok(same)
+    Ok(alike)
 }
 
 /// Settles each watcher.
@@ -313,12 +314,29 @@ fn all_settle<K: Kinds, E: EntryLedger>(
 ) -> bool
     requires { All (λ w. w.board ≡ E.board) watchers.items }
 {
-    let mut same = true;
+    let mut alike = true;
     while let Some(watcher) = watchers.pop() {
         let shown = shown_to(closed, watcher);
-        same = same && shown == due;
+        alike = alike && shown == due;
     }
-    same
+    alike
+}
+
+/// Makes as many watchers as there may be, each of which looks once.
+fn looking_watchers<B: Body, E: EntryLedger, O: Ledger, R: Wait + Abort>(
+    rt: &R,
+    alloc: Global,
+    monitor: &Monitor<B, E, O>,
+) -> Result<Vec<Watcher>, AllocError>
+    ensures { IfOk result (λ ws. All (λ w. w.board ≡ E.board) ws.items) }
+{
+    let mut watchers = Vec::new(alloc);
+    let full = watch_all(rt, monitor, &mut watchers)?;
+    same(rt, "watchers", (full, watchers.len()), (true, 64));
+    let mut looked = Vec::new(alloc);
+    let alike = all_look(monitor, watchers, &mut looked, NOTHING)?;
+    same(rt, "looked", (alike, looked.len()), (true, 64));
+    Ok(looked)
 }
 
 fn most_watchers<B: Body, E: EntryLedger, O: Ledger, R: Wait + Abort>(
@@ -332,16 +350,11 @@ fn most_watchers<B: Body, E: EntryLedger, O: Ledger, R: Wait + Abort>(
     requires overs { (opening.overs.name ≡ O.name) × (opening.overs.parts ≡ O.parts) }
 {
     let (monitor, seat) = Monitor::<B, E, O>::open(opening);
-    let mut watchers = Vec::new(alloc);
-    let full = watch_all(rt, &monitor, &mut watchers)?;
-    assert!(rt; full && watchers.len() == 64);
-    let mut looked = Vec::new(alloc);
-    let same = all_look(&monitor, watchers, &mut looked, NOTHING)?;
-    assert!(rt; same && looked.len() == 64);
+    let watchers = looking_watchers(rt, alloc, &monitor)?;
     let seat = work_alone(rt, &monitor, seat);
     let mut closed = close_alone(rt, alloc, monitor, seat)?;
-    let same = all_settle(&mut closed, looked, WOVEN);
-    assert!(rt; same);
+    let alike = all_settle(&mut closed, watchers, WOVEN);
+    same(rt, "settled", alike, true);
     Ok(())
 }
 

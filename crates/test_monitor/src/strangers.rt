@@ -1,6 +1,7 @@
 //! Answers that no monitor asked for: from another monitor, and made a second time.
 ghost use Rattle.std.specs.Prelude.{◌≡◌};
 
+use crate::checks::same;
 use crate::monitors::{
     Ended, close_alone, ended_of, handed_back, next_task, opening_of, outcome_of, seen_by,
     shown_to, watcher_of,
@@ -51,7 +52,7 @@ fn refuse<B: Body, E: EntryLedger, O: Ledger, R: Wait + Abort>(
 ) -> Result<Finished<B>, AllocError> {
     let finished = handed_back(rt, &monitor, finished, &mut seat);
     let closed = close_alone(rt, alloc, monitor, seat)?;
-    assert!(rt; ended_of(&closed) == not_ended(0));
+    same(rt, "ended", ended_of(&closed), not_ended(0));
     Ok(finished)
 }
 
@@ -85,8 +86,8 @@ fn commit_first<B: Body, E: EntryLedger, O: Ledger, R: Wait + Abort>(
     ensures { watcher.new.board ≡ E.board }
 {
     let outcome = outcome_of(rt, monitor, finished, seat);
-    assert_eq!(rt; outcome, Outcome::Done(1));
-    assert!(rt; seen_by(monitor, watcher) == running(1));
+    same(rt, "outcome", outcome, Outcome::Done(1));
+    same(rt, "seen", seen_by(monitor, watcher), running(1));
 }
 
 /// Closes after one entry, which a watcher is shown.
@@ -100,8 +101,8 @@ fn close_after_one<B: Body, E: EntryLedger, O: Ledger, R: Abort>(
     requires { watcher.board ≡ E.board }
 {
     let mut closed = close_alone(rt, alloc, monitor, seat)?;
-    assert!(rt; ended_of(&closed) == not_ended(1));
-    assert!(rt; shown_to(&mut closed, watcher) == running(1));
+    same(rt, "ended", ended_of(&closed), not_ended(1));
+    same(rt, "shown", shown_to(&mut closed, watcher), running(1));
     Ok(())
 }
 
@@ -127,7 +128,7 @@ fn stranger_between<B: Body, E: EntryLedger, O: Ledger, F: EntryLedger, P: Ledge
     let mut watcher = watcher_of(rt, &monitor);
     let finished = counter_answers(rt, &monitor, &mut seat);
     let finished = refuse(rt, alloc, other, other_seat, finished)?;
-    assert!(rt; seen_by(&monitor, &mut watcher) == running(0));
+    same(rt, "seen", seen_by(&monitor, &mut watcher), running(0));
     commit_first(rt, &monitor, &mut seat, &mut watcher, finished);
     close_after_one(rt, alloc, monitor, seat, watcher)
 }
@@ -163,10 +164,10 @@ fn refuse_again<B: Body, E: EntryLedger, O: Ledger, R: Wait + Abort>(
     ensures { watcher.new.board ≡ E.board }
 {
     let finished = handed_back(rt, monitor, finished, seat);
-    assert_eq!(rt; finished.process(), 0);
-    assert_eq!(rt; finished.local(), [0, 0, 0, 0]);
-    assert_eq!(rt; finished.last(), None);
-    assert!(rt; seen_by(monitor, watcher) == running(1));
+    same(rt, "process", finished.process(), 0);
+    same(rt, "local", finished.local(), [0, 0, 0, 0]);
+    same(rt, "last", finished.last(), None);
+    same(rt, "seen", seen_by(monitor, watcher), running(1));
     finished
 }
 
@@ -205,12 +206,12 @@ fn refuse_while_out<B: Body, E: EntryLedger, O: Ledger, R: Wait + Abort>(
     ensures { watcher.new.board ≡ E.board }
 {
     let task = next_task(rt, monitor, seat);
-    assert_eq!(rt; task.process(), 0);
-    assert_eq!(rt; task.local(), [1, 0, 0, 0]);
+    same(rt, "process", task.process(), 0);
+    same(rt, "local", task.local(), [1, 0, 0, 0]);
     refuse_again(rt, monitor, seat, watcher, second);
     let outcome = outcome_of(rt, monitor, task.call(), seat);
-    assert_eq!(rt; outcome, Outcome::Parked(0));
-    assert!(rt; seen_by(monitor, watcher) == running(1));
+    same(rt, "outcome", outcome, Outcome::Parked(0));
+    same(rt, "seen", seen_by(monitor, watcher), running(1));
 }
 
 #[test]

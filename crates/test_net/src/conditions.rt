@@ -1,4 +1,5 @@
 //! The condition of each fault, of single processes and channels of a sketch, against what the rules say.
+use crate::checks::same;
 use crate::tests::CountAndSink;
 use kpn_net::check::{
     Clash, SameIn, SameName, SameOut, has_unknown_kind, has_unused_port, has_wrong_args,
@@ -88,8 +89,8 @@ fn judges_each_process(rt: HostRuntime) -> Result<(), Fail> {
     let sketch = sketch_of(rt.alloc())?;
     for (name, due) in PROCESSES {
         let process = process_named(sketch.processes.as_slice(), name).ok_or("not found")?;
-        assert!(rt; process.name.as_str() == name);
-        assert!(rt; holds_of_process(&sketch, process) == due, "{name}");
+        same(&rt, "name", process.name.as_str(), name);
+        same(&rt, name, holds_of_process(&sketch, process), due);
     }
     assert!(rt; process_named(sketch.processes.as_slice(), "none").is_none());
     Ok(())
@@ -101,7 +102,8 @@ fn judges_each_channel(rt: HostRuntime) -> Result<(), Fail> {
     let channels = sketch.channels.as_slice();
     for c in 0..4 {
         let channel = channels.get(c).ok_or("not found")?;
-        assert!(rt; holds_of_channel(&sketch, channel) == CHANNELS[c], "{c}");
+        let held = holds_of_channel(&sketch, channel);
+        same(&rt, "channel", (c, held), (c, CHANNELS[c]));
     }
     Ok(())
 }
@@ -120,13 +122,13 @@ fn finds_unused_ports(rt: HostRuntime) -> Result<(), Fail> {
         is_unused_out::<CountAndSink>(&sketch, "neg", &ports, 0),
         is_unused_out::<CountAndSink>(&sketch, "neg", &ports, 1),
     ];
-    assert!(rt; outs == [false, true, false]);
+    same(&rt, "outs", outs, [false, true, false]);
     let ins = [
         is_unused_in::<CountAndSink>(&sketch, "snk", &ins, 0),
         is_unused_in::<CountAndSink>(&sketch, "src", &ins, 0),
         is_unused_in::<CountAndSink>(&sketch, "src", &ins, 1),
     ];
-    assert!(rt; ins == [false, true, false]);
+    same(&rt, "ins", ins, [false, true, false]);
     Ok(())
 }
 
@@ -140,7 +142,12 @@ fn judges_names_ports_and_tokens(rt: HostRuntime) -> Result<(), Fail> {
         is_name("aB"),
         is_name(""),
     ];
-    assert!(rt; names == [true, true, false, false, false, false]);
+    same(
+        &rt,
+        "names",
+        names,
+        [true, true, false, false, false, false],
+    );
     let ports = [Some(Sort::Flags), None, None];
     let sorts = [
         port_sort(&ports, 0),
@@ -148,13 +155,13 @@ fn judges_names_ports_and_tokens(rt: HostRuntime) -> Result<(), Fail> {
         port_sort(&ports, 3),
         port_sort(&ports, -1),
     ];
-    assert!(rt; sorts == [Some(Sort::Flags), None, None, None]);
-    let same = [
+    same(&rt, "sorts", sorts, [Some(Sort::Flags), None, None, None]);
+    let flags = [
         is_sort(Sort::Flags, Some(Sort::Flags)),
         is_sort(Sort::Flags, Some(Sort::Words)),
         is_sort(Sort::Flags, None),
     ];
-    assert!(rt; same == [true, false, false]);
+    same(&rt, "flags", flags, [true, false, false]);
     let tokens = [
         is_token(Sort::Words, TokenSketch::Integer(0)),
         is_token(Sort::Words, TokenSketch::Integer(-1)),
@@ -162,7 +169,7 @@ fn judges_names_ports_and_tokens(rt: HostRuntime) -> Result<(), Fail> {
         is_token(Sort::Flags, TokenSketch::Boolean(false)),
         is_token(Sort::Flags, TokenSketch::Integer(1)),
     ];
-    assert!(rt; tokens == [true, false, false, true, false]);
+    same(&rt, "tokens", tokens, [true, false, false, true, false]);
     Ok(())
 }
 
@@ -182,8 +189,13 @@ fn finds_what_clashes(rt: HostRuntime) -> Result<(), Fail> {
     let first = channels.first().ok_or("not found")?;
     let second = channels.get(1).ok_or("not found")?;
     let third = channels.get(2).ok_or("not found")?;
-    assert!(rt; clashes(first, second) == [false, true, false]);
-    assert!(rt; clashes(first, third) == [true, false, true]);
-    assert!(rt; clashes(second, third) == [false, false, false]);
+    same(&rt, "clashes", clashes(first, second), [false, true, false]);
+    same(&rt, "clashes", clashes(first, third), [true, false, true]);
+    same(
+        &rt,
+        "clashes",
+        clashes(second, third),
+        [false, false, false],
+    );
     Ok(())
 }

@@ -3,6 +3,7 @@
 ghost use Rattle.std.specs.Prelude.{◌≡◌, ◌<◌, ◌+◌, ◌^◌, ◌==◌, ◌&&◌, nat_lt, if◌then◌else◌, codes, [], ◌∷◌, Option, Some, None, slice_index};
 ghost use Rattle.std.specs.Str.{bytes_eq};
 
+use crate::checks::same;
 use kpn_net::{
     Card, Ends, Kinds, Listed, Local, Net, NetFault, Signature, Sort, Text, Token, TokenSketch,
     read_sketch,
@@ -96,7 +97,7 @@ fn describes_a_counter_into_a_sink(rt: HostRuntime) -> Result<(), Fail> {
             args: [3, 0, 0],
         },
     ];
-    assert!(rt; [net.card(0), net.card(1)] == cards);
+    same(&rt, "cards", [net.card(0), net.card(1)], cards);
     let ends = Ends {
         writer: 0,
         out: 0,
@@ -118,7 +119,12 @@ fn describes_a_counter_into_a_sink(rt: HostRuntime) -> Result<(), Fail> {
         net.in_of(0, 0),
         net.out_of(0, 1),
     ];
-    assert!(rt; found == [Some(0), None, Some(0), Some(0), None, None]);
+    same(
+        &rt,
+        "found",
+        found,
+        [Some(0), None, Some(0), Some(0), None, None],
+    );
     assert!(rt;
         [net.capacity(0), net.step(), net.ceiling()] == [1, 1, 65535] && net.budget() == 10000
     );
@@ -155,15 +161,20 @@ fn describes_start_tokens_and_a_step(rt: HostRuntime) -> Result<(), Fail> {
     let net: Net<CountAndSink> = Net::check(alloc, &sketch)?;
     assert!(rt; net.channels() == 1 && sketch.channels.as_slice().len() == 1);
     let tokens = [Token::Word(7), Token::Word(9223372036854775807)];
-    assert!(rt; net.tokens(0) == tokens.as_slice());
-    assert!(rt; [net.capacity(0), net.step(), net.ceiling()] == [1000000, 1024, 1000000]);
+    same(&rt, "tokens", net.tokens(0), tokens.as_slice());
+    same(
+        &rt,
+        "sizes",
+        [net.capacity(0), net.step(), net.ceiling()],
+        [1000000, 1024, 1000000],
+    );
     assert!(rt; net.budget() == 2000000 && sketch.step == 1024);
     for channel in sketch.channels.as_slice() {
         let read = [
             TokenSketch::Integer(7),
             TokenSketch::Integer(9223372036854775807),
         ];
-        assert!(rt; channel.tokens.as_slice() == read.as_slice());
+        same(&rt, "tokens", channel.tokens.as_slice(), read.as_slice());
     }
     Ok(())
 }
@@ -192,15 +203,20 @@ static NUMBERS: [(NetFault, u8); 17] = [
 fn numbers_faults_and_keeps_texts_and_lists(rt: HostRuntime) -> Result<(), Fail> {
     let alloc = rt.alloc();
     for (fault, number) in NUMBERS {
-        assert_eq!(rt; fault.number(), number);
+        same(&rt, "number", fault.number(), number);
     }
     let text = Text::new(String::from_str(alloc, "c0")?);
-    assert!(rt; text.as_str() == "c0");
-    assert!(rt; text.into_string().as_str() == "c0");
+    same(&rt, "text", text.as_str(), "c0");
+    same(&rt, "text", text.into_string().as_str(), "c0");
     let mut list = Listed::new(Vec::new(alloc));
     list.push(Token::Word(7))?;
     list.push(Token::Flag(true))?;
-    assert!(rt; list.as_slice() == [Token::Word(7), Token::Flag(true)].as_slice());
-    assert_eq!(rt; list.into_vec().len(), 2);
+    same(
+        &rt,
+        "list",
+        list.as_slice(),
+        [Token::Word(7), Token::Flag(true)].as_slice(),
+    );
+    same(&rt, "of the list", list.into_vec().len(), 2);
     Ok(())
 }

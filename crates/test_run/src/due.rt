@@ -1,6 +1,7 @@
 //! The expected results of runs, and how a run is compared with them.
 ghost use Rattle.std.specs.Prelude.{◌<◌, length};
 
+use crate::checks::same;
 use kpn_machine::Standing;
 use kpn_net::Token::Word;
 use kpn_net::{End, Kinds, Token};
@@ -135,18 +136,18 @@ pub(crate) fn compare<K: Kinds, R: Abort>(
 ) -> Result<(), AllocError> {
     compare_numbers(rt, finish, due);
     let text = text_of(alloc, finish, Some(due.show))?;
-    assert_eq!(rt; text.as_str(), due.text);
+    same(rt, "text", text.as_str(), due.text);
     compare_stream(rt, alloc, finish, due.show, due.stream)
 }
 
 /// Compares how a run ended, and its numbers of entries, growths and stopped processes.
 fn compare_numbers<K: Kinds, R: Abort>(rt: &R, finish: &Finish<K>, due: &Due) {
-    assert_eq!(rt; finish.receipts(), due.entries);
-    assert_eq!(rt; finish.history().len() as u64, due.entries);
-    assert_eq!(rt; finish.net().processes(), due.processes);
-    assert_eq!(rt; finish.standings().len(), due.processes);
-    assert_eq!(rt; stopped_in(finish.standings()), due.stopped);
-    assert_eq!(rt; finish.end(), due.end);
+    same(rt, "receipts", finish.receipts(), due.entries);
+    same(rt, "history", finish.history().len() as u64, due.entries);
+    same(rt, "processes", finish.net().processes(), due.processes);
+    same(rt, "standings", finish.standings().len(), due.processes);
+    same(rt, "stopped", stopped_in(finish.standings()), due.stopped);
+    same(rt, "end", finish.end(), due.end);
 }
 
 /// How many processes have stopped.
@@ -177,6 +178,6 @@ pub(crate) fn compare_stream<K: Kinds, R: Abort>(
 ) -> Result<(), AllocError> {
     assert!(rt; channel < finish.net().channels());
     let stream = stream_of(alloc, finish.net(), finish.history(), channel)?;
-    assert_eq!(rt; stream.as_slice(), due);
+    same(rt, "stream", stream.as_slice(), due);
     Ok(())
 }

@@ -3,6 +3,7 @@ ghost use Rattle.std.specs.Prelude.{◌≡◌, IsSome};
 ghost use Rattle.kpn_standard.specs.Standard.{standard};
 ghost use Rattle.kpn_body.specs.StandardKinds.{signature, Admitted};
 
+use crate::checks::same;
 use crate::due::COUNTER_ENDS;
 use crate::networks::{Parts, parts_of};
 use crate::runs::run_bodies;
@@ -127,7 +128,7 @@ fn meet_at<R: Threads + Wait + Clock + Abort + Sync>(
     bodies.push(left_body(alloc, src, at, Arc::try_clone(&calls)?)?)?;
     bodies.push(right_body(alloc, snk, at, Arc::try_clone(&calls)?)?)?;
     run_counter(rt, alloc, bodies)?;
-    assert_eq!(rt; calls.seen.load(Ordering::SeqCst), 2);
+    same(rt, "seen", calls.seen.load(Ordering::SeqCst), 2);
     Ok(())
 }
 

@@ -2,6 +2,7 @@
 //!
 //! Each test passes whichever request is refused, and prints which one was. What can be tried again is
 //! tried again with what was handed back, and succeeds.
+use crate::checks::same;
 use crate::due::{WOVEN_ENDS, compare};
 use kpn_body::{Body, Standard};
 use kpn_compute::bodies_of;
@@ -48,7 +49,7 @@ impl Refused {
 fn load_again<R: Abort>(rt: &R, alloc: Global, text: &str) -> (Net<Standard>, Refused) {
     match load_text(alloc, text) {
         Ok(net) => return (net, Refused::Nothing),
-        Err(fault) => assert_eq!(rt; fault, NetFault::Memory),
+        Err(fault) => same(rt, "fault", fault, NetFault::Memory),
     }
     let Ok(net) = load_text(alloc, text) else {
         panic!(rt; "refused again");
@@ -74,8 +75,8 @@ fn finish_again<B: Body, R: Threads + Wait + Clock + Abort + Sync>(
         Err(RunFault::Memory { net, bodies }) => (net, bodies),
         Err(_) => panic!(rt; "another fault"),
     };
-    assert_eq!(rt; net.processes(), 4);
-    assert_eq!(rt; bodies.len(), 4);
+    same(rt, "processes", net.processes(), 4);
+    same(rt, "bodies", bodies.len(), 4);
     match run(rt, alloc, net, bodies, workers, &Open) {
         Ok(finish) => (finish, Refused::Run),
         Err(_) => panic!(rt; "refused again"),
@@ -121,10 +122,15 @@ fn ends_for_memory<K: Kinds, R: Abort>(
     alloc: Global,
     finish: &Finish<K>,
 ) -> Result<(), AllocError> {
-    assert_eq!(rt; finish.receipts(), finish.history().len() as u64);
-    assert_eq!(rt; growths_in(finish.history()), 0);
+    same(
+        rt,
+        "receipts",
+        finish.receipts(),
+        finish.history().len() as u64,
+    );
+    same(rt, "growths", growths_in(finish.history()), 0);
     let report = report(alloc, finish)?;
-    assert_eq!(rt; report.end, End::Memory);
+    same(rt, "end", report.end, End::Memory);
     assert!(rt; report.detail.is_none());
     Ok(())
 }
@@ -153,10 +159,10 @@ fn tell_again<K: Kinds, R: Abort>(
     finish: &Finish<K>,
 ) -> Result<Refused, AllocError> {
     let (reported, report) = report_again(rt, alloc, finish);
-    assert_eq!(rt; reported.end, End::Deadlock);
+    same(rt, "end", reported.end, End::Deadlock);
     assert!(rt; reported.detail.is_some());
     let (tokens, stream) = stream_again(rt, alloc, finish.net(), finish.history());
-    assert_eq!(rt; tokens.as_slice(), WOVEN_ENDS.stream);
+    same(rt, "stream", tokens.as_slice(), WOVEN_ENDS.stream);
     compare(rt, alloc, finish, &WOVEN_ENDS)?;
     Ok(first_refused(&[report, stream]))
 }

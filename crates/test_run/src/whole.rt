@@ -1,6 +1,7 @@
 //! Runs whose whole report is compared, and runs that never end by themselves.
 ghost use Rattle.std.specs.Prelude.{◌<◌, length};
 
+use crate::checks::same;
 use crate::due::{compare_stream, text_of};
 use crate::runs::finish_text;
 use kpn_net::Token::Word;
@@ -41,9 +42,14 @@ fn compare_whole<K: Kinds, R: Abort>(
     finish: &Finish<K>,
     due: Whole<'_>,
 ) -> Result<(), AllocError> {
-    assert_eq!(rt; finish.receipts(), finish.history().len() as u64);
+    same(
+        rt,
+        "receipts",
+        finish.receipts(),
+        finish.history().len() as u64,
+    );
     let text = text_of(alloc, finish, None)?;
-    assert_eq!(rt; text.as_str(), due.text);
+    same(rt, "text", text.as_str(), due.text);
     for (channel, tokens) in due.streams {
         compare_stream(rt, alloc, finish, *channel, tokens)?;
     }
@@ -85,10 +91,10 @@ fn compare_endless<K: Kinds, R: Abort>(
 ) -> Result<(), AllocError> {
     let entries = finish.history().len();
     assert!(rt; 1000 <= entries && entries <= 1002);
-    assert_eq!(rt; finish.receipts(), entries as u64);
-    assert_eq!(rt; finish.end(), End::Budget);
+    same(rt, "receipts", finish.receipts(), entries as u64);
+    same(rt, "end", finish.end(), End::Budget);
     let report = report(alloc, finish)?;
-    assert_eq!(rt; report.end, End::Budget);
+    same(rt, "end", report.end, End::Budget);
     assert!(rt; report.detail.is_none());
     Ok(())
 }
@@ -100,7 +106,7 @@ fn compare_taken<K: Kinds, R: Abort>(
     finish: &Finish<K>,
 ) -> Result<(), AllocError> {
     let taken = taken_from(alloc, finish.history(), 1)?;
-    assert_eq!(rt; taken.as_slice(), FIRST_TEN.as_slice());
+    same(rt, "taken", taken.as_slice(), FIRST_TEN.as_slice());
     assert!(rt; 1 < finish.net().channels());
     let stream = stream_of(alloc, finish.net(), finish.history(), 1)?;
     assert!(rt; stream.as_slice().starts_with(&FIRST_TEN));

@@ -4,7 +4,8 @@ ghost use Rattle.kpn_standard.specs.Standard.{standard};
 ghost use Rattle.kpn_standard.specs.Signatures.{signature};
 ghost use Rattle.kpn_standard.specs.Admitted.{Admitted};
 
-use crate::*;
+use crate::checks::same;
+use kpn_body::{Body, Call, StandardBody, Task, answer};
 use kpn_model::Act::Write;
 use kpn_model::Token::Word;
 use kpn_model::{Answer, Card, Kinds, Local, Token};
@@ -25,16 +26,16 @@ fn asked<B: Body>(
 {
     let card = body.card();
     let task = Task::new(5, body, local, last);
-    assert_eq!(rt; task.process(), 5);
-    assert_eq!(rt; task.card(), card);
-    assert_eq!(rt; task.local(), local);
-    assert_eq!(rt; task.last(), last);
+    same(rt, "process", task.process(), 5);
+    same(rt, "card", task.card(), card);
+    same(rt, "local", task.local(), local);
+    same(rt, "last", task.last(), last);
     let finished = task.call();
-    assert_eq!(rt; finished.process(), 5);
-    assert_eq!(rt; finished.card(), card);
-    assert_eq!(rt; finished.local(), local);
-    assert_eq!(rt; finished.last(), last);
-    assert_eq!(rt; finished.answer(), expected);
+    same(rt, "process", finished.process(), 5);
+    same(rt, "card", finished.card(), card);
+    same(rt, "local", finished.local(), local);
+    same(rt, "last", finished.last(), last);
+    same(rt, "answer", finished.answer(), expected);
     Ok(finished.into_body())
 }
 
@@ -51,14 +52,14 @@ fn asked_in_parts<B: Body>(
     let card = body.card();
     let task = Task::new(5, body, local, last);
     let answer = task.ask();
-    assert_eq!(rt; answer, expected);
+    same(rt, "answer", answer, expected);
     let (answered, body) = task.answered(answer).into_parts();
-    assert_eq!(rt; answered.process(), 5);
-    assert_eq!(rt; answered.card(), card);
-    assert_eq!(rt; answered.local(), local);
-    assert_eq!(rt; answered.last(), last);
-    assert_eq!(rt; answered.answer(), expected);
-    assert_eq!(rt; body.card(), card);
+    same(rt, "process", answered.process(), 5);
+    same(rt, "card", answered.card(), card);
+    same(rt, "local", answered.local(), local);
+    same(rt, "last", answered.last(), last);
+    same(rt, "answer", answered.answer(), expected);
+    same(rt, "card", body.card(), card);
     Ok(())
 }
 
@@ -90,7 +91,7 @@ fn count_from_one_writes_two(rt: HostRuntime) -> Result<(), Fail> {
         act: Write(0, Word(2)),
     };
     let body = asked(&rt, made, [1, 0, 0, 0], None, expected)?;
-    assert_eq!(rt; body.card(), card);
+    same(&rt, "card", body.card(), card);
     asked_in_parts(&rt, body, [1, 0, 0, 0], None, expected)
 }
 

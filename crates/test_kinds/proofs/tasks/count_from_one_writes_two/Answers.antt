@@ -1,6 +1,6 @@
 use Rattle.std.proofs.Common.{◌∙◌}
-use Rattle.kpn_body.proofs.Asked.{count_admitted}
-use Rattle.kpn_body.proofs.tests.count_from_one_writes_two.Goals as goal
+use Rattle.test_kinds.proofs.Asked.{count_admitted}
+use Rattle.test_kinds.proofs.tasks.count_from_one_writes_two.Goals as goal
 
 pub asked-requires-after_bounds : goal.asked-requires-after_bounds
 asked-requires-after_bounds g c κs = count_admitted _ c.in_ok-made.ensures
