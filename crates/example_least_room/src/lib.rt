@@ -6,8 +6,6 @@
 
 mod networks;
 mod running;
-#[cfg(test)]
-mod tests;
 
 pub use networks::longer_parks_case;
 pub use running::finish;

@@ -49,8 +49,8 @@ impl Kinds for Flips {
     fn lawful() {}
 }
 
-/// The answer in a line of the table, by the token of the read just done.
-pub(crate) fn line_of(last: Option<Token>) -> Answer
+/// Returns the answer in a line of the table, by the token of the read just done.
+pub fn line_of(last: Option<Token>) -> Answer
     ensures { result ≡ answer last }
 {
     match last {

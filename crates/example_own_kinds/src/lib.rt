@@ -1,19 +1,15 @@
 //! How a caller brings kinds of processes, and closures for the standard ones.
 //!
 //! `flip` has a family with one kind, from the table of its lines to its bodies, which store closures.
-//! `runs` runs a network of it, for the tests. The last section of `docs/own-kinds.md` explains them.
+//! The last section of `docs/own-kinds.md` explains it.
 #![tactic(auto)]
 
 pub mod asked;
 pub mod bodies;
 pub mod flip;
-#[cfg(test)]
-mod runs;
 pub mod scale;
-#[cfg(test)]
-mod tests;
 
 pub use asked::{answer_of, first_answer};
 pub use bodies::first_answers;
-pub use flip::{FlipBody, Flips, flip_answer};
+pub use flip::{FlipBody, Flips, flip_answer, line_of};
 pub use scale::scale_answer;

@@ -1,16 +1,9 @@
 //! Draws Kahn process networks that are described in TOML, for Graphviz.
 #![tactic(auto)]
 
-ghost use Rattle.kpn_draw.specs.DrawChoices.{HasFewIfRun};
+ghost use Rattle.kpn_drawing.specs.DrawChoices.{HasFewIfRun};
 
-mod drawing;
-mod running;
-#[cfg(test)]
-mod tests;
-mod words;
-
-use crate::drawing::{Served, serve};
-use crate::words::{Choice, WordsFault, read_words};
+use kpn_drawing::{Choice, Served, WordsFault, read_words, serve};
 use kpn_front::Status;
 use kpn_front::say::say_refused;
 use kpn_front::streams::Fallible;

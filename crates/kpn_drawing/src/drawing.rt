@@ -1,0 +1,79 @@
+//! The program, from its input to what it draws.
+ghost use Rattle.std.specs.Prelude.{◌+◌, None};
+ghost use Rattle.kpn_execute.specs.Execution.{Writes};
+ghost use Rattle.kpn_front.specs.Loading.{ReadsAtMost, longest};
+ghost use Rattle.kpn_drawing.specs.DrawChoices.{HasFewIfRun};
+ghost use Rattle.kpn_drawing.specs.Drawing.{Draws, DrawsOf};
+
+use crate::running::draw_run;
+use kpn_front::Status;
+use kpn_front::load::load;
+use kpn_front::say::{say, say_refused};
+use kpn_front::streams::{Sink, Source};
+use kpn_net::{Net, NetFault};
+use kpn_picture::{Left, picture_of};
+use kpn_standard::Standard;
+use std::alloc::Global;
+use std::rt::Clock;
+use std::sync::Wait;
+use std::thread::Threads;
+
+/// The outcome of a description: the exit status, and its fault if it was refused.
+#[derive(Drop)]
+pub struct Served {
+    pub status: Status,
+    pub fault: Option<NetFault>,
+}
+
+/// Reads a description from the source, and writes the picture of its network to the sink: as
+/// described, or as a run by `workers` workers left it.
+///
+/// The status is 0 if the picture was written, 2 if the description is refused (4 if memory was), 7 if
+/// a write fails, and 8 if a run was given up.
+pub fn serve<I: Source, O: Sink, R: Wait + Clock + Threads + Sync>(
+    rt: &R,
+    alloc: Global,
+    workers: Option<usize>,
+    source: &mut I,
+    sink: &mut O,
+) -> Served
+    requires { HasFewIfRun workers }
+    ensures drawn { Draws workers (I.remaining source.old) (I.has_failed source.old) (I.has_failed source.new) (O.takes sink.old) (O.contents sink.old) (O.contents sink.new) result.status result.fault }
+    ensures taken { ReadsAtMost (longest + 1) (I.remaining source.old) (I.remaining source.new) }
+{
+    let net: Net<Standard> = match load(alloc, source) {
+        Ok(net) => net,
+        Err(fault) => {
+            return Served {
+                status: say_refused(&fault, sink),
+                fault: Some(fault),
+            };
+        }
+    };
+    let status = match workers {
+        Some(workers) => draw_run(rt, alloc, net, workers, sink),
+        None => draw_net(alloc, &net, sink),
+    };
+    Served {
+        status,
+        fault: None,
+    }
+}
+
+/// Writes the picture of a network.
+///
+/// Returns the exit status: 0, 4 if memory was refused (`refused 14` is then written), and 7 if the
+/// write fails.
+fn draw_net<S: Sink>(alloc: Global, net: &Net<Standard>, sink: &mut S) -> Status
+    ensures { Writes (DrawsOf None net.now) (S.takes sink.old) (S.contents sink.old) (S.contents sink.new) result }
+{
+    let start = Left {
+        places: &[],
+        capacities: &[],
+        rests: &[],
+    };
+    match picture_of(alloc, net, None, &start) {
+        Ok(picture) => say(sink, picture.as_str(), Status::Success),
+        Err(_) => say_refused(&NetFault::Memory, sink),
+    }
+}

@@ -1,0 +1,104 @@
+//! Running a network, and drawing it as the run left it.
+ghost use Rattle.std.specs.Prelude.{◌≡◌, ◌≤◌, Some, IfOk, map, string_bytes};
+ghost use Rattle.kpn_execute.specs.Execution.{Writes};
+ghost use Rattle.kpn_drawing.specs.Drawing.{DrawsEnd, DrawsOf, DrawsRun, report_picture};
+
+use kpn_body::Body;
+use kpn_compute::{CardBody, bodies_of};
+use kpn_front::Status;
+use kpn_front::say::{say, say_lost, say_refused};
+use kpn_front::streams::Sink;
+use kpn_net::{Net, NetFault};
+use kpn_picture::{Left, picture_of};
+use kpn_report::Report;
+use kpn_run::{Finish, Open, RunFault, report, run};
+use kpn_standard::Standard;
+use std::alloc::{AllocError, Global};
+use std::rt::Clock;
+use std::sync::Wait;
+use std::thread::Threads;
+
+/// Runs a network by 1 to 16 workers, and writes the picture of how the run left it.
+///
+/// Returns the exit status: 0 however the run ended, 4 if memory was refused (`refused 14` is then
+/// written), 7 if the write fails, and 8 if the machine refused an answer of a worker (`lost`).
+pub(crate) fn draw_run<S: Sink, R: Wait + Clock + Threads + Sync>(
+    rt: &R,
+    alloc: Global,
+    net: Net<Standard>,
+    workers: usize,
+    sink: &mut S,
+) -> Status
+    requires { (1 ≤ workers) × (workers ≤ 16) }
+    ensures { Writes (DrawsOf (Some workers) net) (S.takes sink.old) (S.contents sink.old) (S.contents sink.new) result }
+{
+    match bodies_of(alloc, &net) {
+        Ok(bodies) => draw_run_of(rt, alloc, net, bodies, workers, sink),
+        Err(_) => say_refused(&NetFault::Memory, sink),
+    }
+}
+
+/// The same, with a body for each process.
+fn draw_run_of<S: Sink, R: Wait + Clock + Threads + Sync>(
+    rt: &R,
+    alloc: Global,
+    net: Net<Standard>,
+    bodies: Vec<CardBody<Standard>>,
+    workers: usize,
+    sink: &mut S,
+) -> Status
+    requires cards { map ⟦<CardBody<Standard> as Body>⟧.card bodies.items ≡ map (λ p. p.card) net.processes }
+    requires workers { (1 ≤ workers) × (workers ≤ 16) }
+    ensures { Writes (DrawsOf (Some workers) net) (S.takes sink.old) (S.contents sink.old) (S.contents sink.new) result }
+{
+    match run(rt, alloc, net, bodies, workers, &Open) {
+        Ok(finish) => draw_finish(alloc, &finish, sink),
+        Err(RunFault::Memory { .. }) => say_refused(&NetFault::Memory, sink),
+        Err(RunFault::Lost { .. }) => say_lost(sink),
+        Err(RunFault::Workers { .. }) => unreachable!(),
+        Err(RunFault::Open { .. }) => unreachable!(),
+    }
+}
+
+/// Writes the picture of a run that is over.
+fn draw_finish<S: Sink>(alloc: Global, finish: &Finish<Standard>, sink: &mut S) -> Status
+    ensures { Writes (DrawsEnd finish.now.machine.network) (S.takes sink.old) (S.contents sink.old) (S.contents sink.new) result }
+{
+    match picture_of_run(alloc, finish) {
+        Ok(picture) => say(sink, picture.as_str(), Status::Success),
+        Err(_) => say_refused(&NetFault::Memory, sink),
+    }
+}
+
+/// The picture of a run that is over.
+fn picture_of_run(alloc: Global, finish: &Finish<Standard>) -> Result<String, AllocError>
+    ensures { IfOk result (λ picture. DrawsRun finish.now.machine.network Status.Success (string_bytes picture)) }
+{
+    let _end = finish.end();
+    let report = report(alloc, finish)?;
+    let picture = picture_of_report(alloc, finish.net(), &report)?;
+    Ok(picture)
+}
+
+/// The picture of a report.
+fn picture_of_report(
+    alloc: Global,
+    net: &Net<Standard>,
+    report: &Report,
+) -> Result<String, AllocError>
+    ensures { IfOk result (λ picture. string_bytes picture ≡ report_picture net.now report.now.end report.now.detail) }
+{
+    let left = match &report.detail {
+        Some(detail) => Left {
+            places: detail.places.as_slice(),
+            capacities: detail.capacities.as_slice(),
+            rests: detail.rests.as_slice(),
+        },
+        None => Left {
+            places: &[],
+            capacities: &[],
+            rests: &[],
+        },
+    };
+    picture_of(alloc, net, Some(report.end), &left)
+}

@@ -1,0 +1,5 @@
+//! Tests of kpn_drawing, in a crate of their own so that kpn_drawing is proved once.
+#![tactic(auto)]
+
+#[cfg(test)]
+mod tests;

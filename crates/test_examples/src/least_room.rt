@@ -1,0 +1,104 @@
+//! The run of Parks's case with a counter of five: its end, its growths and its length, as worked out by
+//! hand.
+ghost use Rattle.std.specs.Prelude.{◌≡◌, ◌<◌, All, IfSome, IsSome, Some, length, slice_get};
+ghost use Rattle.kpn_standard.specs.Standard.{standard};
+ghost use Rattle.kpn_body.specs.StandardKinds.{signature, Admitted};
+ghost use Rattle.kpn_machine.specs.Opening.{cards_of};
+ghost use Rattle.test_laws.specs.WorkedRoom.{longer_parks_case as the_case};
+
+use example_least_room::{finish, longer_parks_case};
+use kpn_body::{Body, Call, Standard, StandardBody, answer};
+use kpn_machine::{Machine, OpenFault, cards_of};
+use kpn_net::{Answer, Card, End, Entry, Local, Net, Token};
+use std::alloc::{AllocError, Global};
+use std::process::Abort;
+use std::test::Fail;
+
+/// The growths of each run that is over, in order.
+const GROWTHS: &[Entry] = &[
+    Entry::Grew { channel: 0, to: 2 },
+    Entry::Grew { channel: 2, to: 2 },
+];
+
+/// Runs the network, and compares. By hand: the counter fills channel 0 while the copy waits to put its
+/// second token on channel 2, from which the weave reads only after three tokens of channel 1. Channels
+/// 0 and 2 are full, with capacity one each, and channel 0 grows first, having the lesser number; it is
+/// filled, and then channel 2, of capacity one, grows. From then on no process has to wait for room.
+/// The counter puts 5 tokens and stops, the copy takes 5 and puts 10, the weave takes 8 and puts 8, the
+/// sink takes 8 and stops; the copy and the weave then wait for more. With the two growths these are 6
+/// + 15 + 16 + 9 + 2 entries.
+fn compare<R: Abort, B: Body>(
+    rt: &R,
+    alloc: Global,
+    net: Net<B::Kinds>,
+    bodies: Vec<B>,
+) -> Result<(), AllocError>
+    requires standard { B.Kinds.family ≡ standard }
+    requires network { net ≡ the_case }
+{
+    let mut machine = match Machine::open(alloc, net, bodies) {
+        Ok(machine) => machine,
+        Err(refused) => {
+            assert_eq!(rt; refused.fault, OpenFault::Memory);
+            return Err(AllocError);
+        }
+    };
+    assert_eq!(rt; finish(&mut machine), 2);
+    let mut growths = Vec::new(alloc);
+    for entry in machine.history() {
+        if matches!(entry, Entry::Grew { .. }) {
+            growths.push(*entry)?;
+        }
+    }
+    assert_eq!(rt; growths.as_slice(), GROWTHS);
+    assert_eq!(rt; machine.history().len(), 48);
+    assert_eq!(rt; machine.end(), Some(End::Deadlock));
+    Ok(())
+}
+
+/// Makes a body for each card, and compares the run of the network. The network is passed in an
+/// `Option`: with a `Net` held by value the check finds no proof of a loop that makes closures.
+fn compare_with_bodies<R: Abort>(
+    rt: &R,
+    alloc: Global,
+    cards: &[Card],
+    net: Option<Net<Standard>>,
+) -> Result<(), AllocError>
+    requires signed { All (λ card. IsSome (signature card)) cards.now }
+    requires network { IfSome net (λ n. n ≡ the_case) }
+    requires some { IsSome net }
+{
+    let mut bodies = Vec::new(alloc);
+    for process in 0..cards.len() {
+        let card = signed_card(cards, process);
+        let call: Call = Box::new(
+            alloc,
+            move |local: Local, last: Option<Token>| -> Answer
+                requires signed { IsSome (signature card) }
+                requires admitted { Admitted card local last }
+                ensures { result ≡ standard.answer card local last }
+            { answer(card, local, last) },
+        )?;
+        bodies.push(StandardBody::new(card, call))?;
+    }
+    let Some(net) = net else { unreachable!() };
+    compare(rt, alloc, net, bodies)
+}
+
+/// A card of a list of cards that have signatures.
+fn signed_card(cards: &[Card], process: usize) -> Card
+    requires signed { All (λ card. IsSome (signature card)) cards.now }
+    requires within { process < length cards.now }
+    ensures { IsSome (signature result) }
+{
+    cards[process]
+}
+
+#[test]
+fn parks_case_grows_two_channels_to_two_places(rt: HostRuntime) -> Result<(), Fail> {
+    let alloc = rt.alloc();
+    let net = longer_parks_case(alloc)?;
+    let cards = cards_of(alloc, &net)?;
+    compare_with_bodies(&rt, alloc, cards.as_slice(), Some(net))?;
+    Ok(())
+}
