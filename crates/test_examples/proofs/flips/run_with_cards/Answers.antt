@@ -1,5 +1,5 @@
 -- One more body, with the next card.
-use Rattle.std.proofs.Common.{◌≡◌, ap, Some, sym, ◌∙◌}
+use Rattle.std.proofs.Common.{ap, Some, sym, ◌∙◌}
 use Rattle.kpn_body.proofs.Cards.{one_more, of_all}
 use Rattle.test_examples.proofs.flips.run_with_cards.Goals as goal
 
