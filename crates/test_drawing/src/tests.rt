@@ -162,15 +162,17 @@ fn asked_for(alloc: Global, words: &[&str]) -> Result<String, AllocError> {
             format!(in alloc; "{} {}", workers.unwrap_or(0), file.unwrap_or("-"))
         }
         Err(fault) => format!(in alloc;
-            "{} {}",
+            "{} {} {}",
             fault.status().code(),
+            fault.asks_for_help(),
             matches!(fault, WordsFault::Workers)
         ),
     }
 }
 
 /// Command lines, and what they ask for: the number of workers of a run (0 if nothing is run) and a
-/// file; or nothing, with the exit status and whether it is because of the number of workers.
+/// file; or nothing, with the exit status, whether help or the version is asked for, and whether it is
+/// because of the number of workers.
 static WORDS: [(&str, &str); 16] = [
     ("kpn-draw", "0 -"),
     ("kpn-draw a.toml", "0 a.toml"),
@@ -180,14 +182,14 @@ static WORDS: [(&str, &str); 16] = [
     ("kpn-draw --run --workers 16 a.toml", "16 a.toml"),
     ("kpn-draw --workers=2 --run", "2 -"),
     ("kpn-draw --workers 2 a.toml", "0 a.toml"),
-    ("kpn-draw --run --workers 17", "1 true"),
-    ("kpn-draw --run --workers 0", "1 true"),
-    ("kpn-draw --workers two", "1 true"),
-    ("kpn-draw a.toml b.toml", "1 false"),
-    ("kpn-draw --run --run", "1 false"),
-    ("kpn-draw --show c0", "1 false"),
-    ("kpn-draw --help", "0 false"),
-    ("kpn-draw --version", "0 false"),
+    ("kpn-draw --run --workers 17", "1 false true"),
+    ("kpn-draw --run --workers 0", "1 false true"),
+    ("kpn-draw --workers two", "1 false true"),
+    ("kpn-draw a.toml b.toml", "1 false false"),
+    ("kpn-draw --run --run", "1 false false"),
+    ("kpn-draw --show c0", "1 false false"),
+    ("kpn-draw --help", "0 true false"),
+    ("kpn-draw --version", "0 true false"),
 ];
 
 #[test]

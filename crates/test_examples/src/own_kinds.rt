@@ -1,6 +1,6 @@
 //! The lines of flip; a scale by three; and what a counter of three and a sink of three answer first.
 use crate::flips::run_flips;
-use example_own_kinds::{Flips, first_answers, flip_answer, scale_answer};
+use example_own_kinds::{Flips, first_answers, flip_answer, line_of, scale_answer};
 use kpn_net::Act::{Read, Write};
 use kpn_net::Token::{Flag, Word};
 use kpn_net::{Net, read_sketch};
@@ -39,6 +39,11 @@ fn flip_and_scale_follow_their_lines(rt: HostRuntime) -> Result<(), Fail> {
             flip_answer(alloc, Some(false))?,
             [0, 0, 0, 0],
             Write(0, Flag(true)),
+        ),
+        (
+            line_of(Some(Flag(true))),
+            [0, 0, 0, 0],
+            Write(0, Flag(false)),
         ),
         (
             scale_answer(alloc, 3, 14)?,
