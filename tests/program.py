@@ -2,16 +2,25 @@
 import os
 import select
 import signal
+import sys
 
 TOP = os.path.dirname(os.path.dirname(os.path.abspath(__file__)))
 PROGRAM = f"{TOP}/crates/kpn/out/kpn"
+BRINGS = "`./kpn --help` (`./kpn-draw --help`), which brings it"
 SECONDS = 60  # that one run may take
+
+
+def need(path, first):
+    """Ends, and says what to run first, if a program isn't there."""
+    if not os.access(path, os.X_OK):
+        sys.exit(f"{os.path.basename(sys.argv[0])}: {os.path.relpath(path)} isn't there: first run {first}")
 
 
 class Program:
     """The program, with files in memory for its input and output."""
 
     def __init__(self, path):
+        need(path, BRINGS)
         self.path = path
         self.input, self.output = os.memfd_create("input"), os.memfd_create("output")
         self.nothing = os.open(os.devnull, os.O_WRONLY)

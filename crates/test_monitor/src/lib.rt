@@ -1,5 +1,5 @@
-//! Tests of monitors that threads and watchers share; and a caller with two openings, which must-fail
-//! edits confuse. A monitor can be opened only under the names of its own opening, so no seat of another
+//! Tests of monitors that threads and watchers share; and a caller with two openings, which a wrong
+//! body confuses. A monitor can be opened only under the names of its own opening, so no seat of another
 //! monitor has the type of its seats.
 #![tactic(auto)]
 

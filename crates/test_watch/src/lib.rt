@@ -1,4 +1,4 @@
-//! Callers of `kpn_watch`: what two looks show, and calls at one of two boards, which must-fail edits
+//! Callers of `kpn_watch`: what two looks show, and calls at one of two boards, which wrong bodies
 //! turn to the other.
 #![tactic(auto)]
 
