@@ -1,5 +1,5 @@
-//! Descriptions of Kahn process networks (Kahn 1974), and the check that makes a network of one. The
-//! types of the model are exported here too.
+//! Descriptions of Kahn process networks (Kahn 1974), and the check that makes a network of one. `Net`
+//! and the types of the model are exported here too.
 #![tactic(auto)]
 
 pub mod check;

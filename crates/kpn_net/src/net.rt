@@ -13,7 +13,7 @@ use kpn_network::{Net, Parts};
 use kpn_sketch::{ChannelSketch, NetFault, ProcessSketch, Sketch, TokenSketch};
 use std::alloc::Global;
 
-/// The check of a sketch: in scope, it makes a network by `Net::check`.
+/// The check of a sketch, `Net::check`: a caller brings it into scope. `Net` alone implements it.
 pub trait Check {
     /// The family of the network's kinds.
     type Kinds: Kinds;

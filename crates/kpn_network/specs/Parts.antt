@@ -1,4 +1,4 @@
--- The network of parts.
+-- The network that parts make.
 use Rattle.kpn_model.specs.Network.{Network}
 use Rattle.kpn_network.specs.declared.net.Parts.{Parts}
 

@@ -1,4 +1,4 @@
-//! Networks whose ports are all joined, and what the layers above ask of one.
+//! Valid networks of processes (Kahn 1974), and what is asked of one.
 #![tactic(auto)]
 
 pub mod net;

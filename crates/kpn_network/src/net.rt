@@ -54,9 +54,10 @@ impl<K: Kinds> Model for Net<K> {
 }
 
 impl<K: Kinds> Net<K> {
-    /// Makes a network of parts that are a valid one, and leaves them as they are: the processes and
-    /// the channels keep their order, and so their numbers. Fails only if memory was refused, for a
-    /// table of the channels at each port; the parts are dropped then.
+    /// Makes a network of parts that are a valid one. All stays as it is: processes and channels keep
+    /// their order, and so their numbers.
+    ///
+    /// Errors: memory was refused, for a table of the channel at each port. The parts are dropped then.
     pub fn of_parts(alloc: Global, parts: Parts) -> Result<Net<K>, AllocError>
         requires { IsValid K.signature_of (network_of parts) }
         ensures { IfOk result (λ n. n ≡ network_of parts) }
@@ -186,8 +187,8 @@ impl<K: Kinds> Net<K> {
         self.step
     }
 
-    /// Returns the capacity beyond which no channel grows, in tokens: 65,535 in version 1 of the
-    /// description and 1,000,000 in version 2.
+    /// Returns the capacity beyond which no channel grows, in tokens: at most 1,000,000. It is 65,535 in
+    /// version 1 of the description and 1,000,000 in version 2.
     pub fn ceiling(&self) -> usize
         ensures { result ≡ self.now.ceiling }
     {
