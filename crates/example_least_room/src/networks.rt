@@ -3,7 +3,7 @@ ghost use Rattle.std.specs.Prelude.{◌≡◌, IfOk};
 ghost use Rattle.test_laws.specs.WorkedRoom.{longer_parks_case as the_case};
 ghost use Rattle.example_least_room.specs.CaseSketch.{process_sketch, channel_sketch, case_processes, case_channels, case_sketch};
 
-use kpn_net::{ChannelSketch, Listed, Net, NetFault, ProcessSketch, Sketch, Sort, Text};
+use kpn_net::{ChannelSketch, Check, Listed, Net, NetFault, ProcessSketch, Sketch, Sort, Text};
 use kpn_standard::Standard;
 use std::alloc::{AllocError, Global};
 

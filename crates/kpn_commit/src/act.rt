@@ -8,7 +8,8 @@ ghost use Rattle.kpn_state.specs.StateAndHistory.{more};
 ghost use Rattle.kpn_state.specs.declared.standing.Standing.TheVariants.{Ready};
 ghost use Rattle.kpn_state.specs.Standings.{StandingsFit, standing, standing_after, partner, HasChannel};
 
-use kpn_net::{Act, Answer, Card, Deed, Kinds, Local, Net, Status, Token};
+use kpn_model::{Act, Answer, Card, Deed, Kinds, Local, Status, Token};
+use kpn_network::Net;
 use kpn_state::standing::standing_after;
 use kpn_state::{Roster, Store};
 

@@ -2,7 +2,8 @@
 ghost use Rattle.std.specs.Prelude.{◌≡◌, ◌<◌, ◌≤◌, length, IfSome, IsTrue, false};
 ghost use Rattle.kpn_commit.specs.Choice.{awaited, IsSmallest, IsNoLater};
 
-use kpn_net::{Act, Kinds, Net};
+use kpn_model::{Act, Kinds};
+use kpn_network::Net;
 use kpn_state::standing::parked;
 use kpn_state::{Standing, Store};
 

@@ -8,7 +8,8 @@ ghost use Rattle.kpn_state.specs.declared.standing.Standing.TheVariants.{Out};
 ghost use Rattle.kpn_commit.specs.Reactions.{Reacts};
 
 use crate::act::advance;
-use kpn_net::{Answer, Deed, Kinds, Net};
+use kpn_model::{Answer, Deed, Kinds};
+use kpn_network::Net;
 use kpn_state::standing::parked;
 use kpn_state::{Roster, Standing, Store};
 

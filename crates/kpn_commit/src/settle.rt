@@ -6,7 +6,8 @@ ghost use Rattle.kpn_commit.specs.Settling.{Settles};
 
 use crate::act::advance;
 use crate::choose::choose;
-use kpn_net::{End, Kinds, Net};
+use kpn_model::{End, Kinds};
+use kpn_network::Net;
 use kpn_state::standing::parked;
 use kpn_state::{Roster, Store};
 

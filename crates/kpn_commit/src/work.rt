@@ -8,7 +8,8 @@ ghost use Rattle.kpn_commit.specs.Works.{Works, outcome_of, end_after, settled_e
 use crate::outcome::Outcome;
 use crate::react::{Reaction, react};
 use crate::settle::{Settled, settle};
-use kpn_net::{Answer, End, Kinds, Net};
+use kpn_model::{Answer, End, Kinds};
+use kpn_network::Net;
 use kpn_state::{Roster, Store};
 
 /// How many entries were appended after the reaction.

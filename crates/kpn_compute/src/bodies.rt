@@ -4,7 +4,8 @@ ghost use Rattle.kpn_model.specs.Valid.{IsValid};
 
 use crate::computes::Computes;
 use kpn_body::Body;
-use kpn_net::{Answer, Card, Local, Net, Token};
+use kpn_model::{Answer, Card, Local, Token};
+use kpn_network::Net;
 use std::alloc::{AllocError, Global};
 use std::marker::{Model, PhantomData};
 

@@ -3,7 +3,7 @@ ghost use Rattle.std.specs.Prelude.{◌≡◌, ◌⊎◌, ◌↔◌, ◌<◌, �
 ghost use Rattle.kpn_compute.specs.Both.{is_first, own_card, both_named, both_ports, both_family, BothAdmit, IsNameRefused, MeansOwn, number_in_both};
 
 use crate::computes::Computes;
-use kpn_net::{Answer, Card, Kinds, Local, Signature, Token};
+use kpn_model::{Answer, Card, Kinds, Local, Signature, Token};
 use std::marker::PhantomData;
 
 /// The number that a refused name means: no kind of two joined families has it.

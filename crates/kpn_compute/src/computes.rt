@@ -1,7 +1,7 @@
 //! Families that a plain function answers for.
 ghost use Rattle.std.specs.Prelude.{◌≡◌, IsSome};
 
-use kpn_net::{Answer, Card, Kinds, Local, Token};
+use kpn_model::{Answer, Card, Kinds, Local, Token};
 use kpn_standard::{Standard, answer};
 
 /// A family with a function that answers for all its cards. Its bodies are then cards alone

@@ -3,7 +3,7 @@ ghost use Rattle.std.specs.Prelude.{◌≡◌, true, IsSome};
 ghost use Rattle.kpn_compute.specs.Filters.{filter_ports, filter_family, FilterAdmits};
 
 use crate::computes::Computes;
-use kpn_net::{Act, Answer, Card, Kinds, Local, Signature, Sort, Token};
+use kpn_model::{Act, Answer, Card, Kinds, Local, Signature, Sort, Token};
 use std::marker::PhantomData;
 
 /// Kinds that read a word and write a word, for ever, and keep four words between. A type that

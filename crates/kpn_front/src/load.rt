@@ -4,7 +4,7 @@ ghost use Rattle.kpn_front.specs.Loading.{Loads, ReadsAtMost, longest, without_t
 
 use crate::streams::Source;
 use kpn_model::limits::LONGEST_TEXT;
-use kpn_net::{Kinds, Net, NetFault, read_sketch};
+use kpn_net::{Check, Kinds, Net, NetFault, read_sketch};
 use std::alloc::Global;
 
 /// How many bytes one turn reads at most.

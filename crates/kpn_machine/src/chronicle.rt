@@ -2,7 +2,8 @@
 ghost use Rattle.std.specs.Prelude.{◌≡◌};
 ghost use Rattle.kpn_machine.specs.MachineView.{machine_view, IsFaithful};
 
-use kpn_net::{End, Entry, Kinds, Net};
+use kpn_model::{End, Entry, Kinds};
+use kpn_network::Net;
 use kpn_state::{Roster, Standing, Store};
 use std::marker::Model;
 

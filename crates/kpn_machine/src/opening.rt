@@ -10,7 +10,8 @@ ghost use Rattle.kpn_machine.specs.Opening.{starting, filled, cards_of, IsOpenFa
 
 use crate::same::same_card;
 use kpn_body::Body;
-use kpn_net::{Card, Kinds, Net, Status};
+use kpn_model::{Card, Kinds, Status};
+use kpn_network::Net;
 use kpn_state::{Ring, Roster, Store};
 use std::alloc::{AllocError, Global};
 

@@ -1,7 +1,7 @@
 //! Whether two cards, local states or last tokens are equal.
 ghost use Rattle.std.specs.Prelude.{◌≡◌, ◌↔◌, IsTrue};
 
-use kpn_net::{Card, Local, Token};
+use kpn_model::{Card, Local, Token};
 
 pub(crate) fn same_card(a: Card, b: Card) -> bool
     ensures { IsTrue result ↔ (a ≡ b) }

@@ -23,7 +23,7 @@ use crate::naming::EntryLedger;
 use crate::seat::Seat;
 use kpn_body::{Body, Finished, Task};
 use kpn_machine::{Chronicle, Machine, Outcome, Stranger};
-use kpn_net::End;
+use kpn_model::End;
 use kpn_watch::{Board, CountingPublisher, MOST_WATCHERS, Publisher, WatchFault, Watcher};
 use std::marker::Model;
 use std::sync::ledger::{Book, Ledger, Share};

@@ -6,7 +6,7 @@ ghost use Rattle.kpn_body.specs.Input.{Input};
 use circular_buffer::HeapCircularBuffer;
 use kpn_body::{Body, Finished, Task};
 use kpn_machine::Outcome;
-use kpn_net::Answer;
+use kpn_model::Answer;
 use std::alloc::{AllocError, Global};
 use std::marker::Model;
 

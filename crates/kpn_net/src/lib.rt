@@ -1,16 +1,16 @@
-//! Descriptions of Kahn process networks (Kahn 1974), and the check that makes a network of one. The
-//! types of the model are exported here too.
+//! Descriptions of Kahn process networks (Kahn 1974), and the check that makes a network of one. `Net`
+//! and the types of the model are exported here too.
 #![tactic(auto)]
 
 pub mod check;
 pub mod net;
-mod ports;
 
 pub use kpn_model::{
     Act, Answer, Card, Channel, Deed, End, Ends, Entry, Kinds, Listed, Local, Place, Process,
     Signature, Sort, Status, Text, Token, version,
 };
+pub use kpn_network::Net;
 pub use kpn_sketch::{
     ChannelSketch, NetFault, ProcessSketch, Sketch, TokenSketch, fault, read, read_sketch, sketch,
 };
-pub use net::Net;
+pub use net::Check;

@@ -7,7 +7,8 @@ ghost use Rattle.kpn_picture.specs.Picture.{arrow, label_opening, edge_opening, 
 use crate::looks::{edge_look, push_closing, sort_text};
 use crate::picture::Left;
 use crate::waits::is_jammed;
-use kpn_net::{Kinds, Net, Sort};
+use kpn_model::{Kinds, Sort};
+use kpn_network::Net;
 use std::alloc::AllocError;
 use std::fmt::Write;
 

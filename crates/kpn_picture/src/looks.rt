@@ -2,7 +2,7 @@
 ghost use Rattle.std.specs.Prelude.{◌≡◌, ◌++◌, OnOk, string_bytes};
 ghost use Rattle.kpn_picture.specs.Picture.{closing, edge_look, process_look, caption_text, sort_text};
 
-use kpn_net::{End, Place, Sort};
+use kpn_model::{End, Place, Sort};
 use std::alloc::AllocError;
 use std::fmt::Write;
 

@@ -10,7 +10,8 @@ use crate::edges::{channel_name, process_name};
 use crate::looks::{process_look, push_closing};
 use crate::titles::Titled;
 use crate::waits::{is_on_cycle, place_at};
-use kpn_net::{Card, Kinds, Net, Place};
+use kpn_model::{Card, Kinds, Place};
+use kpn_network::Net;
 use std::alloc::AllocError;
 use std::fmt::Write;
 

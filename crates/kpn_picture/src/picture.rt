@@ -6,7 +6,8 @@ use crate::edges::push_channels;
 use crate::looks::caption_text;
 use crate::nodes::push_processes;
 use crate::titles::Titled;
-use kpn_net::{End, Kinds, Listed, Net, Place, Token};
+use kpn_model::{End, Kinds, Listed, Place, Token};
+use kpn_network::Net;
 use std::alloc::{AllocError, Global};
 use std::fmt::Write;
 

@@ -1,7 +1,7 @@
 //! The titles of kinds.
 ghost use Rattle.kpn_picture.specs.Titles.{standard_title};
 
-use kpn_net::{Card, Kinds};
+use kpn_model::{Card, Kinds};
 use kpn_standard::{Kind, Standard};
 
 /// A family whose kinds have titles: the name by which a description calls each, and how many

@@ -3,7 +3,8 @@ ghost use Rattle.std.specs.Prelude.{◌≡◌, ◌<◌, false, length, slice_get
 ghost use Rattle.std.specs.Option.{option_map_or};
 ghost use Rattle.kpn_picture.specs.Waits.{other_end, waits_for, is_met, is_on_cycle, stands_at_read, stands_at_write, is_jammed};
 
-use kpn_net::{Kinds, Net, Place};
+use kpn_model::{Kinds, Place};
+use kpn_network::Net;
 
 /// The process that must act before a process with this place can go on.
 fn other_end<K: Kinds>(net: &Net<K>, place: Place) -> Option<usize>

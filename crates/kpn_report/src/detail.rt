@@ -11,7 +11,8 @@ ghost use Rattle.kpn_report.specs.Tally.{account_at};
 use crate::account::Account;
 use crate::streams::{Stream, Streams, streams_of};
 use crate::tally::tally_of;
-use kpn_net::{End, Entry, Kinds, Listed, Net, Place, Token};
+use kpn_model::{End, Entry, Kinds, Listed, Place, Token};
+use kpn_network::Net;
 use std::alloc::{AllocError, Global};
 
 /// The place of each process, in order.

@@ -4,7 +4,8 @@ ghost use Rattle.std.specs.List.{flat_map};
 ghost use Rattle.kpn_model.specs.Parts.{channel_name, lines_upto};
 ghost use Rattle.kpn_report.specs.Text.{process_line, channel_line, growth_line, token_part, end_text, end_line, stream_line};
 
-use kpn_net::{End, Kinds, Net, Place, Token};
+use kpn_model::{End, Kinds, Place, Token};
+use kpn_network::Net;
 use std::alloc::{AllocError, Global};
 use std::fmt::Write;
 

@@ -3,7 +3,8 @@ ghost use Rattle.std.specs.Prelude.{◌≡◌, IfOk};
 ghost use Rattle.kpn_model.specs.History.{each_process, place_of};
 ghost use Rattle.kpn_state.specs.Standings.{standing, parked_answer};
 
-use kpn_net::{Act, Answer, Kinds, Net, Place};
+use kpn_model::{Act, Answer, Kinds, Place};
+use kpn_network::Net;
 use kpn_state::Standing;
 use kpn_state::standing::parked;
 use std::alloc::{AllocError, Global};

@@ -5,7 +5,8 @@ ghost use Rattle.kpn_model.specs.Network.{Network};
 ghost use Rattle.kpn_model.specs.History.{stream as stream_in, put_on};
 ghost use Rattle.kpn_report.specs.Tally.{KeepsStreams, streams_after};
 
-use kpn_net::{Deed, Entry, Kinds, Listed, Net, Token};
+use kpn_model::{Deed, Entry, Kinds, Listed, Token};
+use kpn_network::Net;
 use std::alloc::{AllocError, Global};
 
 /// The tokens that went through a channel, in order.

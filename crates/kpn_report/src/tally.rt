@@ -6,7 +6,8 @@ ghost use Rattle.kpn_model.specs.History.{growths as growths_of};
 ghost use Rattle.kpn_report.specs.Tally.{CountsSteps, KeepsAccounts, with_put, with_taken, with_capacity, account_at};
 
 use crate::account::Account;
-use kpn_net::{Deed, Entry, Kinds, Net};
+use kpn_model::{Deed, Entry, Kinds};
+use kpn_network::Net;
 use std::alloc::{AllocError, Global};
 
 /// What is counted of a history: the deeds of each process; what was put on each channel and taken

@@ -7,7 +7,8 @@ ghost use Rattle.kpn_report.specs.Reported.{digest_of, report_text};
 use crate::detail::{Detail, Report};
 use crate::lines::{end_line, push_channel, push_growths, push_processes, push_stream};
 use crate::streams::Stream;
-use kpn_net::{Kinds, Net, Token};
+use kpn_model::{Kinds, Token};
+use kpn_network::Net;
 use std::alloc::{AllocError, Global};
 use std::fmt::Write;
 

@@ -15,7 +15,8 @@ use crate::detail::has_report;
 use crate::lines::{end_line, push_channel, push_growths, push_processes, push_stream};
 use crate::streams::{Stream, stream_of};
 use crate::tally::{Tally, tally_of};
-use kpn_net::{End, Entry, Kinds, Listed, Net, Place};
+use kpn_model::{End, Entry, Kinds, Listed, Place};
+use kpn_network::Net;
 use std::alloc::{AllocError, Global};
 use std::fmt::Write;
 

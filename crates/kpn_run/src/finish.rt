@@ -4,8 +4,9 @@ ghost use Rattle.kpn_machine.specs.MachineView.{IsFaithful};
 ghost use Rattle.kpn_run.specs.Runs.{IsFinish};
 
 use kpn_machine::{Chronicle, Standing};
+use kpn_model::{End, Entry, Kinds};
 use kpn_monitor::{Closed, EntryLedger};
-use kpn_net::{End, Entry, Kinds, Net};
+use kpn_network::Net;
 use std::marker::Model;
 
 /// A run that is over: what its machine left behind, its end, and as many receipts as entries.

@@ -6,7 +6,8 @@ ghost use Rattle.kpn_run.specs.Reports.{IsEveryRuns, IsOutcome};
 
 use crate::finish::Finish;
 use kpn_laws::determinacy_of;
-use kpn_net::{Deed, Entry, Kinds, Net, Token};
+use kpn_model::{Deed, Entry, Kinds, Token};
+use kpn_network::Net;
 use kpn_report::{Report, places_of, report_of};
 use std::alloc::{AllocError, Global};
 

@@ -3,7 +3,7 @@ use crate::flips::run_flips;
 use example_own_kinds::{Flips, first_answers, flip_answer, line_of, scale_answer};
 use kpn_net::Act::{Read, Write};
 use kpn_net::Token::{Flag, Word};
-use kpn_net::{Net, read_sketch};
+use kpn_net::{Check, Net, read_sketch};
 use std::test::Fail;
 
 const COUNTER_INTO_SINK: &str = "version = 1

@@ -4,7 +4,7 @@ use kpn_body::Body;
 use kpn_compute::{Both, CardBody, Computes, bodies_of};
 use kpn_net::Act::{Read, Write};
 use kpn_net::Token::Word;
-use kpn_net::{Answer, Kinds, Net, NetFault, read_sketch};
+use kpn_net::{Answer, Check, Kinds, Net, NetFault, read_sketch};
 use kpn_standard::Standard;
 use std::alloc::{AllocError, Global};
 use std::process::Abort;

@@ -3,7 +3,7 @@
 use crate::checks::same;
 use kpn_body::Standard;
 use kpn_compute::{CardBody, bodies_of};
-use kpn_net::{Card, Net, NetFault, read_sketch};
+use kpn_net::{Card, Check, Net, NetFault, read_sketch};
 use std::alloc::{AllocError, Global};
 use std::process::Abort;
 

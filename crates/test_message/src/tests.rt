@@ -1,6 +1,6 @@
 //! Edits of a description, each with the number of its fault and its message.
 use kpn_message::{Location, locate, message_of};
-use kpn_net::{Net, NetFault, read_sketch};
+use kpn_net::{Check, Net, NetFault, read_sketch};
 use kpn_standard::Standard;
 use std::alloc::{AllocError, Global};
 use std::process::Abort;

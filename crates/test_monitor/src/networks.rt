@@ -4,7 +4,7 @@
 use crate::checks::same;
 use kpn_body::Standard;
 use kpn_compute::{CardBody, bodies_of};
-use kpn_net::{Net, NetFault, read_sketch};
+use kpn_net::{Check, Net, NetFault, read_sketch};
 use std::alloc::{AllocError, Global};
 use std::process::Abort;
 

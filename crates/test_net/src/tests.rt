@@ -5,8 +5,8 @@ ghost use Rattle.std.specs.Str.{bytes_eq};
 
 use crate::checks::same;
 use kpn_net::{
-    Card, Ends, Kinds, Listed, Local, Net, NetFault, Signature, Sort, Text, Token, TokenSketch,
-    read_sketch,
+    Card, Check, Ends, Kinds, Listed, Local, Net, NetFault, Signature, Sort, Text, Token,
+    TokenSketch, read_sketch,
 };
 use std::test::Fail;
 

@@ -1,5 +1,5 @@
 //! Worked pictures: of a counter, of a network with flags and start tokens, and of the ends of runs.
-use kpn_net::{Card, End, Listed, Net, Place, Token, read_sketch};
+use kpn_net::{Card, Check, End, Listed, Net, Place, Token, read_sketch};
 use kpn_picture::{Left, Titled, is_jammed, picture_of};
 use kpn_standard::Standard;
 use std::alloc::{AllocError, Global};

@@ -3,7 +3,7 @@
 //! Their type has no closure in it, as those of `meeting` have.
 use kpn_body::Standard;
 use kpn_compute::{CardBody, bodies_of};
-use kpn_net::{Net, read_sketch};
+use kpn_net::{Check, Net, read_sketch};
 use std::alloc::Global;
 use std::test::Fail;
 

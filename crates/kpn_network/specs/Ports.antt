@@ -1,7 +1,7 @@
 -- The channels at the ports of each process, as a table.
 use Rattle.std.specs.Prelude.{◌≡◌, ℕ, ◌<◌, ◌==◌, ◌&&◌, List, [], ◌∷◌, Option, length, get_or, position}
 use Rattle.kpn_model.specs.declared.parts.Channel.{Channel}
-use Rattle.kpn_net.specs.declared.ports.Ports.{Ports}
+use Rattle.kpn_network.specs.declared.ports.Ports.{Ports}
 
 -- the channel at p's port k
 abbrev pub in_at : List Channel → ℕ → ℕ → Option ℕ

@@ -1,10 +1,9 @@
 //! The channels at the ports of the processes, as a table.
-ghost use Rattle.std.specs.Prelude.{◌≡◌, ◌<◌, length, IfOk, IfErr, IfSome};
-ghost use Rattle.kpn_net.specs.Ports.{in_at, out_at, ports_at, HasPorts};
+ghost use Rattle.std.specs.Prelude.{◌≡◌, ◌<◌, length, IfOk, IfSome};
+ghost use Rattle.kpn_network.specs.Ports.{in_at, out_at, ports_at, HasPorts};
 
 use kpn_model::Channel;
-use kpn_sketch::NetFault;
-use std::alloc::Global;
+use std::alloc::{AllocError, Global};
 
 /// The numbers of the channels at the inputs and at the outputs of a process.
 #[derive(Clone, Copy, Debug, PartialEq, Eq)]
@@ -54,15 +53,12 @@ pub(crate) fn table_of(
     alloc: Global,
     channels: &[Channel],
     count: usize,
-) -> Result<Vec<Ports>, NetFault>
-    ensures ok { IfOk result (λ v. HasPorts channels.now count v.items) }
-    ensures memory { IfErr result (λ e. e ≡ NetFault.Memory) }
+) -> Result<Vec<Ports>, AllocError>
+    ensures { IfOk result (λ v. HasPorts channels.now count v.items) }
 {
     let mut table = Vec::new(alloc);
     for p in 0..count {
-        if table.push(ports_at(channels, p)).is_err() {
-            return Err(NetFault::Memory);
-        }
+        table.push(ports_at(channels, p))?;
     }
     Ok(table)
 }

@@ -1,0 +1,223 @@
+//! Networks.
+ghost use Rattle.std.specs.Prelude.{◌≡◌, ◌<◌, IfOk, IfSome, Some, length, slice_get, option_map, position};
+ghost use Rattle.std.specs.Str.{bytes_eq};
+ghost use Rattle.kpn_model.specs.Network.{card_of, channel_of, in_of, out_of};
+ghost use Rattle.kpn_model.specs.Valid.{IsValid};
+ghost use Rattle.kpn_network.specs.Parts.{network_of};
+
+use crate::ports::{Ports, find_in, find_out, table_of};
+use kpn_model::{Card, Channel, Ends, Kinds, Process, Sort, Token};
+use std::alloc::{AllocError, Global};
+use std::marker::{Model, PhantomData};
+
+/// What a network is made of: its processes and its channels, the budget of a run in entries of its
+/// history, by how much a growth enlarges a channel, and the capacity beyond which none grows. A
+/// channel names a process by its place in the list.
+#[derive(Drop)]
+pub struct Parts {
+    pub processes: Vec<Process>,
+    pub channels: Vec<Channel>,
+    pub budget: u64,
+    pub step: usize,
+    pub ceiling: usize,
+}
+
+/// A valid network of processes of one family of kinds: each port of each process is the end of exactly
+/// one channel, of its sort (Kahn 1974: a channel has one writer and one reader). Processes and
+/// channels are numbered from 0 in the order of the text.
+///
+/// `Net::of_parts` makes one, and `Check` of `kpn_net` one of a description. The number of a process or
+/// of a channel that is given to a call must be below `processes()` or `channels()`.
+#[derive(Drop)]
+pub struct Net<K: Kinds> {
+    processes: Vec<Process>,
+    channels: Vec<Channel>,
+    ports: Vec<Ports>,
+    budget: u64,
+    step: usize,
+    ceiling: usize,
+    kinds: PhantomData<K>,
+}
+
+impl<K: Kinds> Model for Net<K> {
+    ghost use Rattle.kpn_model.specs.Network.{Network};
+
+    ghost Value = { Network };
+
+    ghost use Rattle.std.specs.Prelude.{length};
+    ghost use Rattle.kpn_model.specs.Valid.{IsValid};
+    ghost use Rattle.kpn_network.specs.Ports.{HasPorts};
+
+    ghost view = { λ n. record { processes = n.processes.items; channels = n.channels.items; budget = n.budget; step = n.step; ceiling = n.ceiling } };
+
+    ghost invariant = { λ n. IsValid K.signature_of (record { processes = n.processes.items; channels = n.channels.items; budget = n.budget; step = n.step; ceiling = n.ceiling }) × HasPorts n.channels.items (length n.processes.items) n.ports.items };
+}
+
+impl<K: Kinds> Net<K> {
+    /// Makes a network of parts that are a valid one. All stays as it is: processes and channels keep
+    /// their order, and so their numbers.
+    ///
+    /// Errors: memory was refused, for a table of the channel at each port. The parts are dropped then.
+    pub fn of_parts(alloc: Global, parts: Parts) -> Result<Net<K>, AllocError>
+        requires { IsValid K.signature_of (network_of parts) }
+        ensures { IfOk result (λ n. n ≡ network_of parts) }
+    {
+        let ports = table_of(alloc, parts.channels.as_slice(), parts.processes.len())?;
+        Ok(Net {
+            processes: parts.processes,
+            channels: parts.channels,
+            ports,
+            budget: parts.budget,
+            step: parts.step,
+            ceiling: parts.ceiling,
+            kinds: PhantomData,
+        })
+    }
+
+    /// Returns the number of processes: 1 to 64. A caller also learns that the network is valid.
+    pub fn processes(&self) -> usize
+        ensures count { result ≡ length self.now.processes }
+        ensures valid { IsValid K.signature_of self.now }
+    {
+        self.processes.len()
+    }
+
+    /// Does nothing: a caller knows from here on that the network is valid.
+    pub fn assure_valid(&self)
+        ensures valid { IsValid K.signature_of self.now }
+    {
+        let _ = &self.processes;
+    }
+
+    /// Returns the number of channels: 0 to 256.
+    pub fn channels(&self) -> usize
+        ensures { result ≡ length self.now.channels }
+    {
+        self.channels.len()
+    }
+
+    /// Returns the card of process `p`, which has a signature.
+    pub fn card(&self, p: usize) -> Card
+        requires { p < length self.now.processes }
+        ensures { result ≡ card_of self.now p }
+    {
+        self.processes[p].card
+    }
+
+    /// Returns the name of process `p`: 1 to 16 characters, and no other
+    /// process has it.
+    pub fn process_name(&self, p: usize) -> &str
+        requires { p < length self.now.processes }
+        ensures { option_map (λ x. x.name) (slice_get self.now.processes p) ≡ Some result.now }
+    {
+        self.processes[p].name.as_str()
+    }
+
+    /// Returns the name of channel `c`: 1 to 16 characters, and no other
+    /// channel has it.
+    pub fn channel_name(&self, c: usize) -> &str
+        requires { c < length self.now.channels }
+        ensures { option_map (λ x. x.name) (slice_get self.now.channels c) ≡ Some result.now }
+    {
+        self.channels[c].name.as_str()
+    }
+
+    /// Returns the number of the channel with this name; `None` if no channel has it.
+    pub fn find_channel(&self, name: &str) -> Option<usize>
+        ensures { result ≡ position (λ c. bytes_eq c.name name.now) self.now.channels }
+    {
+        self.channels.iter().position(|c| c.name.as_str() == name)
+    }
+
+    /// Returns where channel `c` begins and ends. Both ports exist.
+    pub fn ends(&self, c: usize) -> Ends
+        requires { c < length self.now.channels }
+        ensures writer { result.writer ≡ (channel_of self.now c).writer }
+        ensures out { result.out ≡ (channel_of self.now c).out }
+        ensures reader { result.reader ≡ (channel_of self.now c).reader }
+        ensures input { result.input ≡ (channel_of self.now c).input }
+    {
+        let channel = &self.channels[c];
+        Ends {
+            writer: channel.writer,
+            out: channel.out,
+            reader: channel.reader,
+            input: channel.input,
+        }
+    }
+
+    /// Returns the sort of channel `c`: what it carries, as do the ports at both its ends.
+    pub fn sort(&self, c: usize) -> Sort
+        requires { c < length self.now.channels }
+        ensures { result ≡ (channel_of self.now c).sort }
+    {
+        self.channels[c].sort
+    }
+
+    /// Returns the starting capacity of channel `c`, in tokens: 1 to the ceiling.
+    pub fn capacity(&self, c: usize) -> usize
+        requires { c < length self.now.channels }
+        ensures { result ≡ (channel_of self.now c).capacity }
+    {
+        self.channels[c].capacity
+    }
+
+    /// Returns the tokens that channel `c` holds at first, in the order in which they are read: at most
+    /// as many as its capacity, all of its sort.
+    pub fn tokens(&self, c: usize) -> &[Token]
+        requires { c < length self.now.channels }
+        ensures { result.now ≡ (channel_of self.now c).tokens }
+    {
+        self.channels[c].tokens.as_slice()
+    }
+
+    /// Returns the budget: a run ends once its history has that many entries, and the history may have
+    /// up to two more. It is 1 to 1,000,000 if the ceiling is at most 65,535, and else 1 to 2,000,000.
+    pub fn budget(&self) -> u64
+        ensures { result ≡ self.now.budget }
+    {
+        self.budget
+    }
+
+    /// Returns how much a growth adds to the capacity of a channel: 1 to 1,024 (Parks 1995 enlarges a
+    /// full channel when a run can't go on otherwise).
+    pub fn step(&self) -> usize
+        ensures { result ≡ self.now.step }
+    {
+        self.step
+    }
+
+    /// Returns the capacity beyond which no channel grows, in tokens: at most 1,000,000. It is 65,535 in
+    /// version 1 of the description and 1,000,000 in version 2.
+    pub fn ceiling(&self) -> usize
+        ensures { result ≡ self.now.ceiling }
+    {
+        self.ceiling
+    }
+
+    /// Returns the number of the channel that leads to input `port` of process `p`; `None` if there is
+    /// no such process or input.
+    pub fn in_of(&self, p: usize, port: usize) -> Option<usize>
+        ensures is { result ≡ in_of self.now p port }
+        ensures within { IfSome result (λ c. c < length self.now.channels) }
+    {
+        if p < self.ports.len() && port < 3 {
+            self.ports[p].ins[port]
+        } else {
+            find_in(self.channels.as_slice(), p, port)
+        }
+    }
+
+    /// Returns the number of the channel that leads from output `port` of process `p`; `None` if there
+    /// is no such process or output.
+    pub fn out_of(&self, p: usize, port: usize) -> Option<usize>
+        ensures is { result ≡ out_of self.now p port }
+        ensures within { IfSome result (λ c. c < length self.now.channels) }
+    {
+        if p < self.ports.len() && port < 3 {
+            self.ports[p].outs[port]
+        } else {
+            find_out(self.channels.as_slice(), p, port)
+        }
+    }
+}
