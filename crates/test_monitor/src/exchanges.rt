@@ -6,10 +6,10 @@ use crate::monitors::{close_alone, ended_of, seen_by, watcher_of};
 use crate::scenes::COUNTER_ENDED;
 use kpn_body::Body;
 use kpn_machine::Outcome;
-use kpn_monitor::{EntryLedger, Hand, Monitor, Next, Opening, Rest, Seat};
+use kpn_monitor::{EntryLedger, Hand, Monitor, Next, Rest, Seat};
 use kpn_net::End;
 use kpn_watch::{Phase, Progress};
-use std::alloc::{AllocError, Global};
+use std::alloc::Global;
 use std::process::Abort;
 use std::rt::Clock;
 use std::sync::Wait;
@@ -71,7 +71,7 @@ fn play_round<B: Body, E: EntryLedger, O: Ledger, R: Wait + Abort>(
     let Ok(next) = monitor.exchange(rt, hand, seat, most) else {
         panic!(rt; "a stranger");
     };
-    assert!(rt; hand.outcomes().len() == called);
+    same(rt, "outcomes", hand.outcomes().len(), called);
     Round {
         called,
         entries: entries_of(hand.outcomes()),
@@ -86,8 +86,8 @@ fn play_rounds<B: Body, E: EntryLedger, O: Ledger, R: Wait + Clock + Abort>(
     alloc: Global,
     monitor: &Monitor<B, E, O>,
     seat: &mut Seat<E, O>,
-) -> Result<(), AllocError> {
-    let mut hand = Hand::new(alloc, 1)?;
+) {
+    let mut hand = Hand::new(alloc, 1).expect(rt, "no memory");
     let due = [
         (16, 0, 0, Next::Tasks),
         (16, 2, 2, Next::Tasks),
@@ -106,26 +106,19 @@ fn play_rounds<B: Body, E: EntryLedger, O: Ledger, R: Wait + Clock + Abort>(
         same(rt, "round", round, due);
     }
     let rested = monitor.rest(rt, &mut hand, Rest::Idle, Duration::from_millis(1));
-    assert!(rt; !rested);
-    Ok(())
+    same(rt, "rested", rested, false);
 }
 
 /// One hand plays a counter of three into a sink of three to its end.
 pub(crate) fn exchanged<B: Body, E: EntryLedger, O: Ledger, R: Wait + Clock + Abort>(
     rt: &R,
     alloc: Global,
-    opening: Opening<B>,
-) -> Result<(), AllocError>
-    requires network { opening.machine.network ≡ E.net }
-    requires board { opening.board ≡ E.board }
-    requires entries { (opening.entries.name ≡ E.name) × (opening.entries.parts ≡ E.parts) }
-    requires overs { (opening.overs.name ≡ O.name) × (opening.overs.parts ≡ O.parts) }
-{
-    let (monitor, mut seat) = Monitor::<B, E, O>::open(opening);
+    monitor: Monitor<B, E, O>,
+    mut seat: Seat<E, O>,
+) {
     let mut watcher = watcher_of(rt, &monitor);
-    play_rounds(rt, alloc, &monitor, &mut seat)?;
+    play_rounds(rt, alloc, &monitor, &mut seat);
     same(rt, "shown", seen_by(&monitor, &mut watcher), SHOWN);
-    let closed = close_alone(rt, alloc, monitor, seat)?;
+    let closed = close_alone(rt, alloc, monitor, seat);
     same(rt, "ended", ended_of(&closed), COUNTER_ENDED);
-    Ok(())
 }

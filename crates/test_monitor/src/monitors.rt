@@ -9,7 +9,7 @@ use kpn_monitor::{Closed, EntryLedger, Monitor, Opening, Seat, Taken};
 use kpn_net::{End, Kinds};
 use kpn_run::{Open, Worked, work};
 use kpn_watch::{Progress, Watcher};
-use std::alloc::{AllocError, Global};
+use std::alloc::Global;
 use std::process::Abort;
 use std::sync::Wait;
 use std::sync::ledger::Ledger;
@@ -28,15 +28,15 @@ pub(crate) fn opening_of<R: Abort>(
     rt: &R,
     alloc: Global,
     text: &str,
-) -> Result<Opening<CardBody<Standard>>, AllocError> {
-    let Parts { net, bodies } = parts_of(rt, alloc, text)?;
+) -> Opening<CardBody<Standard>> {
+    let Parts { net, bodies } = parts_of(rt, alloc, text).expect(rt, "no memory");
     let Ok(machine) = Machine::open(alloc, net, bodies) else {
-        return Err(AllocError);
+        panic!(rt; "no machine");
     };
     let Ok(opening) = Opening::new(alloc, machine) else {
-        return Err(AllocError);
+        panic!(rt; "no opening");
     };
-    Ok(opening)
+    opening
 }
 
 /// Splits a seat in two.
@@ -131,16 +131,26 @@ pub(crate) fn seat_of<B: Body, E: EntryLedger, O: Ledger, R: Abort>(
     seat
 }
 
+/// A list of these seats, for which there must be memory.
+pub(crate) fn list_of<E: EntryLedger, O: Ledger, R: Abort, const N: usize>(
+    rt: &R,
+    alloc: Global,
+    seats: [Seat<E, O>; N],
+) -> Vec<Seat<E, O>> {
+    let Ok(seats) = Vec::from_array(alloc, seats) else {
+        panic!(rt; "no memory");
+    };
+    seats
+}
+
 /// Closes a monitor with this seat, which has all parts.
 pub(crate) fn close_alone<B: Body, E: EntryLedger, O: Ledger, R: Abort>(
     rt: &R,
     alloc: Global,
     monitor: Monitor<B, E, O>,
     seat: Seat<E, O>,
-) -> Result<Closed<B::Kinds, E>, AllocError> {
-    let mut seats = Vec::new(alloc);
-    seats.push(seat)?;
-    Ok(close_with(rt, monitor, seats))
+) -> Closed<B::Kinds, E> {
+    close_with(rt, monitor, list_of(rt, alloc, [seat]))
 }
 
 /// Closes a monitor with these seats, which have all parts.

@@ -6,10 +6,10 @@ ghost use Rattle.std.specs.Prelude.{◌≡◌};
 ghost use Rattle.kpn_machine.specs.MachineView.{IsFresh};
 
 use crate::checks::same;
-use crate::monitors::{Ended, close_alone, ended_of, seen_by, watcher_of, work_alone};
+use crate::monitors::{Ended, close_with, ended_of, seen_by, watcher_of, work_alone};
 use crate::networks::{Parts, parts_of};
 use kpn_body::Body;
-use kpn_machine::{Machine, OpenFault};
+use kpn_machine::{Machine, OpenFault, OpenRefused};
 use kpn_monitor::{EntryLedger, Monitor, Opening};
 use kpn_net::{End, Net};
 use kpn_watch::{Phase, Progress};
@@ -66,13 +66,13 @@ fn machine_again<B: Body, R: Abort>(
         Ok(machine) => return (machine, Refused::Nothing),
         Err(refused) => refused,
     };
-    same(rt, "fault", refused.fault, OpenFault::Memory);
-    same(rt, "processes", refused.net.processes(), 2);
-    same(rt, "bodies", refused.bodies.len(), 2);
-    match Machine::open(alloc, refused.net, refused.bodies) {
-        Ok(machine) => (machine, Refused::Machine),
-        Err(_) => panic!(rt; "refused again"),
-    }
+    let OpenRefused { net, bodies, fault } = refused;
+    let found = (fault, net.processes(), bodies.len());
+    same(rt, "refused", found, (OpenFault::Memory, 2, 2));
+    let Ok(machine) = Machine::open(alloc, net, bodies) else {
+        panic!(rt; "refused again");
+    };
+    (machine, Refused::Machine)
 }
 
 /// Puts a machine under a lock, and tries again with the machine that was handed back if memory was
@@ -88,11 +88,11 @@ fn opening_again<B: Body, R: Abort>(
         Ok(opening) => return (opening, Refused::Nothing),
         Err(machine) => machine,
     };
-    assert!(rt; machine.is_fresh());
-    match Opening::new(alloc, machine) {
-        Ok(opening) => (opening, Refused::Opening),
-        Err(_) => panic!(rt; "refused again"),
-    }
+    same(rt, "fresh", machine.is_fresh(), true);
+    let Ok(opening) = Opening::new(alloc, machine) else {
+        panic!(rt; "refused again");
+    };
+    (opening, Refused::Opening)
 }
 
 /// Works alone to the end of a counter of three into a sink of one, and looks at the result.
@@ -110,36 +110,49 @@ fn work_to_the_end<B: Body, E: EntryLedger, O: Ledger, R: Wait + Abort>(
     let mut watcher = watcher_of(rt, &monitor);
     let seat = work_alone(rt, &monitor, seat);
     let seen = seen_by(&monitor, &mut watcher);
-    let closed = close_alone(rt, alloc, monitor, seat)?;
+    let seats = Vec::from_array(alloc, [seat])?;
+    let closed = close_with(rt, monitor, seats);
     Ok(growth_refused(rt, ended_of(&closed), seen))
 }
 
-/// The result if the growth was refused its memory: two puts, a take and a stop.
-const BEFORE_THE_GROWTH: Progress = Progress {
-    entries: 4,
-    growths: 0,
-    phase: Phase::Memory,
-};
+/// The result, and what is seen, if the growth was refused its memory: two puts, a take and a stop.
+const BEFORE_THE_GROWTH: (Ended, Progress) = (
+    Ended {
+        end: Some(End::Memory),
+        receipts: 4,
+        entries: 4,
+        processes: 2,
+    },
+    Progress {
+        entries: 4,
+        growths: 0,
+        phase: Phase::Memory,
+    },
+);
 
-/// The result if it was not refused.
-const AFTER_ALL: Progress = Progress {
-    entries: 7,
-    growths: 1,
-    phase: Phase::Terminated,
-};
+/// The result, and what is seen, if it was not refused.
+const AFTER_ALL: (Ended, Progress) = (
+    Ended {
+        end: Some(End::Terminated),
+        receipts: 7,
+        entries: 7,
+        processes: 2,
+    },
+    Progress {
+        entries: 7,
+        growths: 1,
+        phase: Phase::Terminated,
+    },
+);
 
 /// Whether the growth was refused its memory, given that the run is over.
 fn growth_refused<R: Abort>(rt: &R, ended: Ended, seen: Progress) -> Refused {
-    same(rt, "receipts", ended.receipts, ended.entries as u64);
-    if ended.end == Some(End::Memory) {
-        same(rt, "receipts", ended.receipts, 4);
-        same(rt, "seen", seen, BEFORE_THE_GROWTH);
-        return Refused::Growth;
-    }
-    same(rt, "end", ended.end, Some(End::Terminated));
-    same(rt, "receipts", ended.receipts, 7);
-    same(rt, "seen", seen, AFTER_ALL);
-    Refused::Nothing
+    let (due, refused) = match seen.phase {
+        Phase::Memory => (BEFORE_THE_GROWTH, Refused::Growth),
+        _ => (AFTER_ALL, Refused::Nothing),
+    };
+    same(rt, "ended", (ended, seen), due);
+    refused
 }
 
 /// Opens a monitor, and works on it to its end.

@@ -2,26 +2,25 @@
 //!
 //! The names of a monitor's ledgers are type parameters, so each scene is a function that is generic
 //! over them.
-ghost use Rattle.std.specs.Prelude.{◌≡◌, ◌<◌, [], All, IfOk, IfSome};
+ghost use Rattle.std.specs.Prelude.{◌≡◌, ◌<◌, ◌++◌, ◌∷◌, [], All, IfSome};
 
 use crate::checks::same;
 use crate::exchanges::exchanged;
 use crate::monitors::{
-    Ended, close_alone, close_with, ended_of, next_task, opening_of, outcome_of, seat_of, seen_by,
-    shown_to, two_seats, watcher_of, work_alone,
+    Ended, close_alone, close_with, ended_of, list_of, next_task, opening_of, outcome_of, seat_of,
+    seen_by, shown_to, two_seats, watcher_of, work_alone,
 };
 use kpn_body::Body;
 use kpn_monitor::{CloseFault, Closed, EntryLedger, Monitor, Opening, Seat, Unclosed};
 use kpn_net::{End, Kinds};
 use kpn_run::{Open, Worked, work};
 use kpn_watch::{Phase, Progress, Watcher};
-use std::alloc::{AllocError, Global};
+use std::alloc::Global;
 use std::marker::Brand;
 use std::process::Abort;
 use std::rt::Clock;
 use std::sync::Wait;
 use std::sync::ledger::Ledger;
-use std::test::Fail;
 use std::thread::{Threads, join};
 use test_texts::{COPIED_AND_WOVEN, COUNTER_INTO_SINK};
 
@@ -66,19 +65,35 @@ pub(crate) const COUNTER_ENDED: Ended = Ended {
     processes: 2,
 };
 
-/// Plays a scene on a monitor.
+/// Opens a monitor, and plays a scene on it.
 fn play<B: Body, R: Threads + Wait + Clock + Abort + Sync>(
     rt: &R,
     alloc: Global,
     opening: Opening<B>,
     scene: Scene,
-) -> Result<(), AllocError> {
+) {
+    play_opened::<B, Brand, Brand, R>(rt, alloc, opening, scene)
+}
+
+/// Plays a scene on the monitor of an opening.
+fn play_opened<
+    B: Body,
+    E: EntryLedger + Send + Sync,
+    O: Ledger + Send + Sync,
+    R: Threads + Wait + Clock + Abort + Sync,
+>(rt: &R, alloc: Global, opening: Opening<B>, scene: Scene)
+    requires network { opening.machine.network ≡ E.net }
+    requires board { opening.board ≡ E.board }
+    requires entries { (opening.entries.name ≡ E.name) × (opening.entries.parts ≡ E.parts) }
+    requires overs { (opening.overs.name ≡ O.name) × (opening.overs.parts ≡ O.parts) }
+{
+    let (monitor, seat) = Monitor::<B, E, O>::open(opening);
     match scene {
-        Scene::Watched => watched::<B, Brand, Brand, R>(rt, alloc, opening),
-        Scene::MissingSeat => missing_seat::<B, Brand, Brand, R>(rt, alloc, opening),
-        Scene::OneTask { dropped } => one_task::<B, Brand, Brand, R>(rt, alloc, opening, dropped),
-        Scene::MostWatchers => most_watchers::<B, Brand, Brand, R>(rt, alloc, opening),
-        Scene::Exchanged => exchanged::<B, Brand, Brand, R>(rt, alloc, opening),
+        Scene::Watched => watched(rt, alloc, monitor, seat),
+        Scene::MissingSeat => missing_seat(rt, alloc, monitor, seat),
+        Scene::OneTask { dropped } => one_task(rt, alloc, monitor, seat, dropped),
+        Scene::MostWatchers => most_watchers(rt, alloc, monitor, seat),
+        Scene::Exchanged => exchanged(rt, alloc, monitor, seat),
     }
 }
 
@@ -116,26 +131,6 @@ fn work_in_two<
     )
 }
 
-/// Closes with these two seats, and settles two watchers.
-fn settles<B: Body, E: EntryLedger, O: Ledger, R: Abort>(
-    rt: &R,
-    alloc: Global,
-    monitor: Monitor<B, E, O>,
-    seats: (Seat<E, O>, Seat<E, O>),
-    watchers: (Watcher, Watcher),
-) -> Result<(), AllocError>
-    requires { (watchers.0.board ≡ E.board) × (watchers.1.board ≡ E.board) }
-{
-    let mut all = Vec::new(alloc);
-    all.push(seats.0)?;
-    all.push(seats.1)?;
-    let mut closed = close_with(rt, monitor, all);
-    same(rt, "ended", ended_of(&closed), WOVEN_ENDED);
-    same(rt, "shown", shown_to(&mut closed, watchers.0), WOVEN);
-    same(rt, "shown", shown_to(&mut closed, watchers.1), WOVEN);
-    Ok(())
-}
-
 /// Two seats work while a watcher looks a thousand times.
 fn work_watched<
     B: Body,
@@ -161,7 +156,7 @@ fn work_watched<
         || work_in_two(rt, monitor, one, other),
     );
     let (rising, watcher) = looked;
-    assert!(rt; rising);
+    same(rt, "rising", rising, true);
     let (one, other) = worked;
     (seat_of(rt, one), seat_of(rt, other), watcher)
 }
@@ -171,79 +166,60 @@ fn watched<
     E: EntryLedger + Send + Sync,
     O: Ledger + Send + Sync,
     R: Threads + Wait + Abort + Sync,
->(rt: &R, alloc: Global, opening: Opening<B>) -> Result<(), AllocError>
-    requires network { opening.machine.network ≡ E.net }
-    requires board { opening.board ≡ E.board }
-    requires entries { (opening.entries.name ≡ E.name) × (opening.entries.parts ≡ E.parts) }
-    requires overs { (opening.overs.name ≡ O.name) × (opening.overs.parts ≡ O.parts) }
-{
-    let (monitor, seat) = Monitor::<B, E, O>::open(opening);
+>(rt: &R, alloc: Global, monitor: Monitor<B, E, O>, seat: Seat<E, O>) {
     let (one, other) = two_seats(rt, seat);
     let first = watcher_of(rt, &monitor);
     let mut second = watcher_of(rt, &monitor);
     same(rt, "seen", seen_by(&monitor, &mut second), NOTHING);
     let (one, other, mut first) = work_watched(rt, &monitor, one, other, first);
     same(rt, "seen", seen_by(&monitor, &mut first), WOVEN);
-    settles(rt, alloc, monitor, (one, other), (first, second))
+    let mut closed = close_with(rt, monitor, list_of(rt, alloc, [one, other]));
+    same(rt, "ended", ended_of(&closed), WOVEN_ENDED);
+    same(rt, "shown", shown_to(&mut closed, first), WOVEN);
+    same(rt, "shown", shown_to(&mut closed, second), WOVEN);
 }
 
 /// Closes a monitor with one of two seats, which is refused, and all is handed back.
 fn not_closed<B: Body, E: EntryLedger, O: Ledger, R: Abort>(
     rt: &R,
-    alloc: Global,
     monitor: Monitor<B, E, O>,
-    seat: Seat<E, O>,
-) -> Result<(Monitor<B, E, O>, Vec<Seat<E, O>>), AllocError> {
-    let mut seats = Vec::new(alloc);
-    seats.push(seat)?;
+    seats: Vec<Seat<E, O>>,
+) -> Unclosed<B, E, O> {
     let Err(unclosed) = monitor.close(seats) else {
         panic!(rt; "closed without a seat");
     };
-    let Unclosed {
-        monitor,
-        seats,
-        fault,
-    } = unclosed;
-    same(rt, "fault", fault, CloseFault::SeatsMissing);
-    Ok((monitor, seats))
+    unclosed
 }
 
 fn missing_seat<B: Body, E: EntryLedger, O: Ledger, R: Wait + Abort>(
     rt: &R,
     alloc: Global,
-    opening: Opening<B>,
-) -> Result<(), AllocError>
-    requires network { opening.machine.network ≡ E.net }
-    requires board { opening.board ≡ E.board }
-    requires entries { (opening.entries.name ≡ E.name) × (opening.entries.parts ≡ E.parts) }
-    requires overs { (opening.overs.name ≡ O.name) × (opening.overs.parts ≡ O.parts) }
-{
-    let (monitor, seat) = Monitor::<B, E, O>::open(opening);
+    monitor: Monitor<B, E, O>,
+    seat: Seat<E, O>,
+) {
     let (other, seat) = two_seats(rt, seat);
     let seat = work_alone(rt, &monitor, seat);
-    let (monitor, mut seats) = not_closed(rt, alloc, monitor, other)?;
-    seats.push(seat)?;
+    let Unclosed {
+        monitor,
+        mut seats,
+        fault,
+    } = not_closed(rt, monitor, list_of(rt, alloc, [other]));
+    same(rt, "fault", fault, CloseFault::SeatsMissing);
+    same(rt, "pushed", seats.push(seat).is_ok(), true);
     let closed = close_with(rt, monitor, seats);
     same(rt, "ended", ended_of(&closed), COUNTER_ENDED);
-    Ok(())
 }
 
 fn one_task<B: Body, E: EntryLedger, O: Ledger, R: Wait + Abort>(
     rt: &R,
     alloc: Global,
-    opening: Opening<B>,
+    monitor: Monitor<B, E, O>,
+    mut seat: Seat<E, O>,
     dropped: bool,
-) -> Result<(), AllocError>
-    requires network { opening.machine.network ≡ E.net }
-    requires board { opening.board ≡ E.board }
-    requires entries { (opening.entries.name ≡ E.name) × (opening.entries.parts ≡ E.parts) }
-    requires overs { (opening.overs.name ≡ O.name) × (opening.overs.parts ≡ O.parts) }
-{
-    let (monitor, mut seat) = Monitor::<B, E, O>::open(opening);
+) {
     answer_once(rt, &monitor, &mut seat, dropped);
-    let closed = close_alone(rt, alloc, monitor, seat)?;
+    let closed = close_alone(rt, alloc, monitor, seat);
     has_no_end(rt, ended_of(&closed), dropped);
-    Ok(())
 }
 
 /// Takes a task, and drops it or commits its answer.
@@ -261,65 +237,63 @@ fn answer_once<B: Body, E: EntryLedger, O: Ledger, R: Wait + Abort>(
 
 /// The run has not ended, and has no entry if the one task was dropped.
 fn has_no_end<R: Abort>(rt: &R, ended: Ended, dropped: bool) {
-    assert!(rt; ended.end.is_none());
-    same(rt, "entries", ended.entries as u64, ended.receipts);
-    if dropped {
-        same(rt, "receipts", ended.receipts, 0);
-    }
+    let receipts = if dropped { 0 } else { ended.receipts };
+    let found = (ended.end, ended.entries as u64, ended.receipts);
+    same(rt, "ended", found, (None, receipts, receipts));
 }
 
-/// Makes watchers until the next would be one too many, and returns whether there were 64.
-fn watch_all<B: Body, E: EntryLedger, O: Ledger, R: Wait>(
+/// Makes 64 watchers, and returns whether the next would be one too many.
+fn watch_all<B: Body, E: EntryLedger, O: Ledger, R: Wait + Abort>(
     rt: &R,
     monitor: &Monitor<B, E, O>,
     watchers: &mut Vec<Watcher>,
-) -> Result<bool, AllocError>
+) -> bool
     requires { watchers.old.items ≡ [] }
     ensures { All (λ w. w.board ≡ E.board) watchers.new.items }
 {
     for _ in 0..64 {
-        let Ok(watcher) = monitor.watch(rt) else {
-            return Ok(false);
-        };
-        watchers.push(watcher)?;
+        keep(rt, watchers, watcher_of(rt, monitor));
     }
-    Ok(monitor.watch(rt).is_err())
+    monitor.watch(rt).is_err()
+}
+
+/// Adds a watcher to a list, for which there must be memory.
+fn keep<R: Abort>(rt: &R, watchers: &mut Vec<Watcher>, watcher: Watcher)
+    ensures { watchers.new.items ≡ watchers.old.items ++ watcher ∷ [] }
+{
+    if watchers.push(watcher).is_err() {
+        panic!(rt; "no memory");
+    }
 }
 
 /// Looks with each watcher, and moves them to the other list.
-fn all_look<B: Body, E: EntryLedger, O: Ledger>(
+fn all_look<B: Body, E: EntryLedger, O: Ledger, R: Abort>(
+    rt: &R,
     monitor: &Monitor<B, E, O>,
     mut watchers: Vec<Watcher>,
     looked: &mut Vec<Watcher>,
-    due: Progress,
-) -> Result<bool, AllocError>
+)
     requires before { All (λ w. w.board ≡ E.board) watchers.items }
     requires after { All (λ w. w.board ≡ E.board) looked.old.items }
     ensures { All (λ w. w.board ≡ E.board) looked.new.items }
 {
-    let mut alike = true;
     while let Some(mut watcher) = watchers.pop() {
-        let seen = seen_by(monitor, &mut watcher);
-        alike = alike && seen == due;
-        looked.push(watcher)?;
+        same(rt, "looked", seen_by(monitor, &mut watcher), NOTHING);
+        keep(rt, looked, watcher);
     }
-    Ok(alike)
 }
 
 /// Settles each watcher.
-fn all_settle<K: Kinds, E: EntryLedger>(
+fn all_settle<K: Kinds, E: EntryLedger, R: Abort>(
+    rt: &R,
     closed: &mut Closed<K, E>,
     mut watchers: Vec<Watcher>,
-    due: Progress,
-) -> bool
+)
     requires { All (λ w. w.board ≡ E.board) watchers.items }
 {
-    let mut alike = true;
     while let Some(watcher) = watchers.pop() {
-        let shown = shown_to(closed, watcher);
-        alike = alike && shown == due;
+        same(rt, "settled", shown_to(closed, watcher), WOVEN);
     }
-    alike
 }
 
 /// Makes as many watchers as there may be, each of which looks once.
@@ -327,39 +301,32 @@ fn looking_watchers<B: Body, E: EntryLedger, O: Ledger, R: Wait + Abort>(
     rt: &R,
     alloc: Global,
     monitor: &Monitor<B, E, O>,
-) -> Result<Vec<Watcher>, AllocError>
-    ensures { IfOk result (λ ws. All (λ w. w.board ≡ E.board) ws.items) }
+) -> Vec<Watcher>
+    ensures { All (λ w. w.board ≡ E.board) result.items }
 {
     let mut watchers = Vec::new(alloc);
-    let full = watch_all(rt, monitor, &mut watchers)?;
+    let full = watch_all(rt, monitor, &mut watchers);
     same(rt, "watchers", (full, watchers.len()), (true, 64));
     let mut looked = Vec::new(alloc);
-    let alike = all_look(monitor, watchers, &mut looked, NOTHING)?;
-    same(rt, "looked", (alike, looked.len()), (true, 64));
-    Ok(looked)
+    all_look(rt, monitor, watchers, &mut looked);
+    same(rt, "looked", looked.len(), 64);
+    looked
 }
 
 fn most_watchers<B: Body, E: EntryLedger, O: Ledger, R: Wait + Abort>(
     rt: &R,
     alloc: Global,
-    opening: Opening<B>,
-) -> Result<(), AllocError>
-    requires network { opening.machine.network ≡ E.net }
-    requires board { opening.board ≡ E.board }
-    requires entries { (opening.entries.name ≡ E.name) × (opening.entries.parts ≡ E.parts) }
-    requires overs { (opening.overs.name ≡ O.name) × (opening.overs.parts ≡ O.parts) }
-{
-    let (monitor, seat) = Monitor::<B, E, O>::open(opening);
-    let watchers = looking_watchers(rt, alloc, &monitor)?;
+    monitor: Monitor<B, E, O>,
+    seat: Seat<E, O>,
+) {
+    let watchers = looking_watchers(rt, alloc, &monitor);
     let seat = work_alone(rt, &monitor, seat);
-    let mut closed = close_alone(rt, alloc, monitor, seat)?;
-    let alike = all_settle(&mut closed, watchers, WOVEN);
-    same(rt, "settled", alike, true);
-    Ok(())
+    let mut closed = close_alone(rt, alloc, monitor, seat);
+    all_settle(rt, &mut closed, watchers);
 }
 
 #[test]
-fn scenes_on_monitors(rt: HostRuntime) -> Result<(), Fail> {
+fn scenes_on_monitors(rt: HostRuntime) {
     for (text, scene) in [
         (COPIED_AND_WOVEN, Scene::Watched),
         (COUNTER_INTO_SINK, Scene::MissingSeat),
@@ -368,8 +335,7 @@ fn scenes_on_monitors(rt: HostRuntime) -> Result<(), Fail> {
         (COPIED_AND_WOVEN, Scene::MostWatchers),
         (COUNTER_INTO_SINK, Scene::Exchanged),
     ] {
-        let opening = opening_of(&rt, rt.alloc(), text)?;
-        play(&rt, rt.alloc(), opening, scene)?;
+        let opening = opening_of(&rt, rt.alloc(), text);
+        play(&rt, rt.alloc(), opening, scene);
     }
-    Ok(())
 }

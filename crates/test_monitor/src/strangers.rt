@@ -12,12 +12,11 @@ use kpn_machine::Outcome;
 use kpn_monitor::{EntryLedger, Monitor, Opening, Seat};
 use kpn_net::Kinds;
 use kpn_watch::{Phase, Progress, Watcher};
-use std::alloc::{AllocError, Global};
+use std::alloc::Global;
 use std::marker::Brand;
 use std::process::Abort;
 use std::sync::Wait;
 use std::sync::ledger::Ledger;
-use std::test::Fail;
 use test_texts::COUNTER_INTO_SINK;
 
 /// Opens two monitors.
@@ -26,7 +25,7 @@ fn two_monitors<B: Body, R: Wait + Abort>(
     alloc: Global,
     first: Opening<B>,
     second: Opening<B>,
-) -> Result<(), AllocError> {
+) {
     stranger_between::<B, Brand, Brand, Brand, Brand, R>(rt, alloc, first, second)
 }
 
@@ -49,11 +48,11 @@ fn refuse<B: Body, E: EntryLedger, O: Ledger, R: Wait + Abort>(
     monitor: Monitor<B, E, O>,
     mut seat: Seat<E, O>,
     finished: Finished<B>,
-) -> Result<Finished<B>, AllocError> {
+) -> Finished<B> {
     let finished = handed_back(rt, &monitor, finished, &mut seat);
-    let closed = close_alone(rt, alloc, monitor, seat)?;
+    let closed = close_alone(rt, alloc, monitor, seat);
     same(rt, "ended", ended_of(&closed), not_ended(0));
-    Ok(finished)
+    finished
 }
 
 fn running(entries: u32) -> Progress {
@@ -86,8 +85,13 @@ fn commit_first<B: Body, E: EntryLedger, O: Ledger, R: Wait + Abort>(
     ensures { watcher.new.board ≡ E.board }
 {
     let outcome = outcome_of(rt, monitor, finished, seat);
-    same(rt, "outcome", outcome, Outcome::Done(1));
-    same(rt, "seen", seen_by(monitor, watcher), running(1));
+    let seen = seen_by(monitor, watcher);
+    same(
+        rt,
+        "committed",
+        (outcome, seen),
+        (Outcome::Done(1), running(1)),
+    );
 }
 
 /// Closes after one entry, which a watcher is shown.
@@ -97,13 +101,12 @@ fn close_after_one<B: Body, E: EntryLedger, O: Ledger, R: Abort>(
     monitor: Monitor<B, E, O>,
     seat: Seat<E, O>,
     watcher: Watcher,
-) -> Result<(), AllocError>
+)
     requires { watcher.board ≡ E.board }
 {
-    let mut closed = close_alone(rt, alloc, monitor, seat)?;
+    let mut closed = close_alone(rt, alloc, monitor, seat);
     same(rt, "ended", ended_of(&closed), not_ended(1));
     same(rt, "shown", shown_to(&mut closed, watcher), running(1));
-    Ok(())
 }
 
 /// The counter's answer from one monitor is committed to the other while its counter isn't out: it is
@@ -113,7 +116,7 @@ fn stranger_between<B: Body, E: EntryLedger, O: Ledger, F: EntryLedger, P: Ledge
     alloc: Global,
     first: Opening<B>,
     second: Opening<B>,
-) -> Result<(), AllocError>
+)
     requires network { first.machine.network ≡ E.net }
     requires board { first.board ≡ E.board }
     requires entries { (first.entries.name ≡ E.name) × (first.entries.parts ≡ E.parts) }
@@ -127,7 +130,7 @@ fn stranger_between<B: Body, E: EntryLedger, O: Ledger, F: EntryLedger, P: Ledge
     let (other, other_seat) = Monitor::<B, F, P>::open(second);
     let mut watcher = watcher_of(rt, &monitor);
     let finished = counter_answers(rt, &monitor, &mut seat);
-    let finished = refuse(rt, alloc, other, other_seat, finished)?;
+    let finished = refuse(rt, alloc, other, other_seat, finished);
     same(rt, "seen", seen_by(&monitor, &mut watcher), running(0));
     commit_first(rt, &monitor, &mut seat, &mut watcher, finished);
     close_after_one(rt, alloc, monitor, seat, watcher)
@@ -139,7 +142,7 @@ fn one_monitor<B: Body, R: Wait + Abort>(
     alloc: Global,
     opening: Opening<B>,
     second: Finished<B>,
-) -> Result<(), AllocError> {
+) {
     second_answer::<B, Brand, Brand, R>(rt, alloc, opening, second)
 }
 
@@ -164,9 +167,8 @@ fn refuse_again<B: Body, E: EntryLedger, O: Ledger, R: Wait + Abort>(
     ensures { watcher.new.board ≡ E.board }
 {
     let finished = handed_back(rt, monitor, finished, seat);
-    same(rt, "process", finished.process(), 0);
-    same(rt, "local", finished.local(), [0, 0, 0, 0]);
-    same(rt, "last", finished.last(), None);
+    let input = (finished.process(), finished.local(), finished.last());
+    same(rt, "input", input, (0, [0, 0, 0, 0], None));
     same(rt, "seen", seen_by(monitor, watcher), running(1));
     finished
 }
@@ -178,7 +180,7 @@ fn second_answer<B: Body, E: EntryLedger, O: Ledger, R: Wait + Abort>(
     alloc: Global,
     opening: Opening<B>,
     second: Finished<B>,
-) -> Result<(), AllocError>
+)
     requires network { opening.machine.network ≡ E.net }
     requires board { opening.board ≡ E.board }
     requires entries { (opening.entries.name ≡ E.name) × (opening.entries.parts ≡ E.parts) }
@@ -206,30 +208,36 @@ fn refuse_while_out<B: Body, E: EntryLedger, O: Ledger, R: Wait + Abort>(
     ensures { watcher.new.board ≡ E.board }
 {
     let task = next_task(rt, monitor, seat);
-    same(rt, "process", task.process(), 0);
-    same(rt, "local", task.local(), [1, 0, 0, 0]);
+    let taken = (task.process(), task.local());
+    same(rt, "taken", taken, (0, [1, 0, 0, 0]));
     refuse_again(rt, monitor, seat, watcher, second);
     let outcome = outcome_of(rt, monitor, task.call(), seat);
-    same(rt, "outcome", outcome, Outcome::Parked(0));
-    same(rt, "seen", seen_by(monitor, watcher), running(1));
+    let seen = seen_by(monitor, watcher);
+    same(
+        rt,
+        "committed",
+        (outcome, seen),
+        (Outcome::Parked(0), running(1)),
+    );
 }
 
 #[test]
-fn an_answer_of_another_monitor(rt: HostRuntime) -> Result<(), Fail> {
+fn an_answer_of_another_monitor(rt: HostRuntime) {
     let alloc = rt.alloc();
-    let first = opening_of(&rt, alloc, COUNTER_INTO_SINK)?;
-    let second = opening_of(&rt, alloc, COUNTER_INTO_SINK)?;
-    two_monitors(&rt, alloc, first, second)?;
-    Ok(())
+    let first = opening_of(&rt, alloc, COUNTER_INTO_SINK);
+    let second = opening_of(&rt, alloc, COUNTER_INTO_SINK);
+    two_monitors(&rt, alloc, first, second);
 }
 
 #[test]
-fn an_answer_comes_a_second_time(rt: HostRuntime) -> Result<(), Fail> {
+fn an_answer_comes_a_second_time(rt: HostRuntime) {
     let alloc = rt.alloc();
-    let opening = opening_of(&rt, alloc, COUNTER_INTO_SINK)?;
-    let Parts { net: _, mut bodies } = parts_of(&rt, alloc, COUNTER_INTO_SINK)?;
+    let opening = opening_of(&rt, alloc, COUNTER_INTO_SINK);
+    let Parts { net: _, mut bodies } = parts_of(&rt, alloc, COUNTER_INTO_SINK).expect(
+        &rt,
+        "no memory",
+    );
     bodies.pop();
     let counter = bodies.pop().expect(&rt, "no counter");
-    one_monitor(&rt, alloc, opening, unasked(counter))?;
-    Ok(())
+    one_monitor(&rt, alloc, opening, unasked(counter));
 }
