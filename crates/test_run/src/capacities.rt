@@ -1,9 +1,10 @@
 //! The same network from all starting capacities.
+use crate::texts::fill;
 use crate::whole::{Whole, shows_endless, shows_whole};
 use kpn_net::Token;
 use kpn_net::Token::Word;
 use std::alloc::Global;
-use std::fmt::Write as _;
+use std::process::Abort;
 use std::test::Fail;
 use test_texts::{COPIED_AND_WOVEN, ENDLESS, TWO_FULL_CHANNELS};
 
@@ -14,45 +15,47 @@ const COUNTED: &[Token] = &[Word(1), Word(2), Word(3)];
 const WOVEN: &[Token] = &[Word(1), Word(2), Word(3), Word(1), Word(2), Word(3)];
 
 /// A description with these capacities, in the order of its channels, in place of its own.
-fn with_capacities(alloc: Global, text: &str, capacities: &[usize]) -> Result<String, Fail> {
+fn with_capacities<R: Abort>(rt: &R, alloc: Global, text: &str, capacities: &[usize]) -> String {
     let mut described = String::new(alloc);
-    let mut left = capacities.iter();
+    let mut channel = 0usize;
     for line in text.lines() {
-        if line.starts_with("capacity") {
-            continue;
+        if !line.starts_with("capacity") {
+            fill(rt, &mut described, line, &[]);
+            fill(rt, &mut described, "\n", &[]);
         }
-        writeln!(described, "{line}")?;
-        if line.starts_with("to =")
-            && let Some(capacity) = left.next()
-        {
-            writeln!(described, "capacity = {capacity}")?;
+        if line.starts_with("to =") {
+            let capacity = capacities.get(channel).copied().expect(rt, "no capacity");
+            fill(rt, &mut described, "capacity = A\n", &[capacity]);
+            channel = channel.saturating_add(1);
         }
     }
-    Ok(described)
+    described
 }
 
-/// The report of Parks's case: only capacities, growths and the number of entries depend on the
-/// starting capacities, and the third channel grows if it starts with capacity one.
-fn woven_lines(alloc: Global, capacities: [usize; 4]) -> Result<String, Fail> {
-    let [c0, c1, c2, c3] = capacities;
-    let (grown, growth, entries) = match c2 {
-        1 => (2, "grew c2 2\n", 33),
-        _ => (c2, "", 32),
-    };
-    let lines = format!(in alloc;
-        "end deadlock
+/// The report of Parks's case, up to its growth: only capacities depend on the starting capacities.
+const WOVEN_LINES: &str = "end deadlock
 process src stopped steps 4
 process cp reads c0 steps 9
 process wv reads c1 steps 12
 process snk stopped steps 7
-channel c0 put 3 left 0 capacity {c0}
-channel c1 put 3 left 0 capacity {c1}
-channel c2 put 3 left 0 capacity {grown}
-channel c3 put 6 left 0 capacity {c3}
-{growth}entries {entries}
-"
-    )?;
-    Ok(lines)
+channel c0 put 3 left 0 capacity A
+channel c1 put 3 left 0 capacity B
+channel c2 put 3 left 0 capacity C
+channel c3 put 6 left 0 capacity D
+";
+
+/// The report of Parks's case: only capacities, growths and the number of entries depend on the
+/// starting capacities, and the third channel grows if it starts with capacity one.
+fn woven_lines<R: Abort>(rt: &R, alloc: Global, capacities: [usize; 4]) -> String {
+    let [c0, c1, c2, c3] = capacities;
+    let (grown, rest) = match c2 {
+        1 => (2, "grew c2 2\nentries 33\n"),
+        _ => (c2, "entries 32\n"),
+    };
+    let mut lines = String::new(alloc);
+    fill(rt, &mut lines, WOVEN_LINES, &[c0, c1, grown, c3]);
+    fill(rt, &mut lines, rest, &[]);
+    lines
 }
 
 /// Each of the 256 choices of capacities from 1 to 4, by one worker and by four.
@@ -67,8 +70,8 @@ fn parks_case_from_all_capacities(rt: HostRuntime) -> Result<(), Fail> {
             choice / 16 % 4 + 1,
             choice / 64 % 4 + 1,
         ];
-        let described = with_capacities(alloc, COPIED_AND_WOVEN, &capacities)?;
-        let lines = woven_lines(alloc, capacities)?;
+        let described = with_capacities(&rt, alloc, COPIED_AND_WOVEN, &capacities);
+        let lines = woven_lines(&rt, alloc, capacities);
         for workers in [1, 4] {
             let due = Whole {
                 text: lines.as_str(),
@@ -80,28 +83,33 @@ fn parks_case_from_all_capacities(rt: HostRuntime) -> Result<(), Fail> {
     Ok(())
 }
 
+/// The report of two counters of three into sinks of nothing, up to the growths.
+const TWO_FULL_LINES: &str = "end terminated
+process a stopped steps 4
+process b stopped steps 4
+process x stopped steps 1
+process y stopped steps 1
+channel c0 put 3 left 3 capacity A
+channel c1 put 3 left 3 capacity B
+";
+
 /// The report of two counters of three into sinks of nothing: each channel grows to capacity three, the
 /// smaller first, and the first one if they are equal.
-fn two_full_lines(alloc: Global, first: usize, second: usize) -> Result<String, Fail> {
+fn two_full_lines<R: Abort>(rt: &R, alloc: Global, first: usize, second: usize) -> String {
     let mut lines = String::new(alloc);
-    writeln!(
-        lines,
-        "end terminated\nprocess a stopped steps 4\nprocess b stopped steps 4\nprocess x stopped steps 1\nprocess y stopped steps 1"
-    )?;
-    let (last_first, last_second) = (first.max(3), second.max(3));
-    writeln!(lines, "channel c0 put 3 left 3 capacity {last_first}")?;
-    writeln!(lines, "channel c1 put 3 left 3 capacity {last_second}")?;
-    let mut entries = 10u64;
+    let last = [first.max(3), second.max(3)];
+    fill(rt, &mut lines, TWO_FULL_LINES, &last);
+    let mut entries = 10usize;
     for to in 2..=3usize {
-        for (name, starts) in [("c0", first), ("c1", second)] {
+        for (grew, starts) in [("grew c0 A\n", first), ("grew c1 A\n", second)] {
             if starts < to {
-                writeln!(lines, "grew {name} {to}")?;
+                fill(rt, &mut lines, grew, &[to]);
                 entries = entries.wrapping_add(1);
             }
         }
     }
-    writeln!(lines, "entries {entries}")?;
-    Ok(lines)
+    fill(rt, &mut lines, "entries A\n", &[entries]);
+    lines
 }
 
 /// Two channels that grow, from each capacity from 1 to 4, by one worker and by four.
@@ -110,8 +118,8 @@ fn two_growing_channels_from_all_capacities(rt: HostRuntime) -> Result<(), Fail>
     let alloc = rt.alloc();
     for first in 1..=4usize {
         for second in 1..=4usize {
-            let described = with_capacities(alloc, TWO_FULL_CHANNELS, &[first, second])?;
-            let lines = two_full_lines(alloc, first, second)?;
+            let described = with_capacities(&rt, alloc, TWO_FULL_CHANNELS, &[first, second]);
+            let lines = two_full_lines(&rt, alloc, first, second);
             for workers in [1, 4] {
                 let due = Whole {
                     text: lines.as_str(),
@@ -129,7 +137,7 @@ fn two_growing_channels_from_all_capacities(rt: HostRuntime) -> Result<(), Fail>
 fn an_endless_network_from_two_capacities(rt: HostRuntime) -> Result<(), Fail> {
     let alloc = rt.alloc();
     for capacity in [1, 2] {
-        let described = with_capacities(alloc, ENDLESS, &[capacity; 12])?;
+        let described = with_capacities(&rt, alloc, ENDLESS, &[capacity; 12]);
         for workers in [1, 4, 16] {
             shows_endless(&rt, alloc, described.as_str(), workers)?;
         }

@@ -152,10 +152,13 @@ fn compare_numbers<K: Kinds, R: Abort>(rt: &R, finish: &Finish<K>, due: &Due) {
 
 /// How many processes have stopped.
 fn stopped_in(standings: &[Standing]) -> usize {
-    standings
-        .iter()
-        .filter(|standing| matches!(standing, Standing::Stopped))
-        .count()
+    let mut stopped = 0usize;
+    for standing in standings {
+        if matches!(standing, Standing::Stopped) {
+            stopped = stopped.saturating_add(1);
+        }
+    }
+    stopped
 }
 
 /// The text of a run's report, with the stream of a channel if one is given.

@@ -20,4 +20,6 @@ mod runs;
 #[cfg(test)]
 mod schedules;
 #[cfg(test)]
+mod texts;
+#[cfg(test)]
 mod whole;

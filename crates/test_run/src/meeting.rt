@@ -30,13 +30,17 @@ struct Calls {
 
 /// Counts a call, and waits at the call of the number `at` until the other has come as far. Between
 /// two looks other threads may go on, so that a busy machine doesn't end the wait too soon.
-fn meet(at: u64, mine: &AtomicU64, other: &AtomicU64, seen: &AtomicU64) {
+fn meet(at: u64, is_left: bool, calls: &Calls) {
+    let (mine, other) = match is_left {
+        true => (&calls.left, &calls.right),
+        false => (&calls.right, &calls.left),
+    };
     if mine.fetch_add(1, Ordering::SeqCst).wrapping_add(1) != at {
         return;
     }
     for _ in 0..100_000_000u32 {
         if other.load(Ordering::SeqCst) >= at {
-            seen.fetch_add(1, Ordering::SeqCst);
+            calls.seen.fetch_add(1, Ordering::SeqCst);
             return;
         }
         thread::yield_now();
@@ -62,11 +66,12 @@ fn run_counter<R: Threads + Wait + Clock + Abort + Sync>(
     Ok(())
 }
 
-/// A body that waits for the right one at its call of the number `at`.
-fn left_body(
+/// A body, the left or the right one, that waits for the other at its call of the number `at`.
+fn meeting_body(
     alloc: Global,
     card: Card,
     at: u64,
+    is_left: bool,
     calls: Arc<Calls>,
 ) -> Result<StandardBody, AllocError>
     requires { IsSome (signature card) }
@@ -78,30 +83,7 @@ fn left_body(
             requires admitted { Admitted card local last }
             ensures { result ≡ standard.answer card local last }
         {
-            meet(at, &calls.left, &calls.right, &calls.seen);
-            answer(card, local, last)
-        },
-    )?;
-    Ok(StandardBody::new(card, call))
-}
-
-/// A body that waits for the left one at its call of the number `at`.
-fn right_body(
-    alloc: Global,
-    card: Card,
-    at: u64,
-    calls: Arc<Calls>,
-) -> Result<StandardBody, AllocError>
-    requires { IsSome (signature card) }
-{
-    let call: Call = Box::new(
-        alloc,
-        move |local: Local, last: Option<Token>| -> Answer
-            requires signed { IsSome (signature card) }
-            requires admitted { Admitted card local last }
-            ensures { result ≡ standard.answer card local last }
-        {
-            meet(at, &calls.right, &calls.left, &calls.seen);
+            meet(at, is_left, &calls);
             answer(card, local, last)
         },
     )?;
@@ -125,8 +107,8 @@ fn meet_at<R: Threads + Wait + Clock + Abort + Sync>(
         args: [3, 0, 0],
     };
     let mut bodies = Vec::new(alloc);
-    bodies.push(left_body(alloc, src, at, Arc::try_clone(&calls)?)?)?;
-    bodies.push(right_body(alloc, snk, at, Arc::try_clone(&calls)?)?)?;
+    bodies.push(meeting_body(alloc, src, at, true, Arc::try_clone(&calls)?)?)?;
+    bodies.push(meeting_body(alloc, snk, at, false, Arc::try_clone(&calls)?)?)?;
     run_counter(rt, alloc, bodies)?;
     same(rt, "seen", calls.seen.load(Ordering::SeqCst), 2);
     Ok(())

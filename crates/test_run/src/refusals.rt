@@ -4,12 +4,13 @@
 //! tried again with what was handed back, and succeeds.
 use crate::checks::same;
 use crate::due::{WOVEN_ENDS, compare};
+use crate::runs::{Refusal, handed_back};
 use kpn_body::{Body, Standard};
 use kpn_compute::bodies_of;
 use kpn_front::load::load;
 use kpn_net::{End, Entry, Kinds, Net, NetFault, Token};
 use kpn_report::Report;
-use kpn_run::{Finish, Open, RunFault, report, run, stream_of};
+use kpn_run::{Finish, Open, report, run, stream_of};
 use std::alloc::{AllocError, Global};
 use std::process::Abort;
 use std::rt::Clock;
@@ -70,17 +71,17 @@ fn finish_again<B: Body, R: Threads + Wait + Clock + Abort + Sync>(
     bodies: Vec<B>,
     workers: usize,
 ) -> (Finish<B::Kinds>, Refused) {
-    let (net, bodies) = match run(rt, alloc, net, bodies, workers, &Open) {
+    let fault = match run(rt, alloc, net, bodies, workers, &Open) {
         Ok(finish) => return (finish, Refused::Nothing),
-        Err(RunFault::Memory { net, bodies }) => (net, bodies),
-        Err(_) => panic!(rt; "another fault"),
+        Err(fault) => fault,
     };
-    same(rt, "processes", net.processes(), 4);
-    same(rt, "bodies", bodies.len(), 4);
-    match run(rt, alloc, net, bodies, workers, &Open) {
-        Ok(finish) => (finish, Refused::Run),
-        Err(_) => panic!(rt; "refused again"),
-    }
+    let (net, bodies, refusal) = handed_back(rt, fault);
+    let found = (refusal, net.processes(), bodies.len());
+    same(rt, "refused", found, (Refusal::Memory, 4, 4));
+    let Ok(finish) = run(rt, alloc, net, bodies, workers, &Open) else {
+        panic!(rt; "refused again");
+    };
+    (finish, Refused::Run)
 }
 
 /// Makes a report, and tries again if memory was refused.
@@ -89,13 +90,13 @@ fn report_again<K: Kinds, R: Abort>(
     alloc: Global,
     finish: &Finish<K>,
 ) -> (Report, Refused) {
-    if let Ok(report) = report(alloc, finish) {
-        return (report, Refused::Nothing);
+    match report(alloc, finish) {
+        Ok(report) => (report, Refused::Nothing),
+        Err(_) => (
+            report(alloc, finish).expect(rt, "refused again"),
+            Refused::Report,
+        ),
     }
-    let Ok(report) = report(alloc, finish) else {
-        panic!(rt; "refused again");
-    };
-    (report, Refused::Report)
 }
 
 /// Makes the stream of the last channel, and tries again if memory was refused.
@@ -136,10 +137,13 @@ fn ends_for_memory<K: Kinds, R: Abort>(
 }
 
 fn growths_in(history: &[Entry]) -> usize {
-    history
-        .iter()
-        .filter(|entry| matches!(entry, Entry::Grew { .. }))
-        .count()
+    let mut growths = 0usize;
+    for entry in history {
+        if matches!(entry, Entry::Grew { .. }) {
+            growths = growths.saturating_add(1);
+        }
+    }
+    growths
 }
 
 /// The first of these that was refused.

@@ -1,4 +1,5 @@
 //! Runs by several workers, against values that were worked out by hand.
+use crate::checks::same;
 use crate::due::{
     COUNTER_ENDS, Due, RUNNING_SUMS_END, SMALL_SINK_ENDS, TWO_FULL_END, WOVEN_ENDS, compare,
 };
@@ -31,7 +32,28 @@ impl Gate for Counts {
     }
 }
 
-/// Runs a network; only memory may be refused.
+/// Why a run was refused.
+#[derive(Clone, Copy, Debug, PartialEq, Eq)]
+pub(crate) enum Refusal {
+    Workers,
+    Open(OpenFault),
+    Memory,
+}
+
+/// What a run that was refused hands back; no answer may have been lost.
+pub(crate) fn handed_back<B: Body, R: Abort>(
+    rt: &R,
+    fault: RunFault<B>,
+) -> (Net<B::Kinds>, Vec<B>, Refusal) {
+    match fault {
+        RunFault::Workers { net, bodies } => (net, bodies, Refusal::Workers),
+        RunFault::Open { net, bodies, fault } => (net, bodies, Refusal::Open(fault)),
+        RunFault::Memory { net, bodies } => (net, bodies, Refusal::Memory),
+        RunFault::Lost { .. } => panic!(rt; "an answer was lost"),
+    }
+}
+
+/// Runs a network, which may not be refused.
 pub(crate) fn finish_of<B: Body, R: Threads + Wait + Clock + Abort + Sync, G: Gate>(
     rt: &R,
     alloc: Global,
@@ -39,12 +61,11 @@ pub(crate) fn finish_of<B: Body, R: Threads + Wait + Clock + Abort + Sync, G: Ga
     bodies: Vec<B>,
     workers: usize,
     gate: &G,
-) -> Result<Finish<B::Kinds>, AllocError> {
-    match run(rt, alloc, net, bodies, workers, gate) {
-        Ok(finish) => Ok(finish),
-        Err(RunFault::Memory { net: _, bodies: _ }) => Err(AllocError),
-        Err(_) => panic!(rt; "no run"),
-    }
+) -> Finish<B::Kinds> {
+    let Ok(finish) = run(rt, alloc, net, bodies, workers, gate) else {
+        panic!(rt; "no run");
+    };
+    finish
 }
 
 /// Runs the network of a text.
@@ -56,8 +77,7 @@ pub(crate) fn finish_text<R: Threads + Wait + Clock + Abort + Sync, G: Gate>(
     gate: &G,
 ) -> Result<Finish<Standard>, Fail> {
     let Parts { net, bodies } = parts_of(alloc, text)?;
-    let finish = finish_of(rt, alloc, net, bodies, workers, gate)?;
-    Ok(finish)
+    Ok(finish_of(rt, alloc, net, bodies, workers, gate))
 }
 
 /// Runs the network of a text, and compares the run with its expected result.
@@ -74,41 +94,21 @@ pub(crate) fn shows<R: Threads + Wait + Clock + Abort + Sync, G: Gate>(
     Ok(())
 }
 
-/// A number of workers outside 1 to 16 is refused, and all is handed back.
-fn refused_workers<B: Body, R: Threads + Wait + Clock + Abort + Sync>(
+/// A run is refused for this reason, and all is handed back.
+fn refused<B: Body, R: Threads + Wait + Clock + Abort + Sync>(
     rt: &R,
     alloc: Global,
     net: Net<B::Kinds>,
     bodies: Vec<B>,
     workers: usize,
+    due: Refusal,
 ) -> (Net<B::Kinds>, Vec<B>) {
-    match run(rt, alloc, net, bodies, workers, &Open) {
-        Err(RunFault::Workers { net, bodies }) => (net, bodies),
-        _ => panic!(rt; "{workers} workers run"),
-    }
-}
-
-/// Without its last body a network isn't run, and all is handed back.
-fn refused_bodies<B: Body, R: Threads + Wait + Clock + Abort + Sync>(
-    rt: &R,
-    alloc: Global,
-    net: Net<B::Kinds>,
-    mut bodies: Vec<B>,
-    workers: usize,
-) -> Result<(Net<B::Kinds>, Vec<B>), AllocError> {
-    let last = bodies.pop().expect(rt, "no body");
-    let (net, mut bodies) = match run(rt, alloc, net, bodies, workers, &Open) {
-        Err(
-            RunFault::Open {
-                net,
-                bodies,
-                fault: OpenFault::Bodies,
-            },
-        ) => (net, bodies),
-        _ => panic!(rt; "runs without a body"),
+    let Err(fault) = run(rt, alloc, net, bodies, workers, &Open) else {
+        panic!(rt; "not refused");
     };
-    bodies.push(last)?;
-    Ok((net, bodies))
+    let (net, bodies, refusal) = handed_back(rt, fault);
+    same(rt, "refusal", refusal, due);
+    (net, bodies)
 }
 
 /// Runs a network, and compares the run, and how often its gate was asked, with what is expected.
@@ -123,7 +123,7 @@ fn run_counted<B: Body, R: Threads + Wait + Clock + Abort + Sync>(
     let counts = Counts {
         asked: AtomicU64::new(0),
     };
-    let finish = finish_of(rt, alloc, net, bodies, workers, &counts)?;
+    let finish = finish_of(rt, alloc, net, bodies, workers, &counts);
     let asked = counts.asked.load(Ordering::SeqCst);
     let processes = due.processes as u64;
     let most = due.entries.saturating_add(processes);
@@ -141,24 +141,27 @@ pub(crate) fn run_bodies<B: Body, R: Threads + Wait + Clock + Abort + Sync>(
     workers: usize,
     due: &Due,
 ) -> Result<(), AllocError> {
-    let (net, bodies) = refused_workers(rt, alloc, net, bodies, 0);
-    let (net, bodies) = refused_workers(rt, alloc, net, bodies, 17);
-    let (net, bodies) = refused_bodies(rt, alloc, net, bodies, workers)?;
+    let (net, bodies) = refused(rt, alloc, net, bodies, 0, Refusal::Workers);
+    let (net, mut bodies) = refused(rt, alloc, net, bodies, 17, Refusal::Workers);
+    let last = bodies.pop().expect(rt, "no body");
+    let due_refusal = Refusal::Open(OpenFault::Bodies);
+    let (net, mut bodies) = refused(rt, alloc, net, bodies, workers, due_refusal);
+    same(rt, "pushed", bodies.push(last).is_ok(), true);
     run_counted(rt, alloc, net, bodies, workers, due)
 }
 
 #[test]
 fn any_number_of_workers(rt: HostRuntime) -> Result<(), Fail> {
     for (text, due) in [
-        (COUNTER_INTO_SINK, COUNTER_ENDS),
-        (COPIED_AND_WOVEN, WOVEN_ENDS),
-        (COUNTER_INTO_SMALL_SINK, SMALL_SINK_ENDS),
-        (TWO_FULL_CHANNELS, TWO_FULL_END),
-        (RUNNING_SUMS, RUNNING_SUMS_END),
+        (COUNTER_INTO_SINK, &COUNTER_ENDS),
+        (COPIED_AND_WOVEN, &WOVEN_ENDS),
+        (COUNTER_INTO_SMALL_SINK, &SMALL_SINK_ENDS),
+        (TWO_FULL_CHANNELS, &TWO_FULL_END),
+        (RUNNING_SUMS, &RUNNING_SUMS_END),
     ] {
         for workers in [1, 2, 16] {
             let Parts { net, bodies } = parts_of(rt.alloc(), text)?;
-            run_bodies(&rt, rt.alloc(), net, bodies, workers, &due)?;
+            run_bodies(&rt, rt.alloc(), net, bodies, workers, due)?;
         }
     }
     Ok(())

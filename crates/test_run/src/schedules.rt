@@ -86,8 +86,11 @@ fn sixteen_workers_of_parks_case(rt: HostRuntime) -> Result<(), Fail> {
 #[test]
 fn twenty_runs_by_sixteen_workers(rt: HostRuntime) -> Result<(), Fail> {
     for _run in 0..20 {
-        for (text, due) in [(COPIED_AND_WOVEN, WOVEN_ENDS), (GROWING_CHAIN, CHAIN_GROWS)] {
-            shows(&rt, rt.alloc(), text, 16, &Open, &due)?;
+        for (text, due) in [
+            (COPIED_AND_WOVEN, &WOVEN_ENDS),
+            (GROWING_CHAIN, &CHAIN_GROWS),
+        ] {
+            shows(&rt, rt.alloc(), text, 16, &Open, due)?;
         }
     }
     Ok(())
