@@ -1,21 +1,21 @@
 //! Runs to their end in the calling thread.
 use crate::checks::same;
 use crate::entries::{GREW, PUT_1};
-use crate::machines::{CardMachine, opened};
-use crate::networks::{Parts, SINK_OF_ONE, SINK_OF_THREE, Sizes, parts_of};
+use crate::machines::{CardMachine, machine_of};
+use crate::networks::{SINK_OF_FOUR, SINK_OF_ONE};
 use kpn_body::Standard;
 use kpn_machine::{Chronicle, Standing};
 use kpn_net::Act::Read;
 use kpn_net::{Answer, End, Entry, Place};
 use kpn_report::places_of;
-use std::alloc::{AllocError, Global};
+use std::alloc::Global;
 use std::process::Abort;
-use std::test::Fail;
 
-/// What holds at the end of a run, whatever the schedule.
+/// The description of a network, and what holds at the end of its run, whatever the schedule.
 #[derive(Clone, Copy)]
 struct EndOfRun {
     name: &'static str,
+    text: &'static str,
     end: End,
     commits: u64,
     growths: usize,
@@ -26,6 +26,7 @@ struct EndOfRun {
 /// The sink reads one token, so that the channel grows.
 const TERMINATED: EndOfRun = EndOfRun {
     name: "terminated",
+    text: SINK_OF_ONE,
     end: End::Terminated,
     commits: 6,
     growths: 1,
@@ -36,6 +37,7 @@ const TERMINATED: EndOfRun = EndOfRun {
 /// The sink waits for a fourth token.
 const DEADLOCK: EndOfRun = EndOfRun {
     name: "deadlock",
+    text: SINK_OF_FOUR,
     end: End::Deadlock,
     commits: 8,
     growths: 0,
@@ -50,90 +52,54 @@ const DEADLOCK: EndOfRun = EndOfRun {
 };
 
 /// A machine that ran to its end alone.
-fn finished_machine<R: Abort>(
-    rt: &R,
-    alloc: Global,
-    sizes: Sizes,
-) -> Result<CardMachine, AllocError> {
-    let Parts { net, bodies } = parts_of(rt, alloc, sizes)?;
-    let mut machine = opened(rt, alloc, net, bodies)?;
-    assert_eq!(rt; machine.out(), 0);
+fn finished_machine<R: Abort>(rt: &R, alloc: Global, text: &str) -> CardMachine {
+    let mut machine = machine_of(rt, alloc, text);
+    assert!(rt; machine.out() == 0);
     machine.finish_alone();
-    Ok(machine)
+    machine
 }
 
 /// Compares the places of the processes in the report.
-fn assert_places<R: Abort>(
-    rt: &R,
-    alloc: Global,
-    machine: &CardMachine,
-    due: &EndOfRun,
-) -> Result<(), AllocError> {
-    let name = due.name;
-    let places = places_of(alloc, machine.net(), machine.standings())?;
-    same(rt, name, places.as_slice(), due.places.as_slice());
-    Ok(())
-}
-
-fn assert_standings<R: Abort>(rt: &R, standings: &[Standing], due: &EndOfRun) {
-    let name = due.name;
-    same(rt, name, standings, due.standings.as_slice());
+fn assert_places<R: Abort>(rt: &R, alloc: Global, machine: &CardMachine, due: &EndOfRun) {
+    let places = places_of(alloc, machine.net(), machine.standings()).expect(rt, "no memory");
+    same(rt, due.name, places.as_slice(), due.places.as_slice());
 }
 
 /// Compares a history: its length, its first entry, and how often the channel grew.
 fn assert_history<R: Abort>(rt: &R, history: &[Entry], due: &EndOfRun) {
-    let name = due.name;
-    same(rt, name, history.len(), 7);
-    same(rt, name, history.first().copied(), Some(PUT_1));
     let growths = history.iter().filter(|entry| **entry == GREW).count();
-    same(rt, name, growths, due.growths);
+    let found = (history.len(), history.first().copied(), growths);
+    same(rt, due.name, found, (7, Some(PUT_1), due.growths));
 }
 
 /// Compares a machine whose run is over.
-fn assert_over<R: Abort>(
-    rt: &R,
-    alloc: Global,
-    machine: &CardMachine,
-    due: &EndOfRun,
-) -> Result<(), AllocError> {
+fn assert_over<R: Abort>(rt: &R, alloc: Global, machine: &CardMachine, due: &EndOfRun) {
     let name = due.name;
-    same(rt, name, machine.end(), Some(due.end));
-    same(rt, name, machine.commits(), due.commits);
-    assert_standings(rt, machine.standings(), due);
+    let found = (machine.end(), machine.commits());
+    same(rt, name, found, (Some(due.end), due.commits));
+    same(rt, name, machine.standings(), due.standings.as_slice());
     assert_history(rt, machine.history(), due);
-    assert_places(rt, alloc, machine, due)
+    assert_places(rt, alloc, machine, due);
 }
 
 /// Compares what a machine left behind.
 fn assert_chronicle<R: Abort>(rt: &R, chronicle: &Chronicle<Standard>, due: &EndOfRun) {
     let name = due.name;
-    same(rt, name, chronicle.net().processes(), 2);
-    same(rt, name, chronicle.end(), Some(due.end));
-    assert_standings(rt, chronicle.standings(), due);
+    let found = (chronicle.net().processes(), chronicle.end());
+    same(rt, name, found, (2, Some(due.end)));
+    same(rt, name, chronicle.standings(), due.standings.as_slice());
     assert_history(rt, chronicle.history(), due);
 }
 
-fn run_alone<R: Abort>(
-    rt: &R,
-    alloc: Global,
-    sizes: Sizes,
-    due: &EndOfRun,
-) -> Result<(), AllocError> {
-    let machine = finished_machine(rt, alloc, sizes)?;
-    assert_over(rt, alloc, &machine, due)?;
+fn run_alone<R: Abort>(rt: &R, alloc: Global, due: &EndOfRun) {
+    let machine = finished_machine(rt, alloc, due.text);
+    assert_over(rt, alloc, &machine, due);
     let chronicle = machine.into_chronicle();
     assert_chronicle(rt, &chronicle, due);
-    Ok(())
 }
 
 #[test]
-fn a_run_alone_comes_to_its_end(rt: HostRuntime) -> Result<(), Fail> {
-    let sink_of_four = Sizes {
-        reads: 4,
-        ..SINK_OF_THREE
-    };
-    for (sizes, due) in [(SINK_OF_ONE, TERMINATED), (sink_of_four, DEADLOCK)] {
-        run_alone(&rt, rt.alloc(), sizes, &due)?;
-    }
-    Ok(())
+fn a_run_alone_comes_to_its_end(rt: HostRuntime) {
+    run_alone(&rt, rt.alloc(), &TERMINATED);
+    run_alone(&rt, rt.alloc(), &DEADLOCK);
 }

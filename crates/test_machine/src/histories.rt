@@ -2,17 +2,17 @@
 use crate::checks::same;
 use crate::entries::{COUNTER_STOPPED, GREW, PUT_1, PUT_2, PUT_3, SINK_STOPPED, TOOK_1};
 use crate::machines::{CardMachine, commit_of, machine_of};
-use crate::networks::{SINK_OF_ONE, SINK_OF_THREE, Sizes};
+use crate::networks::{SINK_OF_ONE, SINK_OF_THREE};
 use kpn_machine::Outcome;
 use kpn_machine::Outcome::{Done, Parked};
 use kpn_net::{End, Entry};
-use std::alloc::{AllocError, Global};
+use std::alloc::Global;
 use std::process::Abort;
-use std::test::Fail;
 
-/// The processes whose answers are committed, the outcomes, the history, and its end.
-#[derive(Clone, Copy)]
+/// A description, the processes whose answers are committed, the outcomes, the history, and its end.
 struct History {
+    name: &'static str,
+    text: &'static str,
     processes: &'static [usize],
     outcomes: &'static [Outcome],
     entries: &'static [Entry],
@@ -30,21 +30,27 @@ const GROWN: &[Entry] = &[
     COUNTER_STOPPED,
 ];
 
-const BY_THE_WRITER: History = History {
+static BY_THE_WRITER: History = History {
+    name: "writer",
+    text: SINK_OF_ONE,
     processes: &[0, 1, 0, 1, 0, 0],
     outcomes: &[Done(1), Done(1), Done(1), Done(1), Parked(2), Done(1)],
     entries: GROWN,
     end: Some(End::Terminated),
 };
 
-const BY_THE_READER: History = History {
+static BY_THE_READER: History = History {
+    name: "reader",
+    text: SINK_OF_ONE,
     processes: &[0, 1, 0, 0, 1, 0],
     outcomes: &[Done(1), Done(1), Done(1), Parked(0), Done(3), Done(1)],
     entries: GROWN,
     end: Some(End::Terminated),
 };
 
-const HANDED_ON: History = History {
+static HANDED_ON: History = History {
+    name: "reader",
+    text: SINK_OF_THREE,
     processes: &[1, 0],
     outcomes: &[Parked(0), Done(2)],
     entries: &[PUT_1, TOOK_1],
@@ -57,41 +63,33 @@ fn outcomes_of<R: Abort>(
     alloc: Global,
     machine: &mut CardMachine,
     processes: &[usize],
-) -> Result<Vec<Outcome>, AllocError> {
+) -> Vec<Outcome> {
     let mut tasks = Vec::new(alloc);
     let mut outcomes = Vec::new(alloc);
     for process in processes {
-        outcomes.push(commit_of(rt, machine, &mut tasks, *process)?)?;
+        let outcome = commit_of(rt, machine, &mut tasks, *process);
+        outcomes.push(outcome).expect(rt, "no memory");
     }
-    Ok(outcomes)
+    outcomes
 }
 
 /// Commits the answers of the processes, and compares the outcomes and the history.
-fn follow<R: Abort>(
-    rt: &R,
-    alloc: Global,
-    sizes: Sizes,
-    name: &str,
-    due: &History,
-) -> Result<(), AllocError> {
-    let mut machine = machine_of(rt, alloc, sizes)?;
-    let outcomes = outcomes_of(rt, alloc, &mut machine, due.processes)?;
+fn follow<R: Abort>(rt: &R, alloc: Global, due: &History) {
+    let name = due.name;
+    let mut machine = machine_of(rt, alloc, due.text);
+    let outcomes = outcomes_of(rt, alloc, &mut machine, due.processes);
     same(rt, name, outcomes.as_slice(), due.outcomes);
     same(rt, name, machine.history(), due.entries);
     same(rt, name, machine.end(), due.end);
-    Ok(())
 }
 
 #[test]
-fn a_growth_follows_the_writer_or_the_reader(rt: HostRuntime) -> Result<(), Fail> {
-    for (name, due) in [("writer", BY_THE_WRITER), ("reader", BY_THE_READER)] {
-        follow(&rt, rt.alloc(), SINK_OF_ONE, name, &due)?;
-    }
-    Ok(())
+fn a_growth_follows_the_writer_or_the_reader(rt: HostRuntime) {
+    follow(&rt, rt.alloc(), &BY_THE_WRITER);
+    follow(&rt, rt.alloc(), &BY_THE_READER);
 }
 
 #[test]
-fn a_write_hands_on_to_the_reader_that_waits(rt: HostRuntime) -> Result<(), Fail> {
-    follow(&rt, rt.alloc(), SINK_OF_THREE, "reader", &HANDED_ON)?;
-    Ok(())
+fn a_write_hands_on_to_the_reader_that_waits(rt: HostRuntime) {
+    follow(&rt, rt.alloc(), &HANDED_ON);
 }

@@ -1,11 +1,12 @@
-//! Calls of a machine, with only such contracts as the tests need.
+//! Calls of a machine, with only such contracts as the tests need. A test that is refused memory ends
+//! at once, so that no function here has to let go of a machine half way; the one test that goes on
+//! makes its parts itself.
 use crate::checks::same;
-use crate::networks::{Parts, Sizes, parts_of};
+use crate::networks::{Parts, parts_of};
 use kpn_body::{Finished, Standard, Task};
 use kpn_compute::CardBody;
 use kpn_machine::{Machine, OpenFault, Outcome};
-use kpn_net::Net;
-use std::alloc::{AllocError, Global};
+use std::alloc::Global;
 use std::process::Abort;
 
 pub(crate) type CardMachine = Machine<CardBody<Standard>>;
@@ -14,28 +15,23 @@ pub(crate) type CardTask = Task<CardBody<Standard>>;
 
 pub(crate) type CardFinished = Finished<CardBody<Standard>>;
 
-/// Opens a machine of a network of these sizes.
-pub(crate) fn machine_of<R: Abort>(
-    rt: &R,
-    alloc: Global,
-    sizes: Sizes,
-) -> Result<CardMachine, AllocError> {
-    let Parts { net, bodies } = parts_of(rt, alloc, sizes)?;
-    opened(rt, alloc, net, bodies)
+/// Opens a machine of the network of a description.
+pub(crate) fn machine_of<R: Abort>(rt: &R, alloc: Global, text: &str) -> CardMachine {
+    opened(rt, alloc, fresh_parts(rt, alloc, text))
+}
+
+/// The network of a description, with its bodies.
+pub(crate) fn fresh_parts<R: Abort>(rt: &R, alloc: Global, text: &str) -> Parts {
+    parts_of(rt, alloc, text).expect(rt, "no memory for the parts")
 }
 
 /// Opens a machine; only memory may be refused.
-pub(crate) fn opened<R: Abort>(
-    rt: &R,
-    alloc: Global,
-    net: Net<Standard>,
-    bodies: Vec<CardBody<Standard>>,
-) -> Result<CardMachine, AllocError> {
-    match Machine::open(alloc, net, bodies) {
-        Ok(machine) => Ok(machine),
+pub(crate) fn opened<R: Abort>(rt: &R, alloc: Global, parts: Parts) -> CardMachine {
+    match Machine::open(alloc, parts.net, parts.bodies) {
+        Ok(machine) => machine,
         Err(refused) => {
             same(rt, "fault", refused.fault, OpenFault::Memory);
-            Err(AllocError)
+            panic!(rt; "no memory for the machine");
         }
     }
 }
@@ -45,17 +41,18 @@ pub(crate) fn take(machine: &mut CardMachine) -> Option<CardTask> {
     machine.take()
 }
 
+/// Lays a task to those that are out.
+pub(crate) fn lay<R: Abort>(rt: &R, tasks: &mut Vec<CardTask>, task: CardTask) {
+    tasks.push(task).expect(rt, "no memory for a task");
+}
+
 /// Takes all ready processes.
-pub(crate) fn take_all(
-    machine: &mut CardMachine,
-    tasks: &mut Vec<CardTask>,
-) -> Result<(), AllocError> {
+pub(crate) fn take_all<R: Abort>(rt: &R, machine: &mut CardMachine, tasks: &mut Vec<CardTask>) {
     for _turn in 0..2 {
         if let Some(task) = take(machine) {
-            tasks.push(task)?;
+            lay(rt, tasks, task);
         }
     }
-    Ok(())
 }
 
 /// Calls the body of a process that is out, and returns its answer.
@@ -99,8 +96,8 @@ pub(crate) fn commit_of<R: Abort>(
     machine: &mut CardMachine,
     tasks: &mut Vec<CardTask>,
     process: usize,
-) -> Result<Outcome, AllocError> {
-    take_all(machine, tasks)?;
+) -> Outcome {
+    take_all(rt, machine, tasks);
     let finished = answer_of(rt, tasks, process);
-    Ok(outcome_of(rt, machine, finished))
+    outcome_of(rt, machine, finished)
 }

@@ -19,44 +19,14 @@ pub(crate) const SINK: Card = Card {
     args: [3, 0, 0],
 };
 
-/// How many tokens the sink reads, and the budget.
-#[derive(Clone, Copy)]
-pub(crate) struct Sizes {
-    pub(crate) reads: u64,
-    pub(crate) budget: u64,
-}
-
-pub(crate) const SINK_OF_ONE: Sizes = Sizes {
-    reads: 1,
-    budget: 10000,
-};
-
-pub(crate) const SINK_OF_THREE: Sizes = Sizes {
-    reads: 3,
-    budget: 10000,
-};
-
-/// A network, and a body for each of its processes in order.
-#[derive(Drop)]
-pub(crate) struct Parts {
-    pub(crate) net: Net<Standard>,
-    pub(crate) bodies: Vec<CardBody<Standard>>,
-}
-
-/// A network of these sizes, with its bodies. Fails if memory was refused.
-pub(crate) fn parts_of<R: Abort>(rt: &R, alloc: Global, sizes: Sizes) -> Result<Parts, AllocError> {
-    let text = text_of(alloc, sizes)?;
-    let net = net_of(rt, alloc, text.as_str())?;
-    let bodies = bodies_of(alloc, &net)?;
-    Ok(Parts { net, bodies })
-}
-
-/// The description of a network of these sizes.
-fn text_of(alloc: Global, sizes: Sizes) -> Result<String, AllocError> {
-    let Sizes { reads, budget } = sizes;
-    format!(in alloc;
-        "version = 1
-budget = {budget}
+/// The description of a network: how many tokens the sink reads, and the budget.
+macro_rules! description {
+    (reads $reads:literal, budget $budget:literal) => {
+        concat!(
+            "version = 1
+budget = ",
+            $budget,
+            "
 
 [[process]]
 name = \"src\"
@@ -66,14 +36,40 @@ args = [1, 3]
 [[process]]
 name = \"snk\"
 kind = \"sink\"
-args = [{reads}]
+args = [",
+            $reads,
+            "]
 
 [[channel]]
 name = \"c0\"
 from = \"src\"
 to = \"snk\"
 "
-    )
+        )
+    };
+}
+
+pub(crate) const SINK_OF_ONE: &str = description!(reads 1, budget 10000);
+
+pub(crate) const SINK_OF_THREE: &str = description!(reads 3, budget 10000);
+
+pub(crate) const SINK_OF_FOUR: &str = description!(reads 4, budget 10000);
+
+/// A sink of three, and a budget of one entry.
+pub(crate) const BUDGET_OF_ONE: &str = description!(reads 3, budget 1);
+
+/// A network, and a body for each of its processes in order.
+#[derive(Drop)]
+pub(crate) struct Parts {
+    pub(crate) net: Net<Standard>,
+    pub(crate) bodies: Vec<CardBody<Standard>>,
+}
+
+/// The network of a description, with its bodies. Fails if memory was refused.
+pub(crate) fn parts_of<R: Abort>(rt: &R, alloc: Global, text: &str) -> Result<Parts, AllocError> {
+    let net = net_of(rt, alloc, text)?;
+    let bodies = bodies_of(alloc, &net)?;
+    Ok(Parts { net, bodies })
 }
 
 /// The network of a description that is refused only if memory is.

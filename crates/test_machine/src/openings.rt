@@ -1,14 +1,13 @@
 //! What a machine is opened with, and what it hands back.
 use crate::checks::same;
-use crate::machines::{CardMachine, machine_of, opened};
-use crate::networks::{COUNTER, Parts, SINK, SINK_OF_THREE, parts_of};
+use crate::machines::{CardMachine, fresh_parts, machine_of, opened};
+use crate::networks::{COUNTER, Parts, SINK, SINK_OF_THREE};
 use kpn_body::{Body, Standard};
 use kpn_compute::CardBody;
 use kpn_machine::{Machine, OpenFault, OpenRefused, cards_of};
-use kpn_net::{Card, Net};
-use std::alloc::{AllocError, Global};
+use kpn_net::Card;
+use std::alloc::Global;
 use std::process::Abort;
-use std::test::Fail;
 
 /// Compares the cards of bodies, in order.
 fn assert_cards<R: Abort>(rt: &R, bodies: &[CardBody<Standard>], cards: &[Card], name: &str) {
@@ -26,22 +25,18 @@ fn taken_apart<R: Abort>(rt: &R, machine: CardMachine) -> Parts {
 }
 
 /// Compares the parts of a machine of a counter and a sink of three.
-fn assert_parts<R: Abort>(rt: &R, alloc: Global, parts: &Parts) -> Result<(), AllocError> {
-    let cards = cards_of(alloc, &parts.net)?;
+fn assert_parts<R: Abort>(rt: &R, alloc: Global, parts: &Parts) {
+    let cards = cards_of(alloc, &parts.net).expect(rt, "no memory");
     same(rt, "cards", cards.as_slice(), [COUNTER, SINK].as_slice());
     assert_cards(rt, parts.bodies.as_slice(), &[COUNTER, SINK], "fresh");
-    Ok(())
 }
 
 #[test]
-fn the_parts_of_a_fresh_machine_open_again(rt: HostRuntime) -> Result<(), Fail> {
-    let machine = machine_of(&rt, rt.alloc(), SINK_OF_THREE)?;
-    let parts = taken_apart(&rt, machine);
-    assert_parts(&rt, rt.alloc(), &parts)?;
-    let Parts { net, bodies } = parts;
-    let machine = opened(&rt, rt.alloc(), net, bodies)?;
+fn the_parts_of_a_fresh_machine_open_again(rt: HostRuntime) {
+    let parts = taken_apart(&rt, machine_of(&rt, rt.alloc(), SINK_OF_THREE));
+    assert_parts(&rt, rt.alloc(), &parts);
+    let machine = opened(&rt, rt.alloc(), parts);
     assert!(rt; machine.is_fresh());
-    Ok(())
 }
 
 /// What a refused machine was to be opened with: the fault with its number, and the cards of the
@@ -82,37 +77,28 @@ pub(crate) fn assert_handed_back<R: Abort>(
 }
 
 /// Tries to open a machine that is refused, and compares what is handed back.
-fn open_misfit<R: Abort>(
-    rt: &R,
-    alloc: Global,
-    net: Net<Standard>,
-    bodies: Vec<CardBody<Standard>>,
-    due: &Misfit,
-) {
+fn open_misfit<R: Abort>(rt: &R, alloc: Global, parts: Parts, due: &Misfit) {
     let name = due.name;
-    match Machine::open(alloc, net, bodies) {
+    match Machine::open(alloc, parts.net, parts.bodies) {
         Ok(_) => panic!(rt; "opened with bodies: {name}"),
         Err(refused) => assert_handed_back(rt, &refused, due),
     }
 }
 
-fn open_with_too_few<R: Abort>(rt: &R, alloc: Global) -> Result<(), AllocError> {
-    let Parts { net, mut bodies } = parts_of(rt, alloc, SINK_OF_THREE)?;
-    bodies.pop();
-    open_misfit(rt, alloc, net, bodies, &TOO_FEW);
-    Ok(())
+fn open_with_too_few<R: Abort>(rt: &R, alloc: Global) {
+    let mut parts = fresh_parts(rt, alloc, SINK_OF_THREE);
+    parts.bodies.pop();
+    open_misfit(rt, alloc, parts, &TOO_FEW);
 }
 
-fn open_with_turned<R: Abort>(rt: &R, alloc: Global) -> Result<(), AllocError> {
-    let Parts { net, mut bodies } = parts_of(rt, alloc, SINK_OF_THREE)?;
-    bodies.reverse();
-    open_misfit(rt, alloc, net, bodies, &TURNED);
-    Ok(())
+fn open_with_turned<R: Abort>(rt: &R, alloc: Global) {
+    let mut parts = fresh_parts(rt, alloc, SINK_OF_THREE);
+    parts.bodies.reverse();
+    open_misfit(rt, alloc, parts, &TURNED);
 }
 
 #[test]
-fn bodies_that_do_not_fit_are_handed_back(rt: HostRuntime) -> Result<(), Fail> {
-    open_with_too_few(&rt, rt.alloc())?;
-    open_with_turned(&rt, rt.alloc())?;
-    Ok(())
+fn bodies_that_do_not_fit_are_handed_back(rt: HostRuntime) {
+    open_with_too_few(&rt, rt.alloc());
+    open_with_turned(&rt, rt.alloc());
 }

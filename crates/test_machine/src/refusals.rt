@@ -1,14 +1,12 @@
 //! One request for memory is refused, whichever it is.
 use crate::checks::same;
 use crate::entries::{PUT_1, PUT_2, SINK_STOPPED, TOOK_1};
-use crate::machines::{CardMachine, CardTask, commit_of, take};
+use crate::machines::{CardMachine, CardTask, commit_of, opened, take};
 use crate::networks::{COUNTER, Parts, SINK_OF_ONE, parts_of};
 use crate::openings::{Misfit, assert_handed_back};
-use kpn_body::Standard;
-use kpn_compute::CardBody;
 use kpn_machine::Outcome::{Done, Parked};
-use kpn_machine::{Machine, OpenFault, OpenRefused};
-use kpn_net::{Card, End, Net};
+use kpn_machine::{Machine, OpenFault};
+use kpn_net::{Card, End};
 use std::alloc::{AllocError, Global};
 use std::process::Abort;
 use std::test::Fail;
@@ -36,54 +34,31 @@ const NO_MEMORY: Misfit = Misfit {
 };
 
 /// Opens a machine, and tries again with what was handed back if memory was refused.
-fn open_again<R: Abort>(
-    rt: &R,
-    alloc: Global,
-    net: Net<Standard>,
-    bodies: Vec<CardBody<Standard>>,
-) -> (CardMachine, Refused) {
-    match Machine::open(alloc, net, bodies) {
+fn open_again<R: Abort>(rt: &R, alloc: Global, parts: Parts) -> (CardMachine, Refused) {
+    match Machine::open(alloc, parts.net, parts.bodies) {
         Ok(machine) => (machine, Refused::Nothing),
         Err(refused) => {
             assert_handed_back(rt, &refused, &NO_MEMORY);
-            let OpenRefused {
-                net,
-                bodies,
-                fault: _,
-            } = refused;
-            (open_at_last(rt, alloc, net, bodies), Refused::Opening)
+            let parts = Parts {
+                net: refused.net,
+                bodies: refused.bodies,
+            };
+            (opened(rt, alloc, parts), Refused::Opening)
         }
     }
 }
 
-/// Opens a machine, which must succeed.
-fn open_at_last<R: Abort>(
-    rt: &R,
-    alloc: Global,
-    net: Net<Standard>,
-    bodies: Vec<CardBody<Standard>>,
-) -> CardMachine {
-    let opening = Machine::open(alloc, net, bodies);
-    opening.ok().expect(rt, "refused again")
-}
-
 /// Commits the answers up to the one that needs a growth, and returns whether the growth was refused.
-fn grow<R: Abort>(
-    rt: &R,
-    machine: &mut CardMachine,
-    tasks: &mut Vec<CardTask>,
-) -> Result<Refused, AllocError> {
+fn grow<R: Abort>(rt: &R, machine: &mut CardMachine, tasks: &mut Vec<CardTask>) -> bool {
     for process in [0, 1, 0, 1] {
-        let outcome = commit_of(rt, machine, tasks, process)?;
+        let outcome = commit_of(rt, machine, tasks, process);
         same(rt, "before", (process, outcome), (process, Done(1)));
     }
-    let outcome = commit_of(rt, machine, tasks, 0)?;
-    if machine.end() == Some(End::Memory) {
-        same(rt, "outcome", outcome, Parked(0));
-        return Ok(Refused::Growth);
-    }
-    same(rt, "outcome", outcome, Parked(2));
-    Ok(Refused::Nothing)
+    let outcome = commit_of(rt, machine, tasks, 0);
+    let is_refused = machine.end() == Some(End::Memory);
+    let parked = if is_refused { Parked(0) } else { Parked(2) };
+    same(rt, "outcome", outcome, parked);
+    is_refused
 }
 
 /// Compares a machine that ended because its growth was refused.
@@ -93,37 +68,47 @@ fn assert_ended<R: Abort>(rt: &R, machine: &mut CardMachine) {
     assert!(rt; take(machine).is_none());
 }
 
-/// Makes a run that needs a growth, and returns which request was refused.
-fn growing_run<R: Abort>(rt: &R, alloc: Global) -> Result<Refused, AllocError> {
-    let Parts { net, bodies } = parts_of(rt, alloc, SINK_OF_ONE)?;
-    let mut tasks = Vec::with_capacity(alloc, 2)?;
-    let (mut machine, refused) = open_again(rt, alloc, net, bodies);
-    match grow_to_the_end(rt, &mut machine, &mut tasks)? {
-        Refused::Growth => Ok(Refused::Growth),
-        _ => Ok(refused),
-    }
+/// Commits the last answer of a machine whose channel grew.
+fn end_after_growth<R: Abort>(rt: &R, machine: &mut CardMachine, tasks: &mut Vec<CardTask>) {
+    let outcome = commit_of(rt, machine, tasks, 0);
+    let found = (outcome, machine.end());
+    same(rt, "end", found, (Done(1), Some(End::Terminated)));
 }
 
 /// Commits all answers, and returns whether the growth was refused.
-fn grow_to_the_end<R: Abort>(
-    rt: &R,
-    machine: &mut CardMachine,
-    tasks: &mut Vec<CardTask>,
-) -> Result<Refused, AllocError> {
-    if let Refused::Growth = grow(rt, machine, tasks)? {
+fn grow_to_the_end<R: Abort>(rt: &R, machine: &mut CardMachine, tasks: &mut Vec<CardTask>) -> bool {
+    let is_refused = grow(rt, machine, tasks);
+    if is_refused {
         assert_ended(rt, machine);
-        return Ok(Refused::Growth);
+    } else {
+        end_after_growth(rt, machine, tasks);
     }
-    let outcome = commit_of(rt, machine, tasks, 0)?;
-    same(rt, "outcome", outcome, Done(1));
-    same(rt, "end", machine.end(), Some(End::Terminated));
-    Ok(Refused::Nothing)
+    is_refused
+}
+
+/// Makes a run that needs a growth, and returns which request was refused.
+fn growing_run<R: Abort>(
+    rt: &R,
+    alloc: Global,
+    parts: Parts,
+    tasks: &mut Vec<CardTask>,
+) -> Refused {
+    let (mut machine, refused) = open_again(rt, alloc, parts);
+    let is_refused = grow_to_the_end(rt, &mut machine, tasks);
+    if is_refused { Refused::Growth } else { refused }
+}
+
+/// Makes a run that needs a growth, with room for its tasks, and returns which request was refused.
+fn run_with_room<R: Abort>(rt: &R, alloc: Global) -> Result<Refused, AllocError> {
+    let mut tasks = Vec::with_capacity(alloc, 2)?;
+    let parts = parts_of(rt, alloc, SINK_OF_ONE)?;
+    Ok(growing_run(rt, alloc, parts, &mut tasks))
 }
 
 /// Passes whichever request for memory is refused, and prints which one was.
 #[test]
 fn a_refused_request_is_told(rt: HostRuntime) -> Result<(), Fail> {
-    let word = match growing_run(&rt, rt.alloc()) {
+    let word = match run_with_room(&rt, rt.alloc()) {
         Ok(Refused::Nothing) => "nothing",
         Ok(Refused::Opening) => "opening",
         Ok(Refused::Growth) => "growth",

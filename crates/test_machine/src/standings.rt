@@ -1,16 +1,15 @@
 //! The standings of the processes, from the opening to the end.
 use crate::checks::same;
 use crate::entries::PUT_1;
-use crate::machines::{CardMachine, CardTask, commit_of, machine_of, take, take_all};
-use crate::networks::{SINK_OF_THREE, Sizes};
+use crate::machines::{CardMachine, CardTask, commit_of, lay, machine_of, take, take_all};
+use crate::networks::{BUDGET_OF_ONE, SINK_OF_THREE};
 use kpn_machine::Outcome::{Done, LaidBack};
 use kpn_machine::Standing;
 use kpn_machine::Standing::{Out, Ready, Stopped};
 use kpn_net::Act::Read;
 use kpn_net::{Answer, End};
-use std::alloc::{AllocError, Global};
+use std::alloc::Global;
 use std::process::Abort;
-use std::test::Fail;
 
 /// How many processes are ready and how many out, how many answers were taken, and whether the
 /// machine is fresh.
@@ -121,11 +120,7 @@ fn assert_stand<R: Abort>(rt: &R, machine: &CardMachine, due: &Stand, moment: &s
 }
 
 /// Takes both processes, one after the other.
-fn go_out<R: Abort>(
-    rt: &R,
-    machine: &mut CardMachine,
-    tasks: &mut Vec<CardTask>,
-) -> Result<(), AllocError> {
+fn go_out<R: Abort>(rt: &R, machine: &mut CardMachine, tasks: &mut Vec<CardTask>) {
     assert_stand(rt, machine, &FRESH, "opened");
     let first = take(machine).expect(rt, "none is ready");
     let one_out = match first.process() {
@@ -133,49 +128,37 @@ fn go_out<R: Abort>(
         _ => SINK_OUT,
     };
     assert_stand(rt, machine, &one_out, "one out");
-    tasks.push(first)?;
-    take_all(machine, tasks)?;
+    lay(rt, tasks, first);
+    take_all(rt, machine, tasks);
     assert_stand(rt, machine, &BOTH_OUT, "both out");
     assert!(rt; take(machine).is_none());
-    Ok(())
 }
 
 /// Commits the answers of both processes, which are out, and then the others to the end.
-fn come_back<R: Abort>(
-    rt: &R,
-    machine: &mut CardMachine,
-    tasks: &mut Vec<CardTask>,
-) -> Result<(), AllocError> {
-    commit_of(rt, machine, tasks, 1)?;
+fn come_back<R: Abort>(rt: &R, machine: &mut CardMachine, tasks: &mut Vec<CardTask>) {
+    commit_of(rt, machine, tasks, 1);
     assert_stand(rt, machine, &SINK_WAITS, "the sink waits");
-    commit_of(rt, machine, tasks, 0)?;
+    commit_of(rt, machine, tasks, 0);
     assert_stand(rt, machine, &FIRST_TOKEN_TAKEN, "the first token is taken");
     for process in [0, 1, 0, 1, 0, 1] {
-        commit_of(rt, machine, tasks, process)?;
+        commit_of(rt, machine, tasks, process);
     }
     assert_stand(rt, machine, &OVER, "over");
-    Ok(())
 }
 
 /// Looks at the standings from the opening to the end.
-fn follow_standings<R: Abort>(
-    rt: &R,
-    alloc: Global,
-    machine: &mut CardMachine,
-) -> Result<(), AllocError> {
-    let mut tasks = Vec::with_capacity(alloc, 2)?;
+fn follow_standings<R: Abort>(rt: &R, alloc: Global, machine: &mut CardMachine) {
+    let mut tasks = Vec::new(alloc);
     same(rt, "channels", machine.net().channels(), 1);
-    go_out(rt, machine, &mut tasks)?;
-    come_back(rt, machine, &mut tasks)?;
+    go_out(rt, machine, &mut tasks);
+    come_back(rt, machine, &mut tasks);
     same(rt, "end", machine.end(), Some(End::Terminated));
-    Ok(())
 }
 
 #[test]
-fn a_machine_tells_where_its_processes_stand(rt: HostRuntime) -> Result<(), Fail> {
-    let mut machine = machine_of(&rt, rt.alloc(), SINK_OF_THREE)?;
-    follow_standings(&rt, rt.alloc(), &mut machine)?;
-    Ok(())
+fn a_machine_tells_where_its_processes_stand(rt: HostRuntime) {
+    let mut machine = machine_of(&rt, rt.alloc(), SINK_OF_THREE);
+    follow_standings(&rt, rt.alloc(), &mut machine);
 }
 
 /// The budget is spent while the sink is out.
@@ -200,20 +183,15 @@ const LAID_BACK: Stand = Stand {
 };
 
 /// Commits the answer of the sink after the end.
-fn answer_late<R: Abort>(
-    rt: &R,
-    alloc: Global,
-    machine: &mut CardMachine,
-) -> Result<(), AllocError> {
-    let mut tasks = Vec::with_capacity(alloc, 2)?;
-    let outcome = commit_of(rt, machine, &mut tasks, 0)?;
-    same(rt, "outcome", outcome, Done(1));
-    same(rt, "end", machine.end(), Some(End::Budget));
+fn answer_late<R: Abort>(rt: &R, alloc: Global, machine: &mut CardMachine) {
+    let mut tasks = Vec::new(alloc);
+    let outcome = commit_of(rt, machine, &mut tasks, 0);
+    let found = (outcome, machine.end());
+    same(rt, "in time", found, (Done(1), Some(End::Budget)));
     assert_stand(rt, machine, &ONE_LATE, "the budget is spent");
-    let outcome = commit_of(rt, machine, &mut tasks, 1)?;
-    same(rt, "outcome", outcome, LaidBack);
+    let outcome = commit_of(rt, machine, &mut tasks, 1);
+    same(rt, "late", outcome, LaidBack);
     assert_stand(rt, machine, &LAID_BACK, "laid back");
-    Ok(())
 }
 
 /// Compares a machine whose budget of one entry is spent.
@@ -224,13 +202,8 @@ fn assert_spent<R: Abort>(rt: &R, machine: &mut CardMachine) {
 }
 
 #[test]
-fn an_answer_after_the_end_is_laid_back(rt: HostRuntime) -> Result<(), Fail> {
-    let sizes = Sizes {
-        budget: 1,
-        ..SINK_OF_THREE
-    };
-    let mut machine = machine_of(&rt, rt.alloc(), sizes)?;
-    answer_late(&rt, rt.alloc(), &mut machine)?;
+fn an_answer_after_the_end_is_laid_back(rt: HostRuntime) {
+    let mut machine = machine_of(&rt, rt.alloc(), BUDGET_OF_ONE);
+    answer_late(&rt, rt.alloc(), &mut machine);
     assert_spent(&rt, &mut machine);
-    Ok(())
 }

@@ -4,17 +4,16 @@ ghost use Rattle.std.specs.Prelude.{IsSome, None};
 use crate::checks::same;
 use crate::entries::PUT_1;
 use crate::machines::{
-    CardFinished, CardMachine, CardTask, answer_of, commit_of, handed_back, machine_of, outcome_of,
-    take, take_all,
+    CardFinished, CardMachine, CardTask, answer_of, commit_of, fresh_parts, handed_back,
+    machine_of, outcome_of, take, take_all,
 };
-use crate::networks::{COUNTER, Parts, SINK_OF_THREE, parts_of};
+use crate::networks::{COUNTER, SINK_OF_THREE};
 use kpn_body::{Body, Finished, Task};
 use kpn_compute::{CardBody, Computes};
 use kpn_machine::Outcome::{Done, Parked};
 use kpn_net::{Card, Kinds, Local};
-use std::alloc::{AllocError, Global};
+use std::alloc::Global;
 use std::process::Abort;
-use std::test::Fail;
 
 /// The local state of a card at its start, in which it may be asked.
 fn start_of<K: Kinds>(card: Card) -> Local
@@ -33,11 +32,11 @@ fn unasked<K: Computes>(body: CardBody<K>) -> Finished<CardBody<K>> {
 }
 
 /// The counter's first answer, from a body that belongs to no machine.
-fn answer_of_another_body<R: Abort>(rt: &R, alloc: Global) -> Result<CardFinished, AllocError> {
-    let Parts { net: _, mut bodies } = parts_of(rt, alloc, SINK_OF_THREE)?;
-    bodies.pop();
-    let counter = bodies.pop().expect(rt, "no body");
-    Ok(unasked(counter))
+fn answer_of_another_body<R: Abort>(rt: &R, alloc: Global) -> CardFinished {
+    let mut parts = fresh_parts(rt, alloc, SINK_OF_THREE);
+    parts.bodies.pop();
+    let counter = parts.bodies.pop().expect(rt, "no body");
+    unasked(counter)
 }
 
 /// Compares the counter's first answer.
@@ -63,14 +62,10 @@ fn refuse_again<R: Abort>(
 }
 
 /// Takes both processes, and returns the answer of the counter.
-fn counter_answers<R: Abort>(
-    rt: &R,
-    alloc: Global,
-    machine: &mut CardMachine,
-) -> Result<CardFinished, AllocError> {
-    let mut tasks = Vec::with_capacity(alloc, 2)?;
-    take_all(machine, &mut tasks)?;
-    Ok(answer_of(rt, &mut tasks, 0))
+fn counter_answers<R: Abort>(rt: &R, alloc: Global, machine: &mut CardMachine) -> CardFinished {
+    let mut tasks = Vec::new(alloc);
+    take_all(rt, machine, &mut tasks);
+    answer_of(rt, &mut tasks, 0)
 }
 
 /// Commits the counter's first answer, which was asked for.
@@ -115,85 +110,61 @@ fn refuse_while_out<R: Abort>(rt: &R, machine: &mut CardMachine, finished: CardF
 }
 
 /// Commits the counter's first answer, and then the same from another body.
-fn answer_twice<R: Abort>(
-    rt: &R,
-    alloc: Global,
-    machine: &mut CardMachine,
-) -> Result<(), AllocError> {
-    let second = answer_of_another_body(rt, alloc)?;
-    let finished = counter_answers(rt, alloc, machine)?;
+fn answer_twice<R: Abort>(rt: &R, alloc: Global, machine: &mut CardMachine) {
+    let second = answer_of_another_body(rt, alloc);
+    let finished = counter_answers(rt, alloc, machine);
     accept_first(rt, machine, finished);
     let second = refuse_again(rt, machine, second);
     refuse_while_out(rt, machine, second);
-    Ok(())
 }
 
 /// The counter's first answer comes a second time: while the counter is ready, and while it is out in
 /// another state.
 #[test]
-fn an_answer_that_was_not_asked_for_is_handed_back(rt: HostRuntime) -> Result<(), Fail> {
-    let mut machine = machine_of(&rt, rt.alloc(), SINK_OF_THREE)?;
-    answer_twice(&rt, rt.alloc(), &mut machine)?;
-    Ok(())
+fn an_answer_that_was_not_asked_for_is_handed_back(rt: HostRuntime) {
+    let mut machine = machine_of(&rt, rt.alloc(), SINK_OF_THREE);
+    answer_twice(&rt, rt.alloc(), &mut machine);
 }
 
 /// Commits the counter's answer from one machine to the other, and then to the machine that asked.
-fn ask_one<R: Abort>(
-    rt: &R,
-    alloc: Global,
-    one: &mut CardMachine,
-    other: &mut CardMachine,
-) -> Result<(), AllocError> {
-    let finished = counter_answers(rt, alloc, one)?;
+fn ask_one<R: Abort>(rt: &R, alloc: Global, one: &mut CardMachine, other: &mut CardMachine) {
+    let finished = counter_answers(rt, alloc, one);
     let finished = refuse_fresh(rt, other, finished);
     accept_first(rt, one, finished);
-    Ok(())
 }
 
 /// The counter's answer from one machine is committed to the other while its counter is not out: it is
 /// handed back, and then accepted by the machine that asked for it.
 #[test]
-fn an_answer_of_another_machine_is_handed_back(rt: HostRuntime) -> Result<(), Fail> {
-    let mut one = machine_of(&rt, rt.alloc(), SINK_OF_THREE)?;
-    let mut other = machine_of(&rt, rt.alloc(), SINK_OF_THREE)?;
-    ask_one(&rt, rt.alloc(), &mut one, &mut other)?;
-    Ok(())
+fn an_answer_of_another_machine_is_handed_back(rt: HostRuntime) {
+    let mut one = machine_of(&rt, rt.alloc(), SINK_OF_THREE);
+    let mut other = machine_of(&rt, rt.alloc(), SINK_OF_THREE);
+    ask_one(&rt, rt.alloc(), &mut one, &mut other);
 }
 
 /// Commits what the counter answers after its first token, which has to wait.
-fn park_second<R: Abort>(
-    rt: &R,
-    alloc: Global,
-    machine: &mut CardMachine,
-) -> Result<(), AllocError> {
-    let mut tasks = Vec::with_capacity(alloc, 2)?;
-    let outcome = commit_of(rt, machine, &mut tasks, 0)?;
+fn park_second<R: Abort>(rt: &R, alloc: Global, machine: &mut CardMachine) {
+    let mut tasks = Vec::new(alloc);
+    let outcome = commit_of(rt, machine, &mut tasks, 0);
     same(rt, "outcome", outcome, Parked(0));
-    Ok(())
 }
 
 /// Commits to the second machine the counter's answer from the first, and then its own.
-fn ask_both<R: Abort>(
-    rt: &R,
-    alloc: Global,
-    one: &mut CardMachine,
-    other: &mut CardMachine,
-) -> Result<(), AllocError> {
-    let finished = counter_answers(rt, alloc, one)?;
-    let own = counter_answers(rt, alloc, other)?;
+fn ask_both<R: Abort>(rt: &R, alloc: Global, one: &mut CardMachine, other: &mut CardMachine) {
+    let finished = counter_answers(rt, alloc, one);
+    let own = counter_answers(rt, alloc, other);
     accept_first(rt, other, finished);
     refuse_again(rt, other, own);
-    park_second(rt, alloc, other)
+    park_second(rt, alloc, other);
 }
 
 /// If both machines ask the same, the answer from one is as good as the answer from the other; the one
 /// that comes second is handed back.
 #[test]
-fn an_answer_to_the_same_question_is_taken_once(rt: HostRuntime) -> Result<(), Fail> {
-    let mut one = machine_of(&rt, rt.alloc(), SINK_OF_THREE)?;
-    let mut other = machine_of(&rt, rt.alloc(), SINK_OF_THREE)?;
-    ask_both(&rt, rt.alloc(), &mut one, &mut other)?;
-    Ok(())
+fn an_answer_to_the_same_question_is_taken_once(rt: HostRuntime) {
+    let mut one = machine_of(&rt, rt.alloc(), SINK_OF_THREE);
+    let mut other = machine_of(&rt, rt.alloc(), SINK_OF_THREE);
+    ask_both(&rt, rt.alloc(), &mut one, &mut other);
 }
 
 /// Commits the counter's first answer, which was asked for, at once.
@@ -210,9 +181,8 @@ fn take_at_once<R: Abort>(rt: &R, machine: &mut CardMachine, finished: CardFinis
 /// The counter's first answer is taken without being compared again, since the machine said that it had
 /// asked for it.
 #[test]
-fn an_answer_that_was_asked_for_is_taken_at_once(rt: HostRuntime) -> Result<(), Fail> {
-    let mut machine = machine_of(&rt, rt.alloc(), SINK_OF_THREE)?;
-    let finished = counter_answers(&rt, rt.alloc(), &mut machine)?;
+fn an_answer_that_was_asked_for_is_taken_at_once(rt: HostRuntime) {
+    let mut machine = machine_of(&rt, rt.alloc(), SINK_OF_THREE);
+    let finished = counter_answers(&rt, rt.alloc(), &mut machine);
     take_at_once(&rt, &mut machine, finished);
-    Ok(())
 }
