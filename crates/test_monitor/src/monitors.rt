@@ -1,6 +1,7 @@
 //! Calls of a monitor, with only such contracts as the scenes need.
 ghost use Rattle.std.specs.Prelude.{◌≡◌};
 
+use crate::checks::same;
 use crate::networks::{Parts, parts_of};
 use kpn_body::{Body, Finished, Standard, Task};
 use kpn_compute::CardBody;
@@ -112,22 +113,14 @@ pub(crate) fn handed_back<B: Body, E: EntryLedger, O: Ledger, R: Wait + Abort>(
     finished
 }
 
-/// Works alone to the end of the run; no answer may be refused.
+/// Works with one seat to the end of the run; no answer may be refused.
 pub(crate) fn work_alone<B: Body, E: EntryLedger, O: Ledger, R: Wait + Abort>(
     rt: &R,
     monitor: &Monitor<B, E, O>,
     seat: Seat<E, O>,
 ) -> Seat<E, O> {
-    seat_of(rt, work(rt, monitor, seat, &Open))
-}
-
-/// The seat of a worker whose answers were all taken.
-pub(crate) fn seat_of<B: Body, E: EntryLedger, O: Ledger, R: Abort>(
-    rt: &R,
-    worked: Worked<B, E, O>,
-) -> Seat<E, O> {
-    let Worked { seat, stranger } = worked;
-    assert!(rt; stranger.is_none());
+    let Worked { seat, stranger } = work(rt, monitor, seat, &Open);
+    same(rt, "refused", stranger.is_some(), false);
     seat
 }
 

@@ -62,17 +62,27 @@ fn machine_again<B: Body, R: Abort>(
 ) -> (Machine<B>, Refused)
     ensures { IsFresh result.0 }
 {
-    let refused = match Machine::open(alloc, net, bodies) {
-        Ok(machine) => return (machine, Refused::Nothing),
-        Err(refused) => refused,
-    };
+    match Machine::open(alloc, net, bodies) {
+        Ok(machine) => (machine, Refused::Nothing),
+        Err(refused) => (open_refused_parts(rt, alloc, refused), Refused::Machine),
+    }
+}
+
+/// Opens a machine of a counter and a sink with what was handed back.
+fn open_refused_parts<B: Body, R: Abort>(
+    rt: &R,
+    alloc: Global,
+    refused: OpenRefused<B>,
+) -> Machine<B>
+    ensures { IsFresh result }
+{
     let OpenRefused { net, bodies, fault } = refused;
     let found = (fault, net.processes(), bodies.len());
     same(rt, "refused", found, (OpenFault::Memory, 2, 2));
     let Ok(machine) = Machine::open(alloc, net, bodies) else {
         panic!(rt; "refused again");
     };
-    (machine, Refused::Machine)
+    machine
 }
 
 /// Puts a machine under a lock, and tries again with the machine that was handed back if memory was
@@ -84,15 +94,21 @@ fn opening_again<B: Body, R: Abort>(
 ) -> (Opening<B>, Refused)
     requires { IsFresh machine }
 {
-    let machine = match Opening::new(alloc, machine) {
-        Ok(opening) => return (opening, Refused::Nothing),
-        Err(machine) => machine,
-    };
+    match Opening::new(alloc, machine) {
+        Ok(opening) => (opening, Refused::Nothing),
+        Err(machine) => (open_refused_machine(rt, alloc, machine), Refused::Opening),
+    }
+}
+
+/// Puts the machine that was handed back under a lock.
+fn open_refused_machine<B: Body, R: Abort>(rt: &R, alloc: Global, machine: Machine<B>) -> Opening<B>
+    requires { IsFresh machine }
+{
     same(rt, "fresh", machine.is_fresh(), true);
     let Ok(opening) = Opening::new(alloc, machine) else {
         panic!(rt; "refused again");
     };
-    (opening, Refused::Opening)
+    opening
 }
 
 /// Works alone to the end of a counter of three into a sink of one, and looks at the result.

@@ -7,13 +7,12 @@ ghost use Rattle.std.specs.Prelude.{◌≡◌, ◌<◌, ◌++◌, ◌∷◌, [],
 use crate::checks::same;
 use crate::exchanges::exchanged;
 use crate::monitors::{
-    Ended, close_alone, close_with, ended_of, list_of, next_task, opening_of, outcome_of, seat_of,
-    seen_by, shown_to, two_seats, watcher_of, work_alone,
+    Ended, close_alone, close_with, ended_of, list_of, next_task, opening_of, outcome_of, seen_by,
+    shown_to, two_seats, watcher_of, work_alone,
 };
 use kpn_body::Body;
 use kpn_monitor::{CloseFault, Closed, EntryLedger, Monitor, Opening, Seat, Unclosed};
 use kpn_net::{End, Kinds};
-use kpn_run::{Open, Worked, work};
 use kpn_watch::{Phase, Progress, Watcher};
 use std::alloc::Global;
 use std::marker::Brand;
@@ -115,19 +114,22 @@ fn looks<B: Body, E: EntryLedger, O: Ledger>(
     (rising, watcher)
 }
 
-type Pair<B, E, O> = (Worked<B, E, O>, Worked<B, E, O>);
-
-/// Two seats work in threads of their own.
+/// Two seats work in threads of their own; no answer may be refused.
 fn work_in_two<
     B: Body,
     E: EntryLedger + Send + Sync,
     O: Ledger + Send + Sync,
-    R: Threads + Wait + Sync,
->(rt: &R, monitor: &Monitor<B, E, O>, one: Seat<E, O>, other: Seat<E, O>) -> Pair<B, E, O> {
+    R: Threads + Wait + Abort + Sync,
+>(
+    rt: &R,
+    monitor: &Monitor<B, E, O>,
+    one: Seat<E, O>,
+    other: Seat<E, O>,
+) -> (Seat<E, O>, Seat<E, O>) {
     join(
         rt,
-        || work(rt, monitor, one, &Open),
-        || work(rt, monitor, other, &Open),
+        || work_alone(rt, monitor, one),
+        || work_alone(rt, monitor, other),
     )
 }
 
@@ -158,7 +160,7 @@ fn work_watched<
     let (rising, watcher) = looked;
     same(rt, "rising", rising, true);
     let (one, other) = worked;
-    (seat_of(rt, one), seat_of(rt, other), watcher)
+    (one, other, watcher)
 }
 
 fn watched<
@@ -185,10 +187,10 @@ fn not_closed<B: Body, E: EntryLedger, O: Ledger, R: Abort>(
     monitor: Monitor<B, E, O>,
     seats: Vec<Seat<E, O>>,
 ) -> Unclosed<B, E, O> {
-    let Err(unclosed) = monitor.close(seats) else {
-        panic!(rt; "closed without a seat");
-    };
-    unclosed
+    monitor
+        .close(seats)
+        .err()
+        .expect(rt, "closed without a seat")
 }
 
 fn missing_seat<B: Body, E: EntryLedger, O: Ledger, R: Wait + Abort>(
@@ -242,19 +244,19 @@ fn has_no_end<R: Abort>(rt: &R, ended: Ended, dropped: bool) {
     same(rt, "ended", found, (None, receipts, receipts));
 }
 
-/// Makes 64 watchers, and returns whether the next would be one too many.
+/// Makes 64 watchers.
 fn watch_all<B: Body, E: EntryLedger, O: Ledger, R: Wait + Abort>(
     rt: &R,
+    alloc: Global,
     monitor: &Monitor<B, E, O>,
-    watchers: &mut Vec<Watcher>,
-) -> bool
-    requires { watchers.old.items ≡ [] }
-    ensures { All (λ w. w.board ≡ E.board) watchers.new.items }
+) -> Vec<Watcher>
+    ensures { All (λ w. w.board ≡ E.board) result.items }
 {
+    let mut watchers = Vec::new(alloc);
     for _ in 0..64 {
-        keep(rt, watchers, watcher_of(rt, monitor));
+        keep(rt, &mut watchers, watcher_of(rt, monitor));
     }
-    monitor.watch(rt).is_err()
+    watchers
 }
 
 /// Adds a watcher to a list, for which there must be memory.
@@ -304,8 +306,8 @@ fn looking_watchers<B: Body, E: EntryLedger, O: Ledger, R: Wait + Abort>(
 ) -> Vec<Watcher>
     ensures { All (λ w. w.board ≡ E.board) result.items }
 {
-    let mut watchers = Vec::new(alloc);
-    let full = watch_all(rt, monitor, &mut watchers);
+    let watchers = watch_all(rt, alloc, monitor);
+    let full = monitor.watch(rt).is_err();
     same(rt, "watchers", (full, watchers.len()), (true, 64));
     let mut looked = Vec::new(alloc);
     all_look(rt, monitor, watchers, &mut looked);

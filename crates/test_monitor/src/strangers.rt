@@ -51,27 +51,39 @@ fn refuse<B: Body, E: EntryLedger, O: Ledger, R: Wait + Abort>(
 ) -> Finished<B> {
     let finished = handed_back(rt, &monitor, finished, &mut seat);
     let closed = close_alone(rt, alloc, monitor, seat);
-    same(rt, "ended", ended_of(&closed), not_ended(0));
+    same(rt, "ended", ended_of(&closed), NOTHING_DONE);
     finished
 }
 
-fn running(entries: u32) -> Progress {
-    Progress {
-        entries,
-        growths: 0,
-        phase: Phase::Running,
-    }
-}
+/// What a watcher is shown before the first entry.
+const NOTHING_SEEN: Progress = Progress {
+    entries: 0,
+    growths: 0,
+    phase: Phase::Running,
+};
 
-/// The result of a monitor that is closed after this number of entries, before the end.
-fn not_ended(entries: u32) -> Ended {
-    Ended {
-        end: None,
-        receipts: entries as u64,
-        entries: entries as usize,
-        processes: 2,
-    }
-}
+/// What a watcher is shown after one entry.
+const ONE_SEEN: Progress = Progress {
+    entries: 1,
+    growths: 0,
+    phase: Phase::Running,
+};
+
+/// The result of a monitor that is closed before the first entry.
+const NOTHING_DONE: Ended = Ended {
+    end: None,
+    receipts: 0,
+    entries: 0,
+    processes: 2,
+};
+
+/// The result of a monitor that is closed after one entry, before the end.
+const ONE_DONE: Ended = Ended {
+    end: None,
+    receipts: 1,
+    entries: 1,
+    processes: 2,
+};
 
 /// Commits the counter's first answer, which a watcher sees.
 fn commit_first<B: Body, E: EntryLedger, O: Ledger, R: Wait + Abort>(
@@ -90,7 +102,7 @@ fn commit_first<B: Body, E: EntryLedger, O: Ledger, R: Wait + Abort>(
         rt,
         "committed",
         (outcome, seen),
-        (Outcome::Done(1), running(1)),
+        (Outcome::Done(1), ONE_SEEN),
     );
 }
 
@@ -105,8 +117,8 @@ fn close_after_one<B: Body, E: EntryLedger, O: Ledger, R: Abort>(
     requires { watcher.board ≡ E.board }
 {
     let mut closed = close_alone(rt, alloc, monitor, seat);
-    same(rt, "ended", ended_of(&closed), not_ended(1));
-    same(rt, "shown", shown_to(&mut closed, watcher), running(1));
+    same(rt, "ended", ended_of(&closed), ONE_DONE);
+    same(rt, "shown", shown_to(&mut closed, watcher), ONE_SEEN);
 }
 
 /// The counter's answer from one monitor is committed to the other while its counter isn't out: it is
@@ -131,7 +143,7 @@ fn stranger_between<B: Body, E: EntryLedger, O: Ledger, F: EntryLedger, P: Ledge
     let mut watcher = watcher_of(rt, &monitor);
     let finished = counter_answers(rt, &monitor, &mut seat);
     let finished = refuse(rt, alloc, other, other_seat, finished);
-    same(rt, "seen", seen_by(&monitor, &mut watcher), running(0));
+    same(rt, "seen", seen_by(&monitor, &mut watcher), NOTHING_SEEN);
     commit_first(rt, &monitor, &mut seat, &mut watcher, finished);
     close_after_one(rt, alloc, monitor, seat, watcher)
 }
@@ -169,7 +181,7 @@ fn refuse_again<B: Body, E: EntryLedger, O: Ledger, R: Wait + Abort>(
     let finished = handed_back(rt, monitor, finished, seat);
     let input = (finished.process(), finished.local(), finished.last());
     same(rt, "input", input, (0, [0, 0, 0, 0], None));
-    same(rt, "seen", seen_by(monitor, watcher), running(1));
+    same(rt, "seen", seen_by(monitor, watcher), ONE_SEEN);
     finished
 }
 
@@ -217,7 +229,7 @@ fn refuse_while_out<B: Body, E: EntryLedger, O: Ledger, R: Wait + Abort>(
         rt,
         "committed",
         (outcome, seen),
-        (Outcome::Parked(0), running(1)),
+        (Outcome::Parked(0), ONE_SEEN),
     );
 }
 
