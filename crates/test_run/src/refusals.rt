@@ -4,13 +4,13 @@
 //! tried again with what was handed back, and succeeds.
 use crate::checks::same;
 use crate::due::{WOVEN_ENDS, compare};
-use crate::runs::{Refusal, handed_back};
+use crate::runs::{Refusal, finish_of, handed_back};
 use kpn_body::{Body, Standard};
 use kpn_compute::bodies_of;
 use kpn_front::load::load;
 use kpn_net::{End, Entry, Kinds, Net, NetFault, Token};
 use kpn_report::Report;
-use kpn_run::{Finish, Open, report, run, stream_of};
+use kpn_run::{Finish, Open, RunFault, report, run, stream_of};
 use std::alloc::{AllocError, Global};
 use std::process::Abort;
 use std::rt::Clock;
@@ -71,17 +71,28 @@ fn finish_again<B: Body, R: Threads + Wait + Clock + Abort + Sync>(
     bodies: Vec<B>,
     workers: usize,
 ) -> (Finish<B::Kinds>, Refused) {
-    let fault = match run(rt, alloc, net, bodies, workers, &Open) {
-        Ok(finish) => return (finish, Refused::Nothing),
-        Err(fault) => fault,
-    };
+    match run(rt, alloc, net, bodies, workers, &Open) {
+        Ok(finish) => (finish, Refused::Nothing),
+        Err(fault) => (finish_at_last(rt, alloc, fault, workers), Refused::Run),
+    }
+}
+
+/// Runs Parks's case with what was handed back when memory was refused.
+fn finish_at_last<B: Body, R: Threads + Wait + Clock + Abort + Sync>(
+    rt: &R,
+    alloc: Global,
+    fault: RunFault<B>,
+    workers: usize,
+) -> Finish<B::Kinds> {
     let (net, bodies, refusal) = handed_back(rt, fault);
     let found = (refusal, net.processes(), bodies.len());
     same(rt, "refused", found, (Refusal::Memory, 4, 4));
-    let Ok(finish) = run(rt, alloc, net, bodies, workers, &Open) else {
-        panic!(rt; "refused again");
-    };
-    (finish, Refused::Run)
+    finish_of(rt, alloc, net, bodies, workers, &Open)
+}
+
+/// A report, unless memory was refused.
+fn report_if_any<K: Kinds>(alloc: Global, finish: &Finish<K>) -> Option<Report> {
+    report(alloc, finish).ok()
 }
 
 /// Makes a report, and tries again if memory was refused.
@@ -90,12 +101,12 @@ fn report_again<K: Kinds, R: Abort>(
     alloc: Global,
     finish: &Finish<K>,
 ) -> (Report, Refused) {
-    match report(alloc, finish) {
-        Ok(report) => (report, Refused::Nothing),
-        Err(_) => (
-            report(alloc, finish).expect(rt, "refused again"),
-            Refused::Report,
-        ),
+    match report_if_any(alloc, finish) {
+        Some(report) => (report, Refused::Nothing),
+        None => {
+            let report = report_if_any(alloc, finish).expect(rt, "refused again");
+            (report, Refused::Report)
+        }
     }
 }
 
