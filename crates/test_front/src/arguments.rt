@@ -1,20 +1,24 @@
 //! Command lines, and what they ask for.
+use crate::checks::same;
 use clap::error::ErrorKind;
 use kpn_args::{Choice, WordsFault, read_words};
 use std::alloc::{AllocError, Global};
-use std::test::Fail;
+use std::process::Abort;
 
 /// What the arguments ask for, as a text.
-fn asked_for(alloc: Global, words: &[&str]) -> Result<String, AllocError> {
-    match read_words(alloc, words) {
-        Ok(Choice::Check) => format!(in alloc; "check"),
+fn asked_for<R: Abort>(rt: &R, alloc: Global, words: &[&str]) -> String {
+    let text = match read_words(alloc, words) {
+        Ok(Choice::Check) => String::from_str(alloc, "check"),
         Ok(Choice::Run { workers, show }) => format!(in alloc; "{workers} {}", show.unwrap_or("-")),
-        Err(fault) => format!(in alloc;
-            "{} {}",
-            fault.status().code(),
-            matches!(fault, WordsFault::Workers)
-        ),
-    }
+        Err(fault) => refused_text(alloc, &fault),
+    };
+    text.expect(rt, "no memory")
+}
+
+/// The exit status, and whether it is because of the number of workers.
+fn refused_text(alloc: Global, fault: &WordsFault) -> Result<String, AllocError> {
+    let is_of_workers = matches!(fault, WordsFault::Workers);
+    format!(in alloc; "{} {is_of_workers}", fault.status().code())
 }
 
 /// Command lines, and what they ask for: a check; a run by a number of workers that shows a channel; or
@@ -45,25 +49,29 @@ static WORDS: [(&str, &str); 23] = [
     ("kpn --version", "0 false"),
 ];
 
-#[test]
-fn reads_command_lines(rt: HostRuntime) -> Result<(), Fail> {
-    let alloc = rt.alloc();
-    for (line, answer) in WORDS {
-        let words: Vec<&str> = line.split(' ').collect(alloc)?;
-        let found = asked_for(alloc, words.as_slice())?;
-        assert!(rt; found.as_str() == answer, "{line}: {found}");
-    }
-    Ok(())
+/// Compares what a command line asks for.
+fn compare_words<R: Abort>(rt: &R, alloc: Global, line: &str, answer: &str) {
+    let words: Vec<&str> = line.split(' ').collect(alloc).expect(rt, "no memory");
+    let found = asked_for(rt, alloc, words.as_slice());
+    same(rt, line, found.as_str(), answer);
 }
 
 #[test]
-fn says_how_many_workers(rt: HostRuntime) -> Result<(), Fail> {
-    let text = WordsFault::Workers.to_string(rt.alloc())?;
+fn reads_command_lines(rt: HostRuntime) {
+    for (line, answer) in &WORDS {
+        compare_words(&rt, rt.alloc(), line, answer);
+    }
+}
+
+#[test]
+fn says_how_many_workers(rt: HostRuntime) {
+    let text = WordsFault::Workers
+        .to_string(rt.alloc())
+        .expect(&rt, "no memory");
     assert!(rt;
         text.as_str()
             .starts_with("error: --workers takes a number from 1 to 16\n")
     );
-    Ok(())
 }
 
 /// If memory is refused, that is the fault, and nothing else changes: to be run with each allocation

@@ -2,16 +2,17 @@
 ghost use Rattle.std.specs.Prelude.{◌≡◌, ◌<◌, ◌+◌, ◌^◌, ◌==◌, ◌&&◌, nat_lt, if◌then◌else◌, codes, [], ◌∷◌, Option, Some, None, slice_index};
 ghost use Rattle.std.specs.Str.{bytes_eq};
 
+use crate::checks::same;
 use kpn_front::Status;
 use kpn_front::load::{Refused, load, load_or_refuse};
 use kpn_front::say::{say_checked, say_lost, say_refused};
-use kpn_front::streams::Fallible;
+use kpn_front::streams::{Fallible, Source};
 use kpn_net::{Act, Answer, Card, Kinds, Local, Net, NetFault, Signature, Sort, Token};
-use std::alloc::{AllocError, Global};
+use std::alloc::Global;
 use std::fmt::Write as _;
 use std::io;
 use std::io::{Read, Write};
-use std::test::Fail;
+use std::process::Abort;
 
 /// A counter and a sink, with their names, arguments and ports. What they do doesn't matter here: each
 /// stops at once.
@@ -87,11 +88,21 @@ capacity = 1
 /// The number of the fault of a text, or 0 if it is accepted.
 fn number_of(alloc: Global, text: &[u8]) -> u8 {
     let mut source = text;
-    let net: Result<Net<CountAndSink>, NetFault> = load(alloc, &mut source);
+    number_from(alloc, &mut source)
+}
+
+/// The number of the fault of what a source gives, or 0 if it is accepted.
+fn number_from<S: Source>(alloc: Global, source: &mut S) -> u8 {
+    let net: Result<Net<CountAndSink>, NetFault> = load(alloc, source);
     match net {
         Ok(_) => 0,
         Err(fault) => fault.number(),
     }
+}
+
+/// A text in which a part is replaced.
+fn edited<R: Abort>(rt: &R, alloc: Global, text: &str, old: &str, new: &str) -> String {
+    text.replace(alloc, old, new).expect(rt, "no memory")
 }
 
 /// Edits of the counter's text: a part, what takes its place, and the number of the fault.
@@ -151,18 +162,30 @@ static EDITS: [(&str, &str, u8); 41] = [
     ("version = 1", "version = 1\nbudget = -1", 13),
 ];
 
+/// Compares the number of the fault of the counter's text with an edit.
+fn compare_edit<R: Abort>(rt: &R, alloc: Global, old: &str, new: &str, number: u8) {
+    let text = edited(rt, alloc, COUNTER, old, new);
+    let found = number_of(alloc, text.as_bytes());
+    same(rt, old, (new, found), (new, number));
+}
+
 #[test]
-fn refuses_edits_by_number(rt: HostRuntime) -> Result<(), Fail> {
-    let alloc = rt.alloc();
-    for (old, new, number) in EDITS {
-        let text = COUNTER.replace(alloc, old, new)?;
-        assert_eq!(rt; number_of(alloc, text.as_bytes()), number, "{old} to {new}");
+fn refuses_edits_by_number(rt: HostRuntime) {
+    for (old, new, number) in &EDITS {
+        compare_edit(&rt, rt.alloc(), old, new, *number);
     }
-    Ok(())
 }
 
 /// Pairs of such edits, with the number of the fault of the one, of the other and of both.
-static PAIRS: [(&str, &str, &str, &str, [u8; 3]); 11] = [
+type Pair = (
+    &'static str,
+    &'static str,
+    &'static str,
+    &'static str,
+    [u8; 3],
+);
+
+static PAIRS: [Pair; 11] = [
     (
         "capacity = 1",
         "capacity = 0",
@@ -224,21 +247,25 @@ static PAIRS: [(&str, &str, &str, &str, [u8; 3]); 11] = [
     ),
 ];
 
+/// Compares the numbers of the faults of the counter's text with one edit, with the other and with both.
+fn compare_pair<R: Abort>(rt: &R, alloc: Global, pair: &Pair) {
+    let (old, new, other, instead, numbers) = *pair;
+    let one = edited(rt, alloc, COUNTER, old, new);
+    let another = edited(rt, alloc, COUNTER, other, instead);
+    let both = edited(rt, alloc, another.as_str(), old, new);
+    let found = [
+        number_of(alloc, one.as_bytes()),
+        number_of(alloc, another.as_bytes()),
+        number_of(alloc, both.as_bytes()),
+    ];
+    same(rt, new, (instead, found), (instead, numbers));
+}
+
 #[test]
-fn finds_the_fault_of_least_number(rt: HostRuntime) -> Result<(), Fail> {
-    let alloc = rt.alloc();
-    for (old, new, other, instead, numbers) in PAIRS {
-        let one = COUNTER.replace(alloc, old, new)?;
-        let another = COUNTER.replace(alloc, other, instead)?;
-        let both = another.as_str().replace(alloc, old, new)?;
-        let found = [
-            number_of(alloc, one.as_bytes()),
-            number_of(alloc, another.as_bytes()),
-            number_of(alloc, both.as_bytes()),
-        ];
-        assert_eq!(rt; found, numbers, "{new} and {instead}");
+fn finds_the_fault_of_least_number(rt: HostRuntime) {
+    for pair in &PAIRS {
+        compare_pair(&rt, rt.alloc(), pair);
     }
-    Ok(())
 }
 
 /// Whole texts, each with the number of its fault.
@@ -248,34 +275,41 @@ static TEXTS: [(&str, u8); 3] = [
     ("version = 1\n[[process]]\nname = \"sr", 1),
 ];
 
+/// A text of 1000 brackets that are open.
+fn open_brackets<R: Abort>(rt: &R, alloc: Global) -> String {
+    let brackets = "[".repeat(alloc, 1000).expect(rt, "no memory");
+    format!(in alloc; "version = {brackets}").expect(rt, "no memory")
+}
+
 #[test]
-fn refuses_texts_by_number(rt: HostRuntime) -> Result<(), Fail> {
+fn refuses_texts_by_number(rt: HostRuntime) {
     let alloc = rt.alloc();
-    for (text, number) in TEXTS {
-        assert_eq!(rt; number_of(alloc, text.as_bytes()), number);
+    for (text, number) in &TEXTS {
+        same(&rt, text, number_of(alloc, text.as_bytes()), *number);
     }
-    assert_eq!(rt; number_of(alloc, &[0xff]), 1);
-    let brackets = format!(in alloc; "version = {}", "[".repeat(alloc, 1000)?)?;
-    assert_eq!(rt; number_of(alloc, brackets.as_bytes()), 1);
-    Ok(())
+    same(&rt, "no text", number_of(alloc, &[0xff]), 1);
+    let brackets = open_brackets(&rt, alloc);
+    same(&rt, "brackets", number_of(alloc, brackets.as_bytes()), 1);
 }
 
 /// The text of a network of `sinks` sinks, and `channels` channels from the first sink to itself.
-fn text_of(alloc: Global, sinks: u16, channels: u16) -> Result<String, AllocError> {
-    let mut text = String::from_str(alloc, "version = 1\n")?;
+fn text_of<R: Abort>(rt: &R, alloc: Global, sinks: u16, channels: u16) -> String {
+    let mut text = String::from_str(alloc, "version = 1\n").expect(rt, "no memory");
     for i in 0..sinks {
         write!(
             text,
             "[[process]]\nname = \"p{i}\"\nkind = \"sink\"\nargs = [1]\n"
-        )?;
+        )
+        .expect(rt, "no memory");
     }
     for i in 0..channels {
         write!(
             text,
             "[[channel]]\nname = \"c{i}\"\nfrom = \"p0\"\nto = \"p0\"\n"
-        )?;
+        )
+        .expect(rt, "no memory");
     }
-    Ok(text)
+    text
 }
 
 /// Numbers of processes and of channels on both sides of the limits. If they are within the limits, the
@@ -288,43 +322,58 @@ static COUNTS: [(u16, u16, u8); 5] = [
     (1, 257, 4),
 ];
 
-#[test]
-fn counts_processes_and_channels(rt: HostRuntime) -> Result<(), Fail> {
-    let alloc = rt.alloc();
-    for (sinks, channels, number) in COUNTS {
-        let text = text_of(alloc, sinks, channels)?;
-        assert_eq!(rt;
-            number_of(alloc, text.as_bytes()),
-            number,
-            "{sinks} and {channels}"
-        );
-    }
-    Ok(())
+/// Compares the number of the fault of a text with so many sinks and channels.
+fn compare_count<R: Abort>(rt: &R, alloc: Global, sinks: u16, channels: u16, number: u8) {
+    let text = text_of(rt, alloc, sinks, channels);
+    let found = number_of(alloc, text.as_bytes());
+    same(
+        rt,
+        "counts",
+        (sinks, channels, found),
+        (sinks, channels, number),
+    );
 }
 
 #[test]
-fn reads_up_to_a_limit(rt: HostRuntime) -> Result<(), Fail> {
-    let alloc = rt.alloc();
-    for (length, number) in [(1048576usize, 0), (1048577, 15)] {
-        let filling = "\n".repeat(alloc, length.saturating_sub(COUNTER.len()))?;
-        let text = format!(in alloc; "{COUNTER}{filling}")?;
-        assert_eq!(rt; text.len(), length);
-        assert_eq!(rt; number_of(alloc, text.as_bytes()), number);
+fn counts_processes_and_channels(rt: HostRuntime) {
+    for (sinks, channels, number) in &COUNTS {
+        compare_count(&rt, rt.alloc(), *sinks, *channels, *number);
     }
-    Ok(())
+}
+
+/// The counter's text, filled up to `length` bytes with line feeds at its end.
+fn filled<R: Abort>(rt: &R, alloc: Global, length: usize) -> String {
+    let filling = "\n".repeat(alloc, length.saturating_sub(COUNTER.len()));
+    let filling = filling.expect(rt, "no memory");
+    format!(in alloc; "{COUNTER}{filling}").expect(rt, "no memory")
+}
+
+/// Compares the number of the fault of the counter's text, filled up to this length.
+fn compare_filled<R: Abort>(rt: &R, alloc: Global, length: usize, number: u8) {
+    let text = filled(rt, alloc, length);
+    let found = (text.len(), number_of(alloc, text.as_bytes()));
+    same(rt, "filled", found, (length, number));
 }
 
 #[test]
-fn refuses_every_beginning(rt: HostRuntime) -> Result<(), Fail> {
-    let alloc = rt.alloc();
-    let whole = COUNTER.replace(alloc, "capacity = 1\n", "")?;
-    let bytes = whole.as_bytes();
+fn reads_up_to_a_limit(rt: HostRuntime) {
+    compare_filled(&rt, rt.alloc(), 1048576, 0);
+    compare_filled(&rt, rt.alloc(), 1048577, 15);
+}
+
+/// Compares whether each beginning of a text is refused: each that lacks more than the last byte is.
+fn compare_beginnings<R: Abort>(rt: &R, alloc: Global, bytes: &[u8]) {
     for n in 0..bytes.len() {
         let is_refused = number_of(alloc, &bytes[..n]) != 0;
-        assert_eq!(rt; is_refused, n + 1 < bytes.len(), "at {n}");
+        same(rt, "beginning", (n, is_refused), (n, n + 1 < bytes.len()));
     }
-    assert_eq!(rt; number_of(alloc, bytes), 0);
-    Ok(())
+    same(rt, "whole", number_of(alloc, bytes), 0);
+}
+
+#[test]
+fn refuses_every_beginning(rt: HostRuntime) {
+    let whole = edited(&rt, rt.alloc(), COUNTER, "capacity = 1\n", "");
+    compare_beginnings(&rt, rt.alloc(), whole.as_bytes());
 }
 
 /// Gives or takes one byte a call, and fails after a number of calls: from then on, or just once.
@@ -367,77 +416,91 @@ impl<'a> Write for Failing<'a> {
     }
 }
 
-#[test]
-fn meets_failures_in_mid_stream(rt: HostRuntime) -> Result<(), Fail> {
-    let alloc = rt.alloc();
-    for (before, number) in [
-        (0, 15),
-        (10, 15),
-        (COUNTER.len(), 15),
-        (COUNTER.len() + 1, 0),
-    ] {
-        for fails_once in [false, true] {
-            let mut source = Fallible::new(Failing {
-                bytes: COUNTER.as_bytes(),
-                before,
-                fails_once,
-            });
-            let net: Result<Net<CountAndSink>, NetFault> = load(alloc, &mut source);
-            assert_eq!(rt;
-                net.err().map_or(0, |fault| fault.number()),
-                number,
-                "at {before}"
-            );
-        }
-    }
-    for (before, status) in [(0, 7), (10, 7), (11, 4)] {
-        let mut sink = Fallible::new(Failing {
-            bytes: b"",
-            before,
-            fails_once: false,
-        });
-        assert_eq!(rt;
-            say_refused(&NetFault::Memory, &mut sink).code(),
-            status,
-            "at {before}"
-        );
-    }
-    Ok(())
+/// After how many calls reading the counter's text fails, and the number of the fault.
+static READS: [(usize, u8); 4] = [
+    (0, 15),
+    (10, 15),
+    (COUNTER.len(), 15),
+    (COUNTER.len() + 1, 0),
+];
+
+/// After how many calls writing the line of a refusal fails, and the exit status.
+static WRITES: [(usize, u8); 3] = [(0, 7), (10, 7), (11, 4)];
+
+/// Compares the number of the fault of the counter's text, read by a source that fails.
+fn compare_read<R: Abort>(rt: &R, alloc: Global, before: usize, fails_once: bool, number: u8) {
+    let mut source = Fallible::new(Failing {
+        bytes: COUNTER.as_bytes(),
+        before,
+        fails_once,
+    });
+    let found = number_from(alloc, &mut source);
+    same(rt, "read", (before, found), (before, number));
+}
+
+/// Compares the exit status after a refusal is written to a sink that fails.
+fn compare_write<R: Abort>(rt: &R, before: usize, status: u8) {
+    let mut sink = Fallible::new(Failing {
+        bytes: b"",
+        before,
+        fails_once: false,
+    });
+    let found = say_refused(&NetFault::Memory, &mut sink).code();
+    same(rt, "write", (before, found), (before, status));
 }
 
 #[test]
-fn statuses_have_numbers(rt: HostRuntime) -> Result<(), Fail> {
-    let statuses = [
-        (Status::Success, 0),
-        (Status::WrongArguments, 1),
-        (Status::Refused, 2),
-        (Status::BudgetSpent, 3),
-        (Status::MemoryRefused, 4),
-        (Status::Deadlocked, 5),
-        (Status::AtCeiling, 6),
-        (Status::WriteFailed, 7),
-        (Status::Lost, 8),
+fn meets_failures_in_mid_stream(rt: HostRuntime) {
+    for (before, number) in &READS {
+        compare_read(&rt, rt.alloc(), *before, false, *number);
+        compare_read(&rt, rt.alloc(), *before, true, *number);
+    }
+    for (before, status) in &WRITES {
+        compare_write(&rt, *before, *status);
+    }
+}
+
+#[test]
+fn statuses_have_numbers(rt: HostRuntime) {
+    let codes = [
+        Status::Success.code(),
+        Status::WrongArguments.code(),
+        Status::Refused.code(),
+        Status::BudgetSpent.code(),
+        Status::MemoryRefused.code(),
+        Status::Deadlocked.code(),
+        Status::AtCeiling.code(),
+        Status::WriteFailed.code(),
+        Status::Lost.code(),
     ];
-    for (status, code) in statuses {
-        assert_eq!(rt; status.code(), code);
-    }
-    Ok(())
+    same(&rt, "codes", codes, [0, 1, 2, 3, 4, 5, 6, 7, 8]);
+}
+
+/// What is written of a checked network, of two faults and of a lost answer.
+const LINES: &str = "ok 2 processes 1 channels\nrefused 14\nrefused 9\nlost\n";
+
+/// Writes each line, and compares the exit statuses and the lines.
+fn compare_lines<R: Abort>(rt: &R, net: &Net<CountAndSink>, out: &mut Vec<u8>) {
+    let codes = [
+        say_checked(net, out).code(),
+        say_refused(&NetFault::Memory, out).code(),
+        say_refused(&NetFault::Twice, out).code(),
+        say_lost(out).code(),
+    ];
+    same(rt, "codes", codes, [0, 4, 2, 8]);
+    same(rt, "lines", out.as_slice(), LINES.as_bytes());
+}
+
+fn counter<R: Abort>(rt: &R, alloc: Global) -> Net<CountAndSink> {
+    let mut source = COUNTER.as_bytes();
+    load(alloc, &mut source).expect(rt, "no network")
 }
 
 #[test]
-fn writes_lines(rt: HostRuntime) -> Result<(), Fail> {
-    let alloc = rt.alloc();
-    let mut source = COUNTER.as_bytes();
-    let net: Net<CountAndSink> = load(alloc, &mut source)?;
-    let mut out = Vec::new(alloc);
-    assert_eq!(rt; say_checked(&net, &mut out).code(), 0);
-    assert_eq!(rt; say_refused(&NetFault::Memory, &mut out).code(), 4);
-    assert_eq!(rt; say_refused(&NetFault::Twice, &mut out).code(), 2);
-    assert_eq!(rt; say_lost(&mut out).code(), 8);
-    assert!(rt;
-        out.as_slice() == "ok 2 processes 1 channels\nrefused 14\nrefused 9\nlost\n".as_bytes()
-    );
-    Ok(())
+fn writes_lines(rt: HostRuntime) {
+    let mut out = Vec::new(rt.alloc());
+    let net = counter(&rt, rt.alloc());
+    compare_lines(&rt, &net, &mut out);
 }
 
 /// If memory is refused, that is the fault, and nothing else changes: to be run with each allocation
@@ -448,17 +511,21 @@ fn answers_refused_memory_by_its_fault(rt: HostRuntime) {
     assert!(rt; number == 0 || number == 14, "{number}");
 }
 
-#[test]
-fn hands_back_a_refused_text(rt: HostRuntime) -> Result<(), Fail> {
-    let text = "version = 1\nprocess = []\n".as_bytes();
+/// Compares what is handed back of a text whose counts are wrong.
+fn compare_refused<R: Abort>(rt: &R, alloc: Global, text: &[u8]) {
     let mut source = text;
-    let loaded: Result<Net<CountAndSink>, Refused> = load_or_refuse(rt.alloc(), &mut source);
+    let loaded: Result<Net<CountAndSink>, Refused> = load_or_refuse(alloc, &mut source);
     match loaded {
-        Ok(_) => Err("accepted".into()),
+        Ok(_) => panic!(rt; "accepted"),
         Err(refused) => {
-            assert!(rt; refused.fault.number() == 4);
-            assert!(rt; refused.text.as_slice() == text);
-            Ok(())
+            let found = (refused.fault.number(), refused.text.as_slice());
+            same(rt, "refused", found, (4, text));
         }
     }
+}
+
+#[test]
+fn hands_back_a_refused_text(rt: HostRuntime) {
+    let text = "version = 1\nprocess = []\n".as_bytes();
+    compare_refused(&rt, rt.alloc(), text);
 }

@@ -5,6 +5,7 @@ ghost use Rattle.kpn_machine.specs.Opening.{cards_of};
 ghost use Rattle.kpn_standard.specs.Signatures.{signature};
 
 use crate::checks::same;
+use crate::rows::room;
 use crate::texts::COUNTER;
 use kpn_body::{Body, Task, answer};
 use kpn_execute::execute;
@@ -115,19 +116,19 @@ stream c0 1 2 3
 ];
 
 /// Runs the counter's network, and returns the exit status.
-fn executed<R: Threads + Wait + Clock + Sync>(
+fn executed<R: Threads + Wait + Clock + Abort + Sync>(
     rt: &R,
     alloc: Global,
-    show: &str,
+    row: &Shown,
     workers: usize,
     calls: &Arc<AtomicU64>,
     out: &mut Vec<u8>,
-) -> Result<u8, Fail>
+) -> u8
     requires { (1 ≤ workers) × (workers ≤ 16) }
 {
-    let net = network_of(alloc, COUNTER)?;
-    let bodies = bodies_of(alloc, &net, calls)?;
-    Ok(execute(rt, alloc, net, bodies, workers, Some(show), out).code())
+    let net = network_of(alloc, COUNTER).expect(rt, "no network");
+    let bodies = bodies_of(alloc, &net, calls).expect(rt, "no memory");
+    execute(rt, alloc, net, bodies, workers, Some(row.name), out).code()
 }
 
 /// Runs the counter's network, and compares what is written and how often the bodies are called.
@@ -136,26 +137,24 @@ fn tells_shown<R: Threads + Wait + Clock + Abort + Sync>(
     alloc: Global,
     row: &Shown,
     workers: usize,
-) -> Result<(), Fail>
+)
     requires { (1 ≤ workers) × (workers ≤ 16) }
 {
-    let count = Arc::new(alloc, AtomicU64::new(0))?;
-    let mut out = Vec::with_capacity(alloc, 1024)?;
-    let status = executed(rt, alloc, row.name, workers, &count, &mut out)?;
+    let count = Arc::new(alloc, AtomicU64::new(0)).expect(rt, "no memory");
+    let mut out = room(rt, alloc);
+    let status = executed(rt, alloc, row, workers, &count, &mut out);
     let calls = count.load(Ordering::SeqCst);
     same(rt, &(status, calls), &(row.status, row.calls), row.name);
     same(rt, &out.as_slice(), &row.lines.as_bytes(), row.name);
-    Ok(())
 }
 
 #[test]
-fn nothing_is_run_for_an_unknown_channel(rt: HostRuntime) -> Result<(), Fail> {
+fn nothing_is_run_for_an_unknown_channel(rt: HostRuntime) {
     for row in &SHOWN {
-        tells_shown(&rt, rt.alloc(), row, 1)?;
-        tells_shown(&rt, rt.alloc(), row, 2)?;
-        tells_shown(&rt, rt.alloc(), row, 16)?;
+        tells_shown(&rt, rt.alloc(), row, 1);
+        tells_shown(&rt, rt.alloc(), row, 2);
+        tells_shown(&rt, rt.alloc(), row, 16);
     }
-    Ok(())
 }
 
 #[test]

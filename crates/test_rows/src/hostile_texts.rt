@@ -1,22 +1,25 @@
 //! Texts that were not written to be run: the longest, the largest, and texts that are no description.
 use crate::checks::same;
-use crate::describing::{Description, Port};
-use crate::rows::{ALONE, Due, Lines, outcome_of_words, tells_text};
+use crate::describing::{Description, Port, numbered};
+use crate::rows::{ALONE, Due, Lines, outcome_of_words, room, tells_text};
 use crate::texts::COUNTER;
-use std::alloc::{AllocError, Global};
+use std::alloc::Global;
 use std::process::Abort;
 use std::rt::Clock;
 use std::sync::Wait;
-use std::test::Fail;
 use std::thread::Threads;
 
 /// How many bytes a description may have.
 const LONGEST: usize = 1_048_576;
 
 /// The counter's text, filled up to `length` bytes with line feeds at its end.
-fn filled(alloc: Global, length: usize) -> Result<String, AllocError> {
-    let filling = "\n".repeat(alloc, length.saturating_sub(COUNTER.len()))?;
-    format!(in alloc; "{COUNTER}{filling}")
+fn filled<R: Abort>(rt: &R, alloc: Global, length: usize) -> String {
+    let filling = repeated(rt, alloc, "\n", length.saturating_sub(COUNTER.len()));
+    format!(in alloc; "{COUNTER}{filling}").expect(rt, "no memory")
+}
+
+fn repeated<R: Abort>(rt: &R, alloc: Global, text: &str, times: usize) -> String {
+    text.repeat(alloc, times).expect(rt, "no memory")
 }
 
 const COUNTED: &str = "end terminated
@@ -26,19 +29,22 @@ channel c0 put 3 left 0 capacity 1
 entries 8
 ";
 
+/// What is written of the longest text.
+const COUNTED_DUE: Due<'static> = Due {
+    status: 0,
+    lines: Lines::All(COUNTED),
+};
+
+/// What is written of a text that is longer.
+const TOO_LONG: Due<'static> = Due {
+    status: 2,
+    lines: Lines::All("refused 15\n"),
+};
+
 #[test]
-fn the_longest_text_runs(rt: HostRuntime) -> Result<(), Fail> {
-    let due = Due {
-        status: 0,
-        lines: Lines::All(COUNTED),
-    };
-    runs_filled(&rt, rt.alloc(), LONGEST, &due)?;
-    let due = Due {
-        status: 2,
-        lines: Lines::All("refused 15\n"),
-    };
-    runs_filled(&rt, rt.alloc(), LONGEST + 1, &due)?;
-    Ok(())
+fn the_longest_text_runs(rt: HostRuntime) {
+    runs_filled(&rt, rt.alloc(), LONGEST, &COUNTED_DUE);
+    runs_filled(&rt, rt.alloc(), LONGEST + 1, &TOO_LONG);
 }
 
 /// Runs the counter's text, filled up to this length.
@@ -47,10 +53,10 @@ fn runs_filled<R: Threads + Wait + Clock + Abort + Sync>(
     alloc: Global,
     length: usize,
     due: &Due<'_>,
-) -> Result<(), AllocError> {
-    let text = filled(alloc, length)?;
+) {
+    let text = filled(rt, alloc, length);
     same(rt, &text.len(), &length, "filled");
-    tells_text(rt, alloc, "filled", text.as_str(), None, ALONE, due)
+    tells_text(rt, alloc, "filled", text.as_str(), None, ALONE, due);
 }
 
 /// Runs a text by one worker, which is refused with this line.
@@ -60,94 +66,185 @@ fn is_refused<R: Threads + Wait + Clock + Abort + Sync>(
     name: &str,
     text: &str,
     line: &str,
-) -> Result<(), AllocError> {
+) {
     let due = Due {
         status: 2,
         lines: Lines::All(line),
     };
-    tells_text(rt, alloc, name, text, None, ALONE, &due)
+    tells_text(rt, alloc, name, text, None, ALONE, &due);
 }
 
-/// Edits of the counter's text, and what is written.
-static EDITS: [(&str, &str, &str); 2] = [
-    ("version = 1", "colour = 1\nversion = 1", "refused 2\n"),
-    ("name = \"src\"", "name = 7", "refused 2\n"),
+/// An edit of the counter's text, and what is written.
+struct Edit {
+    old: &'static str,
+    new: &'static str,
+    line: &'static str,
+}
+
+static EDITS: [Edit; 2] = [
+    Edit {
+        old: "version = 1",
+        new: "colour = 1\nversion = 1",
+        line: "refused 2\n",
+    },
+    Edit {
+        old: "name = \"src\"",
+        new: "name = 7",
+        line: "refused 2\n",
+    },
 ];
 
+fn refuses_edit<R: Threads + Wait + Clock + Abort + Sync>(rt: &R, alloc: Global, edit: &Edit) {
+    let text = COUNTER
+        .replace(alloc, edit.old, edit.new)
+        .expect(rt, "no memory");
+    is_refused(rt, alloc, edit.new, text.as_str(), edit.line);
+}
+
 #[test]
-fn hostile_edits_are_refused(rt: HostRuntime) -> Result<(), Fail> {
-    for (old, new, line) in EDITS {
-        let text = COUNTER.replace(rt.alloc(), old, new)?;
-        is_refused(&rt, rt.alloc(), new, text.as_str(), line)?;
+fn hostile_edits_are_refused(rt: HostRuntime) {
+    for edit in &EDITS {
+        refuses_edit(&rt, rt.alloc(), edit);
     }
-    Ok(())
+}
+
+/// How deep arrays are nested, whether they are closed, and what is written.
+struct NestedArrays {
+    name: &'static str,
+    deep: usize,
+    closed: bool,
+    line: &'static str,
 }
 
 /// A key whose value is arrays nested `deep` deep; they are closed, or the text ends.
-fn nested(alloc: Global, deep: usize, closed: bool) -> Result<String, AllocError> {
-    let open = "[".repeat(alloc, deep)?;
-    let close = "]".repeat(alloc, if closed { deep } else { 0 })?;
-    format!(in alloc; "version = {open}{close}\n")
+fn nested<R: Abort>(rt: &R, alloc: Global, row: &NestedArrays) -> String {
+    let open = repeated(rt, alloc, "[", row.deep);
+    let close = repeated(rt, alloc, "]", if row.closed { row.deep } else { 0 });
+    format!(in alloc; "version = {open}{close}\n").expect(rt, "no memory")
 }
 
-/// The row's name, how deep the arrays are nested, whether they are closed, and what is written: beyond
-/// 80 it is no TOML for the reader.
-static NESTED: [(&str, usize, bool, &str); 4] = [
-    ("1000 open arrays", 1000, false, "refused 1\n"),
-    ("100,000 arrays", 100_000, true, "refused 1\n"),
-    ("81 arrays", 81, true, "refused 1\n"),
-    ("80 arrays", 80, true, "refused 2\n"),
+/// Beyond 80 it is no TOML for the reader.
+static NESTED: [NestedArrays; 4] = [
+    NestedArrays {
+        name: "1000 open arrays",
+        deep: 1000,
+        closed: false,
+        line: "refused 1\n",
+    },
+    NestedArrays {
+        name: "100,000 arrays",
+        deep: 100_000,
+        closed: true,
+        line: "refused 1\n",
+    },
+    NestedArrays {
+        name: "81 arrays",
+        deep: 81,
+        closed: true,
+        line: "refused 1\n",
+    },
+    NestedArrays {
+        name: "80 arrays",
+        deep: 80,
+        closed: true,
+        line: "refused 2\n",
+    },
 ];
 
-#[test]
-fn nested_arrays_are_refused(rt: HostRuntime) -> Result<(), Fail> {
-    for (name, deep, closed, line) in NESTED {
-        let text = nested(rt.alloc(), deep, closed)?;
-        is_refused(&rt, rt.alloc(), name, text.as_str(), line)?;
-    }
-    Ok(())
+fn refuses_nested<R: Threads + Wait + Clock + Abort + Sync>(
+    rt: &R,
+    alloc: Global,
+    row: &NestedArrays,
+) {
+    let text = nested(rt, alloc, row);
+    is_refused(rt, alloc, row.name, text.as_str(), row.line);
 }
 
 #[test]
-fn bytes_that_are_no_text_are_refused(rt: HostRuntime) -> Result<(), Fail> {
-    let told = outcome_of_words(&rt, rt.alloc(), &["kpn", "run"], b"\xff")?;
-    same(&rt, &told.status, &2, "no text");
+fn nested_arrays_are_refused(rt: HostRuntime) {
+    for row in &NESTED {
+        refuses_nested(&rt, rt.alloc(), row);
+    }
+}
+
+/// Runs a byte that no text has.
+fn refuses_no_text<R: Threads + Wait + Clock + Abort + Sync>(rt: &R, alloc: Global) {
+    let told = outcome_of_words(rt, alloc, room(rt, alloc), &["kpn", "run"], b"\xff");
+    same(rt, &told.status, &2, "no text");
     same(
-        &rt,
+        rt,
         &told.text.as_slice(),
         &"refused 1\n".as_bytes(),
         "no text",
     );
-    Ok(())
 }
-
-/// A description with `processes` counters of nothing and `channels` channels from the first to itself.
-fn crowd(alloc: Global, processes: usize, channels: usize) -> Result<Description, AllocError> {
-    let mut description = Description::new(alloc, 10_000)?;
-    for i in 0..processes {
-        let name = format!(in alloc; "p{i}")?;
-        description.process(name.as_str(), "count", "0, 0")?;
-    }
-    for i in 0..channels {
-        let name = format!(in alloc; "c{i}")?;
-        description.channel(name.as_str(), Port("p0", 0), Port("p0", 0), 1)?;
-    }
-    Ok(description)
-}
-
-/// The row's name, how many processes and channels there are, and what is written.
-static CROWDS: [(&str, usize, usize, &str); 4] = [
-    ("65 processes", 65, 0, "refused 4\n"),
-    ("257 channels", 1, 257, "refused 4\n"),
-    ("64 processes", 64, 0, "refused 10\n"),
-    ("256 channels", 1, 256, "refused 8\n"),
-];
 
 #[test]
-fn one_too_many_is_refused(rt: HostRuntime) -> Result<(), Fail> {
-    for (name, processes, channels, line) in CROWDS {
-        let description = crowd(rt.alloc(), processes, channels)?;
-        is_refused(&rt, rt.alloc(), name, description.as_str(), line)?;
+fn bytes_that_are_no_text_are_refused(rt: HostRuntime) {
+    refuses_no_text(&rt, rt.alloc());
+}
+
+/// How many processes and channels there are, and what is written.
+struct CrowdedRow {
+    name: &'static str,
+    processes: usize,
+    channels: usize,
+    line: &'static str,
+}
+
+/// A description of counters of nothing and of channels from the first to itself.
+fn crowd<R: Abort>(rt: &R, alloc: Global, row: &CrowdedRow) -> Description {
+    let mut description = Description::new(rt, alloc, 10_000);
+    for i in 0..row.processes {
+        let name = numbered(rt, alloc, "p", i);
+        description.process(rt, name.as_str(), "count", "0, 0");
     }
-    Ok(())
+    for i in 0..row.channels {
+        let name = numbered(rt, alloc, "c", i);
+        description.channel(rt, name.as_str(), Port("p0", 0), Port("p0", 0), 1);
+    }
+    description
+}
+
+static CROWDS: [CrowdedRow; 4] = [
+    CrowdedRow {
+        name: "65 processes",
+        processes: 65,
+        channels: 0,
+        line: "refused 4\n",
+    },
+    CrowdedRow {
+        name: "257 channels",
+        processes: 1,
+        channels: 257,
+        line: "refused 4\n",
+    },
+    CrowdedRow {
+        name: "64 processes",
+        processes: 64,
+        channels: 0,
+        line: "refused 10\n",
+    },
+    CrowdedRow {
+        name: "256 channels",
+        processes: 1,
+        channels: 256,
+        line: "refused 8\n",
+    },
+];
+
+fn refuses_crowd<R: Threads + Wait + Clock + Abort + Sync>(
+    rt: &R,
+    alloc: Global,
+    row: &CrowdedRow,
+) {
+    let description = crowd(rt, alloc, row);
+    is_refused(rt, alloc, row.name, description.as_str(), row.line);
+}
+
+#[test]
+fn one_too_many_is_refused(rt: HostRuntime) {
+    for row in &CROWDS {
+        refuses_crowd(&rt, rt.alloc(), row);
+    }
 }

@@ -2,12 +2,11 @@
 use crate::checks::same;
 use crate::texts::COUNTER;
 use kpn_front::load::load;
-use kpn_net::{Deed, End, Entry, Net, NetFault, Place, Token};
+use kpn_net::{Deed, End, Entry, Net, Place, Token};
 use kpn_report::{Detail, Report, report_of, report_text, text_of};
 use kpn_standard::Standard;
 use std::alloc::Global;
 use std::process::Abort;
-use std::test::Fail;
 
 /// A counter of three tokens, of which the first is taken; the sink stops, and the channel grows.
 static HISTORY: [Entry; 7] = [
@@ -68,34 +67,54 @@ stream c0 1 2 3
 ";
 
 /// The network of the history.
-fn network(alloc: Global) -> Result<Net<Standard>, NetFault> {
+fn network<R: Abort>(rt: &R, alloc: Global) -> Net<Standard> {
     let mut source = COUNTER.as_bytes();
-    load(alloc, &mut source)
+    load(alloc, &mut source).expect(rt, "no network")
+}
+
+/// Compares the text of the history that is made at once.
+fn assert_text<R: Abort>(rt: &R, alloc: Global, net: &Net<Standard>, end: End, lines: &str) {
+    let text = text_of(alloc, net, &HISTORY, &PLACES, end, Some(0)).expect(rt, "no text");
+    same(rt, &text.as_str(), &lines, "text at once");
+}
+
+/// Compares the text of a report.
+fn assert_report_text<R: Abort>(
+    rt: &R,
+    alloc: Global,
+    net: &Net<Standard>,
+    report: &Report,
+    lines: &str,
+) {
+    let text = report_text(alloc, net, report, Some(0)).expect(rt, "no text");
+    same(rt, &text.as_str(), &lines, "text of the report");
 }
 
 /// The report of the history, with this end; its text and the text that is made at once are compared.
-fn report<R: Abort>(rt: &R, alloc: Global, end: End, lines: &str) -> Result<Report, Fail> {
-    let net = network(alloc)?;
-    let text = text_of(alloc, &net, &HISTORY, &PLACES, end, Some(0))?;
-    same(rt, &text.as_str(), &lines, "text at once");
-    let places = Vec::from_slice(alloc, &PLACES)?;
-    let report = report_of(alloc, &net, &HISTORY, places, end)?;
-    let text = report_text(alloc, &net, &report, Some(0))?;
-    same(rt, &text.as_str(), &lines, "text of the report");
+fn report<R: Abort>(rt: &R, alloc: Global, end: End, lines: &str) -> Report {
+    let net = network(rt, alloc);
+    assert_text(rt, alloc, &net, end, lines);
+    let places = Vec::from_slice(alloc, &PLACES).expect(rt, "no memory");
+    let report = report_of(alloc, &net, &HISTORY, places, end).expect(rt, "no report");
+    assert_report_text(rt, alloc, &net, &report, lines);
     same(rt, &report.end, &end, "end");
-    Ok(report)
+    report
 }
 
 #[test]
-fn a_history_has_its_report(rt: HostRuntime) -> Result<(), Fail> {
-    let report = report(&rt, rt.alloc(), End::Terminated, TEXT)?;
+fn a_history_has_its_report(rt: HostRuntime) {
+    let report = report(&rt, rt.alloc(), End::Terminated, TEXT);
     let detail = report.detail.expect(&rt, "no detail");
     compare_detail(&rt, &detail);
-    let stream = detail.streams.as_slice().first().expect(&rt, "no stream");
-    same(&rt, &stream.as_slice(), &STREAM, "stream");
-    let rest = detail.rests.as_slice().first().expect(&rt, "no rest");
-    same(&rt, &rest.as_slice(), &REST, "rest");
-    Ok(())
+    compare_streams(&rt, &detail);
+}
+
+/// Compares the stream of the channel, and what is left of it.
+fn compare_streams<R: Abort>(rt: &R, detail: &Detail) {
+    let stream = detail.streams.as_slice().first().expect(rt, "no stream");
+    same(rt, &stream.as_slice(), &STREAM, "stream");
+    let rest = detail.rests.as_slice().first().expect(rt, "no rest");
+    same(rt, &rest.as_slice(), &REST, "rest");
 }
 
 /// Compares the numbers and lists of a report.
@@ -118,8 +137,7 @@ fn compare_detail<R: Abort>(rt: &R, detail: &Detail) {
 }
 
 #[test]
-fn a_spent_budget_is_told_alone(rt: HostRuntime) -> Result<(), Fail> {
-    let report = report(&rt, rt.alloc(), End::Budget, "end budget\n")?;
+fn a_spent_budget_is_told_alone(rt: HostRuntime) {
+    let report = report(&rt, rt.alloc(), End::Budget, "end budget\n");
     assert!(rt; report.detail.is_none());
-    Ok(())
 }

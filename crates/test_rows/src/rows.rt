@@ -1,6 +1,6 @@
 //! What the program writes of a description, compared with what is due.
 use kpn_execute::serve;
-use std::alloc::{AllocError, Global};
+use std::alloc::Global;
 use std::process::Abort;
 use std::rt::Clock;
 use std::sync::Wait;
@@ -45,7 +45,7 @@ pub(crate) struct Told {
 }
 
 /// Room for every text here, taken before the run.
-const ROOM: usize = 16384;
+pub(crate) const ROOM: usize = 16384;
 
 /// How many workers run each description: what is written is the same.
 pub(crate) const WORKERS: &[&str] = &["1", "2", "16"];
@@ -59,17 +59,10 @@ pub(crate) fn tells<R: Threads + Wait + Clock + Abort + Sync>(
     alloc: Global,
     row: &Row,
     workers: &[&str],
-) -> Result<(), AllocError> {
-    let text = edited(alloc, row.text, row.edits)?;
-    tells_text(
-        rt,
-        alloc,
-        row.name,
-        text.as_str(),
-        row.show,
-        workers,
-        &row.due,
-    )
+) {
+    let text = edited(rt, alloc, row.text, row.edits);
+    let text = text.as_str();
+    tells_text(rt, alloc, row.name, text, row.show, workers, &row.due);
 }
 
 /// Runs a text by each of these numbers of workers, and compares what is written.
@@ -81,13 +74,12 @@ pub(crate) fn tells_text<R: Threads + Wait + Clock + Abort + Sync>(
     show: Option<&str>,
     workers: &[&str],
     due: &Due<'_>,
-) -> Result<(), AllocError> {
+) {
     for count in workers {
-        let told = outcome_of(rt, alloc, text, count, show)?;
+        let told = outcome_of(rt, alloc, room(rt, alloc), text, count, show);
         let is_due = fits(&told, due);
         assert!(rt; is_due, "{name}, {count} workers: status {}", told.status);
     }
-    Ok(())
 }
 
 /// Whether what was told is what is due.
@@ -100,39 +92,45 @@ pub(crate) fn fits(told: &Told, due: &Due<'_>) -> bool {
     fits && told.status == due.status
 }
 
+/// An empty vector with room for every text here.
+pub(crate) fn room<R: Abort>(rt: &R, alloc: Global) -> Vec<u8> {
+    Vec::with_capacity(alloc, ROOM).expect(rt, "no memory for the text")
+}
+
 /// The outcome of `kpn run` on a description by `workers` workers, with the stream of a channel if one
-/// is named.
+/// is named. It is written into `out`.
 pub(crate) fn outcome_of<R: Threads + Wait + Clock + Sync>(
     rt: &R,
     alloc: Global,
+    out: Vec<u8>,
     text: &str,
     workers: &str,
     show: Option<&str>,
-) -> Result<Told, AllocError> {
+) -> Told {
     let input = text.as_bytes();
     match show {
-        None => outcome_of_words(rt, alloc, &["kpn", "run", "--workers", workers], input),
+        None => outcome_of_words(rt, alloc, out, &["kpn", "run", "--workers", workers], input),
         Some(name) => {
             let words = ["kpn", "run", "--workers", workers, "--show", name];
-            outcome_of_words(rt, alloc, &words, input)
+            outcome_of_words(rt, alloc, out, &words, input)
         }
     }
 }
 
-/// The outcome of the program with these arguments and this input.
+/// The outcome of the program with these arguments and this input. It is written into `out`.
 pub(crate) fn outcome_of_words<R: Threads + Wait + Clock + Sync>(
     rt: &R,
     alloc: Global,
+    mut out: Vec<u8>,
     words: &[&str],
     input: &[u8],
-) -> Result<Told, AllocError> {
-    let mut out = Vec::with_capacity(alloc, ROOM)?;
+) -> Told {
     let (status, fault) = serve_words(rt, alloc, words, input, &mut out);
-    Ok(Told {
+    Told {
         status,
         fault,
         text: out,
-    })
+    }
 }
 
 /// Runs the program, and returns its exit status and the number of the description's fault or 0.
@@ -154,10 +152,10 @@ fn serve_words<R: Threads + Wait + Clock + Sync>(
 }
 
 /// A description in which parts are replaced.
-fn edited(alloc: Global, text: &str, edits: Edits) -> Result<String, AllocError> {
-    let mut edited = String::from_str(alloc, text)?;
+fn edited<R: Abort>(rt: &R, alloc: Global, text: &str, edits: Edits) -> String {
+    let mut edited = String::from_str(alloc, text).expect(rt, "no memory");
     for (old, new) in edits {
-        edited = edited.replace(alloc, old, new)?;
+        edited = edited.replace(alloc, old, new).expect(rt, "no memory");
     }
-    Ok(edited)
+    edited
 }

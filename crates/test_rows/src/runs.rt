@@ -1,8 +1,14 @@
 //! Whole runs: what is written of each worked network, and the exit status.
 use crate::checks::same;
-use crate::rows::{Due, Lines, Row, WORKERS, fits, outcome_of, outcome_of_words, tells};
+use crate::rows::{
+    Due, Lines, ROOM, Row, WORKERS, fits, outcome_of, outcome_of_words, room, tells,
+};
 use crate::texts::{CEILING, COUNTER, DEAD, ENDLESS, FLAGS, NOTHING, PARKS, TWO_FULL, WRAPS};
-use std::test::Fail;
+use std::alloc::Global;
+use std::process::Abort;
+use std::rt::Clock;
+use std::sync::Wait;
+use std::thread::Threads;
 
 /// The networks as they stand.
 static RUNS: [Row; 12] = [
@@ -217,11 +223,10 @@ entries 65536
 ];
 
 #[test]
-fn runs_tell_their_outcome(rt: HostRuntime) -> Result<(), Fail> {
+fn runs_tell_their_outcome(rt: HostRuntime) {
     for row in &RUNS {
-        tells(&rt, rt.alloc(), row, WORKERS)?;
+        tells(&rt, rt.alloc(), row, WORKERS);
     }
-    Ok(())
 }
 
 /// Networks with edits.
@@ -397,11 +402,10 @@ entries 9
 ];
 
 #[test]
-fn edits_tell_their_outcome(rt: HostRuntime) -> Result<(), Fail> {
+fn edits_tell_their_outcome(rt: HostRuntime) {
     for row in &EDITS {
-        tells(&rt, rt.alloc(), row, WORKERS)?;
+        tells(&rt, rt.alloc(), row, WORKERS);
     }
-    Ok(())
 }
 
 /// The flags' network with another channel shown: the last lines.
@@ -429,11 +433,10 @@ static SHOWN: [Row; 2] = [
 ];
 
 #[test]
-fn shows_the_named_stream(rt: HostRuntime) -> Result<(), Fail> {
+fn shows_the_named_stream(rt: HostRuntime) {
     for row in &SHOWN {
-        tells(&rt, rt.alloc(), row, WORKERS)?;
+        tells(&rt, rt.alloc(), row, WORKERS);
     }
-    Ok(())
 }
 
 /// Arguments, a description, the exit status, the number of the fault or 0, and what is written.
@@ -497,19 +500,20 @@ static COMMANDS: [Command; 6] = [
     },
 ];
 
+/// Runs the program with the arguments of a row, and compares its outcome.
+fn tells_command<R: Threads + Wait + Clock + Abort + Sync>(rt: &R, alloc: Global, row: &Command) {
+    let input = row.text.as_bytes();
+    let told = outcome_of_words(rt, alloc, room(rt, alloc), row.words, input);
+    let (status, fault) = (told.status, told.fault);
+    same(rt, &(status, fault), &(row.status, row.fault), row.name);
+    same(rt, &told.text.as_slice(), &row.lines.as_bytes(), row.name);
+}
+
 #[test]
-fn words_choose_what_is_done(rt: HostRuntime) -> Result<(), Fail> {
+fn words_choose_what_is_done(rt: HostRuntime) {
     for row in &COMMANDS {
-        let told = outcome_of_words(&rt, rt.alloc(), row.words, row.text.as_bytes())?;
-        same(
-            &rt,
-            &(told.status, told.fault),
-            &(row.status, row.fault),
-            row.name,
-        );
-        same(&rt, &told.text.as_slice(), &row.lines.as_bytes(), row.name);
+        tells_command(&rt, rt.alloc(), row);
     }
-    Ok(())
 }
 
 /// What is written if a request for memory is refused.
@@ -521,12 +525,11 @@ const NO_MEMORY: Due<'static> = Due {
 /// If a request for memory is refused, only that is written, and the status is 4. With ample memory the
 /// run is written; `tests/refuse_each_allocation` refuses each request in turn.
 #[test]
-fn tells_a_refusal_or_the_run(rt: HostRuntime) -> Result<(), Fail> {
+fn tells_a_refusal_or_the_run(rt: HostRuntime) {
     let [row, ..] = &RUNS;
-    let Ok(told) = outcome_of(&rt, rt.alloc(), row.text, "1", row.show) else {
-        return Ok(());
-    };
-    let is_told = fits(&told, &row.due) || fits(&told, &NO_MEMORY);
-    assert!(rt; is_told);
-    Ok(())
+    if let Ok(out) = Vec::with_capacity(rt.alloc(), ROOM) {
+        let told = outcome_of(&rt, rt.alloc(), out, row.text, "1", row.show);
+        let is_told = fits(&told, &row.due) || fits(&told, &NO_MEMORY);
+        assert!(rt; is_told);
+    }
 }

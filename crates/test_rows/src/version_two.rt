@@ -1,7 +1,6 @@
 //! Descriptions of version 2: start tokens, a step for growths, and a higher ceiling.
 use crate::rows::{Due, Edits, Lines, Row, tells};
 use crate::texts::{COUNTER, FLAGS, TWO_FULL};
-use std::test::Fail;
 use test_texts::RUNNING_SUMS;
 
 /// One process that takes two tokens from a channel to itself, which begins with a token.
@@ -204,11 +203,10 @@ entries 8
 ];
 
 #[test]
-fn runs_of_version_two_tell_their_outcome(rt: HostRuntime) -> Result<(), Fail> {
+fn runs_of_version_two_tell_their_outcome(rt: HostRuntime) {
     for row in &RUNS {
-        tells(&rt, rt.alloc(), row, WORKERS)?;
+        tells(&rt, rt.alloc(), row, WORKERS);
     }
-    Ok(())
 }
 
 /// Runs with the greatest budget, step and ceiling: a million entries each, by the built tests (`rt
@@ -255,11 +253,10 @@ entries 1000001
 ];
 
 #[test]
-fn channels_grow_to_the_higher_ceiling(rt: HostRuntime) -> Result<(), Fail> {
+fn channels_grow_to_the_higher_ceiling(rt: HostRuntime) {
     for row in &LONG_RUNS {
-        tells(&rt, rt.alloc(), row, WORKERS)?;
+        tells(&rt, rt.alloc(), row, WORKERS);
     }
-    Ok(())
 }
 
 /// A description with edits that is refused, and what is written of it.
@@ -376,7 +373,7 @@ static REFUSED: [Refusal; 16] = [
 ];
 
 #[test]
-fn refuses_what_the_version_does_not_allow(rt: HostRuntime) -> Result<(), Fail> {
+fn refuses_what_the_version_does_not_allow(rt: HostRuntime) {
     for refusal in &REFUSED {
         let row = Row {
             name: refusal.name,
@@ -388,9 +385,8 @@ fn refuses_what_the_version_does_not_allow(rt: HostRuntime) -> Result<(), Fail> 
                 lines: Lines::All(refusal.line),
             },
         };
-        tells(&rt, rt.alloc(), &row, WORKERS)?;
+        tells(&rt, rt.alloc(), &row, WORKERS);
     }
-    Ok(())
 }
 
 /// A channel of flags that begins with a flag, which is the first that the switch reads. At the end the
@@ -410,7 +406,6 @@ static FLAGGED: Row = Row {
 };
 
 #[test]
-fn flags_are_start_tokens(rt: HostRuntime) -> Result<(), Fail> {
-    tells(&rt, rt.alloc(), &FLAGGED, WORKERS)?;
-    Ok(())
+fn flags_are_start_tokens(rt: HostRuntime) {
+    tells(&rt, rt.alloc(), &FLAGGED, WORKERS);
 }
