@@ -1,14 +1,15 @@
 //! Worked command lines, and worked pictures.
 ghost use Rattle.kpn_drawing.specs.DrawChoices.{HasFewIfRun};
 
+use crate::checks::same;
 use kpn_drawing::{Choice, WordsFault, read_words, serve};
 use kpn_front::streams::Fallible;
 use std::alloc::{AllocError, Global};
 use std::io;
 use std::io::Write;
+use std::process::Abort;
 use std::rt::Clock;
 use std::sync::Wait;
-use std::test::Fail;
 use std::thread::Threads;
 
 /// The lines above all processes, in each picture.
@@ -40,40 +41,66 @@ channel = [
 ]
 "#;
 
-/// What is written of a description, after the exit status and the number of its fault (0 if there is
-/// none).
-fn told<R: AllocGlobal + Wait + Clock + Threads + Sync>(
+/// The exit status and the number of the fault (0 if there is none), in a line.
+fn first_line<R: AllocGlobal + Abort>(rt: &R, status: u8, number: u8) -> Vec<u8> {
+    let line = format!(in rt.alloc(); "{status} {number}\n").expect(rt, "no memory");
+    line.into_bytes()
+}
+
+/// What is written of a description, after the exit status and the number of its fault.
+fn told<R: AllocGlobal + Wait + Clock + Threads + Abort + Sync>(
     rt: &R,
     text: &str,
     workers: Option<usize>,
-) -> Result<Vec<u8>, AllocError>
+) -> Vec<u8>
     requires { HasFewIfRun workers }
 {
     let mut source = text.as_bytes();
     let mut written = Vec::new(rt.alloc());
     let served = serve(rt, rt.alloc(), workers, &mut source, &mut written);
-    let number = served.fault.map_or(0, |fault| fault.number());
-    let mut told = format!(in rt.alloc(); "{} {number}\n", served.status.code())?.into_bytes();
-    told.extend_from_slice(written.as_slice())?;
-    Ok(told)
+    let number = match served.fault {
+        Some(fault) => fault.number(),
+        None => 0,
+    };
+    let mut told = first_line(rt, served.status.code(), number);
+    told.extend_from_slice(written.as_slice())
+        .expect(rt, "no memory");
+    told
 }
 
-#[test]
-fn draws_a_description(rt: HostRuntime) -> Result<(), Fail> {
-    let worked = r#"  "src" [label="src\ncount 1 3"];
+/// Compares what is written of a description, after the exit status and the number of its fault.
+fn tells<R: AllocGlobal + Wait + Clock + Threads + Abort + Sync>(
+    rt: &R,
+    text: &str,
+    workers: Option<usize>,
+    due: &str,
+)
+    requires { HasFewIfRun workers }
+{
+    let told = told(rt, text, workers);
+    same(rt, text, told.as_slice(), due.as_bytes());
+}
+
+/// What is written if a picture with these lines is drawn.
+fn drawn<R: AllocGlobal + Abort>(rt: &R, worked: &str) -> String {
+    format!(in rt.alloc(); "0 0\n{HEAD}{worked}").expect(rt, "no memory")
+}
+
+/// The counter's network.
+const COUNTER_LINES: &str = r#"  "src" [label="src\ncount 1 3"];
   "snk" [label="snk\nsink 3"];
   "src" -> "snk" [label="c0\nwords, capacity 1"];
 }
 "#;
-    let whole = format!(in rt.alloc(); "0 0\n{HEAD}{worked}")?;
-    assert!(rt; told(&rt, COUNTER, None)?.as_slice() == whole.as_bytes());
-    Ok(())
+
+#[test]
+fn draws_a_description(rt: HostRuntime) {
+    let whole = drawn(&rt, COUNTER_LINES);
+    tells(&rt, COUNTER, None, whole.as_str());
 }
 
-/// The same by one worker and by two.
-#[test]
-fn draws_a_deadlock_with_its_cycle(rt: HostRuntime) -> Result<(), Fail> {
-    let worked = r##"  label="deadlock";
+/// The loop's network after its run.
+const LOOP_LINES: &str = r##"  label="deadlock";
   "src" [label="src\ncount 1 5\nended", fillcolor="#e3e3e3"];
   "ad" [label="ad\nadd\nwaits to read c1", color="#c0392b", penwidth=2];
   "cp" [label="cp\ncopy\nwaits to read c2", color="#c0392b", penwidth=2];
@@ -84,44 +111,50 @@ fn draws_a_deadlock_with_its_cycle(rt: HostRuntime) -> Result<(), Fail> {
   "cp" -> "snk" [label="c3\nwords, capacity 1"];
 }
 "##;
-    let whole = format!(in rt.alloc(); "0 0\n{HEAD}{worked}")?;
-    assert!(rt; told(&rt, LOOP, Some(1))?.as_slice() == whole.as_bytes());
-    assert!(rt; told(&rt, LOOP, Some(2))?.as_slice() == whole.as_bytes());
-    Ok(())
+
+/// The same by one worker and by two.
+#[test]
+fn draws_a_deadlock_with_its_cycle(rt: HostRuntime) {
+    let whole = drawn(&rt, LOOP_LINES);
+    tells(&rt, LOOP, Some(1), whole.as_str());
+    tells(&rt, LOOP, Some(2), whole.as_str());
 }
 
-/// If the budget is spent, only the end is drawn: three of eight entries are allowed.
-#[test]
-fn draws_a_spent_budget(rt: HostRuntime) -> Result<(), Fail> {
-    let text = COUNTER.replace(rt.alloc(), "budget = 100", "budget = 3")?;
-    let worked = r#"  label="budget spent";
+/// The counter's network after a run whose budget was spent.
+const SPENT_LINES: &str = r#"  label="budget spent";
   "src" [label="src\ncount 1 3"];
   "snk" [label="snk\nsink 3"];
   "src" -> "snk" [label="c0\nwords, capacity 1"];
 }
 "#;
-    let whole = format!(in rt.alloc(); "0 0\n{HEAD}{worked}")?;
-    assert!(rt; told(&rt, text.as_str(), Some(1))?.as_slice() == whole.as_bytes());
-    Ok(())
+
+/// The counter's text with a budget of three.
+fn counter_of_three_entries<R: AllocGlobal + Abort>(rt: &R) -> String {
+    let text = COUNTER.replace(rt.alloc(), "budget = 100", "budget = 3");
+    text.expect(rt, "no memory")
 }
 
+/// If the budget is spent, only the end is drawn: three of eight entries are allowed.
 #[test]
-fn refuses_as_the_other_program_does(rt: HostRuntime) -> Result<(), Fail> {
-    for (text, line) in [
-        ("version", "2 1\nrefused 1\n"),
-        ("version = 1", "2 2\nrefused 2\n"),
-        ("version = 1\nprocess = []", "2 4\nrefused 4\n"),
-    ] {
-        assert!(rt;
-            told(&rt, text, None)?.as_slice() == line.as_bytes(),
-            "{text}"
-        );
-        assert!(rt;
-            told(&rt, text, Some(1))?.as_slice() == line.as_bytes(),
-            "{text}"
-        );
+fn draws_a_spent_budget(rt: HostRuntime) {
+    let text = counter_of_three_entries(&rt);
+    let whole = drawn(&rt, SPENT_LINES);
+    tells(&rt, text.as_str(), Some(1), whole.as_str());
+}
+
+/// Texts that are refused, and what is written of them.
+static REFUSED: [(&str, &str); 3] = [
+    ("version", "2 1\nrefused 1\n"),
+    ("version = 1", "2 2\nrefused 2\n"),
+    ("version = 1\nprocess = []", "2 4\nrefused 4\n"),
+];
+
+#[test]
+fn refuses_as_the_other_program_does(rt: HostRuntime) {
+    for (text, line) in &REFUSED {
+        tells(&rt, text, None, line);
+        tells(&rt, text, Some(1), line);
     }
-    Ok(())
 }
 
 /// Takes a number of bytes, and then fails.
@@ -145,29 +178,44 @@ impl Write for Failing {
     }
 }
 
+/// Compares the exit status if the fifth byte is the last that can be written.
+fn fails_to_write<R: AllocGlobal + Wait + Clock + Threads + Abort + Sync>(
+    rt: &R,
+    text: &str,
+    workers: Option<usize>,
+)
+    requires { HasFewIfRun workers }
+{
+    let mut source = text.as_bytes();
+    let mut sink = Fallible::new(Failing { room: 5 });
+    let served = serve(rt, rt.alloc(), workers, &mut source, &mut sink);
+    same(rt, text, served.status.code(), 7);
+}
+
 #[test]
 fn tells_a_failed_write_by_its_status(rt: HostRuntime) {
-    for (text, workers) in [(COUNTER, None), (COUNTER, Some(1)), ("", None)] {
-        let mut source = text.as_bytes();
-        let mut sink = Fallible::new(Failing { room: 5 });
-        let served = serve(&rt, rt.alloc(), workers, &mut source, &mut sink);
-        assert_eq!(rt; served.status.code(), 7);
-    }
+    fails_to_write(&rt, COUNTER, None);
+    fails_to_write(&rt, COUNTER, Some(1));
+    fails_to_write(&rt, "", None);
 }
 
 /// What the arguments ask for, as a text.
-fn asked_for(alloc: Global, words: &[&str]) -> Result<String, AllocError> {
-    match read_words(alloc, words) {
+fn asked_for<R: Abort>(rt: &R, alloc: Global, words: &[&str]) -> String {
+    let text = match read_words(alloc, words) {
         Ok(Choice { workers, file }) => {
             format!(in alloc; "{} {}", workers.unwrap_or(0), file.unwrap_or("-"))
         }
-        Err(fault) => format!(in alloc;
-            "{} {} {}",
-            fault.status().code(),
-            fault.asks_for_help(),
-            matches!(fault, WordsFault::Workers)
-        ),
-    }
+        Err(fault) => refused_text(alloc, &fault),
+    };
+    text.expect(rt, "no memory")
+}
+
+/// The exit status, whether help or the version is asked for, and whether it is because of the number of
+/// workers.
+fn refused_text(alloc: Global, fault: &WordsFault) -> Result<String, AllocError> {
+    let is_of_workers = matches!(fault, WordsFault::Workers);
+    let (status, asks) = (fault.status().code(), fault.asks_for_help());
+    format!(in alloc; "{status} {asks} {is_of_workers}")
 }
 
 /// Command lines, and what they ask for: the number of workers of a run (0 if nothing is run) and a
@@ -192,23 +240,26 @@ static WORDS: [(&str, &str); 16] = [
     ("kpn-draw --version", "0 true false"),
 ];
 
-#[test]
-fn reads_command_lines(rt: HostRuntime) -> Result<(), Fail> {
-    let alloc = rt.alloc();
-    for (line, answer) in WORDS {
-        let words: Vec<&str> = line.split(' ').collect(alloc)?;
-        let found = asked_for(alloc, words.as_slice())?;
-        assert!(rt; found.as_str() == answer, "{line}: {found}");
-    }
-    Ok(())
+/// Compares what a command line asks for.
+fn compare_words<R: Abort>(rt: &R, alloc: Global, line: &str, answer: &str) {
+    let words: Vec<&str> = line.split(' ').collect(alloc).expect(rt, "no memory");
+    let found = asked_for(rt, alloc, words.as_slice());
+    same(rt, line, found.as_str(), answer);
 }
 
 #[test]
-fn says_how_many_workers(rt: HostRuntime) -> Result<(), Fail> {
-    let text = WordsFault::Workers.to_string(rt.alloc())?;
+fn reads_command_lines(rt: HostRuntime) {
+    for (line, answer) in &WORDS {
+        compare_words(&rt, rt.alloc(), line, answer);
+    }
+}
+
+#[test]
+fn says_how_many_workers(rt: HostRuntime) {
+    let text = WordsFault::Workers.to_string(rt.alloc());
+    let text = text.expect(&rt, "no memory");
     assert!(rt;
         text.as_str()
             .starts_with("error: --workers takes a number from 1 to 16\n")
     );
-    Ok(())
 }

@@ -6,13 +6,13 @@ ghost use Rattle.kpn_body.specs.StandardKinds.{signature, Admitted};
 ghost use Rattle.kpn_machine.specs.Opening.{cards_of};
 ghost use Rattle.test_laws.specs.WorkedRoom.{longer_parks_case as the_case};
 
+use crate::checks::same;
 use example_least_room::{finish, longer_parks_case};
 use kpn_body::{Body, Call, Standard, StandardBody, answer};
 use kpn_machine::{Machine, OpenFault, cards_of};
 use kpn_net::{Answer, Card, End, Entry, Local, Net, Token};
-use std::alloc::{AllocError, Global};
+use std::alloc::Global;
 use std::process::Abort;
-use std::test::Fail;
 
 /// The growths of each run that is over, in order.
 const GROWTHS: &[Entry] = &[
@@ -27,43 +27,38 @@ const GROWTHS: &[Entry] = &[
 /// The counter puts 5 tokens and stops, the copy takes 5 and puts 10, the weave takes 8 and puts 8, the
 /// sink takes 8 and stops; the copy and the weave then wait for more. With the two growths these are 6
 /// + 15 + 16 + 9 + 2 entries.
-fn compare<R: Abort, B: Body>(
-    rt: &R,
-    alloc: Global,
-    net: Net<B::Kinds>,
-    bodies: Vec<B>,
-) -> Result<(), AllocError>
+fn compare<R: Abort, B: Body>(rt: &R, alloc: Global, net: Net<B::Kinds>, bodies: Vec<B>)
     requires standard { B.Kinds.family ≡ standard }
     requires network { net ≡ the_case }
 {
     let mut machine = match Machine::open(alloc, net, bodies) {
         Ok(machine) => machine,
         Err(refused) => {
-            assert_eq!(rt; refused.fault, OpenFault::Memory);
-            return Err(AllocError);
+            same(rt, "fault", refused.fault, OpenFault::Memory);
+            panic!(rt; "no memory");
         }
     };
-    assert_eq!(rt; finish(&mut machine), 2);
+    same(rt, "finish", finish(&mut machine), 2);
+    let (entries, end) = (machine.history(), machine.end());
+    let found = (entries.len(), end);
+    same(rt, "end", found, (48, Some(End::Deadlock)));
+    compare_growths(rt, alloc, entries);
+}
+
+/// Compares the growths of a history.
+fn compare_growths<R: Abort>(rt: &R, alloc: Global, history: &[Entry]) {
     let mut growths = Vec::new(alloc);
-    for entry in machine.history() {
+    for entry in history {
         if matches!(entry, Entry::Grew { .. }) {
-            growths.push(*entry)?;
+            growths.push(*entry).expect(rt, "no memory");
         }
     }
-    assert_eq!(rt; growths.as_slice(), GROWTHS);
-    assert_eq!(rt; machine.history().len(), 48);
-    assert_eq!(rt; machine.end(), Some(End::Deadlock));
-    Ok(())
+    same(rt, "growths", growths.as_slice(), GROWTHS);
 }
 
 /// Makes a body for each card, and compares the run of the network. The network is passed in an
 /// `Option`: with a `Net` held by value the check finds no proof of a loop that makes closures.
-fn compare_with_bodies<R: Abort>(
-    rt: &R,
-    alloc: Global,
-    cards: &[Card],
-    net: Option<Net<Standard>>,
-) -> Result<(), AllocError>
+fn compare_with_bodies<R: Abort>(rt: &R, alloc: Global, cards: &[Card], net: Option<Net<Standard>>)
     requires signed { All (λ card. IsSome (signature card)) cards.now }
     requires network { IfSome net (λ n. n ≡ the_case) }
     requires some { IsSome net }
@@ -78,11 +73,14 @@ fn compare_with_bodies<R: Abort>(
                 requires admitted { Admitted card local last }
                 ensures { result ≡ standard.answer card local last }
             { answer(card, local, last) },
-        )?;
-        bodies.push(StandardBody::new(card, call))?;
+        )
+        .expect(rt, "no memory");
+        bodies
+            .push(StandardBody::new(card, call))
+            .expect(rt, "no memory");
     }
     let Some(net) = net else { unreachable!() };
-    compare(rt, alloc, net, bodies)
+    compare(rt, alloc, net, bodies);
 }
 
 /// A card of a list of cards that have signatures.
@@ -95,10 +93,9 @@ fn signed_card(cards: &[Card], process: usize) -> Card
 }
 
 #[test]
-fn parks_case_grows_two_channels_to_two_places(rt: HostRuntime) -> Result<(), Fail> {
+fn parks_case_grows_two_channels_to_two_places(rt: HostRuntime) {
     let alloc = rt.alloc();
-    let net = longer_parks_case(alloc)?;
-    let cards = cards_of(alloc, &net)?;
-    compare_with_bodies(&rt, alloc, cards.as_slice(), Some(net))?;
-    Ok(())
+    let net = longer_parks_case(alloc).expect(&rt, "no memory");
+    let cards = cards_of(alloc, &net).expect(&rt, "no memory");
+    compare_with_bodies(&rt, alloc, cards.as_slice(), Some(net));
 }

@@ -1,10 +1,10 @@
 //! Edits of a description, each with the number of its fault and its message.
+use crate::checks::same;
 use kpn_message::{Location, locate, message_of};
 use kpn_net::{Check, Net, NetFault, read_sketch};
 use kpn_standard::Standard;
-use std::alloc::{AllocError, Global};
+use std::alloc::Global;
 use std::process::Abort;
-use std::test::Fail;
 
 const KINDS: &str = "count and sink";
 
@@ -374,55 +374,50 @@ fn is_told(alloc: Global, text: &[u8], number: u8, message: &str) -> bool {
     }
 }
 
+/// An edit of the text, with the number of its fault and its message.
+type Edit = (&'static str, &'static str, u8, &'static str);
+
 /// The edited text is refused by this number, and with this message.
-fn tells_of_edit<R: Abort>(
-    rt: &R,
-    alloc: Global,
-    old: &str,
-    new: &str,
-    number: u8,
-    message: &str,
-) -> Result<(), AllocError> {
-    let text = TEXT.replace(alloc, old, new)?;
-    assert!(rt; is_told(alloc, text.as_bytes(), number, message), "{new}");
-    Ok(())
+fn tells_of_edit<R: Abort>(rt: &R, alloc: Global, edit: &Edit) {
+    let (old, new, number, message) = *edit;
+    let text = TEXT.replace(alloc, old, new).expect(rt, "no memory");
+    same(
+        rt,
+        new,
+        is_told(alloc, text.as_bytes(), number, message),
+        true,
+    );
 }
 
-#[test]
-fn edits_of_keys_have_their_messages(rt: HostRuntime) -> Result<(), Fail> {
-    for (old, new, number, message) in KEYS {
-        tells_of_edit(&rt, rt.alloc(), old, new, number, message)?;
+fn tells_of_edits<R: Abort>(rt: &R, alloc: Global, edits: &[Edit]) {
+    for edit in edits {
+        tells_of_edit(rt, alloc, edit);
     }
-    Ok(())
 }
 
 #[test]
-fn edits_of_processes_have_their_messages(rt: HostRuntime) -> Result<(), Fail> {
-    for (old, new, number, message) in PROCESSES {
-        tells_of_edit(&rt, rt.alloc(), old, new, number, message)?;
-    }
-    Ok(())
+fn edits_of_keys_have_their_messages(rt: HostRuntime) {
+    tells_of_edits(&rt, rt.alloc(), &KEYS);
 }
 
 #[test]
-fn edits_of_channels_have_their_messages(rt: HostRuntime) -> Result<(), Fail> {
-    for (old, new, number, message) in CHANNELS {
-        tells_of_edit(&rt, rt.alloc(), old, new, number, message)?;
-    }
-    Ok(())
+fn edits_of_processes_have_their_messages(rt: HostRuntime) {
+    tells_of_edits(&rt, rt.alloc(), &PROCESSES);
 }
 
 #[test]
-fn each_text_has_its_message(rt: HostRuntime) -> Result<(), Fail> {
-    for (text, number, message) in TEXTS {
-        assert!(rt;
-            is_told(rt.alloc(), text.as_bytes(), number, message),
-            "{message}"
-        );
+fn edits_of_channels_have_their_messages(rt: HostRuntime) {
+    tells_of_edits(&rt, rt.alloc(), &CHANNELS);
+}
+
+#[test]
+fn each_text_has_its_message(rt: HostRuntime) {
+    for (text, number, message) in &TEXTS {
+        let is_told = is_told(rt.alloc(), text.as_bytes(), *number, message);
+        same(&rt, message, is_told, true);
     }
     let message = "line 1, column 1: invalid UTF-8";
-    assert!(rt; is_told(rt.alloc(), &[0xff], 1, message), "{message}");
-    Ok(())
+    same(&rt, message, is_told(rt.alloc(), &[0xff], 1, message), true);
 }
 
 /// The faults that have no message, with the numbers and the lines of these.
@@ -435,15 +430,24 @@ static PLAIN: [(NetFault, u8, &str); 2] = [
     ),
 ];
 
+/// Compares the line of a fault that has no message.
+fn compare_plain<R: Abort>(rt: &R, alloc: Global, fault: NetFault, number: u8, line: &str) {
+    let message = message_of::<Standard>(alloc, TEXT.as_bytes(), fault, KINDS);
+    same(
+        rt,
+        line,
+        (message.is_none(), fault.number()),
+        (true, number),
+    );
+    let text = format!(in alloc; "{fault}").expect(rt, "no memory");
+    same(rt, "line", text.as_str(), line);
+}
+
 #[test]
-fn two_faults_have_a_plain_line(rt: HostRuntime) -> Result<(), Fail> {
-    for (fault, number, line) in PLAIN {
-        let message = message_of::<Standard>(rt.alloc(), TEXT.as_bytes(), fault, KINDS);
-        assert!(rt; message.is_none());
-        assert_eq!(rt; fault.number(), number);
-        assert_eq!(rt; format!(in rt.alloc(); "{fault}")?.as_str(), line);
+fn two_faults_have_a_plain_line(rt: HostRuntime) {
+    for (fault, number, line) in &PLAIN {
+        compare_plain(&rt, rt.alloc(), *fault, *number, line);
     }
-    Ok(())
 }
 
 /// The second process is of an unknown kind, and the second channel holds nothing.
@@ -459,8 +463,8 @@ channel = [
 ";
 
 #[test]
-fn locates_a_process_a_channel_and_neither(rt: HostRuntime) -> Result<(), Fail> {
-    let sketch = read_sketch(rt.alloc(), PLACES.as_bytes())?;
+fn locates_a_process_a_channel_and_neither(rt: HostRuntime) {
+    let sketch = read_sketch(rt.alloc(), PLACES.as_bytes()).expect(&rt, "no sketch");
     let found = [
         locate::<Standard>(&sketch, NetFault::Kind),
         locate::<Standard>(&sketch, NetFault::Capacity),
@@ -472,5 +476,4 @@ fn locates_a_process_a_channel_and_neither(rt: HostRuntime) -> Result<(), Fail> 
         Location::Description,
     ];
     assert!(rt; found == due);
-    Ok(())
 }

@@ -1,15 +1,14 @@
 //! The condition of each fault, of single processes and channels of a sketch, against what the rules say.
 use crate::checks::same;
-use crate::tests::CountAndSink;
+use crate::tests::{CountAndSink, sketch_of};
 use kpn_net::check::{
     Clash, SameIn, SameName, SameOut, has_unknown_kind, has_unused_port, has_wrong_args,
     has_wrong_capacity, has_wrong_sort, has_wrong_tokens, in_sort, is_name, is_sort, is_token,
     is_unused_in, is_unused_out, lacks_end, out_sort, port_sort, process_named, signature_of,
     takes_other_count,
 };
-use kpn_net::{ChannelSketch, ProcessSketch, Sketch, Sort, TokenSketch, read_sketch};
-use std::alloc::Global;
-use std::test::Fail;
+use kpn_net::{ChannelSketch, ProcessSketch, Signature, Sketch, Sort, TokenSketch};
+use std::process::Abort;
 
 /// Of these, `src` and `snk` and the channel between them, `c0`, are as they should be.
 const TEXT: &str = "version = 2
@@ -57,10 +56,6 @@ static CHANNELS: [Row; 4] = [
     ([true, true, true, true, false], None, None),
 ];
 
-fn sketch_of(alloc: Global) -> Result<Sketch, Fail> {
-    Ok(read_sketch(alloc, TEXT.as_bytes())?)
-}
-
 fn holds_of_process(sketch: &Sketch, process: &ProcessSketch) -> [bool; 4] {
     [
         has_unknown_kind::<CountAndSink>(process),
@@ -84,56 +79,79 @@ fn holds_of_channel(sketch: &Sketch, channel: &ChannelSketch) -> Row {
     )
 }
 
-#[test]
-fn judges_each_process(rt: HostRuntime) -> Result<(), Fail> {
-    let sketch = sketch_of(rt.alloc())?;
-    for (name, due) in PROCESSES {
-        let process = process_named(sketch.processes.as_slice(), name).ok_or("not found")?;
-        same(&rt, "name", process.name.as_str(), name);
-        same(&rt, name, holds_of_process(&sketch, process), due);
+/// The process of a name that is in the sketch.
+fn process_of<'a, R: Abort>(rt: &R, sketch: &'a Sketch, name: &str) -> &'a ProcessSketch {
+    process_named(sketch.processes.as_slice(), name).expect(rt, "no such process")
+}
+
+/// The channel of a number that is in the sketch.
+fn channel_of<'a, R: Abort>(rt: &R, sketch: &'a Sketch, number: usize) -> &'a ChannelSketch {
+    sketch
+        .channels
+        .as_slice()
+        .get(number)
+        .expect(rt, "no such channel")
+}
+
+fn compare_processes<R: Abort>(rt: &R, sketch: &Sketch) {
+    for (name, due) in &PROCESSES {
+        let process = process_of(rt, sketch, name);
+        let found = (process.name.as_str(), holds_of_process(sketch, process));
+        same(rt, name, found, (*name, *due));
     }
     assert!(rt; process_named(sketch.processes.as_slice(), "none").is_none());
-    Ok(())
 }
 
 #[test]
-fn judges_each_channel(rt: HostRuntime) -> Result<(), Fail> {
-    let sketch = sketch_of(rt.alloc())?;
-    let channels = sketch.channels.as_slice();
+fn judges_each_process(rt: HostRuntime) {
+    let sketch = sketch_of(&rt, rt.alloc(), TEXT);
+    compare_processes(&rt, &sketch);
+}
+
+fn compare_channels<R: Abort>(rt: &R, sketch: &Sketch) {
     for c in 0..4 {
-        let channel = channels.get(c).ok_or("not found")?;
-        let held = holds_of_channel(&sketch, channel);
-        same(&rt, "channel", (c, held), (c, CHANNELS[c]));
+        let held = holds_of_channel(sketch, channel_of(rt, sketch, c));
+        same(rt, "channel", (c, held), (c, CHANNELS[c]));
     }
-    Ok(())
+}
+
+#[test]
+fn judges_each_channel(rt: HostRuntime) {
+    let sketch = sketch_of(&rt, rt.alloc(), TEXT);
+    compare_channels(&rt, &sketch);
+}
+
+/// The ports of a process of a name that is in the sketch.
+fn ports_of<R: Abort>(rt: &R, sketch: &Sketch, name: &str) -> Signature {
+    signature_of::<CountAndSink>(process_of(rt, sketch, name)).expect(rt, "no ports")
+}
+
+fn compare_ports<R: Abort>(rt: &R, sketch: &Sketch) {
+    let ports = ports_of(rt, sketch, "src");
+    let outs = [
+        is_unused_out::<CountAndSink>(sketch, "src", &ports, 0),
+        is_unused_out::<CountAndSink>(sketch, "neg", &ports, 0),
+        is_unused_out::<CountAndSink>(sketch, "neg", &ports, 1),
+    ];
+    same(rt, "outs", outs, [false, true, false]);
+    let ports = ports_of(rt, sketch, "snk");
+    let ins = [
+        is_unused_in::<CountAndSink>(sketch, "snk", &ports, 0),
+        is_unused_in::<CountAndSink>(sketch, "src", &ports, 0),
+        is_unused_in::<CountAndSink>(sketch, "src", &ports, 1),
+    ];
+    same(rt, "ins", ins, [false, true, false]);
 }
 
 /// A channel leads from `src` and to `snk`, but none from `neg` or to `src`.
 #[test]
-fn finds_unused_ports(rt: HostRuntime) -> Result<(), Fail> {
-    let sketch = sketch_of(rt.alloc())?;
-    let processes = sketch.processes.as_slice();
-    let src = process_named(processes, "src").ok_or("not found")?;
-    let ports = signature_of::<CountAndSink>(src).ok_or("no ports")?;
-    let snk = process_named(processes, "snk").ok_or("not found")?;
-    let ins = signature_of::<CountAndSink>(snk).ok_or("no ports")?;
-    let outs = [
-        is_unused_out::<CountAndSink>(&sketch, "src", &ports, 0),
-        is_unused_out::<CountAndSink>(&sketch, "neg", &ports, 0),
-        is_unused_out::<CountAndSink>(&sketch, "neg", &ports, 1),
-    ];
-    same(&rt, "outs", outs, [false, true, false]);
-    let ins = [
-        is_unused_in::<CountAndSink>(&sketch, "snk", &ins, 0),
-        is_unused_in::<CountAndSink>(&sketch, "src", &ins, 0),
-        is_unused_in::<CountAndSink>(&sketch, "src", &ins, 1),
-    ];
-    same(&rt, "ins", ins, [false, true, false]);
-    Ok(())
+fn finds_unused_ports(rt: HostRuntime) {
+    let sketch = sketch_of(&rt, rt.alloc(), TEXT);
+    compare_ports(&rt, &sketch);
 }
 
 #[test]
-fn judges_names_ports_and_tokens(rt: HostRuntime) -> Result<(), Fail> {
+fn judges_names_ports_and_tokens(rt: HostRuntime) {
     let names = [
         is_name("a_1"),
         is_name("abcdefghijklmnop"),
@@ -170,7 +188,6 @@ fn judges_names_ports_and_tokens(rt: HostRuntime) -> Result<(), Fail> {
         is_token(Sort::Flags, TokenSketch::Integer(1)),
     ];
     same(&rt, "tokens", tokens, [true, false, false, true, false]);
-    Ok(())
 }
 
 /// Whether two channels have one name, begin at one port, and end at one.
@@ -182,20 +199,21 @@ fn clashes(one: &ChannelSketch, other: &ChannelSketch) -> [bool; 3] {
     ]
 }
 
-#[test]
-fn finds_what_clashes(rt: HostRuntime) -> Result<(), Fail> {
-    let sketch = sketch_of(rt.alloc())?;
-    let channels = sketch.channels.as_slice();
-    let first = channels.first().ok_or("not found")?;
-    let second = channels.get(1).ok_or("not found")?;
-    let third = channels.get(2).ok_or("not found")?;
-    same(&rt, "clashes", clashes(first, second), [false, true, false]);
-    same(&rt, "clashes", clashes(first, third), [true, false, true]);
-    same(
-        &rt,
-        "clashes",
+fn compare_clashes<R: Abort>(rt: &R, sketch: &Sketch) {
+    let first = channel_of(rt, sketch, 0);
+    let second = channel_of(rt, sketch, 1);
+    let third = channel_of(rt, sketch, 2);
+    let found = [
+        clashes(first, second),
+        clashes(first, third),
         clashes(second, third),
-        [false, false, false],
-    );
-    Ok(())
+    ];
+    let due = [[false, true, false], [true, false, true], [false; 3]];
+    same(rt, "clashes", found, due);
+}
+
+#[test]
+fn finds_what_clashes(rt: HostRuntime) {
+    let sketch = sketch_of(&rt, rt.alloc(), TEXT);
+    compare_clashes(&rt, &sketch);
 }

@@ -5,10 +5,11 @@ ghost use Rattle.std.specs.Str.{bytes_eq};
 
 use crate::checks::same;
 use kpn_net::{
-    Card, Check, Ends, Kinds, Listed, Local, Net, NetFault, Signature, Sort, Text, Token,
+    Card, Check, Ends, Kinds, Listed, Local, Net, NetFault, Signature, Sketch, Sort, Text, Token,
     TokenSketch, read_sketch,
 };
-use std::test::Fail;
+use std::alloc::Global;
+use std::process::Abort;
 
 /// A counter and a sink, with their names, arguments and ports. What they do doesn't matter here: each
 /// stops at once.
@@ -81,36 +82,55 @@ to = \"snk\"
 capacity = 1
 ";
 
-#[test]
-fn describes_a_counter_into_a_sink(rt: HostRuntime) -> Result<(), Fail> {
-    let alloc = rt.alloc();
-    let sketch = read_sketch(alloc, COUNTER.as_bytes())?;
-    let net: Net<CountAndSink> = Net::check(alloc, &sketch)?;
+/// The cards of the counter and of the sink.
+const CARDS: [Card; 2] = [
+    Card {
+        kind: 0,
+        args: [1, 3, 0],
+    },
+    Card {
+        kind: 1,
+        args: [3, 0, 0],
+    },
+];
+
+/// The ends of the channel.
+const ENDS: Ends = Ends {
+    writer: 0,
+    out: 0,
+    reader: 1,
+    input: 0,
+};
+
+/// The sketch of a text.
+pub(crate) fn sketch_of<R: Abort>(rt: &R, alloc: Global, text: &str) -> Sketch {
+    read_sketch(alloc, text.as_bytes()).expect(rt, "no sketch")
+}
+
+/// The network of a sketch.
+fn net_of<R: Abort>(rt: &R, alloc: Global, sketch: &Sketch) -> Net<CountAndSink> {
+    Net::check(alloc, sketch).expect(rt, "no network")
+}
+
+/// Compares the processes and the channel of the counter's network.
+fn compare_counter<R: Abort>(rt: &R, net: &Net<CountAndSink>) {
     assert!(rt; net.processes() == 2 && net.channels() == 1);
-    let cards = [
-        Card {
-            kind: 0,
-            args: [1, 3, 0],
-        },
-        Card {
-            kind: 1,
-            args: [3, 0, 0],
-        },
-    ];
-    same(&rt, "cards", [net.card(0), net.card(1)], cards);
-    let ends = Ends {
-        writer: 0,
-        out: 0,
-        reader: 1,
-        input: 0,
-    };
-    assert!(rt; net.ends(0) == ends && net.sort(0) == Sort::Words);
+    same(rt, "cards", [net.card(0), net.card(1)], CARDS);
+    let channel = (net.ends(0), net.sort(0), net.tokens(0).is_empty());
+    same(rt, "channel", channel, (ENDS, Sort::Words, true));
     let names = [
         net.process_name(0),
         net.process_name(1),
         net.channel_name(0),
     ];
-    assert!(rt; names == ["src", "snk", "c0"] && net.tokens(0).is_empty());
+    same(rt, "names", names, ["src", "snk", "c0"]);
+    let sizes = [net.capacity(0), net.step(), net.ceiling()];
+    same(rt, "sizes", (sizes, net.budget()), ([1, 1, 65535], 10000));
+}
+
+/// Compares which channels the counter's network finds.
+fn compare_found<R: Abort>(rt: &R, net: &Net<CountAndSink>) {
+    assert!(rt; net.processes() == 2);
     let found = [
         net.find_channel("c0"),
         net.find_channel("c1"),
@@ -119,16 +139,16 @@ fn describes_a_counter_into_a_sink(rt: HostRuntime) -> Result<(), Fail> {
         net.in_of(0, 0),
         net.out_of(0, 1),
     ];
-    same(
-        &rt,
-        "found",
-        found,
-        [Some(0), None, Some(0), Some(0), None, None],
-    );
-    assert!(rt;
-        [net.capacity(0), net.step(), net.ceiling()] == [1, 1, 65535] && net.budget() == 10000
-    );
-    Ok(())
+    let due = [Some(0), None, Some(0), Some(0), None, None];
+    same(rt, "found", found, due);
+}
+
+#[test]
+fn describes_a_counter_into_a_sink(rt: HostRuntime) {
+    let sketch = sketch_of(&rt, rt.alloc(), COUNTER);
+    let net = net_of(&rt, rt.alloc(), &sketch);
+    compare_counter(&rt, &net);
+    compare_found(&rt, &net);
 }
 
 /// The same of version 2, with start tokens, a step, and the greatest budget.
@@ -154,29 +174,35 @@ capacity = 1000000
 tokens = [7, 9223372036854775807]
 ";
 
-#[test]
-fn describes_start_tokens_and_a_step(rt: HostRuntime) -> Result<(), Fail> {
-    let alloc = rt.alloc();
-    let sketch = read_sketch(alloc, COUNTER_AND_TOKENS.as_bytes())?;
-    let net: Net<CountAndSink> = Net::check(alloc, &sketch)?;
-    assert!(rt; net.channels() == 1 && sketch.channels.as_slice().len() == 1);
+/// Compares what the network keeps of version 2.
+fn compare_tokens<R: Abort>(rt: &R, net: &Net<CountAndSink>) {
+    assert!(rt; net.channels() == 1);
     let tokens = [Token::Word(7), Token::Word(9223372036854775807)];
-    same(&rt, "tokens", net.tokens(0), tokens.as_slice());
-    same(
-        &rt,
-        "sizes",
-        [net.capacity(0), net.step(), net.ceiling()],
-        [1000000, 1024, 1000000],
-    );
-    assert!(rt; net.budget() == 2000000 && sketch.step == 1024);
-    for channel in sketch.channels.as_slice() {
-        let read = [
-            TokenSketch::Integer(7),
-            TokenSketch::Integer(9223372036854775807),
-        ];
-        same(&rt, "tokens", channel.tokens.as_slice(), read.as_slice());
+    same(rt, "tokens", net.tokens(0), tokens.as_slice());
+    let sizes = [net.capacity(0), net.step(), net.ceiling()];
+    let due = ([1000000, 1024, 1000000], 2000000);
+    same(rt, "sizes", (sizes, net.budget()), due);
+}
+
+/// Compares what the sketch keeps of version 2.
+fn compare_sketch<R: Abort>(rt: &R, sketch: &Sketch) {
+    let channels = sketch.channels.as_slice();
+    same(rt, "sketch", (channels.len(), sketch.step), (1, 1024));
+    let read = [
+        TokenSketch::Integer(7),
+        TokenSketch::Integer(9223372036854775807),
+    ];
+    for channel in channels {
+        same(rt, "tokens", channel.tokens.as_slice(), read.as_slice());
     }
-    Ok(())
+}
+
+#[test]
+fn describes_start_tokens_and_a_step(rt: HostRuntime) {
+    let sketch = sketch_of(&rt, rt.alloc(), COUNTER_AND_TOKENS);
+    let net = net_of(&rt, rt.alloc(), &sketch);
+    compare_tokens(&rt, &net);
+    compare_sketch(&rt, &sketch);
 }
 
 static NUMBERS: [(NetFault, u8); 17] = [
@@ -199,24 +225,28 @@ static NUMBERS: [(NetFault, u8); 17] = [
     (NetFault::Step, 17),
 ];
 
-#[test]
-fn numbers_faults_and_keeps_texts_and_lists(rt: HostRuntime) -> Result<(), Fail> {
-    let alloc = rt.alloc();
-    for (fault, number) in NUMBERS {
-        same(&rt, "number", fault.number(), number);
-    }
-    let text = Text::new(String::from_str(alloc, "c0")?);
-    same(&rt, "text", text.as_str(), "c0");
-    same(&rt, "text", text.into_string().as_str(), "c0");
+/// A text is what it was made of.
+fn compare_text<R: Abort>(rt: &R, alloc: Global) {
+    let text = Text::new(String::from_str(alloc, "c0").expect(rt, "no memory"));
+    same(rt, "text", text.as_str(), "c0");
+    same(rt, "text", text.into_string().as_str(), "c0");
+}
+
+/// A list is what was pushed to it.
+fn compare_list<R: Abort>(rt: &R, alloc: Global) {
     let mut list = Listed::new(Vec::new(alloc));
-    list.push(Token::Word(7))?;
-    list.push(Token::Flag(true))?;
-    same(
-        &rt,
-        "list",
-        list.as_slice(),
-        [Token::Word(7), Token::Flag(true)].as_slice(),
-    );
-    same(&rt, "of the list", list.into_vec().len(), 2);
-    Ok(())
+    list.push(Token::Word(7)).expect(rt, "no memory");
+    list.push(Token::Flag(true)).expect(rt, "no memory");
+    let due = [Token::Word(7), Token::Flag(true)];
+    same(rt, "list", list.as_slice(), due.as_slice());
+    same(rt, "of the list", list.into_vec().len(), 2);
+}
+
+#[test]
+fn numbers_faults_and_keeps_texts_and_lists(rt: HostRuntime) {
+    for (fault, number) in &NUMBERS {
+        same(&rt, "number", fault.number(), *number);
+    }
+    compare_text(&rt, rt.alloc());
+    compare_list(&rt, rt.alloc());
 }
