@@ -8,19 +8,16 @@ use kpn_standard::{
     take, weave,
 };
 use std::process::Abort;
-use std::test::Fail;
 
-fn agree(rt: &impl Abort, lines: &[(Answer, Local, Act)]) -> Result<(), Fail> {
+fn agree(rt: &impl Abort, lines: &[(Answer, Local, Act)]) {
     for (answer, next, act) in lines {
-        same(rt, "next", answer.next, *next);
-        same(rt, "act", answer.act, *act);
+        same(rt, "answer", (answer.next, answer.act), (*next, *act));
     }
-    Ok(())
 }
 
 #[tactic(auto, using(crate::proofs::Lines::count_lines))]
 #[test]
-fn count_follows_its_lines(rt: HostRuntime) -> Result<(), Fail> {
+fn count_follows_its_lines(rt: HostRuntime) {
     agree(
         &rt,
         &[
@@ -54,12 +51,12 @@ fn count_follows_its_lines(rt: HostRuntime) -> Result<(), Fail> {
                 Write(0, Word(u64::MAX - 1)),
             ),
         ],
-    )
+    );
 }
 
 #[tactic(auto, using(crate::proofs::Lines::sink_lines))]
 #[test]
-fn sink_follows_its_lines(rt: HostRuntime) -> Result<(), Fail> {
+fn sink_follows_its_lines(rt: HostRuntime) {
     agree(
         &rt,
         &[
@@ -87,12 +84,12 @@ fn sink_follows_its_lines(rt: HostRuntime) -> Result<(), Fail> {
                 Stop,
             ),
         ],
-    )
+    );
 }
 
 #[tactic(auto, using(crate::proofs::Lines::take_lines))]
 #[test]
-fn take_follows_its_lines(rt: HostRuntime) -> Result<(), Fail> {
+fn take_follows_its_lines(rt: HostRuntime) {
     agree(
         &rt,
         &[
@@ -116,12 +113,12 @@ fn take_follows_its_lines(rt: HostRuntime) -> Result<(), Fail> {
                 Stop,
             ),
         ],
-    )
+    );
 }
 
 #[tactic(auto, using(crate::proofs::Lines::copy_lines))]
 #[test]
-fn copy_follows_its_lines(rt: HostRuntime) -> Result<(), Fail> {
+fn copy_follows_its_lines(rt: HostRuntime) {
     agree(
         &rt,
         &[
@@ -144,12 +141,12 @@ fn copy_follows_its_lines(rt: HostRuntime) -> Result<(), Fail> {
                 Write(1, Word(7)),
             ),
         ],
-    )
+    );
 }
 
 #[tactic(auto, using(crate::proofs::Lines::prefix_lines))]
 #[test]
-fn prefix_follows_its_lines(rt: HostRuntime) -> Result<(), Fail> {
+fn prefix_follows_its_lines(rt: HostRuntime) {
     agree(
         &rt,
         &[
@@ -172,12 +169,12 @@ fn prefix_follows_its_lines(rt: HostRuntime) -> Result<(), Fail> {
                 Write(0, Word(7)),
             ),
         ],
-    )
+    );
 }
 
 #[tactic(auto, using(crate::proofs::Lines::add_lines))]
 #[test]
-fn add_follows_its_lines(rt: HostRuntime) -> Result<(), Fail> {
+fn add_follows_its_lines(rt: HostRuntime) {
     agree(
         &rt,
         &[
@@ -210,12 +207,12 @@ fn add_follows_its_lines(rt: HostRuntime) -> Result<(), Fail> {
                 Write(0, Word(u64::MAX - 1)),
             ),
         ],
-    )
+    );
 }
 
 #[tactic(auto, using(crate::proofs::Lines::scale_lines))]
 #[test]
-fn scale_follows_its_lines(rt: HostRuntime) -> Result<(), Fail> {
+fn scale_follows_its_lines(rt: HostRuntime) {
     agree(
         &rt,
         &[
@@ -243,12 +240,12 @@ fn scale_follows_its_lines(rt: HostRuntime) -> Result<(), Fail> {
                 Write(0, Word(0)),
             ),
         ],
-    )
+    );
 }
 
 #[tactic(auto, using(crate::proofs::Lines::weave_lines))]
 #[test]
-fn weave_follows_its_lines(rt: HostRuntime) -> Result<(), Fail> {
+fn weave_follows_its_lines(rt: HostRuntime) {
     agree(
         &rt,
         &[
@@ -282,12 +279,12 @@ fn weave_follows_its_lines(rt: HostRuntime) -> Result<(), Fail> {
                 Write(0, Word(7)),
             ),
         ],
-    )
+    );
 }
 
 #[tactic(auto, using(crate::proofs::Lines::merge_lines))]
 #[test]
-fn merge_follows_its_lines(rt: HostRuntime) -> Result<(), Fail> {
+fn merge_follows_its_lines(rt: HostRuntime) {
     agree(
         &rt,
         &[
@@ -337,12 +334,12 @@ fn merge_follows_its_lines(rt: HostRuntime) -> Result<(), Fail> {
                 Write(0, Word(9)),
             ),
         ],
-    )
+    );
 }
 
 #[tactic(auto, using(crate::proofs::Lines::divides_lines))]
 #[test]
-fn divides_follows_its_lines(rt: HostRuntime) -> Result<(), Fail> {
+fn divides_follows_its_lines(rt: HostRuntime) {
     agree(
         &rt,
         &[
@@ -374,12 +371,12 @@ fn divides_follows_its_lines(rt: HostRuntime) -> Result<(), Fail> {
                 Write(0, Flag(true)),
             ),
         ],
-    )
+    );
 }
 
 #[tactic(auto, using(crate::proofs::Lines::switch_lines))]
 #[test]
-fn switch_follows_its_lines(rt: HostRuntime) -> Result<(), Fail> {
+fn switch_follows_its_lines(rt: HostRuntime) {
     agree(
         &rt,
         &[
@@ -412,12 +409,12 @@ fn switch_follows_its_lines(rt: HostRuntime) -> Result<(), Fail> {
                 Write(1, Word(7)),
             ),
         ],
-    )
+    );
 }
 
 #[tactic(auto, using(crate::proofs::Lines::select_lines))]
 #[test]
-fn select_follows_its_lines(rt: HostRuntime) -> Result<(), Fail> {
+fn select_follows_its_lines(rt: HostRuntime) {
     agree(
         &rt,
         &[
@@ -445,11 +442,11 @@ fn select_follows_its_lines(rt: HostRuntime) -> Result<(), Fail> {
                 Write(0, Word(7)),
             ),
         ],
-    )
+    );
 }
 
 #[test]
-fn names_have_numbers_and_counts(rt: HostRuntime) -> Result<(), Fail> {
+fn names_have_numbers_and_counts(rt: HostRuntime) {
     let names = [
         ("count", Some((0, 2))),
         ("sink", Some((1, 1))),
@@ -471,7 +468,6 @@ fn names_have_numbers_and_counts(rt: HostRuntime) -> Result<(), Fail> {
     for (name, expected) in names {
         same(&rt, name, Standard::named(name), expected);
     }
-    Ok(())
 }
 
 /// Whether the kind is found by its number and by its name.
@@ -480,7 +476,7 @@ fn is_found(kind: Kind, number: u16, name: &str) -> bool {
 }
 
 #[test]
-fn kinds_have_rows(rt: HostRuntime) -> Result<(), Fail> {
+fn kinds_have_rows(rt: HostRuntime) {
     let kinds = [
         (Kind::Count, 0, "count", 2),
         (Kind::Sink, 1, "sink", 1),
@@ -504,7 +500,6 @@ fn kinds_have_rows(rt: HostRuntime) -> Result<(), Fail> {
     assert!(rt; Kind::called("counts").is_none());
     assert!(rt; Kind::Weave.accepts([1, 2, 0]));
     assert!(rt; !Kind::Weave.accepts([1, 0, 0]));
-    Ok(())
 }
 
 const W: Option<Sort> = Some(Sort::Words);
@@ -512,7 +507,7 @@ const W: Option<Sort> = Some(Sort::Words);
 const F: Option<Sort> = Some(Sort::Flags);
 
 #[test]
-fn arguments_have_ports(rt: HostRuntime) -> Result<(), Fail> {
+fn arguments_have_ports(rt: HostRuntime) {
     let ports_of = [
         (0, [5, 3, 0], [None, None, None], [W, None, None]),
         (0, [u64::MAX - 3, 3, 0], [None, None, None], [W, None, None]),
@@ -533,11 +528,10 @@ fn arguments_have_ports(rt: HostRuntime) -> Result<(), Fail> {
         let due = Some(Signature { ins, outs });
         same(&rt, "ports", (kind, signature), (kind, due));
     }
-    Ok(())
 }
 
 #[test]
-fn other_arguments_are_refused(rt: HostRuntime) -> Result<(), Fail> {
+fn other_arguments_are_refused(rt: HostRuntime) {
     let refused = [
         (0, [u64::MAX - 3, 4, 0]),
         (0, [u64::MAX, u64::MAX, 0]),
@@ -563,7 +557,6 @@ fn other_arguments_are_refused(rt: HostRuntime) -> Result<(), Fail> {
         let signature = Standard::signature(&Card { kind, args });
         same(&rt, "refused", (kind, signature), (kind, None));
     }
-    Ok(())
 }
 
 fn start_of<K: Kinds>(card: Card) -> Option<Local> {
@@ -572,11 +565,10 @@ fn start_of<K: Kinds>(card: Card) -> Option<Local> {
 }
 
 #[test]
-fn starts_at_zero(rt: HostRuntime) -> Result<(), Fail> {
+fn starts_at_zero(rt: HostRuntime) {
     for kind in [3, 5, 8, 10, 11] {
         let card = Card { kind, args: [0; 3] };
         let start = start_of::<Standard>(card);
         same(&rt, "start", (kind, start), (kind, Some([0; 4])));
     }
-    Ok(())
 }
