@@ -1,0 +1,15 @@
+//! Tests of descriptions, their messages, kinds and pictures: of kpn_net, kpn_message and kpn_picture, and
+//! in `kinds` of kpn_standard, kpn_body and kpn_compute. They have a crate of their own so that these are
+//! proved once, and one crate so that what it uses is loaded once.
+#![tactic(auto)]
+
+#[cfg(test)]
+mod checks;
+#[cfg(test)]
+mod kinds;
+#[cfg(test)]
+mod message;
+#[cfg(test)]
+mod net;
+#[cfg(test)]
+mod picture;

@@ -1,0 +1,3 @@
+//! Tests of kpn_net.
+mod conditions;
+mod tests;

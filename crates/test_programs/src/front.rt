@@ -1,0 +1,3 @@
+//! Tests of kpn_front and kpn_args.
+mod arguments;
+mod texts;
