@@ -44,14 +44,8 @@ impl Body for StandardBody {
         self.card
     }
 
+    #[inline(always)]
     fn answer(&self, local: Local, last: Option<Token>) -> Answer {
-        ask(&self.call, local, last)
+        (self.call)(local, last)
     }
-}
-
-fn ask(call: &Call, local: Local, last: Option<Token>) -> Answer
-    requires { pre call.now local last }
-    ensures { post call.now local last result }
-{
-    call(local, last)
 }

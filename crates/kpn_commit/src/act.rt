@@ -1,11 +1,10 @@
 //! Does what a process wants, if it can be done.
-ghost use Rattle.std.specs.Prelude.{◌≡◌, ◌≢◌, ◌<◌, length, set, Some, IfSome, IfNone, IsSome};
+ghost use Rattle.std.specs.Prelude.{◌≡◌, ◌<◌, length, set, Some, IfSome, IfNone, IsSome};
 ghost use Rattle.kpn_model.specs.Network.{card_of};
 ghost use Rattle.kpn_model.specs.Lawful.{NamesPort, LeadsOn, read_by};
 ghost use Rattle.kpn_model.specs.Semantics.{wants, IsPossible, IsDeed, after_deed};
 ghost use Rattle.kpn_model.specs.declared.history.Entry.TheVariants.{Did};
 ghost use Rattle.kpn_state.specs.StateAndHistory.{more};
-ghost use Rattle.kpn_state.specs.declared.standing.Standing.TheVariants.{Ready};
 ghost use Rattle.kpn_state.specs.Standings.{StandingsFit, standing, standing_after, partner, HasChannel};
 
 use kpn_model::{Act, Answer, Card, Deed, Kinds, Local, Status, Token};
@@ -121,7 +120,6 @@ pub fn advance<K: Kinds>(
 ) -> Option<Deed>
     requires keeps { StandingsFit K.family K.admits net.now (Some process) store.old.state standings.old }
     requires process { process < length standings.old }
-    requires idle { standing standings.old process ≢ Ready }
     requires wants { wants K.family net.now store.old.state process ≡ Some answer }
     requires room { length store.old.history < store.old.room }
     ensures is_deed { IfSome result (IsDeed K.family net.now store.old.state process answer.act) }

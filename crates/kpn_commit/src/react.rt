@@ -3,12 +3,11 @@
 ghost use Rattle.std.specs.Prelude.{◌≡◌, ◌≢◌, ◌<◌, ◌≤◌, ◌+◌, length, Some, None};
 ghost use Rattle.kpn_model.specs.Semantics.{wants, status};
 ghost use Rattle.kpn_model.specs.declared.history.Status.TheVariants.{Done};
-ghost use Rattle.kpn_state.specs.Standings.{StandingsFit, standing, partner, HasChannel};
-ghost use Rattle.kpn_state.specs.declared.standing.Standing.TheVariants.{Out};
+ghost use Rattle.kpn_state.specs.Standings.{StandingsFit, partner, HasChannel};
 ghost use Rattle.kpn_commit.specs.Reactions.{Reacts};
 
 use crate::act::advance;
-use kpn_model::{Answer, Deed, Kinds};
+use kpn_model::{Act, Answer, Deed, Kinds, Token};
 use kpn_network::Net;
 use kpn_state::standing::parked;
 use kpn_state::{Roster, Standing, Store};
@@ -23,7 +22,7 @@ pub enum Reaction {
     HandsOn,
 }
 
-/// Does the answer of a process that is out, or parks the process with it; then does the deed of the
+/// Does the answer of a live process, or parks the process with it; then does the deed of the
 /// parked process that this enables. The history must have room for two entries.
 #[inline(always)]
 pub fn react<K: Kinds>(
@@ -35,14 +34,13 @@ pub fn react<K: Kinds>(
 ) -> Reaction
     requires keeps { StandingsFit K.family K.admits net.now None store.old.state standings.old }
     requires process { process < length standings.old }
-    requires out { standing standings.old process ≡ Out }
     requires wants { wants K.family net.now store.old.state process ≡ Some answer }
     requires room { length store.old.history + 2 ≤ store.old.room }
     ensures reacts { Reacts K.family net.now store.old standings.old process answer result store.new standings.new }
     ensures keeps { StandingsFit K.family K.admits net.now None store.new.state standings.new }
 {
     let Some(deed) = advance(net, store, standings, process, answer) else {
-        standings.update(process, Standing::Parked(answer));
+        standings.update(process, Standing::Parked(anew(answer)));
         return Reaction::Waits;
     };
     let Some(other) = partner(net, deed) else {
@@ -55,6 +53,22 @@ pub fn react<K: Kinds>(
         Some(_) => Reaction::HandsOn,
         None => Reaction::Acts,
     }
+}
+
+/// The same answer, put together of its parts. To park a copy of the whole, all its bytes would have to
+/// be kept at hand while it is tried whether the answer can be done, and mostly it can.
+#[inline(always)]
+fn anew(answer: Answer) -> Answer
+    ensures { result ≡ answer }
+{
+    let next = answer.next;
+    let act = match answer.act {
+        Act::Read(port) => Act::Read(port),
+        Act::Write(port, Token::Word(word)) => Act::Write(port, Token::Word(word)),
+        Act::Write(port, Token::Flag(flag)) => Act::Write(port, Token::Flag(flag)),
+        Act::Stop => Act::Stop,
+    };
+    Answer { next, act }
 }
 
 /// Returns the process at the other end of the deed's channel; `None` if the deed is a stop.

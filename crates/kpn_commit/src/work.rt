@@ -1,8 +1,7 @@
 //! The work of a commit.
 ghost use Rattle.std.specs.Prelude.{◌≡◌, ◌<◌, ◌≤◌, ◌+◌, length, Some, None};
 ghost use Rattle.kpn_model.specs.Semantics.{wants};
-ghost use Rattle.kpn_state.specs.declared.standing.Standing.TheVariants.{Out};
-ghost use Rattle.kpn_state.specs.Standings.{StandingsFit, standing};
+ghost use Rattle.kpn_state.specs.Standings.{StandingsFit};
 ghost use Rattle.kpn_commit.specs.Works.{Works, outcome_of, end_after, settled_entries};
 
 use crate::outcome::Outcome;
@@ -51,7 +50,7 @@ fn end_after(settled: Settled, budget: u64, entries: u64) -> Option<End>
     }
 }
 
-/// Works on the answer of a process that is out, in a run that has not ended. Returns the outcome, and
+/// Works on the answer of a live process, in a run that has not ended. Returns the outcome, and
 /// how the run ended, if it did. The history must have room for three entries.
 #[inline(always)]
 pub fn work<K: Kinds>(
@@ -63,7 +62,6 @@ pub fn work<K: Kinds>(
 ) -> (Outcome, Option<End>)
     requires keeps { StandingsFit K.family K.admits net.now None store.old.state standings.old }
     requires process { process < length standings.old }
-    requires out { standing standings.old process ≡ Out }
     requires wants { wants K.family net.now store.old.state process ≡ Some answer }
     requires room { length store.old.history + 3 ≤ store.old.room }
     ensures works { Works K.family net.now store.old standings.old process answer result.0 store.new standings.new result.1 }

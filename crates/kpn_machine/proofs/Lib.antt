@@ -7,3 +7,4 @@ pub mod Finishing
 pub mod Ends
 pub mod NetworkCards
 pub mod Fresh
+pub mod Rounds

@@ -8,13 +8,13 @@ use Rattle.kpn_model.specs.Network.{Family}
 use Rattle.kpn_model.specs.Semantics.{Run, IsEnabled}
 use Rattle.kpn_model.specs.Endings.{CanGrow, IsOver, has_report}
 use Rattle.kpn_body.specs.Input.{Input, answer_to}
-use Rattle.kpn_state.specs.declared.standing.Standing.TheVariants.{Ready}
+use Rattle.kpn_state.specs.declared.standing.Standing.TheVariants.{Ready, Out}
 use Rattle.kpn_commit.specs.declared.settle.Settled.TheVariants.{Enlarged}
 use Rattle.kpn_commit.specs.declared.outcome.Outcome.{Outcome}
 use Rattle.kpn_commit.specs.declared.outcome.Outcome.TheVariants.{Done, Parked, LaidBack}
-use Rattle.kpn_state.specs.Standings.{is_busy}
+use Rattle.kpn_state.specs.Standings.{standing, is_busy}
 use Rattle.kpn_commit.specs.Works.{Works}
-use Rattle.kpn_machine.specs.MachineView.{MachineView, state_and_history_of}
+use Rattle.kpn_machine.specs.MachineView.{MachineView, TakesOut, state_and_history_of}
 
 abbrev pub number : Outcome → ℕ
 number (Done n) = n
@@ -65,3 +65,14 @@ pub record EndsAs (kinds : Family) (t : MachineView) : Type 0 where
   pub memory : t.end ≡ Some Memory → (list_any is_busy t.standings ≡ false) × CanGrow kinds t.network t.state
   pub budget : t.end ≡ Some Budget → t.network.budget ≤ length t.history
   pub none : t.end ≡ None → length t.history < t.network.budget
+
+-- a ready process was asked and its answer taken, as if it had been out between the two
+pub record GoesRound (kinds : Family) (s t : MachineView) : Type 0 where
+  pub input : Input
+  pub between : MachineView
+  pub outcome : Outcome
+  pub takes : TakesOut s input between
+  pub commits : Commits kinds between input outcome t
+  pub appends : Appends kinds between t (number outcome)
+  pub back : standing t.standings input.process ≢ Out
+  pub others : (p : ℕ) → p ≢ input.process → (standing t.standings p ≡ Out) ↔ (standing between.standings p ≡ Out)

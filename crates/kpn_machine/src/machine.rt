@@ -8,7 +8,7 @@ ghost use Rattle.kpn_model.specs.Valid.{IsWellTyped};
 ghost use Rattle.kpn_state.specs.declared.standing.Standing.TheVariants.{Out, Ready};
 ghost use Rattle.kpn_state.specs.Standings.{standing, is_out, is_ready, StandingsFit};
 ghost use Rattle.kpn_machine.specs.MachineView.{machine_view, IsOut, IsOutAt, TakesOut, IsFaithful, IsFresh};
-ghost use Rattle.kpn_machine.specs.Commits.{Commits, Appends, EndsAs, ContinuesRun, TellsEnabled, number};
+ghost use Rattle.kpn_machine.specs.Commits.{Commits, Appends, EndsAs, ContinuesRun, GoesRound, TellsEnabled, number};
 ghost use Rattle.kpn_laws.specs.RoomOfRun.{TakesLeastRoom};
 
 use crate::chronicle::Chronicle;
@@ -372,6 +372,37 @@ impl<B: Body> Machine<B> {
 }
 
 impl<B: Body> Machine<B> {
+    /// Asks the process that has been ready the longest, and takes its answer: what `take`, `Task::call`
+    /// and `commit` do, but no body leaves the machine, and the process is not sent out. The run must
+    /// not have ended, and no process may be out.
+    #[inline(always)]
+    fn go_on(&mut self)
+        requires on { self.old.end ≡ None }
+        requires none_out { count_by is_out self.old.standings ≡ 0 }
+        ensures { GoesRound B.Kinds.family self.old self.new }
+    {
+        self.net.assure_valid();
+        let Some(process) = self.standings.turn() else {
+            unreachable!()
+        };
+        let Status::Live { local, last } = self.store.status(process) else {
+            unreachable!()
+        };
+        let Some(body) = &self.bodies[process] else {
+            unreachable!()
+        };
+        let answer = body.answer(local, last);
+        self.commits += 1;
+        let (_, ended) = work(
+            &self.net,
+            &mut self.store,
+            &mut self.standings,
+            process,
+            answer,
+        );
+        self.end = ended;
+    }
+
     /// Runs to an end in the calling thread. No process may be out. If capacity b suffices for the
     /// network, no channel of capacity b or more grows in the run (Parks 1995; docs/least-room.md).
     pub fn finish_alone(&mut self)
@@ -382,12 +413,7 @@ impl<B: Body> Machine<B> {
         ensures room { TakesLeastRoom B.Kinds.family self.new.network self.new.history self.new.state }
     {
         while self.end().is_none() {
-            let Some(task) = self.take() else {
-                unreachable!()
-            };
-            let Ok(_) = self.commit(task.call()) else {
-                unreachable!()
-            };
+            self.go_on();
         }
         least_room_of::<B::Kinds>();
     }

@@ -1,3 +1,4 @@
 pub mod Contradictions
 pub mod Placed
+pub mod Withdrawn
 pub mod Rostered

@@ -1,13 +1,16 @@
 -- The queue and the counts while processes are moved.
-use Rattle.std.proofs.Common.{◌≡◌, ◌≢◌, ⊎_elim, List, [], ◌∷◌, ◌++◌, length, length-set, length-append, refl, sym, ap, ◌∙◌, arith, ℕ, zero, suc, ◌+◌, ◌<◌, ◌≤◌, Bool, true, false, cond, Some, None, set, drop, slice_get}
+use Rattle.std.proofs.Common.{◌≡◌, ◌≢◌, ◌⊎◌, ⊎_elim, List, [], ◌∷◌, ◌++◌, length, length-set, length-append, refl, sym, ap, ◌∙◌, arith, ℕ, zero, suc, ◌+◌, ◌<◌, ◌≤◌, Bool, true, false, cond, Some, None, set, drop, slice_get}
 use Rattle.std.specs.List.{list_any, list_all, count_by}
 use Rattle.std.proofs.lemmas.Bool.{cases_eq, eq-eqb, ne_eqb, lt-ltb, eqb-true, eqb-false}
 use Rattle.std.proofs.lemmas.List.Sums.{sum_by-cons, sum_by_push, sum_by-set, count_by-le-length, get_or-le-sum_by}
 use Rattle.std.specs.Prelude.{nat_eq, nat_lt}
+use Rattle.kpn_model.specs.declared.kinds.Answer.{Answer}
 use Rattle.kpn_state.specs.declared.standing.Standing.{Standing}
 use Rattle.kpn_state.specs.declared.standing.Standing.TheVariants.{Ready, Out, Parked, Stopped}
 use Rattle.kpn_state.specs.Standings.{standing, is_busy, is_ready, is_out, has_stopped}
-use Rattle.kpn_state.specs.Rosters.{times, Agrees, queue_after}
+use Rattle.kpn_state.specs.Rosters.{times, Agrees, queue_after, without}
+use Rattle.std.proofs.lemmas.List.{set-get_or}
+use Rattle.kpn_state.proofs.Withdrawn.{times_gone, times_stays, length_without}
 use Rattle.kpn_state.proofs.Placed.{standing_set_same, standing_set_other, standing_within, ready_not_ended}
 
 abbrev one_if : Bool → ℕ
@@ -17,11 +20,20 @@ one_if b = cond b 1 0
 abbrev weight : (Standing → Bool) → Standing → ℕ
 weight f x = cond (f x) 1 0
 
+parked_not_ready : (a : Answer) → Parked a ≢ Ready
+parked_not_ready a e = cc
+
 pub not_ready : (x : Standing) → x ≢ Ready → is_ready x ≡ false
 not_ready Ready n = absurd (n refl)
 not_ready Out n = refl
 not_ready (Parked a) n = refl
 not_ready Stopped n = refl
+
+pub others_not_ready : (x : Standing) → (x ≡ Out) ⊎ (((a : Answer) × (x ≡ Parked a)) ⊎ (x ≡ Stopped)) → x ≢ Ready
+others_not_ready Ready h e = ⊎_elim (λ o. cc) (λ r. ⊎_elim (λ p. parked_not_ready p.0 (sym p.1)) (λ s. cc) r) h
+others_not_ready Out h e = cc
+others_not_ready (Parked a) h e = cc
+others_not_ready Stopped h e = cc
 
 is_ready_ready : (x : Standing) → is_ready x ≡ true → x ≡ Ready
 is_ready_ready Ready e = refl
@@ -41,6 +53,15 @@ one_here p q e = ap one_if (eq-eqb p q e)
 
 none_there : (p q : ℕ) → p ≢ q → one_if (nat_eq p q) ≡ 0
 none_there p q n = ap one_if (ne_eqb p q n)
+
+-- a queue without its head
+head_times : (queue : List ℕ) (p : ℕ) → slice_get queue 0 ≡ Some p → (q : ℕ) → times queue q ≡ cond (nat_eq p q) 1 0 + times (drop 1 queue) q
+head_times [] p e q = cc
+head_times (x ∷ xs) p e q = let s : x ≡ p = cc in times_cons xs x q ∙ ap (λ y. cond (nat_eq y q) 1 0 + times xs q) s
+
+head_length : (queue : List ℕ) (p : ℕ) → slice_get queue 0 ≡ Some p → length queue ≡ length (drop 1 queue) + 1
+head_length [] p e = cc
+head_length (x ∷ xs) p e = omega arith
 
 -- a process that passes the test is counted
 counted : (f : Standing → Bool) (standings : List Standing) (p : ℕ) (x : Standing) → p < length standings → count_by f (set standings p x) + weight f (standing standings p) ≡ count_by f standings + weight f x
@@ -237,7 +258,7 @@ module _ (standings : List Standing) (queue : List ℕ) (room out stopped : ℕ)
       let within = front_within p e in
       record {
         queued = λ q.
-            let c = shorter queue e q in
+            let c = head_times queue p e q in
             let b = k.queued q in
             ⊎_elim
             (λ (s : q ≡ p).
@@ -253,7 +274,7 @@ module _ (standings : List Standing) (queue : List ℕ) (room out stopped : ℕ)
         ready =
             let c = counted is_ready standings p Out within in
             let w : weight is_ready (standing standings p) ≡ 1 = ap (weight is_ready) ready in
-            let l = one_less queue e in
+            let l = head_length queue p e in
             let r = k.ready in
             omega arith;
         room_for_all = let m = k.room_for_all in let l = length-set standings p Out in omega arith;
@@ -268,11 +289,56 @@ module _ (standings : List Standing) (queue : List ℕ) (room out stopped : ℕ)
             let e = k.stopped_is in
             omega arith;
       }
-    where
-      shorter : (q : List ℕ) → slice_get q 0 ≡ Some p → (r : ℕ) → times q r ≡ cond (nat_eq p r) 1 0 + times (drop 1 q) r
-      shorter [] e r = cc
-      shorter (x ∷ xs) e r = let s : x ≡ p = cc in times_cons xs x r ∙ ap (λ y. cond (nat_eq y r) 1 0 + times xs r) s
 
-      one_less : (q : List ℕ) → slice_get q 0 ≡ Some p → length q ≡ length (drop 1 q) + 1
-      one_less [] e = cc
-      one_less (x ∷ xs) e = omega arith
+  -- the process at the head of the queue goes to its end
+  pub turn_room : (p : ℕ) → slice_get queue 0 ≡ Some p → length (drop 1 queue) < room
+  turn_room p e = let l = head_length queue p e in let f = queue_few in let m = k.room_for_all in omega arith
+
+  pub kept_turned : (p : ℕ) → slice_get queue 0 ≡ Some p → Agrees standings (queue_after (drop 1 queue) p Ready) room out stopped
+  kept_turned p e = record {
+    queued = λ q. let c = head_times queue p e q in let t = times_push (drop 1 queue) p q in let b = k.queued q in omega arith;
+    ready = let l = head_length queue p e in let a = length-append (drop 1 queue) (p ∷ []) in let r = k.ready in omega arith;
+    room_for_all = k.room_for_all;
+    out_is = k.out_is;
+    stopped_is = k.stopped_is;
+  }
+
+  module _ (p : ℕ) (within : p < length standings) (ready : standing standings p ≡ Ready) where
+    -- a ready process is in the queue once
+    pub once : times queue p ≡ 1
+    once = k.queued p ∙ ap (weight is_ready) ready
+
+    -- it leaves the queue when it is no longer ready
+    pub kept_left : (x : Standing) (out_new stopped_new : ℕ) → x ≢ Ready → out_new ≡ out + weight is_out x → stopped_new ≡ stopped + weight has_stopped x → Agrees (set standings p x) (without p queue) room out_new stopped_new
+    kept_left x out_new stopped_new not o s = record {
+      queued = λ q. ⊎_elim
+          (λ (e : q ≡ p).
+          let gone : times (without p queue) q ≡ 0 = ap (λ y. times (without p queue) y) e ∙ times_gone queue p in
+          let here : weight is_ready (standing (set standings p x) q) ≡ 0 = ap (λ y. weight is_ready (standing (set standings p x) y)) e ∙ ap (weight is_ready) (standing_set_same standings p x within) ∙ ap one_if (not_ready x not) in
+          omega arith)
+          (λ (ne : q ≢ p). times_stays queue p q ne ∙ k.queued q ∙ sym (ap (weight is_ready) (standing_set_other standings p q x ne)))
+          (cases_eq q p);
+      ready =
+          let c = counted is_ready standings p x within in
+          let w : weight is_ready (standing standings p) ≡ 1 = ap (weight is_ready) ready in
+          let n : weight is_ready x ≡ 0 = ap one_if (not_ready x not) in
+          let l = length_without queue p in
+          let o = once in
+          let r = k.ready in
+          omega arith;
+      room_for_all = let m = k.room_for_all in let l = length-set standings p x in omega arith;
+      out_is =
+          let c = counted is_out standings p x within in
+          let w : weight is_out (standing standings p) ≡ 0 = ap (weight is_out) ready in
+          let e = k.out_is in
+          omega arith;
+      stopped_is =
+          let c = counted has_stopped standings p x within in
+          let w : weight has_stopped (standing standings p) ≡ 0 = ap (weight has_stopped) ready in
+          let e = k.stopped_is in
+          omega arith;
+    }
+
+-- a process that is given the standing that it has
+pub same_again : (standings : List Standing) (p : ℕ) (x : Standing) → standing standings p ≡ x → set standings p x ≡ standings
+same_again standings p x e = ap (λ y. set standings p y) (sym e) ∙ set-get_or standings p Stopped

@@ -1,5 +1,5 @@
 -- The queue of the ready processes and the counts beside it, and how they fit the standings.
-use Rattle.std.specs.Prelude.{◌≡◌, ℕ, ◌≤◌, List, [], ◌∷◌, ◌++◌, length, if◌then◌else◌, nat_eq, count_by}
+use Rattle.std.specs.Prelude.{◌≡◌, ℕ, ◌≤◌, List, [], ◌∷◌, ◌++◌, length, if◌then◌else◌, nat_eq, count_by, filter, not}
 use Rattle.kpn_state.specs.declared.standing.Standing.{Standing}
 use Rattle.kpn_state.specs.Standings.{standing, is_ready, is_out, has_stopped}
 
@@ -19,3 +19,7 @@ pub record Agrees (standings : List Standing) (queue : List ℕ) (room out stopp
 -- the queue after p, which was not queued, has been given this standing
 abbrev pub queue_after : List ℕ → ℕ → Standing → List ℕ
 queue_after queue p x = if is_ready x then queue ++ p ∷ [] else queue
+
+-- the queue without p
+abbrev pub without : ℕ → List ℕ → List ℕ
+without p queue = filter (λ q. not (nat_eq q p)) queue

@@ -3,7 +3,7 @@ ghost use Rattle.std.specs.Prelude.{◌≡◌, ◌≢◌, ◌<◌, ◌≤◌, �
 ghost use Rattle.std.specs.List.{list_any, list_all};
 ghost use Rattle.kpn_state.specs.declared.standing.Standing.TheVariants.{Ready, Out};
 ghost use Rattle.kpn_state.specs.Standings.{standing, is_busy, is_out, is_ready, has_stopped};
-ghost use Rattle.kpn_state.specs.Rosters.{queue_after};
+ghost use Rattle.kpn_state.specs.Rosters.{queue_after, times, without};
 
 use crate::standing::Standing;
 use circular_buffer::HeapCircularBuffer;
@@ -107,9 +107,56 @@ impl Roster {
         Some(process)
     }
 
-    /// Sets the standing of a process that is not ready. If it becomes ready, it goes to the end of the
-    /// queue.
+    /// Moves the first process of the queue to its end, where it is ready as before, and returns its
+    /// number; `None` if no process is ready.
+    #[inline(always)]
+    pub fn turn(&mut self) -> Option<usize>
+        ensures some { IfSome result (λ p. standing self.old p ≡ Ready) }
+        ensures within { IfSome result (λ p. p < length self.old) }
+        ensures none { IfNone result ((p : ℕ) → standing self.old p ≢ Ready) }
+        ensures same { self.new ≡ self.old }
+    {
+        let process = self.queue.pop_front()?;
+        enqueue(&mut self.queue, process, &Standing::Ready);
+        Some(process)
+    }
+
+    /// Sets the standing of a process. If it becomes ready, it goes to the end of the queue; if it was
+    /// ready and stays so, it keeps its place there.
+    #[inline(always)]
     pub fn update(&mut self, process: usize, next: Standing)
+        requires { process < length self.old }
+        ensures { self.new ≡ set self.old process next }
+    {
+        match self.standings[process] {
+            Standing::Ready => self.update_ready(process, next),
+            Standing::Out | Standing::Parked(_) | Standing::Stopped => {
+                self.update_idle(process, next)
+            }
+        }
+    }
+
+    /// Sets the standing of a process that is ready.
+    #[inline(always)]
+    fn update_ready(&mut self, process: usize, next: Standing)
+        requires process { process < length self.old }
+        requires ready { standing self.old process ≡ Ready }
+        ensures { self.new ≡ set self.old process next }
+    {
+        match next {
+            Standing::Ready => {}
+            Standing::Out | Standing::Parked(_) | Standing::Stopped => {
+                withdraw(&mut self.queue, process);
+                self.out += out_weight(&next);
+                self.stopped += stopped_weight(&next);
+                self.standings[process] = next;
+            }
+        }
+    }
+
+    /// Sets the standing of a process that is not ready.
+    #[inline(always)]
+    fn update_idle(&mut self, process: usize, next: Standing)
         requires process { process < length self.old }
         requires idle { standing self.old process ≢ Ready }
         ensures { self.new ≡ set self.old process next }
@@ -153,6 +200,39 @@ fn enqueue(queue: &mut HeapCircularBuffer<usize>, process: usize, standing: &Sta
     if let Standing::Ready = standing {
         if queue.try_push_back(process).is_err() {
             unreachable!()
+        }
+    }
+}
+
+/// Takes a process out of the queue, in which it is once; the others keep their order.
+#[inline(always)]
+fn withdraw(queue: &mut HeapCircularBuffer<usize>, process: usize)
+    requires { times queue.old.items process ≡ 1 }
+    ensures items { queue.new.items ≡ without process queue.old.items }
+    ensures room { queue.new.capacity ≡ queue.old.capacity }
+{
+    if let Some(last) = queue.back() {
+        if *last == process {
+            queue.pop_back();
+            return;
+        }
+    }
+    sift(queue, process);
+}
+
+/// Takes a process out of the queue, wherever it is there; the others keep their order.
+#[cold]
+#[inline(never)]
+fn sift(queue: &mut HeapCircularBuffer<usize>, process: usize)
+    ensures items { queue.new.items ≡ without process queue.old.items }
+    ensures room { queue.new.capacity ≡ queue.old.capacity }
+{
+    for _seen in 0..queue.len() {
+        let Some(first) = queue.pop_front() else {
+            unreachable!()
+        };
+        if first != process {
+            queue.push_back(first);
         }
     }
 }

@@ -1,0 +1,10 @@
+-- The process at the head of the queue is ready, and stays so at its end.
+use Rattle.std.proofs.Common.{◌∙◌, sym}
+use Rattle.kpn_state.proofs.Rostered.{front_within, turn_room}
+use Rattle.kpn_state.proofs.roster.Roster.turn.Goals as goal
+
+pub enqueue-requires : goal.enqueue-requires
+enqueue-requires c = λ ready. rw c.pop_front.ensures.items (turn_room _ _ _ _ _ c.self.invariant c.in_ok-process.process (sym c.pop_front.ensures.value ∙ c.in_ok-process.was))
+
+pub returns-clause-within : goal.returns-clause-within
+returns-clause-within c = rw (← c.self.view_is) (front_within _ _ _ _ _ c.self.invariant c.in_ok-process.process (sym c.pop_front.ensures.value ∙ c.in_ok-process.was))
