@@ -10,6 +10,7 @@ import glob
 import gzip
 import hashlib
 import os
+import zlib
 
 from made_from import SHIPPED, read, toolchain, write
 
@@ -29,9 +30,9 @@ def take(folder, name, made_from):
     try:
         with gzip.open(f"{packed}.gz") as file:
             data = file.read(MOST)
-    except (OSError, EOFError):
+        fits = hashlib.sha256(data).hexdigest().encode() == read(f"{packed}.sum").strip()
+    except (OSError, EOFError, zlib.error):
         return None, True
-    fits = hashlib.sha256(data).hexdigest().encode() == read(f"{packed}.sum").strip()
     return (data, False) if fits else (None, True)
 
 
