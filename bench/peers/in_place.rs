@@ -6,27 +6,7 @@
 //! Arguments: the number of scales, and how many tokens go through them.
 use std::collections::VecDeque;
 
-#[derive(Clone, Copy)]
-enum Token {
-    Word(u64),
-    #[allow(dead_code)]
-    Flag(bool),
-}
-
-#[derive(Clone, Copy)]
-enum Act {
-    Read(u8),
-    Write(u8, Token),
-    Stop,
-}
-
-type Local = [u64; 4];
-
-#[derive(Clone, Copy)]
-struct Answer {
-    next: Local,
-    act: Act,
-}
+include!("answers.rs");
 
 type Body = Box<dyn Fn(&Local, Option<Token>) -> Answer>;
 
