@@ -1,5 +1,6 @@
 pub mod Deeds
 pub mod Keeping
+mod Wanted
 pub mod Reacting
 pub mod Idle
 pub mod Growing

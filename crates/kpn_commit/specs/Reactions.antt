@@ -1,22 +1,34 @@
 -- What a process's answer does to the network.
-use Rattle.std.specs.Prelude.{◌≡◌, ℕ, List, Some, set}
+use Rattle.std.specs.Prelude.{◌≡◌, ℕ, List, Option, Some, set}
+use Rattle.kpn_model.specs.declared.token.Token.{Token}
+use Rattle.kpn_model.specs.declared.kinds.Card.{Card}
 use Rattle.kpn_model.specs.declared.kinds.Answer.{Answer}
 use Rattle.kpn_model.specs.declared.history.Deed.{Deed}
 use Rattle.kpn_model.specs.declared.history.Entry.TheVariants.{Did}
 use Rattle.kpn_model.specs.Network.{Family, Network}
-use Rattle.kpn_model.specs.Semantics.{IsEnabled, Does}
+use Rattle.kpn_model.specs.Semantics.{IsEnabled, Does, IsDeed, after_deed}
 use Rattle.kpn_state.specs.StateAndHistory.{StateAndHistory, more}
 use Rattle.kpn_state.specs.declared.standing.Standing.{Standing}
 use Rattle.kpn_state.specs.declared.standing.Standing.TheVariants.{Parked}
 use Rattle.kpn_commit.specs.declared.react.Reaction.{Reaction}
 use Rattle.kpn_commit.specs.declared.react.Reaction.TheVariants.{Waits, Acts, HandsOn}
-use Rattle.kpn_state.specs.Standings.{standing, standing_after, partner}
+use Rattle.kpn_state.specs.Standings.{standing, standing_after, StandingsFit, partner}
 
 -- p does what it wants: one entry, and p moves on
 pub record Acted (kinds : Family) (net : Network) (s : StateAndHistory) (standings : List Standing) (p : ℕ) (d : Deed) (t : StateAndHistory) (moved : List Standing) : Type 0 where
   pub does : Does kinds net s.state p d t.state
   pub entry : t ≡ more s t.state (Did p d)
   pub moves : moved ≡ set standings p (standing_after d)
+
+-- p, which was parked, does what it had answered
+pub record Resumes (kinds : Family) (admits : Card → List ℕ → Option Token → Type 0) (net : Network) (s : StateAndHistory) (standings : List Standing) (p : ℕ) (t : StateAndHistory) (moved : List Standing) : Type 0 where
+  pub wanted : Answer
+  pub parked : standing standings p ≡ Parked wanted
+  pub deed : Deed
+  pub is_deed : IsDeed kinds net s.state p wanted.act deed
+  pub entry : t ≡ more s (after_deed kinds net s.state p wanted.next deed) (Did p deed)
+  pub moves : moved ≡ set standings p (standing_after deed)
+  pub keeps : StandingsFit kinds admits net (partner net deed) t.state moved
 
 -- p does what it wants, and then the parked process at the other end of the channel does
 pub record Handed (kinds : Family) (net : Network) (s : StateAndHistory) (standings : List Standing) (p : ℕ) (t : StateAndHistory) (moved : List Standing) : Type 0 where

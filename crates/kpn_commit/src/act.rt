@@ -1,13 +1,14 @@
 //! Does what a process wants, if it can be done.
-ghost use Rattle.std.specs.Prelude.{◌≡◌, ◌<◌, length, set, Some, IfSome, IfNone, IsSome};
+ghost use Rattle.std.specs.Prelude.{◌≡◌, ◌<◌, ℕ, List, Option, length, set, Some, IfSome, IfNone, IsSome};
+ghost use Rattle.kpn_model.specs.declared.token.Token.{Token as TokenV};
 ghost use Rattle.kpn_model.specs.Network.{card_of};
-ghost use Rattle.kpn_model.specs.Lawful.{NamesPort, LeadsOn, read_by};
+ghost use Rattle.kpn_model.specs.Lawful.{NamesPort, LeadsOn};
 ghost use Rattle.kpn_model.specs.Semantics.{wants, IsPossible, IsDeed, after_deed};
 ghost use Rattle.kpn_model.specs.declared.history.Entry.TheVariants.{Did};
 ghost use Rattle.kpn_state.specs.StateAndHistory.{more};
 ghost use Rattle.kpn_state.specs.Standings.{StandingsFit, standing, standing_after, partner, HasChannel};
 
-use kpn_model::{Act, Answer, Card, Deed, Kinds, Local, Status, Token};
+use kpn_model::{Act, Answer, Card, Deed, Kinds, Local, Token};
 use kpn_network::Net;
 use kpn_state::standing::standing_after;
 use kpn_state::{Roster, Store};
@@ -92,20 +93,15 @@ fn perform<K: Kinds>(
     }
 }
 
-/// Does nothing: a caller knows from here on the laws of the family for one answer and the deed that it
-/// led to.
-fn obey<K: Kinds>(card: Card, local: Local, last: Option<Token>, deed: Deed)
+/// Does nothing: a caller knows from here on the laws of the family for each answer of a card.
+fn obey<K: Kinds>(card: Card)
     requires signed { IsSome (K.signature_of card) }
-    requires admitted { K.admits card local last }
-    ensures names { NamesPort K.signature_of card (K.family.answer card local last).act }
-    ensures leads { LeadsOn K.signature_of K.admits card (K.family.answer card local last) (read_by deed) }
+    ensures names { (local : List ℕ) (last : Option TokenV) → K.admits card local last → NamesPort K.signature_of card (K.family.answer card local last).act }
+    ensures leads { (local : List ℕ) (last : Option TokenV) (token : TokenV) → K.admits card local last → LeadsOn K.signature_of K.admits card (K.family.answer card local last) token }
 {
-    let token = match deed {
-        Deed::Took { token, .. } => token,
-        _ => Token::Flag(false),
-    };
-    K::names_port(card, local, last);
-    K::leads_on(card, local, last, token);
+    K::lawful();
+    let _kind = card.kind;
+    let [_first, _second, _third] = card.args;
 }
 
 /// Does what a process answered and moves the process on, if it can be done; otherwise returns `None`,
@@ -132,12 +128,8 @@ pub fn advance<K: Kinds>(
     ensures same_standings { IfNone result (standings.new ≡ standings.old) }
 {
     net.assure_valid();
-    let card = net.card(process);
-    let Status::Live { local, last } = store.status(process) else {
-        unreachable!()
-    };
+    obey::<K>(net.card(process));
     let deed = perform(net, store, process, answer)?;
-    obey::<K>(card, local, last, deed);
     standings.update(process, standing_after(deed));
     Some(deed)
 }

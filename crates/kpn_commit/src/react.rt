@@ -1,15 +1,17 @@
 //! What an answer does at once: a deed, or the process is parked; and the deed of the parked process
 //! that it enables.
-ghost use Rattle.std.specs.Prelude.{◌≡◌, ◌≢◌, ◌<◌, ◌≤◌, ◌+◌, length, Some, None};
-ghost use Rattle.kpn_model.specs.Semantics.{wants, status};
+ghost use Rattle.std.specs.Prelude.{◌≡◌, ◌≢◌, ◌<◌, ◌≤◌, ◌+◌, length, Some, None, IsTrue, false};
+ghost use Rattle.kpn_model.specs.declared.kinds.Answer.{Answer as AnswerV};
+ghost use Rattle.kpn_model.specs.Semantics.{wants, status, IsPossible};
 ghost use Rattle.kpn_model.specs.declared.history.Status.TheVariants.{Done};
-ghost use Rattle.kpn_state.specs.Standings.{StandingsFit, partner, HasChannel};
-ghost use Rattle.kpn_commit.specs.Reactions.{Reacts};
+ghost use Rattle.kpn_state.specs.declared.standing.Standing.TheVariants.{Parked};
+ghost use Rattle.kpn_state.specs.Standings.{StandingsFit, standing, partner, HasChannel};
+ghost use Rattle.kpn_commit.specs.Reactions.{Reacts, Resumes};
 
 use crate::act::advance;
 use kpn_model::{Act, Answer, Deed, Kinds, Token};
 use kpn_network::Net;
-use kpn_state::standing::parked;
+use kpn_state::standing::{is_parked, parked};
 use kpn_state::{Roster, Standing, Store};
 
 /// What a process's answer led to. `Waits`: it could not be done, and the process is parked. `Acts`: it
@@ -39,6 +41,48 @@ pub fn react<K: Kinds>(
     ensures reacts { Reacts K.family net.now store.old standings.old process answer result store.new standings.new }
     ensures keeps { StandingsFit K.family K.admits net.now None store.new.state standings.new }
 {
+    let next = answer.next;
+    match answer.act {
+        Act::Read(port) => {
+            let answer = Answer {
+                next,
+                act: Act::Read(port),
+            };
+            react_to(net, store, standings, process, answer)
+        }
+        Act::Write(port, token) => {
+            let answer = Answer {
+                next,
+                act: Act::Write(port, token),
+            };
+            react_to(net, store, standings, process, answer)
+        }
+        Act::Stop => {
+            let answer = Answer {
+                next,
+                act: Act::Stop,
+            };
+            react_to(net, store, standings, process, answer)
+        }
+    }
+}
+
+/// What `react` does; it is there once for each act, so that what is done is tested but once.
+#[inline(always)]
+fn react_to<K: Kinds>(
+    net: &Net<K>,
+    store: &mut Store,
+    standings: &mut Roster,
+    process: usize,
+    answer: Answer,
+) -> Reaction
+    requires keeps { StandingsFit K.family K.admits net.now None store.old.state standings.old }
+    requires process { process < length standings.old }
+    requires wants { wants K.family net.now store.old.state process ≡ Some answer }
+    requires room { length store.old.history + 2 ≤ store.old.room }
+    ensures reacts { Reacts K.family net.now store.old standings.old process answer result store.new standings.new }
+    ensures keeps { StandingsFit K.family K.admits net.now None store.new.state standings.new }
+{
     let Some(deed) = advance(net, store, standings, process, answer) else {
         standings.update(process, Standing::Parked(anew(answer)));
         return Reaction::Waits;
@@ -46,12 +90,31 @@ pub fn react<K: Kinds>(
     let Some(other) = partner(net, deed) else {
         return Reaction::Acts;
     };
-    let Some(wanted) = parked(standings.as_slice(), other) else {
+    if !is_parked(standings.as_slice(), other) {
         return Reaction::Acts;
-    };
-    match advance(net, store, standings, other, wanted) {
-        Some(_) => Reaction::HandsOn,
-        None => Reaction::Acts,
+    }
+    if resume(net, store, standings, other) {
+        Reaction::HandsOn
+    } else {
+        Reaction::Acts
+    }
+}
+
+/// Does what a process answered when it was parked, if it can now be done, and returns whether it was;
+/// otherwise nothing changes. It is a function of its own, out of the way of a commit after which no
+/// parked process goes on.
+#[inline(never)]
+fn resume<K: Kinds>(net: &Net<K>, store: &mut Store, standings: &mut Roster, process: usize) -> bool
+    requires keeps { StandingsFit K.family K.admits net.now (Some process) store.old.state standings.old }
+    requires room { length store.old.history < store.old.room }
+    ensures resumes { IsTrue result → Resumes K.family K.admits net.now store.old standings.old process store.new standings.new }
+    ensures cannot { result ≡ false → (a : AnswerV) → standing standings.old process ≡ Parked a → IsPossible K.family net.now store.old.state process a.act → ⊥ }
+    ensures same { result ≡ false → store.new ≡ store.old }
+    ensures same_standings { result ≡ false → standings.new ≡ standings.old }
+{
+    match parked(standings.as_slice(), process) {
+        Some(wanted) => advance(net, store, standings, process, wanted).is_some(),
+        None => false,
     }
 }
 

@@ -50,6 +50,7 @@ impl<K: Computes> Body for CardBody<K> {
         self.card
     }
 
+    #[inline(always)]
     fn answer(&self, local: Local, last: Option<Token>) -> Answer {
         K::answer(self.card, local, last)
     }

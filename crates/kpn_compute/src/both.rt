@@ -108,6 +108,7 @@ impl<A: Kinds, B: Kinds> Kinds for Both<A, B> {
 }
 
 impl<A: Computes, B: Computes> Computes for Both<A, B> {
+    #[inline(always)]
     fn answer(card: Card, local: Local, last: Option<Token>) -> Answer {
         let own = own_card(card);
         if is_first(card) {

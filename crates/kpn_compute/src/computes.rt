@@ -16,6 +16,7 @@ pub trait Computes: Kinds {
 }
 
 impl Computes for Standard {
+    #[inline(always)]
     fn answer(card: Card, local: Local, last: Option<Token>) -> Answer {
         answer(card, local, last)
     }

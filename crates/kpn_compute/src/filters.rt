@@ -91,6 +91,7 @@ impl<F: Filters> Kinds for Filtered<F> {
 }
 
 impl<F: Filters> Computes for Filtered<F> {
+    #[inline(always)]
     fn answer(card: Card, local: Local, last: Option<Token>) -> Answer {
         match last {
             Some(Token::Word(word)) => {

@@ -18,7 +18,7 @@ use kpn_body::{Body, Finished, Task};
 use kpn_commit::Outcome;
 use kpn_commit::work::work;
 use kpn_laws::{least_room_of, typed_runs, valid_runs};
-use kpn_model::{End, Entry, Status};
+use kpn_model::{Act, End, Entry, Status};
 use kpn_network::Net;
 use kpn_state::standing::all_ready;
 use kpn_state::{Roster, Standing, Store};
@@ -223,7 +223,7 @@ fn take_out<B: Body>(
     let Some(body) = bodies[process].take() else {
         unreachable!()
     };
-    Task::new(process, body, local, last)
+    Task::new(process, body, *local, *last)
 }
 
 /// Whether the process of an answer is out, with its card, local state and last token.
@@ -249,7 +249,7 @@ fn is_out<B: Body>(
     }
     match store.status(process) {
         Status::Live { local, last } => {
-            same_local(local, finished.local()) && same_last(last, finished.last())
+            same_local(*local, finished.local()) && same_last(*last, finished.last())
         }
         Status::Done => false,
     }
@@ -371,18 +371,34 @@ impl<B: Body> Machine<B> {
     }
 }
 
+/// Notes the end of a run that had none, if it was found. Mostly there is none, and nothing is written.
+#[inline(always)]
+fn note_end(end: &mut Option<End>, found: Option<End>)
+    requires { end.old ≡ None }
+    ensures { end.new ≡ found }
+{
+    if found.is_some() {
+        *end = found;
+    }
+}
+
 impl<B: Body> Machine<B> {
-    /// Asks the process that has been ready the longest, and takes its answer: what `take`, `Task::call`
-    /// and `commit` do, but no body leaves the machine, and the process is not sent out. The run must
-    /// not have ended, and no process may be out.
+    /// Asks a ready process, and takes its answer: what `take`, `Task::call` and `commit` do, but no body
+    /// leaves the machine, and the process is not sent out. It is the process that is given, or else the
+    /// one that has been ready the longest. The run must not have ended, and no process may be out.
+    ///
+    /// Returns the process if it has read and is ready: it is asked again at once, since mostly it then
+    /// writes, while one that has written has to wait for its reader.
     #[inline(always)]
-    fn go_on(&mut self)
+    fn go_on(&mut self, again: Option<usize>) -> Option<usize>
         requires on { self.old.end ≡ None }
         requires none_out { count_by is_out self.old.standings ≡ 0 }
-        ensures { GoesRound B.Kinds.family self.old self.new }
+        requires again { IfSome again (λ p. standing self.old.standings p ≡ Ready) }
+        ensures round { GoesRound B.Kinds.family self.old self.new }
+        ensures again { IfSome result (λ p. standing self.new.standings p ≡ Ready) }
     {
         self.net.assure_valid();
-        let Some(process) = self.standings.turn() else {
+        let Some(process) = self.standings.turn(again) else {
             unreachable!()
         };
         let Status::Live { local, last } = self.store.status(process) else {
@@ -391,7 +407,8 @@ impl<B: Body> Machine<B> {
         let Some(body) = &self.bodies[process] else {
             unreachable!()
         };
-        let answer = body.answer(local, last);
+        let answer = body.answer(*local, *last);
+        let has_read = matches!(answer.act, Act::Read(_));
         self.commits += 1;
         let (_, ended) = work(
             &self.net,
@@ -400,7 +417,12 @@ impl<B: Body> Machine<B> {
             process,
             answer,
         );
-        self.end = ended;
+        note_end(&mut self.end, ended);
+        if has_read {
+            self.standings.if_ready(process)
+        } else {
+            None
+        }
     }
 
     /// Runs to an end in the calling thread. No process may be out. If capacity b suffices for the
@@ -412,8 +434,9 @@ impl<B: Body> Machine<B> {
         ensures faithful { IsFaithful B.Kinds.family B.Kinds.admits self.new }
         ensures room { TakesLeastRoom B.Kinds.family self.new.network self.new.history self.new.state }
     {
+        let mut again = None;
         while self.end().is_none() {
-            self.go_on();
+            again = self.go_on(again);
         }
         least_room_of::<B::Kinds>();
     }

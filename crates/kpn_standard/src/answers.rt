@@ -15,6 +15,7 @@ use kpn_model::{Answer, Card, Local, Token};
 
 /// Returns the answer of a process of a standard card, in this local state and after it has just read
 /// `last` (`None` if its last act was no read). The card must have a signature, and must admit the two.
+#[inline(always)]
 pub fn answer(card: Card, local: Local, last: Option<Token>) -> Answer
     requires signed { IsSome (signature card) }
     requires admitted { Admitted card local last }

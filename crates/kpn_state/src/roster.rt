@@ -107,18 +107,33 @@ impl Roster {
         Some(process)
     }
 
-    /// Moves the first process of the queue to its end, where it is ready as before, and returns its
-    /// number; `None` if no process is ready.
+    /// Returns a ready process: this one, or if none is given the first of the queue, which goes to its
+    /// end; `None` if no process is ready. No standing changes.
     #[inline(always)]
-    pub fn turn(&mut self) -> Option<usize>
+    pub fn turn(&mut self, again: Option<usize>) -> Option<usize>
+        requires { IfSome again (λ p. standing self.old p ≡ Ready) }
         ensures some { IfSome result (λ p. standing self.old p ≡ Ready) }
         ensures within { IfSome result (λ p. p < length self.old) }
         ensures none { IfNone result ((p : ℕ) → standing self.old p ≢ Ready) }
         ensures same { self.new ≡ self.old }
     {
+        if let Some(process) = again {
+            return Some(process);
+        }
         let process = self.queue.pop_front()?;
         enqueue(&mut self.queue, process, &Standing::Ready);
         Some(process)
+    }
+
+    /// Returns the process, if it is ready.
+    #[inline(always)]
+    pub fn if_ready(&self, process: usize) -> Option<usize>
+        ensures { IfSome result (λ p. standing self.now p ≡ Ready) }
+    {
+        match self.standings.get(process) {
+            Some(Standing::Ready) => Some(process),
+            _ => None,
+        }
     }
 
     /// Sets the standing of a process. If it becomes ready, it goes to the end of the queue; if it was

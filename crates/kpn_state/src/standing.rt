@@ -1,5 +1,5 @@
 //! Where a process stands in the machine.
-ghost use Rattle.std.specs.Prelude.{◌≡◌, ◌≢◌, ◌<◌, length, IfSome, IfNone};
+ghost use Rattle.std.specs.Prelude.{◌≡◌, ◌≢◌, ◌<◌, ◌↔◌, length, IfSome, IfNone, IsSome, IsTrue};
 ghost use Rattle.std.specs.List.{list_all};
 ghost use Rattle.kpn_model.specs.declared.kinds.Answer.{Answer as AnswerV};
 ghost use Rattle.kpn_state.specs.declared.standing.Standing.TheVariants.{Parked};
@@ -38,6 +38,14 @@ pub fn parked(standings: &[Standing], process: usize) -> Option<Answer>
         Some(Standing::Parked(answer)) => Some(*answer),
         _ => None,
     }
+}
+
+/// Returns whether a process is parked.
+#[inline(always)]
+pub fn is_parked(standings: &[Standing], process: usize) -> bool
+    ensures { IsTrue result ↔ IsSome (parked_answer (standing standings.now process)) }
+{
+    matches!(standings.get(process), Some(Standing::Parked(_)))
 }
 
 /// Returns whether all processes are ready.

@@ -57,11 +57,11 @@ impl Store {
     }
 
     /// Returns the status of a process: live with its local state and last token, or done.
-    pub fn status(&self, process: usize) -> Status
+    pub fn status(&self, process: usize) -> &Status
         requires { process < length self.now.state.processes }
-        ensures { result ≡ status self.now.state process }
+        ensures { result.now ≡ status self.now.state process }
     {
-        self.statuses[process]
+        &self.statuses[process]
     }
 
     /// Returns how many tokens a channel holds, and its capacity.
@@ -79,9 +79,7 @@ impl Store {
         requires { length self.old.history < self.old.room }
         ensures { self.new ≡ more self.old self.old.state entry }
     {
-        if self.history.push(entry).is_err() {
-            unreachable!()
-        }
+        self.history.push_reserved(entry);
     }
 }
 

@@ -18,6 +18,8 @@ mod openings;
 #[cfg(test)]
 mod refusals;
 #[cfg(test)]
+mod rosters;
+#[cfg(test)]
 mod standings;
 #[cfg(test)]
 mod strangers;

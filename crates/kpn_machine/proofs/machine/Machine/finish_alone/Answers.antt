@@ -2,11 +2,12 @@
 use Rattle.kpn_machine.proofs.Finishing.{none_is_out, none_counted, round_goes, round_none_out}
 use Rattle.kpn_machine.proofs.machine.Machine.finish_alone.Goals as goal
 
-pub loop-self-preserved : goal.loop-self-preserved
-loop-self-preserved g c =
+pub loop-again-preserved : goal.loop-again-preserved
+loop-again-preserved g c =
     let kinds = g.B.Kinds.Kinds.family in
-    let r = c.go_on.ensures in
+    let r = c.go_on-again.ensures.round in
     record {
-      none_out = none_counted _ (round_none_out kinds c.loop-self.self r.input r.between r.outcome c.go_on.new.self r.takes r.commits (none_is_out c.loop-self.self.standings c.loop-self.invariant.none_out) r.back r.others);
-      goes = round_goes kinds c.loop-self.self r.input r.between r.outcome c.go_on.new.self r.takes r.commits c.args.self.now c.loop-self.invariant.goes r.appends;
+      none_out = none_counted _ (round_none_out kinds c.loop-again.self r.input r.between r.outcome c.go_on-again.new.self r.takes r.commits (none_is_out c.loop-again.self.standings c.loop-again.invariant.none_out) r.back r.others);
+      goes = round_goes kinds c.loop-again.self r.input r.between r.outcome c.go_on-again.new.self r.takes r.commits c.args.self.now c.loop-again.invariant.goes r.appends;
+      again = c.go_on-again.ensures.again;
     }

@@ -28,16 +28,16 @@ invariant_of-self g c =
     let none : c.self.inside.end ≡ None = rw (← c.self.view_is) at c.requires.on in
     let works = rw c.turn.ensures.same at c.work-ended.ensures.works in
     let wanted : wants g.B.Kinds.Kinds.family c.self.inside.net c.self.inside.store.state c.in-Some.process ≡ Some c.answer-answer.result =
-    body_wants g.B.Kinds.Kinds.family g.B.Kinds.Kinds.admits g.B.Body.card _ _ _ _ _ _ _ c.self.inside.bodies.items c.self.invariant.0 c.in-Some.process c.in-Some.ensures.within c.in-Some.ensures.some c.index.result.now c.in-Some-index.body c.index.ensures c.in-Some-index.is c.status.result c.in-Live.local c.in-Live.last c.status.ensures c.in-Live.is c.answer-answer.result c.answer-answer.ensures in (
-      sound_round g.B.Kinds.Kinds.family g.B.Kinds.Kinds.admits _ _ _ _ _ _ _ _ c.self.invariant.0 c.in-Some.process c.answer-answer.result none c.in-Some.ensures.some wanted c.work-ended.result.0 c.work-ended.new.store.state c.work-ended.new.store.history c.work-ended.new.standings c.work-ended.result.1 c.work-ended.new.store.room works c.work-ended.ensures.keeps,
+    body_wants g.B.Kinds.Kinds.family g.B.Kinds.Kinds.admits g.B.Body.card _ _ _ _ _ _ _ c.self.inside.bodies.items c.self.invariant.0 c.in-Some.process c.in-Some.ensures.within c.in-Some.ensures.some c.index.result.now c.in-Some-index.body c.index.ensures c.in-Some-index.is c.status.result.now c.in-Live.local c.in-Live.last c.status.ensures c.in-Live.is c.answer-answer.result c.answer-answer.ensures in (
+      rw c.note_end.ensures (sound_round g.B.Kinds.Kinds.family g.B.Kinds.Kinds.admits _ _ _ _ _ _ _ _ c.self.invariant.0 c.in-Some.process c.answer-answer.result none c.in-Some.ensures.some wanted c.work-ended.result.0 c.work-ended.new.store.state c.work-ended.new.store.history c.work-ended.new.standings c.work-ended.result.1 c.work-ended.new.store.room works c.work-ended.ensures.keeps),
       c.self.invariant.1,
     )
 
-pub returns : goal.returns
-returns g c =
+pub returns-clause-round : goal.returns-clause-round
+returns-clause-round g c =
     let none : c.self.inside.end ≡ None = rw (← c.self.view_is) at c.requires.on in
     let works = rw c.turn.ensures.same at c.work-ended.ensures.works in
     let wanted : wants g.B.Kinds.Kinds.family c.self.inside.net c.self.inside.store.state c.in-Some.process ≡ Some c.answer-answer.result =
-    body_wants g.B.Kinds.Kinds.family g.B.Kinds.Kinds.admits g.B.Body.card _ _ _ _ _ _ _ c.self.inside.bodies.items c.self.invariant.0 c.in-Some.process c.in-Some.ensures.within c.in-Some.ensures.some c.index.result.now c.in-Some-index.body c.index.ensures c.in-Some-index.is c.status.result c.in-Live.local c.in-Live.last c.status.ensures c.in-Live.is c.answer-answer.result c.answer-answer.ensures in
-    rw (← c.self.view_is)
+    body_wants g.B.Kinds.Kinds.family g.B.Kinds.Kinds.admits g.B.Body.card _ _ _ _ _ _ _ c.self.inside.bodies.items c.self.invariant.0 c.in-Some.process c.in-Some.ensures.within c.in-Some.ensures.some c.index.result.now c.in-Some-index.body c.index.ensures c.in-Some-index.is c.status.result.now c.in-Live.local c.in-Live.last c.status.ensures c.in-Live.is c.answer-answer.result c.answer-answer.ensures in
+    rw (← c.self.view_is, c.note_end.ensures)
     (goes_round g.B.Kinds.Kinds.family g.B.Kinds.Kinds.admits _ _ _ _ _ _ _ _ c.self.invariant.0 c.in-Some.process c.answer-answer.result none c.in-Some.ensures.some wanted c.work-ended.result.0 c.work-ended.new.store.state c.work-ended.new.store.history c.work-ended.new.standings c.work-ended.result.1 c.work-ended.new.store.room works)

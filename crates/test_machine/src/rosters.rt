@@ -1,0 +1,39 @@
+//! The queue of the ready processes, by hand: first in, first out, and one that is given goes first.
+use crate::checks::same;
+use kpn_net::{Act, Answer};
+use kpn_state::standing::is_parked;
+use kpn_state::{Roster, Standing};
+use std::process::Abort;
+use std::rt::HostRuntime;
+
+/// The answer of a process that waits to read.
+const READS: Standing = Standing::Parked(Answer {
+    next: [0; 4],
+    act: Act::Read(0),
+});
+
+fn parks_the_second<R: Abort>(rt: &R, roster: &mut Roster) {
+    if roster.as_slice().len() > 1 {
+        roster.update(1, READS);
+    }
+    same(rt, "parked", is_parked(roster.as_slice(), 1), true);
+    same(rt, "ready", is_parked(roster.as_slice(), 2), false);
+    same(rt, "no process", is_parked(roster.as_slice(), 3), false);
+    same(rt, "parked ones aren't asked", roster.if_ready(1), None);
+    same(rt, "no process is asked", roster.if_ready(3), None);
+}
+
+#[test]
+fn ready_processes_take_turns(rt: HostRuntime) {
+    let mut roster = Roster::new(rt.alloc(), 3).expect(&rt, "ample memory");
+    same(&rt, "first", roster.turn(None), Some(0));
+    let again = roster.if_ready(0);
+    same(&rt, "ready still", again, Some(0));
+    same(&rt, "asked again", roster.turn(again), Some(0));
+    same(&rt, "second", roster.turn(None), Some(1));
+    parks_the_second(&rt, &mut roster);
+    same(&rt, "third", roster.turn(None), Some(2));
+    same(&rt, "first once more", roster.turn(None), Some(0));
+    same(&rt, "the second is left out", roster.turn(None), Some(2));
+    same(&rt, "ready ones", roster.ready(), 2);
+}
