@@ -18,7 +18,7 @@ ghost use Rattle.kpn_model.specs.Endings.{MayStand};
 ghost use Rattle.kpn_machine.specs.Commits.{Commits, Appends, number};
 
 use crate::giving::{give_all, give_one};
-use crate::hand::Hand;
+use crate::hand::{Hand, Sharing};
 use crate::naming::EntryLedger;
 use crate::seat::Seat;
 use kpn_body::{Body, Finished, Task};
@@ -27,6 +27,10 @@ use kpn_model::End;
 use kpn_watch::{Board, CountingPublisher, MOST_WATCHERS, Publisher, WatchFault, Watcher};
 use std::marker::Model;
 use std::sync::ledger::{Book, Ledger, Share};
+
+/// Workers that rest count in how the ready processes are shared out until so many answers of each process
+/// were committed, at the start of a run and after each time that calls held up all who called.
+const TRIAL: u64 = 16;
 
 /// What a worker is given: a task, or the end of the run.
 #[derive(Drop)]
@@ -64,6 +68,7 @@ pub(crate) struct Guarded<B: Body, E: EntryLedger, O: Ledger> {
     over_count: u64,
     publisher: CountingPublisher,
     waiting: usize,
+    held_up_at: u64,
 }
 
 impl<B: Body, E: EntryLedger, O: Ledger> Model for Guarded<B, E, O> {
@@ -101,6 +106,7 @@ impl<B: Body, E: EntryLedger, O: Ledger> Guarded<B, E, O> {
             over_count: 0,
             publisher: CountingPublisher::new(publisher),
             waiting: 0,
+            held_up_at: 0,
         }
     }
 
@@ -199,7 +205,7 @@ impl<B: Body, E: EntryLedger, O: Ledger> Guarded<B, E, O> {
         if most == 0 {
             return Next::Nothing;
         }
-        let wanted = hand.wanted(self.machine.ready(), most);
+        let wanted = hand.wanted(self.machine.ready(), most, self.sharing());
         match self.take(seat) {
             None => Next::Nothing,
             Some(Taken::Over(end)) => Next::Over(end),
@@ -277,6 +283,34 @@ impl<B: Body, E: EntryLedger, O: Ledger> Guarded<B, E, O> {
         self.machine.ready() > 0 || self.machine.end().is_some()
     }
 
+    /// How many answers were committed.
+    pub(crate) fn answers(&self) -> u64 {
+        self.machine.commits()
+    }
+
+    /// Notes that no answer was committed for a while: calls hold their workers up.
+    pub(crate) fn hold_up(&mut self)
+        ensures { self.new ≡ self.old }
+    {
+        self.held_up_at = self.machine.commits();
+    }
+
+    // How the ready processes are shared out: one by one, until there are as many answers as processes,
+    // so that each was taken once; in a trial, among all workers; and after it among those that are
+    // awake.
+    fn sharing(&self) -> Sharing {
+        let answers = self.machine.commits();
+        let processes = self.machine.net().processes() as u64;
+        let on_trial = answers.saturating_sub(self.held_up_at);
+        if answers < processes {
+            Sharing::OneByOne
+        } else if on_trial < processes.saturating_mul(TRIAL) {
+            Sharing::AmongAll
+        } else {
+            Sharing::AmongAwake
+        }
+    }
+
     /// Counts a thread that is about to wait.
     pub(crate) fn begin_waiting(&mut self)
         ensures { self.new ≡ self.old }
@@ -351,6 +385,7 @@ impl<B: Body, E: EntryLedger, O: Ledger> Guarded<B, E, O> {
             over_count: _,
             publisher,
             waiting: _,
+            held_up_at: _,
         } = self;
         (machine.into_chronicle(), publisher)
     }

@@ -13,6 +13,17 @@ use std::marker::Model;
 /// The greatest number of tasks in a hand.
 const ROOM: usize = 16;
 
+/// How the ready processes are shared out among the workers.
+#[derive(Clone, Copy)]
+pub(crate) enum Sharing {
+    /// One at a time, if there are several workers.
+    OneByOne,
+    /// In equal shares for all workers.
+    AmongAll,
+    /// In equal shares for the workers that are awake, if there are more than workers.
+    AmongAwake,
+}
+
 /// The tasks that a worker holds, at most 16, and the outcomes of the answers that it gave last.
 ///
 /// The tasks stay in their place from the take to the commit, each with its answer beside it once it is
@@ -24,6 +35,8 @@ pub struct Hand<B: Body> {
     answers: HeapCircularBuffer<Answer>,
     outcomes: Vec<Outcome>,
     sharers: usize,
+    awake: usize,
+    processors: usize,
     wanted_rest: bool,
 }
 
@@ -50,8 +63,18 @@ impl<B: Body> Hand<B> {
             answers: HeapCircularBuffer::with_capacity(alloc, ROOM)?,
             outcomes: Vec::with_capacity(alloc, ROOM)?,
             sharers: sharers.max(1),
+            awake: sharers.max(1),
+            processors: sharers.max(1),
             wanted_rest: false,
         })
+    }
+
+    /// Says how many threads can run at once; without it, as many as there are workers. A worker that
+    /// rests goes on beyond that only if nothing is committed though a process is ready.
+    pub fn know_processors(&mut self, processors: usize)
+        ensures { self.new ≡ self.old }
+    {
+        self.processors = processors.max(1);
     }
 
     /// Calls the first task that was not called yet, and returns the number of its process. `None`
@@ -118,12 +141,33 @@ impl<B: Body> Hand<B> {
         append(&mut self.tasks, task);
     }
 
+    /// Whether fewer workers are awake than threads can run at once.
+    pub(crate) fn has_processor(&self, awake: u64) -> bool {
+        awake < self.processors as u64
+    }
+
+    /// Notes how many of the workers are awake, of whom two count if there are two: all, if 0 are known
+    /// to be.
+    pub(crate) fn see_awake(&mut self, awake: u64)
+        ensures { self.new ≡ self.old }
+    {
+        self.awake = match usize::try_from(awake) {
+            Ok(0) | Err(_) => self.sharers,
+            Ok(some) => some.max(2).min(self.sharers),
+        };
+    }
+
     /// How many tasks to take if `ready` processes are ready and at most `most` tasks are wanted: the
     /// worker's share, but at least one.
-    pub(crate) fn wanted(&self, ready: usize, most: usize) -> usize
+    pub(crate) fn wanted(&self, ready: usize, most: usize, sharing: Sharing) -> usize
         ensures { (1 ≤ result) × (result ≤ 16) }
     {
-        (ready / self.sharers.max(1)).min(most).clamp(1, ROOM)
+        let share = match sharing {
+            Sharing::OneByOne if self.sharers > 1 => 1,
+            Sharing::AmongAwake if ready > self.sharers => ready / self.awake.max(1),
+            _ => ready / self.sharers.max(1),
+        };
+        share.min(most).clamp(1, ROOM)
     }
 
     /// Whether its worker wants to rest for the first time.

@@ -18,16 +18,17 @@ use crate::guarded::{Guarded, Next, Taken, Wakes};
 use crate::hand::Hand;
 use crate::naming::EntryLedger;
 use crate::opening::{Opening, Parts};
-use crate::resting::{Rest, Resters};
+use crate::resting::{Look, Rest, Resters, next_limit};
 use crate::seat::{Seat, merge, totals_of};
 use kpn_body::{Body, Finished};
 use kpn_machine::{Outcome, Stranger};
 use kpn_watch::{Board, Progress, WatchFault, Watcher};
 use std::hint::spin_loop;
 use std::rt::Clock;
+use std::sync::atomic::{AtomicU64, Ordering};
 use std::sync::ledger::Ledger;
 use std::sync::{Condvar, Mutex, MutexGuard, Wait};
-use std::time::Duration;
+use std::time::{Duration, Instant};
 
 /// The parts of each ledger.
 const PARTS: u32 = 65536;
@@ -49,6 +50,7 @@ pub struct Monitor<B: Body, E: EntryLedger, O: Ledger> {
     changed: Condvar,
     resters: Mutex<Resters>,
     roused: Condvar,
+    awake: AtomicU64,
     board: Board,
     ghost named: { board ≡ E.board },
 }
@@ -77,6 +79,7 @@ impl<B: Body, E: EntryLedger, O: Ledger> Monitor<B, E, O> {
             changed: Condvar::new(),
             resters: Mutex::new(Resters::new()),
             roused: Condvar::new(),
+            awake: AtomicU64::new(0),
             board,
         };
         (monitor, Seat::whole(PARTS, entry_share, over_share))
@@ -156,6 +159,7 @@ impl<B: Body, E: EntryLedger, O: Ledger> Monitor<B, E, O> {
         ensures over { (e : EndV) → result ≡ Ok (Next.Over e) → (seat.new.overs ≡ 1) × (hand.new.tasks ≡ []) }
         ensures ended { (e : EndV) → result ≡ Ok (Next.Over e) → HasEnded B.Kinds.family B.Kinds.admits E.net e }
     {
+        hand.see_awake(self.awake.load(Ordering::SeqCst));
         let mut guarded = self.lock(rt);
         let answer = guarded.exchange(&self.board, hand, seat, most);
         let wakes = guarded.wakes();
@@ -167,11 +171,15 @@ impl<B: Body, E: EntryLedger, O: Ledger> Monitor<B, E, O> {
         answer
     }
 
-    /// Rests until the run is over, or at most for `limit`, and returns whether it rested. A thread
-    /// doesn't rest if the run is over; nor, if it is idle, when a process is ready; nor, if it is
-    /// spare, when all others that ever wanted to rest do. One of the threads that rest is the lookout:
-    /// it alone wakes after `limit`, and makes another the lookout when it goes on; the others rest
-    /// until then. They wait at another lock than the machine's. No contract claims any of this.
+    /// Rests until the run is over, or until one more thread is of use, and returns whether it rested.
+    /// A thread doesn't rest if the run is over; nor, if it is idle, when a process is ready; nor, if it
+    /// is spare, when all others that ever wanted to rest do.
+    ///
+    /// One of the threads that rest is the lookout, or two if one was idle: it alone wakes after `limit`,
+    /// and then after times that double, and looks whether a process is ready though few answers were
+    /// committed since its last look (none for a while, if as many threads are awake as can run at once).
+    /// If so it goes on, and another becomes the lookout. They wait at another lock than the machine's.
+    /// No contract claims any of this.
     pub fn rest<R: Wait + Clock>(
         &self,
         rt: &R,
@@ -186,23 +194,62 @@ impl<B: Body, E: EntryLedger, O: Ledger> Monitor<B, E, O> {
         }
         let is_new = hand.wants_rest_anew();
         let mut resters = self.resters.lock(rt);
-        if !resters.begin(is_new, why) {
+        let rests = resters.begin(is_new, why);
+        self.awake.store(resters.awake(), Ordering::SeqCst);
+        if !rests {
             return false;
         }
-        if !resters.want_lookout() {
+        if !resters.want_lookout(why) {
             resters = self.roused.wait(rt, resters);
         }
-        if resters.want_lookout() {
+        if resters.want_lookout(why) {
             resters.begin_looking_out();
-            resters = self.roused.wait_timeout(rt, resters, limit).0;
+            resters = self.look_out(rt, hand, resters, limit);
             resters.end_looking_out();
         }
         let hands_over = resters.end();
+        self.awake.store(resters.awake(), Ordering::SeqCst);
         drop(resters);
         if hands_over {
             self.roused.notify_one();
         }
         true
+    }
+
+    // Sleeps until the run is over or one more thread is of use.
+    fn look_out<'a, R: Wait + Clock>(
+        &'a self,
+        rt: &R,
+        hand: &Hand<B>,
+        resters: MutexGuard<'a, Resters>,
+        limit: Duration,
+    ) -> MutexGuard<'a, Resters> {
+        let mut resters = resters;
+        let mut limit = limit;
+        let mut last = self.look_for_work(rt);
+        for _ in rt.forever() {
+            resters = self.roused.wait_timeout(rt, resters, limit).0;
+            let next = self.look_for_work(rt);
+            let has_processor = hand.has_processor(resters.awake());
+            let is_wanted = next.shows_want(&last, has_processor);
+            limit = next_limit(limit, has_processor && next.is_slow(&last));
+            if next.is_same(&last) {
+                self.lock(rt).hold_up();
+            } else {
+                last = next;
+            }
+            if is_wanted || resters.is_over() {
+                return resters;
+            }
+        }
+        unreachable!()
+    }
+
+    // What a lookout sees.
+    fn look_for_work<R: Wait + Clock>(&self, rt: &R) -> Look {
+        let now = Instant::now(rt).ok();
+        let guarded = self.lock(rt);
+        Look::new(now, guarded.has_work(), guarded.answers())
     }
 
     // The run is over: wakes all that rest.
@@ -281,6 +328,7 @@ impl<B: Body, E: EntryLedger, O: Ledger> Monitor<B, E, O> {
             changed,
             resters,
             roused,
+            awake,
             board,
         } = self;
         let mut guarded = state.into_inner();
@@ -301,6 +349,7 @@ impl<B: Body, E: EntryLedger, O: Ledger> Monitor<B, E, O> {
             changed,
             resters,
             roused,
+            awake,
             board,
         };
         Err(Unclosed {

@@ -2,6 +2,23 @@
 //!
 //! No contract depends on this.
 
+use std::time::{Duration, Instant};
+
+/// A lookout's rests double up to this, in microseconds: to the shorter one if answers come slowly though
+/// there is a processor for one more thread.
+const LONGEST_REST: u64 = 2_000;
+
+const ALERT_REST: u64 = 200;
+
+/// If a process is ready and answers are committed less often than once in so many nanoseconds, one more
+/// thread is of use: several threads commit no more often than that, since what a commit touches then
+/// comes from another processor's cache.
+const SLOW: u64 = 300;
+
+/// If no answer is committed for so many nanoseconds though a process is ready, one more thread is of
+/// use even if there is no processor for it: those that are awake may wait for it.
+const STALL: u128 = 1_000_000;
+
 /// Why a thread rests.
 #[derive(Clone, Copy, Debug, PartialEq, Eq)]
 pub enum Rest {
@@ -46,9 +63,14 @@ impl Resters {
         true
     }
 
-    /// Whether a thread that rests should be the lookout: there is none, and the run is not over.
-    pub(crate) fn want_lookout(&self) -> bool {
-        self.looking_out == 0 && !self.over
+    /// Whether a thread that rests for this reason should be a lookout: there is none, or it is idle and
+    /// there is one, and the run is not over.
+    pub(crate) fn want_lookout(&self, why: Rest) -> bool {
+        let others = match why {
+            Rest::Idle => 1,
+            Rest::Spare => 0,
+        };
+        self.looking_out <= others && !self.over
     }
 
     /// A thread that rests becomes the lookout.
@@ -61,10 +83,20 @@ impl Resters {
         self.looking_out = self.looking_out.saturating_sub(1);
     }
 
+    /// How many threads are awake, of those that ever wanted to rest.
+    pub(crate) fn awake(&self) -> u64 {
+        self.known.saturating_sub(self.resting) as u64
+    }
+
     /// A thread no longer rests. Returns whether another that rests should be the lookout in its place.
     pub(crate) fn end(&mut self) -> bool {
         self.resting = self.resting.saturating_sub(1);
-        self.resting > 0 && self.want_lookout()
+        self.resting > 0 && self.want_lookout(Rest::Spare)
+    }
+
+    /// Whether the run is over.
+    pub(crate) fn is_over(&self) -> bool {
+        self.over
     }
 
     /// The run is over. Returns whether some thread still rests.
@@ -72,4 +104,60 @@ impl Resters {
         self.over = true;
         self.resting > 0
     }
+}
+
+/// What a lookout sees at one time: whether there is something to do, and how many answers were
+/// committed so far.
+#[derive(Clone, Copy)]
+pub(crate) struct Look {
+    time: Option<Instant>,
+    has_work: bool,
+    answers: u64,
+}
+
+impl Look {
+    pub(crate) fn new(time: Option<Instant>, has_work: bool, answers: u64) -> Look {
+        Look {
+            time,
+            has_work,
+            answers,
+        }
+    }
+
+    /// Whether one more thread is of use: there is something to do, and few answers were committed since
+    /// an earlier look; none for a long time, if there is no processor for it.
+    pub(crate) fn shows_want(&self, earlier: &Look, has_processor: bool) -> bool {
+        if !self.has_work {
+            return false;
+        }
+        if has_processor {
+            return self.is_slow(earlier);
+        }
+        self.is_same(earlier) && self.nanos_since(earlier) > STALL
+    }
+
+    /// Whether no answer was committed since an earlier look.
+    pub(crate) fn is_same(&self, earlier: &Look) -> bool {
+        self.answers == earlier.answers
+    }
+
+    /// Whether few answers were committed since an earlier look.
+    pub(crate) fn is_slow(&self, earlier: &Look) -> bool {
+        let answers = self.answers.saturating_sub(earlier.answers);
+        self.nanos_since(earlier) > u128::from(answers.saturating_mul(SLOW))
+    }
+
+    /// The nanoseconds since an earlier look; very many if the clock could not be read.
+    fn nanos_since(&self, earlier: &Look) -> u128 {
+        match (self.time, earlier.time) {
+            (Some(now), Some(then)) => now.saturating_duration_since(then).as_nanos(),
+            _ => u128::MAX,
+        }
+    }
+}
+
+/// How long a lookout rests after it has rested for `limit`.
+pub(crate) fn next_limit(limit: Duration, is_alert: bool) -> Duration {
+    let longest = if is_alert { ALERT_REST } else { LONGEST_REST };
+    limit.saturating_mul(2).min(Duration::from_micros(longest))
 }

@@ -191,7 +191,7 @@ fn run_named<
     let Ok(seats) = Vec::with_capacity(alloc, workers) else {
         return Err(put_back(opening.into_machine()));
     };
-    let Ok(hands) = hands_for(alloc, workers) else {
+    let Ok(hands) = hands_for(rt, alloc, workers) else {
         return Err(put_back(opening.into_machine()));
     };
     let (monitor, seat) = Monitor::<B, E, O>::open(opening);

@@ -12,14 +12,18 @@ const FEW_EXCHANGES: u64 = 8;
 /// If they take longer than this many, it has half as many.
 const MANY_EXCHANGES: u64 = 16;
 /// After a round whose calls took less than `BRIEF`, `UNTIMED_ROUNDS` rounds go by without a look at the
-/// clock.
+/// clock, if the rounds are worth it; and `ALONE_ROUNDS`, if they aren't but no other worker is awake.
 const BRIEF: u64 = 1_000;
 
 const UNTIMED_ROUNDS: u32 = 7;
+
+const ALONE_ROUNDS: u32 = 31;
 /// A worker is spare after this many more rounds that weren't worth it than rounds that were.
 const PATIENCE: u32 = 8;
-/// A worker that finds nothing to do looks again for as long as its last calls took, and at most for
-/// this long, before it rests.
+/// A worker that finds nothing to do looks again for `LOOKS` times as long as its last calls took, and at
+/// most for `LONGEST_LOOK`, before it rests.
+const LOOKS: u64 = 4;
+
 const LONGEST_LOOK: u64 = 50_000;
 
 /// What a worker does after an exchange.
@@ -124,7 +128,7 @@ impl Pace {
         match next {
             Next::Tasks | Next::Over(_) => {
                 self.looking = 0;
-                if self.calling < BRIEF {
+                if self.calling < BRIEF && self.strain == 0 {
                     self.untimed = UNTIMED_ROUNDS;
                 }
                 Step::Go
@@ -137,7 +141,7 @@ impl Pace {
         self.looking = self.looking.saturating_add(self.exchanging);
         if self.strain >= PATIENCE {
             Step::Rest(Rest::Spare)
-        } else if self.looking > self.calling.min(LONGEST_LOOK) {
+        } else if self.looking > self.calling.saturating_mul(LOOKS).min(LONGEST_LOOK) {
             Step::Rest(Rest::Idle)
         } else {
             Step::Pause
@@ -145,14 +149,18 @@ impl Pace {
     }
 
     /// The worker has rested, or was found to be needed, at time `now`. A spare worker that has rested
-    /// is spare again after one more round that isn't worth it.
+    /// is spare again after a few more rounds that aren't worth it; one that is needed though it is
+    /// spare does not ask again for a while.
     pub(crate) fn rested(&mut self, rested: bool, now: u64) {
         self.looking = 0;
         self.then = now;
-        self.strain = if rested {
-            self.strain.min(PATIENCE - 1)
+        if rested {
+            self.strain = self.strain.min(PATIENCE / 2);
+        } else if self.strain >= PATIENCE {
+            self.untimed = ALONE_ROUNDS;
+            self.strain = PATIENCE - 2;
         } else {
-            0
-        };
+            self.strain = 0;
+        }
     }
 }

@@ -12,8 +12,11 @@ use std::sync::Wait;
 use std::sync::ledger::Ledger;
 use std::time::{Duration, Instant};
 
-/// How long a worker rests that is spare, and one that finds nothing to do, in microseconds.
-const SPARE_REST: u64 = 1_000;
+/// How long the lookout rests at first: at the start of a run, after it was at work and is spare, and
+/// after it found nothing to do, in microseconds.
+const FIRST_REST: u64 = 50;
+
+const SPARE_REST: u64 = 200;
 
 const IDLE_REST: u64 = 100;
 
@@ -58,6 +61,7 @@ pub(crate) fn work_in_rounds<B: Body, E: EntryLedger, O: Ledger, R: Wait + Clock
     ensures parts { seat.new.parts ≡ seat.old.parts }
     ensures over { IfNone result (seat.new.overs ≡ 1) }
 {
+    monitor.rest(rt, hand, Rest::Spare, Duration::from_micros(FIRST_REST));
     let watch = Stopwatch::new(rt);
     let mut pace = Pace::new(0);
     for _ in rt.forever() {

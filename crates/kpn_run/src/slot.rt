@@ -73,15 +73,34 @@ pub(crate) struct Hands<B: Body> {
 }
 
 /// Makes a hand for each worker.
-pub(crate) fn hands_for<B: Body>(alloc: Global, workers: usize) -> Result<Hands<B>, AllocError> {
+pub(crate) fn hands_for<B: Body, R: Threads>(
+    rt: &R,
+    alloc: Global,
+    workers: usize,
+) -> Result<Hands<B>, AllocError> {
+    let processors = match thread::available_parallelism(rt) {
+        Ok(count) => count.get(),
+        Err(_) => workers,
+    };
     let mut others = Vec::with_capacity(alloc, workers)?;
     for _ in 1..workers {
-        others.push(Hand::new(alloc, workers)?)?;
+        others.push(hand_for(alloc, workers, processors)?)?;
     }
     Ok(Hands {
-        last: Hand::new(alloc, workers)?,
+        last: hand_for(alloc, workers, processors)?,
         others,
     })
+}
+
+// A hand of one of so many workers.
+fn hand_for<B: Body>(
+    alloc: Global,
+    workers: usize,
+    processors: usize,
+) -> Result<Hand<B>, AllocError> {
+    let mut hand = Hand::new(alloc, workers)?;
+    hand.know_processors(processors);
+    Ok(hand)
 }
 
 /// Makes a slot for each worker. Each seat has one part, except the last, which has the rest.

@@ -88,6 +88,7 @@ fn play_rounds<B: Body, E: EntryLedger, O: Ledger, R: Wait + Clock + Abort>(
     seat: &mut Seat<E, O>,
 ) {
     let mut hand = Hand::new(alloc, 1).expect(rt, "no memory");
+    hand.know_processors(4);
     let due = [
         (16, 0, 0, Next::Tasks),
         (16, 2, 2, Next::Tasks),

@@ -64,6 +64,37 @@ stream c3 1 2 3 1 2 3
     stream: &[Word(1), Word(2), Word(3), Word(1), Word(2), Word(3)],
 };
 
+/// A chain in which all processes can go on at first: each token of a channel's start comes out in turn.
+pub(crate) const READY_CHAIN_ENDS: Due = Due {
+    end: End::Deadlock,
+    entries: 42,
+    processes: 5,
+    stopped: 2,
+    text: "end deadlock
+process p0 stopped steps 4
+process p1 reads c0 steps 8
+process p2 reads c1 steps 10
+process p3 reads c2 steps 12
+process p4 stopped steps 8
+channel c0 put 3 left 0 capacity 2
+channel c1 put 4 left 0 capacity 2
+channel c2 put 5 left 0 capacity 2
+channel c3 put 6 left 0 capacity 2
+entries 42
+stream c3 13 12 11 10 1 2 3
+",
+    show: 3,
+    stream: &[
+        Word(13),
+        Word(12),
+        Word(11),
+        Word(10),
+        Word(1),
+        Word(2),
+        Word(3),
+    ],
+};
+
 /// The channel of capacity one grows once.
 pub(crate) const SMALL_SINK_ENDS: Due = Due {
     end: End::Terminated,

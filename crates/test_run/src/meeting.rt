@@ -4,11 +4,11 @@ ghost use Rattle.kpn_standard.specs.Standard.{standard};
 ghost use Rattle.kpn_body.specs.StandardKinds.{signature, Admitted};
 
 use crate::checks::same;
-use crate::due::COUNTER_ENDS;
+use crate::due::{COUNTER_ENDS, Due, READY_CHAIN_ENDS};
 use crate::networks::{Parts, parts_of};
 use crate::runs::run_bodies;
-use kpn_body::{Call, StandardBody, answer};
-use kpn_net::{Answer, Card, Local, Token};
+use kpn_body::{Call, Standard, StandardBody, answer};
+use kpn_net::{Answer, Card, Kinds, Local, Net, Token};
 use std::alloc::{AllocError, Global};
 use std::process::Abort;
 use std::rt::Clock;
@@ -17,7 +17,27 @@ use std::sync::{Arc, Wait};
 use std::test::Fail;
 use std::thread;
 use std::thread::Threads;
-use test_texts::COUNTER_INTO_SINK;
+use test_texts::{COUNTER_INTO_SINK, READY_CHAIN};
+
+/// A network, by how many workers it is run, its two processes whose closures wait for each other at
+/// their call of the number `at`, and the expected result of the run.
+#[derive(Clone, Copy)]
+struct Meeting {
+    text: &'static str,
+    workers: usize,
+    left: usize,
+    right: usize,
+    at: u64,
+    due: &'static Due,
+}
+
+/// Which of the two a closure is, or neither.
+#[derive(Clone, Copy)]
+enum Side {
+    Left,
+    Right,
+    Neither,
+}
 
 /// How often each of two closures was called, and how many have seen that the other was called for
 /// the time at which they meet.
@@ -30,10 +50,11 @@ struct Calls {
 
 /// Counts a call, and waits at the call of the number `at` until the other has come as far. Between
 /// two looks other threads may go on, so that a busy machine doesn't end the wait too soon.
-fn meet(at: u64, is_left: bool, calls: &Calls) {
-    let (mine, other) = match is_left {
-        true => (&calls.left, &calls.right),
-        false => (&calls.right, &calls.left),
+fn meet(at: u64, side: Side, calls: &Calls) {
+    let (mine, other) = match side {
+        Side::Left => (&calls.left, &calls.right),
+        Side::Right => (&calls.right, &calls.left),
+        Side::Neither => return,
     };
     if mine.fetch_add(1, Ordering::SeqCst).wrapping_add(1) != at {
         return;
@@ -55,23 +76,12 @@ fn no_calls() -> Calls {
     }
 }
 
-/// Runs a counter of three into a sink of three by two workers, with these bodies.
-fn run_counter<R: Threads + Wait + Clock + Abort + Sync>(
-    rt: &R,
-    alloc: Global,
-    bodies: Vec<StandardBody>,
-) -> Result<(), Fail> {
-    let Parts { net, bodies: _ } = parts_of(alloc, COUNTER_INTO_SINK)?;
-    run_bodies(rt, alloc, net, bodies, 2, &COUNTER_ENDS)?;
-    Ok(())
-}
-
-/// A body, the left or the right one, that waits for the other at its call of the number `at`.
+/// A body that, if it is one of the two, waits for the other at its call of the number `at`.
 fn meeting_body(
     alloc: Global,
     card: Card,
     at: u64,
-    is_left: bool,
+    side: Side,
     calls: Arc<Calls>,
 ) -> Result<StandardBody, AllocError>
     requires { IsSome (signature card) }
@@ -83,43 +93,104 @@ fn meeting_body(
             requires admitted { Admitted card local last }
             ensures { result ≡ standard.answer card local last }
         {
-            meet(at, is_left, &calls);
+            meet(at, side, &calls);
             answer(card, local, last)
         },
     )?;
     Ok(StandardBody::new(card, call))
 }
 
-/// Runs a counter into a sink by two workers, with closures that wait for each other at the call of
-/// this number. How often they were called decides whether they wait, and not what they answer.
-fn meet_at<R: Threads + Wait + Clock + Abort + Sync>(
+/// A body for each process, in order.
+fn meeting_bodies(
+    alloc: Global,
+    net: &Net<Standard>,
+    meeting: Meeting,
+    calls: &Arc<Calls>,
+) -> Result<Vec<StandardBody>, Fail> {
+    let mut bodies = Vec::new(alloc);
+    for process in 0..net.processes() {
+        let card = net.card(process);
+        let side = if process == meeting.left {
+            Side::Left
+        } else if process == meeting.right {
+            Side::Right
+        } else {
+            Side::Neither
+        };
+        if Standard::signature(&card).is_some() {
+            let calls = Arc::try_clone(calls)?;
+            bodies.push(meeting_body(alloc, card, meeting.at, side, calls)?)?;
+        }
+    }
+    Ok(bodies)
+}
+
+/// Runs a network whose two closures wait for each other. How often they were called decides whether
+/// they wait, and not what they answer.
+fn meets<R: Threads + Wait + Clock + Abort + Sync>(
     rt: &R,
     alloc: Global,
-    at: u64,
+    meeting: Meeting,
 ) -> Result<(), Fail> {
     let calls = Arc::new(alloc, no_calls())?;
-    let src = Card {
-        kind: 0,
-        args: [1, 3, 0],
-    };
-    let snk = Card {
-        kind: 1,
-        args: [3, 0, 0],
-    };
-    let mut bodies = Vec::new(alloc);
-    bodies.push(meeting_body(alloc, src, at, true, Arc::try_clone(&calls)?)?)?;
-    bodies.push(meeting_body(alloc, snk, at, false, Arc::try_clone(&calls)?)?)?;
-    run_counter(rt, alloc, bodies)?;
+    let Parts { net, bodies: _ } = parts_of(alloc, meeting.text)?;
+    let bodies = meeting_bodies(alloc, &net, meeting, &calls)?;
+    run_bodies(rt, alloc, net, bodies, meeting.workers, meeting.due)?;
     same(rt, "seen", calls.seen.load(Ordering::SeqCst), 2);
     Ok(())
 }
 
+/// A counter and its sink, by two workers.
+const COUNTER_MEETS: Meeting = Meeting {
+    text: COUNTER_INTO_SINK,
+    workers: 2,
+    left: 0,
+    right: 1,
+    at: 1,
+    due: &COUNTER_ENDS,
+};
+
+/// Five processes, all of which can go on at first, by three workers. The two are next to each other:
+/// in a hand of two they would wait for ever.
+const CHAIN_MEETS: Meeting = Meeting {
+    text: READY_CHAIN,
+    workers: 3,
+    left: 3,
+    right: 4,
+    at: 1,
+    due: &READY_CHAIN_ENDS,
+};
+
 #[test]
 fn two_workers_meet(rt: HostRuntime) -> Result<(), Fail> {
-    meet_at(&rt, rt.alloc(), 1)
+    meets(&rt, rt.alloc(), COUNTER_MEETS)
 }
 
 #[test]
 fn two_workers_meet_at_the_second_call(rt: HostRuntime) -> Result<(), Fail> {
-    meet_at(&rt, rt.alloc(), 2)
+    meets(
+        &rt,
+        rt.alloc(),
+        Meeting {
+            at: 2,
+            ..COUNTER_MEETS
+        },
+    )
+}
+
+#[test]
+fn two_of_five_processes_meet(rt: HostRuntime) -> Result<(), Fail> {
+    meets(&rt, rt.alloc(), CHAIN_MEETS)
+}
+
+#[test]
+fn two_of_five_processes_meet_at_the_second_call(rt: HostRuntime) -> Result<(), Fail> {
+    meets(
+        &rt,
+        rt.alloc(),
+        Meeting {
+            at: 2,
+            ..CHAIN_MEETS
+        },
+    )
 }
