@@ -22,6 +22,7 @@ use Rattle.kpn_machine.specs.declared.opening.OpenFault.TheVariants.{Bodies, Car
 use Rattle.kpn_machine.specs.Opening.{cards_of, IsOpenFault}
 use Rattle.kpn_run.proofs.Told.{at_rest, over_of}
 use Rattle.kpn_laws.specs.RoomOfRun.{TakesLeastRoom}
+use Rattle.kpn_laws.specs.StreamsOfRun.{ApproachLeastSolution}
 use Rattle.kpn_report.specs.Text.{end_line, digest_text, text}
 use Rattle.kpn_front.specs.declared.status.Status.{Status}
 use Rattle.kpn_front.specs.declared.status.Status.TheVariants.{WriteFailed}
@@ -50,11 +51,11 @@ bound_by kinds admits s cause faithful ended = subst (MayStand kinds s.network s
 
 -- the text of a run that ended is that of its history
 pub run_told :
-    (kinds : Family) (admits : Card → List ℕ → Option Token → Type 0) (s : MachineView) (cause : End) (places : List Place) (channel : Option ℕ) (status : Status) (bytes : List ℕ) → IsFaithful kinds admits s → TakesLeastRoom kinds s.network s.history s.state → s.end ≡ Some cause
+    (kinds : Family) (admits : Card → List ℕ → Option Token → Type 0) (s : MachineView) (cause : End) (places : List Place) (channel : Option ℕ) (status : Status) (bytes : List ℕ) → IsFaithful kinds admits s → TakesLeastRoom kinds s.network s.history s.state → ApproachLeastSolution kinds s.network s.history s.state → s.end ≡ Some cause
     → places ≡ each_process s.network (λ p. place_of s.network p (parked_answer (standing s.standings p))) → OneDigest kinds
     → ((has_report cause ≡ true → places ≡ each_process s.network (λ p. place_of s.network p (wants kinds s.network s.state p))) → bytes ≡ text kinds s.network cause s.history s.state channel)
     → status ≡ status_of_end cause → TellsRun kinds s.network channel status bytes
-run_told kinds admits s cause places channel status bytes faithful room ended places_are one report status_is =
+run_told kinds admits s cause places channel status bytes faithful room streams ended places_are one report status_is =
     let bound = bound_by kinds admits s cause faithful ended in
     let told = report (λ has. places_are ∙ at_rest kinds admits s cause faithful ended has) in
     record {
@@ -64,6 +65,7 @@ run_told kinds admits s cause places channel status bytes faithful room ended pl
       run = faithful.run;
       bound = bound;
       room = room;
+      streams = streams;
       status_is = status_is;
       text_is = told;
       settled = λ has F N b final.

@@ -11,6 +11,7 @@ use Rattle.kpn_model.specs.Semantics.{State}
 use Rattle.kpn_model.specs.Determinacy.{IsRun, IsFinal}
 use Rattle.kpn_model.specs.Endings.{MayEnd, has_report}
 use Rattle.kpn_laws.specs.RoomOfRun.{TakesLeastRoom}
+use Rattle.kpn_laws.specs.StreamsOfRun.{ApproachLeastSolution}
 use Rattle.kpn_report.specs.Text.{text as report_text}
 use Rattle.kpn_front.specs.declared.status.Status.{Status}
 use Rattle.kpn_front.specs.declared.status.Status.TheVariants.{Success, WrongArguments, BudgetSpent, MemoryRefused, Deadlocked, AtCeiling, WriteFailed, Lost}
@@ -56,7 +57,8 @@ pub record TellsLost (workers : ℕ) (status : Status) (text : List ℕ) : Type 
 abbrev pub IsSettled : Family → Network → Option ℕ → List ℕ → Type 0
 IsSettled kinds net channel text = (F : List Entry) (N : State) (b : End) → IsFinal kinds net F N b → text ≡ report_text kinds net b F N channel
 
--- a run from the start ended for a cause that justifies its end; it took no more room than the network needs
+-- a run from the start ended for a cause that justifies its end; it took no more room than the network needs, and its streams
+-- approach the least solution of the network's equations
 pub record TellsRun (kinds : Family) (net : Network) (channel : Option ℕ) (status : Status) (text : List ℕ) : Type 0 where
   pub history : List Entry
   pub state : State
@@ -64,6 +66,7 @@ pub record TellsRun (kinds : Family) (net : Network) (channel : Option ℕ) (sta
   pub run : IsRun kinds net history state
   pub bound : MayEnd kinds net history state cause
   pub room : TakesLeastRoom kinds net history state
+  pub streams : ApproachLeastSolution kinds net history state
   pub status_is : status ≡ status_of_end cause
   pub text_is : text ≡ report_text kinds net cause history state channel
   pub settled : has_report cause ≡ true → IsSettled kinds net channel text

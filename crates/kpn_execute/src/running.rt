@@ -7,7 +7,7 @@ use kpn_body::Body;
 use kpn_front::Status;
 use kpn_front::say::{say, say_lost, say_no_channel, say_refused};
 use kpn_front::streams::Sink;
-use kpn_laws::{determinacy_of, least_room_of};
+use kpn_laws::{determinacy_of, least_room_of, least_solution_of};
 use kpn_machine::{Chronicle, Machine};
 use kpn_net::{End, Kinds, Net, NetFault};
 use kpn_report::{places_of, text_of};
@@ -30,7 +30,9 @@ struct Told {
 ///
 /// If the run came to its own end, each run of the network that is over has the same text, whatever the
 /// schedule. If capacity b suffices for the network, no channel of capacity b or more grows in the run
-/// (Parks 1995; docs/least-room.md).
+/// (Parks 1995; docs/least-room.md). The streams are below every solution of the network's equations,
+/// and if the run terminated or ended in a deadlock they are the least solution (Kahn 1974;
+/// docs/least-solution.md).
 ///
 /// Returns the exit status:
 ///
@@ -155,6 +157,7 @@ fn told_of<K: Kinds>(
     };
     determinacy_of::<K>();
     least_room_of::<K>();
+    least_solution_of::<K>();
     let net = chronicle.net();
     let places = places_of(alloc, net, chronicle.standings())?;
     let text = text_of(

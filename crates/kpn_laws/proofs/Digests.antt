@@ -9,7 +9,7 @@ use Rattle.kpn_model.specs.Endings.{IsOver}
 use Rattle.kpn_model.specs.declared.history.End.{End}
 use Rattle.kpn_model.specs.Determinacy.{OneDigest, NoneLonger}
 use Rattle.kpn_laws.proofs.Lists.{same_from_prefixes, prefix-length}
-use Rattle.kpn_laws.proofs.Views.{puts, took}
+use Rattle.kpn_laws.specs.Alone.{puts, took}
 use Rattle.kpn_laws.proofs.Kept.{fresh_start}
 use Rattle.kpn_laws.proofs.Domination.{dominated_by_growths}
 use Rattle.kpn_laws.proofs.Standstill.{same_deeds, same_stand}

@@ -13,7 +13,8 @@ use Rattle.kpn_model.specs.Network.{Network, channel_of, Family}
 use Rattle.kpn_model.specs.Semantics.{State, tokens, capacity, answered, wants, IsDeed, Step, Run, IsBlocked, IsPossible, IsEnabled, IsQuiet, Does}
 use Rattle.kpn_model.specs.declared.kinds.Answer.{Answer}
 use Rattle.kpn_laws.proofs.Lists.{prefix_trans, prefix_of_push, prefix-length, prefix_cases, prefix_to_push}
-use Rattle.kpn_laws.proofs.Views.{puts, took, deeds_push_grew, growths_push_did, growths_push_grew, puts_prefix, took_prefix}
+use Rattle.kpn_laws.specs.Alone.{puts, took}
+use Rattle.kpn_laws.proofs.Views.{deeds_push_grew, growths_push_did, growths_push_grew, puts_prefix, took_prefix}
 use Rattle.kpn_laws.proofs.States.{in_of-reader, out_of-writer}
 use Rattle.kpn_laws.proofs.Steps.{took_read, put_write, stopped_stop}
 use Rattle.kpn_laws.proofs.Follows.{status_by, follows_same}

@@ -10,7 +10,8 @@ use Rattle.kpn_model.specs.Semantics.{status, answered, start}
 use Rattle.kpn_model.specs.declared.kinds.Act.TheVariants.{Read, Write, Stop}
 use Rattle.kpn_model.specs.declared.kinds.Answer.{Answer}
 use Rattle.kpn_laws.proofs.Lists.{same_next, comparable_after}
-use Rattle.kpn_laws.proofs.Views.{puts, took, puts_comparable, puts_prefix}
+use Rattle.kpn_laws.specs.Alone.{puts, took}
+use Rattle.kpn_laws.proofs.Views.{puts_comparable, puts_prefix}
 use Rattle.kpn_laws.proofs.Steps.{after}
 
 module _ (kinds : Family) (net : Network) where

@@ -8,7 +8,7 @@ use Rattle.kpn_model.specs.History.{deeds, growths, grown}
 use Rattle.kpn_model.specs.declared.parts.Channel.{Channel}
 use Rattle.kpn_model.specs.Network.{Network, no_channel, channel_of, Family}
 use Rattle.kpn_model.specs.Semantics.{State, nothing_held, status, tokens, capacity, start}
-use Rattle.kpn_laws.proofs.Views.{puts, took}
+use Rattle.kpn_laws.specs.Alone.{puts, took}
 use Rattle.kpn_laws.proofs.Follows.{status_by, Follows}
 
 module _ (kinds : Family) (net : Network) where

@@ -8,7 +8,8 @@ use Rattle.kpn_model.specs.History.{deeds, growths, grown}
 use Rattle.kpn_model.specs.Network.{Network, channel_of, Family}
 use Rattle.kpn_model.specs.Semantics.{State, tokens, capacity, with_channel, IsBlocked}
 use Rattle.kpn_laws.proofs.Lists.{prefix_push_cases}
-use Rattle.kpn_laws.proofs.Views.{puts, took, deeds_push_grew, growths_push_grew, grown_push}
+use Rattle.kpn_laws.specs.Alone.{puts, took}
+use Rattle.kpn_laws.proofs.Views.{deeds_push_grew, growths_push_grew, grown_push}
 use Rattle.kpn_laws.proofs.States.{out_of-writer, tokens_set_same, tokens_set_other, capacity_set_same, capacity_set_other}
 use Rattle.kpn_laws.proofs.Follows.{status_by, follows_more}
 use Rattle.kpn_laws.proofs.Kept.{Kept}

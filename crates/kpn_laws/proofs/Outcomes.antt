@@ -8,7 +8,8 @@ use Rattle.kpn_model.specs.Network.{Network, channel_of, Family, resized}
 use Rattle.kpn_model.specs.Semantics.{State, status, answered, wants, start, Run, IsBlocked, IsQuiet}
 use Rattle.kpn_model.specs.declared.history.End.{End}
 use Rattle.kpn_laws.proofs.Lists.{same_from_prefixes, comparable_after}
-use Rattle.kpn_laws.proofs.Views.{puts, puts_comparable}
+use Rattle.kpn_laws.specs.Alone.{puts}
+use Rattle.kpn_laws.proofs.Views.{puts_comparable}
 use Rattle.kpn_laws.proofs.Follows.{status_by}
 use Rattle.kpn_laws.proofs.Kept.{IsFresh, fresh_start}
 use Rattle.kpn_laws.proofs.KeptByRuns.{kept_run}

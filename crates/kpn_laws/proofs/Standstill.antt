@@ -7,7 +7,7 @@ use Rattle.kpn_model.specs.Network.{Network, channel_of, Family}
 use Rattle.kpn_model.specs.declared.history.Status.TheVariants.{Done}
 use Rattle.kpn_model.specs.Semantics.{Held, State, nothing_held, status, tokens, capacity, Run, IsQuiet}
 use Rattle.kpn_laws.proofs.Lists.{same_from_prefixes}
-use Rattle.kpn_laws.proofs.Views.{puts, took}
+use Rattle.kpn_laws.specs.Alone.{puts, took}
 use Rattle.kpn_laws.proofs.Follows.{status_by}
 use Rattle.kpn_laws.proofs.Kept.{IsFresh, Kept}
 use Rattle.kpn_laws.proofs.KeptByRuns.{kept_run}

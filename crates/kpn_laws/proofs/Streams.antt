@@ -7,7 +7,8 @@ use Rattle.kpn_model.specs.declared.history.Entry.TheVariants.{Did, Grew}
 use Rattle.kpn_model.specs.History.{deeds, put_on, taken}
 use Rattle.kpn_model.specs.Network.{Network, channel_of, Family}
 use Rattle.kpn_model.specs.Semantics.{State, Step, Run}
-use Rattle.kpn_laws.proofs.Views.{puts, took, put_on-append, taken-append, deeds_push_grew, puts_push_none, took_push_none, puts_push_same, took_push_same, puts_other, took_other}
+use Rattle.kpn_laws.specs.Alone.{puts, took}
+use Rattle.kpn_laws.proofs.Views.{put_on-append, taken-append, deeds_push_grew, puts_push_none, took_push_none, puts_push_same, took_push_same, puts_other, took_other}
 use Rattle.kpn_laws.proofs.States.{in_of-reader, out_of-writer}
 use Rattle.kpn_laws.proofs.Steps.{took_read, put_write}
 use Rattle.kpn_laws.proofs.Runs.{run_induction}

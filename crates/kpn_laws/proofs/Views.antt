@@ -7,18 +7,7 @@ use Rattle.kpn_model.specs.declared.history.Deed.TheVariants.{Took, Put, Stopped
 use Rattle.kpn_model.specs.declared.history.Entry.{Entry}
 use Rattle.kpn_model.specs.declared.history.Entry.TheVariants.{Did, Grew}
 use Rattle.kpn_model.specs.History.{deeds, put_on, taken, growths, grown}
-
--- the tokens that these deeds put on c
-abbrev pub puts : List Deed → ℕ → List Token
-puts [] c = []
-puts (Put b t ∷ ds) c = if b == c then t ∷ puts ds c else puts ds c
-puts (_ ∷ ds) c = puts ds c
-
--- the tokens that these deeds took from c
-abbrev pub took : List Deed → ℕ → List Token
-took [] c = []
-took (Took b t ∷ ds) c = if b == c then t ∷ took ds c else took ds c
-took (_ ∷ ds) c = took ds c
+use Rattle.kpn_laws.specs.Alone.{puts, took}
 
 -- an element that is added conditionally comes before what is appended
 cond_append : {X : Type 0} (b : Bool) (x : X) (xs ys zs : List X) → xs ++ ys ≡ zs → (if b then x ∷ xs else xs) ++ ys ≡ (if b then x ∷ zs else zs)

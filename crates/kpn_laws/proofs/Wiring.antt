@@ -26,7 +26,7 @@ pub record AreWiredAlike (a b : Network) : Type 0 where
   pub ceilings : a.ceiling ≡ b.ceiling
 
 -- wired alike goes both ways
-wired_sym : (a b : Network) → AreWiredAlike a b → AreWiredAlike b a
+pub wired_sym : (a b : Network) → AreWiredAlike a b → AreWiredAlike b a
 wired_sym a b w = record { cards = λ p. sym (w.cards p); ins = λ p k. sym (w.ins p k); outs = λ p k. sym (w.outs p k); steps = sym w.steps; ceilings = sym w.ceilings }
 
 module _ (kinds : Family) where

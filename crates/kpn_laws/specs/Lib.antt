@@ -4,3 +4,6 @@ pub mod Sufficient
 pub mod LeastRoom
 pub mod Completion
 pub mod RoomOfRun
+pub mod Alone
+pub mod Equations
+pub mod StreamsOfRun

@@ -1,16 +1,18 @@
 //! The laws of Kahn process networks with bounded channels, over the definitions of kpn_model alone.
 //!
 //! A function here does nothing. What it ensures are theorems, for every family of kinds and every
-//! network; a caller that calls it may use them from there on. docs/determinacy.md and
-//! docs/least-room.md explain the proofs.
+//! network; a caller that calls it may use them from there on. docs/determinacy.md,
+//! docs/least-solution.md and docs/least-room.md explain the proofs.
 #![tactic(auto)]
 
 mod ending;
+mod equations;
 mod outcome;
 mod room;
 mod run;
 
 pub use ending::{completion, completion_of};
+pub use equations::{least_solution, least_solution_of};
 pub use outcome::{determinacy, determinacy_of};
 pub use room::{least_room, least_room_of};
 pub use run::{moments, typed_runs, valid_runs};

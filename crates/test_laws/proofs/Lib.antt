@@ -4,3 +4,7 @@ mod Counterexamples
 pub mod WorkedRoom
 mod ChangedBounds
 mod ParksCase
+mod WorkedSolutions
+mod ChangedSolutions
+mod ChangedFunctions
+mod ChangedSolving

@@ -81,12 +81,12 @@ abbrev once_round : List Entry × State
 once_round = led ring (start standard ring) (Go 0 ∷ Go 0 ∷ [])
 
 -- n rounds
-abbrev rounds : ℕ → List Entry
+abbrev pub rounds : ℕ → List Entry
 rounds zero = []
 rounds (suc n) = once_round.0 ++ rounds n
 
 -- they lead back to the start
-rounds_run : (n : ℕ) → Run standard ring (start standard ring) (rounds n) (start standard ring)
+pub rounds_run : (n : ℕ) → Run standard ring (start standard ring) (rounds n) (start standard ring)
 rounds_run zero = refl
 rounds_run (suc n) =
     let r = played_sound standard ring (Go 0 ∷ Go 0 ∷ []) (start standard ring) once_round refl in

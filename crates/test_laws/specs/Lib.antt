@@ -7,3 +7,8 @@ pub mod ChangedRules
 pub mod ChangedBounds
 pub mod Unbounded
 pub mod Parks
+pub mod WorkedSolutions
+pub mod ChangedSolutions
+pub mod WorkedFunctions
+pub mod ChangedFunctions
+pub mod ChangedSolving

@@ -1,0 +1,77 @@
+-- Hamming's numbers (examples/hamming.toml): the stream begins with 1, and goes on with its own doubles, triples and quintuples,
+-- merged. A gate lets n numbers through.
+use Rattle.std.specs.Prelude.{◌≡◌, ℕ, ◌*◌, ◌^◌, ◌<◌, ◌≤◌, List, [], ◌∷◌, length, Contains}
+use Rattle.std.specs.List.Sorted.{IsStrictlyIncreasing}
+use Rattle.kpn_model.specs.declared.token.Token.{Token}
+use Rattle.kpn_model.specs.declared.history.Entry.{Entry}
+use Rattle.kpn_model.specs.declared.history.End.{End}
+use Rattle.kpn_model.specs.Network.{Network, resized}
+use Rattle.kpn_model.specs.Semantics.{State}
+use Rattle.kpn_model.specs.Endings.{IsNatural}
+use Rattle.kpn_model.specs.History.{stream}
+use Rattle.kpn_model.specs.Determinacy.{IsRun, IsFinal}
+use Rattle.kpn_standard.specs.Standard.{standard}
+use Rattle.kpn_streams.specs.Joined.{Reaches}
+use Rattle.test_laws.specs.Building.{process, sink, take, copy, scale, merge, words, numbers, network}
+
+-- a power of 2 by a power of 3 by a power of 5
+pub record IsHamming (z : ℕ) : Type 0 where
+  pub twos : ℕ
+  pub threes : ℕ
+  pub fives : ℕ
+  pub is : z ≡ 2 ^ twos * (3 ^ threes * 5 ^ fives)
+
+-- the first ones: they rise, so that none is there twice; they are Hamming's; and none is missing that isn't greater than the last
+pub record AreFirstHamming (xs : List ℕ) : Type 0 where
+  pub rise : IsStrictlyIncreasing xs
+  pub only : (z : ℕ) → Contains xs z → IsHamming z
+  pub each : (z : ℕ) → IsHamming z → Reaches xs z → Contains xs z
+
+-- these tokens are the first n of Hamming's numbers
+pub record AreHamming (ts : List Token) (n : ℕ) : Type 0 where
+  pub values : List ℕ
+  pub are : ts ≡ numbers values
+  pub first : AreFirstHamming values
+  pub so_many : length values ≡ n
+
+-- the gate lets n numbers through, and the sink takes k. Channel 0 leads to the gate, channel 2 to the sink
+abbrev pub hamming : ℕ → ℕ → Network
+hamming n k =
+    network
+    (process 4 1 0 ∷ take n ∷ copy ∷ sink k ∷ copy ∷ copy ∷ scale 2 ∷ scale 3 ∷ scale 5 ∷ merge ∷ merge ∷ [])
+    (
+    words (0, 0) (1, 0) 1
+    ∷ words (1, 0) (2, 0) 1
+    ∷ words (2, 0) (3, 0) 1
+    ∷ words (2, 1) (4, 0) 1
+    ∷ words (4, 0) (6, 0) 1
+    ∷ words (4, 1) (5, 0) 1
+    ∷ words (5, 0) (7, 0) 1
+    ∷ words (5, 1) (8, 0) 1
+    ∷ words (6, 0) (10, 0) 1
+    ∷ words (7, 0) (9, 0) 1
+    ∷ words (8, 0) (9, 1) 1
+    ∷ words (9, 0) (10, 1) 1
+    ∷ words (10, 0) (0, 0) 1
+    ∷ []
+    )
+
+-- the first n of them are so small that no product of the network is too great for 64 bits
+abbrev pub AreSmall : ℕ → Type 0
+AreSmall n = (xs : List ℕ) → AreFirstHamming xs → length xs ≤ n → (z : ℕ) → Contains xs z → 5 * z < 2 ^ 64
+
+-- as are at least the first 62
+abbrev pub FewAreSmall : Type 0
+FewAreSmall = (n : ℕ) → n ≤ 62 → AreSmall n
+
+-- whatever a run, over or not and from whatever starting capacities, has written to the sink are the first ones
+abbrev pub HammingInRun : Type 0
+HammingInRun =
+    (n k : ℕ) → AreSmall n → (sizes : ℕ → ℕ) (E : List Entry) (M : State) → IsRun standard (resized (hamming n k) sizes) E M
+    → (m : ℕ) × (m ≤ n) × AreHamming (stream (hamming n k) E 2) m
+
+-- a run that terminates or ends in a deadlock has written all n
+abbrev pub HammingAtEnd : Type 0
+HammingAtEnd =
+    (n k : ℕ) → AreSmall n → (sizes : ℕ → ℕ) (E : List Entry) (M : State) (a : End) → IsFinal standard (resized (hamming n k) sizes) E M a → IsNatural a
+    → AreHamming (stream (hamming n k) E 2) n

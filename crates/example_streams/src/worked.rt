@@ -1,0 +1,39 @@
+//! Networks whose streams are known.
+ghost use Rattle.example_streams.specs.RunningSums.{RunningSums, SumsAreSums};
+ghost use Rattle.example_streams.specs.RunningTable.{RunningTable};
+ghost use Rattle.example_streams.specs.MovingSum.{MovingSum};
+ghost use Rattle.example_streams.specs.Sieve.{Sieve};
+ghost use Rattle.example_streams.specs.Hamming.{FewAreSmall, HammingInRun, HammingAtEnd};
+ghost use Rattle.example_streams.specs.Endless.{EndlessLoop};
+
+use kpn_laws::least_solution;
+use kpn_streams::{solving, standard_functions};
+
+/// Does nothing: what it ensures is what five networks of examples/ compute, whatever numbers arrive and
+/// whatever capacities their channels begin with.
+///
+/// `running_sums`: the sums so far, modulo 2^64; `sums`: at each place of these stands the sum of the
+/// numbers up to there; `table`: how the equations are solved for 1, 2 and 3, step by step. `moving_sum`:
+/// the sum of each number and the one before it. `sieve`: each of three stages lets through what its
+/// number doesn't divide, in order. `hamming`: each run has written to the sink the first of Hamming's
+/// numbers, in order, none twice and none left out, as long as no product is too great for 64 bits;
+/// `few_are_small`: which none is of the first 62. `hamming_at_end`: a run that terminates or ends in a
+/// deadlock has written as many as the gate lets through. `endless`: the streams of a loop that copies
+/// its own output for ever are endless.
+///
+/// It uses nothing but what the three calls ensure.
+pub fn worked_streams()
+    ensures running_sums { RunningSums }
+    ensures sums { SumsAreSums }
+    ensures table { RunningTable }
+    ensures moving_sum { MovingSum }
+    ensures sieve { Sieve }
+    ensures few_are_small { FewAreSmall }
+    ensures hamming { HammingInRun }
+    ensures hamming_at_end { HammingAtEnd }
+    ensures endless { EndlessLoop }
+{
+    standard_functions();
+    solving();
+    least_solution();
+}

@@ -1,0 +1,16 @@
+pub mod Fed
+pub mod Ends
+pub mod Copies
+pub mod Arithmetic
+pub mod Weaving
+pub mod Merging
+pub mod Union
+pub mod Flags
+pub mod Filters
+pub mod Families
+pub mod SolvingFed
+pub mod SolvingPorts
+pub mod SolvingEquations
+pub mod SolvingLimits
+pub mod SolvingRuns
+pub mod SolvingAlike

@@ -1,0 +1,7 @@
+pub mod Fed
+pub mod Functions
+pub mod Joined
+pub mod Kinds
+pub mod Filters
+pub mod Families
+pub mod Solving
