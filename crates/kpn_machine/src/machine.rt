@@ -7,9 +7,11 @@ ghost use Rattle.kpn_model.specs.declared.history.Status.TheVariants.{Done, Live
 ghost use Rattle.kpn_model.specs.Valid.{IsWellTyped};
 ghost use Rattle.kpn_state.specs.declared.standing.Standing.TheVariants.{Out, Ready};
 ghost use Rattle.kpn_state.specs.Standings.{standing, is_out, is_ready, StandingsFit};
+ghost use Rattle.kpn_body.specs.Input.{input};
 ghost use Rattle.kpn_machine.specs.MachineView.{machine_view, IsOut, IsOutAt, TakesOut, IsFaithful, IsFresh};
 ghost use Rattle.kpn_machine.specs.Commits.{Commits, Appends, EndsAs, ContinuesRun, GoesRound, TellsEnabled, number};
 ghost use Rattle.kpn_laws.specs.RoomOfRun.{TakesLeastRoom};
+ghost use Rattle.kpn_laws.specs.StreamsOfRun.{ApproachLeastSolution};
 
 use crate::chronicle::Chronicle;
 use crate::opening::{OpenFault, Start, misfit, prepare, seat_all};
@@ -17,8 +19,8 @@ use crate::same::{same_card, same_last, same_local};
 use kpn_body::{Body, Finished, Task};
 use kpn_commit::Outcome;
 use kpn_commit::work::work;
-use kpn_laws::{least_room_of, typed_runs, valid_runs};
-use kpn_model::{Act, End, Entry, Status};
+use kpn_laws::{least_room_of, least_solution_of, typed_runs, valid_runs};
+use kpn_model::{Act, Card, End, Entry, Kinds, Local, Status, Token};
 use kpn_network::Net;
 use kpn_state::standing::all_ready;
 use kpn_state::{Roster, Standing, Store};
@@ -226,17 +228,20 @@ fn take_out<B: Body>(
     Task::new(process, body, *local, *last)
 }
 
-/// Whether the process of an answer is out, with its card, local state and last token.
-fn is_out<B: Body>(
-    net: &Net<B::Kinds>,
+/// Whether a process is out, with this card, local state and last token.
+#[inline(always)]
+fn is_out<K: Kinds>(
+    net: &Net<K>,
     store: &Store,
     standings: &[Standing],
-    finished: &Finished<B>,
+    process: usize,
+    card: Card,
+    local: Local,
+    last: Option<Token>,
 ) -> bool
-    requires keeps { StandingsFit B.Kinds.family B.Kinds.admits net.now None store.now.state standings.now }
-    ensures { IsTrue result ↔ IsOutAt net.now store.now.state standings.now finished.now }
+    requires keeps { StandingsFit K.family K.admits net.now None store.now.state standings.now }
+    ensures { IsTrue result ↔ IsOutAt net.now store.now.state standings.now (input process card local last) }
 {
-    let process = finished.process();
     if process >= standings.len() {
         return false;
     }
@@ -244,13 +249,14 @@ fn is_out<B: Body>(
         Standing::Out => {}
         Standing::Ready | Standing::Parked(_) | Standing::Stopped => return false,
     }
-    if !same_card(net.card(process), finished.card()) {
+    if !same_card(net.card(process), card) {
         return false;
     }
     match store.status(process) {
-        Status::Live { local, last } => {
-            same_local(*local, finished.local()) && same_last(*last, finished.last())
-        }
+        Status::Live {
+            local: now,
+            last: read,
+        } => same_local(*now, local) && same_last(*read, last),
         Status::Done => false,
     }
 }
@@ -261,7 +267,31 @@ impl<B: Body> Machine<B> {
     pub fn has_asked(&self, finished: &Finished<B>) -> bool
         ensures { IsTrue result ↔ IsOut self.now finished.now }
     {
-        is_out(&self.net, &self.store, self.standings.as_slice(), finished)
+        is_out(
+            &self.net,
+            &self.store,
+            self.standings.as_slice(),
+            finished.process(),
+            finished.card(),
+            finished.local(),
+            finished.last(),
+        )
+    }
+
+    /// Returns whether the process of a task is out, with this card, local state and last token.
+    #[inline(always)]
+    pub fn has_sent(&self, task: &Task<B>) -> bool
+        ensures { IsTrue result ↔ IsOut self.now task.now }
+    {
+        is_out(
+            &self.net,
+            &self.store,
+            self.standings.as_slice(),
+            task.process(),
+            task.card(),
+            task.local(),
+            task.last(),
+        )
     }
 
     /// Takes the answer of a process that is out, and returns what it did.
@@ -426,18 +456,22 @@ impl<B: Body> Machine<B> {
     }
 
     /// Runs to an end in the calling thread. No process may be out. If capacity b suffices for the
-    /// network, no channel of capacity b or more grows in the run (Parks 1995; docs/least-room.md).
+    /// network, no channel of capacity b or more grows in the run (Parks 1995; docs/least-room.md). The
+    /// streams of the run are below every solution of the network's equations, and if it terminated or
+    /// ended in a deadlock they are the least solution (Kahn 1974; docs/least-solution.md).
     pub fn finish_alone(&mut self)
         requires { count_by is_out self.old.standings ≡ 0 }
         ensures goes { ContinuesRun B.Kinds.family self.old self.new }
         ensures end { IsSome self.new.end }
         ensures faithful { IsFaithful B.Kinds.family B.Kinds.admits self.new }
         ensures room { TakesLeastRoom B.Kinds.family self.new.network self.new.history self.new.state }
+        ensures streams { ApproachLeastSolution B.Kinds.family self.new.network self.new.history self.new.state }
     {
         let mut again = None;
         while self.end().is_none() {
             again = self.go_on(again);
         }
         least_room_of::<B::Kinds>();
+        least_solution_of::<B::Kinds>();
     }
 }

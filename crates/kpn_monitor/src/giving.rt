@@ -26,7 +26,7 @@ pub(crate) fn give_one<B: Body>(machine: &mut Machine<B>, finished: Finished<B>)
 /// did not ask for, and returns it.
 pub(crate) fn give_all<B: Body>(machine: &mut Machine<B>, hand: &mut Hand<B>) -> Option<Finished<B>>
     requires none { hand.old.outcomes ≡ [] }
-    requires few { length hand.old.tasks ≤ 16 }
+    requires few { length hand.old.tasks ≤ 64 }
     requires within { hand.old.called ≤ length hand.old.tasks }
     ensures machine { MatchOption result (CommitsAll B.Kinds.family machine.old hand.old.tasks hand.new.outcomes machine.new hand.new.tasks) (λ i. CommitsAll B.Kinds.family machine.old hand.old.tasks hand.new.outcomes machine.new (i ∷ hand.new.tasks)) }
     ensures network { machine.new.network ≡ machine.old.network }
@@ -34,11 +34,11 @@ pub(crate) fn give_all<B: Body>(machine: &mut Machine<B>, hand: &mut Hand<B>) ->
     ensures called { MatchOption result ((hand.new.called ≡ 0) × (length hand.new.outcomes ≡ hand.old.called)) (λ _. hand.new.called + 1 + length hand.new.outcomes ≡ hand.old.called) }
     ensures count { MatchOption result (length hand.new.tasks + length hand.new.outcomes ≡ length hand.old.tasks) (λ _. length hand.new.tasks + 1 + length hand.new.outcomes ≡ length hand.old.tasks) }
 {
-    while let Some(finished) = hand.give() {
-        if !machine.has_asked(&finished) {
-            return Some(finished);
+    while let Some(task) = hand.first() {
+        if !machine.has_sent(task) {
+            return Some(hand.give());
         }
-        let outcome = give_one(machine, finished);
+        let outcome = give_one(machine, hand.give());
         hand.note(outcome);
     }
     None

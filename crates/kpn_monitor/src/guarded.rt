@@ -248,7 +248,7 @@ impl<B: Body, E: EntryLedger, O: Ledger> Guarded<B, E, O> {
     // Takes more tasks, until there are as many as are wanted or no process is ready.
     fn deal_more(&mut self, hand: &mut Hand<B>, wanted: usize)
         requires one { length hand.old.tasks ≡ 1 }
-        requires room { wanted ≤ 16 }
+        requires room { wanted ≤ 64 }
         ensures out { (s : MachineView) → TakesOutAll s hand.old.tasks self.old.machine → TakesOutAll s hand.new.tasks self.new.machine }
         ensures taken { All (WasTaken B.Kinds.family B.Kinds.admits E.net) hand.old.tasks → All (WasTaken B.Kinds.family B.Kinds.admits E.net) hand.new.tasks }
         ensures some { 0 < length hand.new.tasks }
@@ -263,7 +263,7 @@ impl<B: Body, E: EntryLedger, O: Ledger> Guarded<B, E, O> {
 
     // Takes one more task. False if no process is ready.
     fn deal_one(&mut self, hand: &mut Hand<B>) -> bool
-        requires { length hand.old.tasks < 16 }
+        requires { length hand.old.tasks < 64 }
         ensures more { result ≡ true → (i : Input) × (hand.new ≡ record hand.old { tasks = hand.old.tasks ++ i ∷ [] }) × TakesOut self.old.machine i self.new.machine × WasTaken B.Kinds.family B.Kinds.admits E.net i }
         ensures none { result ≡ false → (hand.new ≡ hand.old) × (self.new ≡ self.old) }
     {

@@ -11,7 +11,7 @@ use std::alloc::{AllocError, Global};
 use std::marker::Model;
 
 /// The greatest number of tasks in a hand.
-const ROOM: usize = 16;
+const ROOM: usize = 64;
 
 /// How the ready processes are shared out among the workers.
 #[derive(Clone, Copy)]
@@ -24,7 +24,7 @@ pub(crate) enum Sharing {
     AmongAwake,
 }
 
-/// The tasks that a worker holds, at most 16, and the outcomes of the answers that it gave last.
+/// The tasks that a worker holds, at most 64, and the outcomes of the answers that it gave last.
 ///
 /// The tasks stay in their place from the take to the commit, each with its answer beside it once it is
 /// called. All memory is taken at the start. No contract speaks of the number of workers that share the
@@ -49,7 +49,7 @@ impl<B: Body> Model for Hand<B> {
 
     ghost view = { λ h. record { tasks = h.tasks.items; called = length h.answers.items; outcomes = h.outcomes.items } };
 
-    ghost invariant = { λ h. (h.tasks.capacity ≡ 16) × (h.answers.capacity ≡ 16) × (16 ≤ vec_capacity h.outcomes) × (length h.tasks.items ≤ 16) × (length h.answers.items ≤ length h.tasks.items) × AreAnswers B.Kinds.family h.tasks.items h.answers.items };
+    ghost invariant = { λ h. (h.tasks.capacity ≡ 64) × (h.answers.capacity ≡ 64) × (64 ≤ vec_capacity h.outcomes) × (length h.tasks.items ≤ 64) × (length h.answers.items ≤ length h.tasks.items) × AreAnswers B.Kinds.family h.tasks.items h.answers.items };
 }
 
 impl<B: Body> Hand<B> {
@@ -102,31 +102,49 @@ impl<B: Body> Hand<B> {
     /// Forgets the outcomes of earlier answers.
     pub(crate) fn forget(&mut self)
         ensures forgotten { self.new ≡ record self.old { outcomes = [] } }
-        ensures few { length self.old.tasks ≤ 16 }
+        ensures few { length self.old.tasks ≤ 64 }
         ensures within { self.old.called ≤ length self.old.tasks }
     {
         self.outcomes.clear();
     }
 
-    /// Removes the first task and returns it with its answer, if it was called.
+    /// Returns the first task, if it was called.
     #[inline]
-    pub(crate) fn give(&mut self) -> Option<Finished<B>>
-        ensures none { IfNone result ((self.old.called ≡ 0) × (self.new ≡ self.old)) }
-        ensures first { IfSome result (λ i. self.old.tasks ≡ i ∷ self.new.tasks) }
-        ensures called { IfSome result (λ _. self.old.called ≡ self.new.called + 1) }
+    pub(crate) fn first(&self) -> Option<&Task<B>>
+        ensures none { IfNone result (self.now.called ≡ 0) }
+        ensures some { IfSome result (λ i. slice_get self.now.tasks 0 ≡ Some i.now) }
+        ensures called { IfSome result (λ _. 0 < self.now.called) }
+    {
+        if self.answers.is_empty() {
+            return None;
+        }
+        let Some(task) = self.tasks.front() else {
+            unreachable!()
+        };
+        Some(task)
+    }
+
+    /// Removes the first task, which must have been called, and returns it with its answer.
+    #[inline]
+    pub(crate) fn give(&mut self) -> Finished<B>
+        requires { 0 < self.old.called }
+        ensures first { self.old.tasks ≡ result ∷ self.new.tasks }
+        ensures called { self.old.called ≡ self.new.called + 1 }
         ensures outcomes { self.new.outcomes ≡ self.old.outcomes }
     {
-        let answer = self.answers.pop_front()?;
+        let Some(answer) = self.answers.pop_front() else {
+            unreachable!()
+        };
         let Some(task) = self.tasks.pop_front() else {
             unreachable!()
         };
-        Some(task.answered(answer))
+        task.answered(answer)
     }
 
     /// Keeps the outcome of an answer.
     #[inline]
     pub(crate) fn note(&mut self, outcome: Outcome)
-        requires { length self.old.outcomes < 16 }
+        requires { length self.old.outcomes < 64 }
         ensures { self.new ≡ record self.old { outcomes = self.old.outcomes ++ outcome ∷ [] } }
     {
         self.outcomes.push_reserved(outcome);
@@ -135,7 +153,7 @@ impl<B: Body> Hand<B> {
     /// Appends a task.
     #[inline]
     pub(crate) fn put(&mut self, task: Task<B>)
-        requires { length self.old.tasks < 16 }
+        requires { length self.old.tasks < 64 }
         ensures { self.new ≡ record self.old { tasks = self.old.tasks ++ task ∷ [] } }
     {
         append(&mut self.tasks, task);
@@ -160,7 +178,7 @@ impl<B: Body> Hand<B> {
     /// How many tasks to take if `ready` processes are ready and at most `most` tasks are wanted: the
     /// worker's share, but at least one.
     pub(crate) fn wanted(&self, ready: usize, most: usize, sharing: Sharing) -> usize
-        ensures { (1 ≤ result) × (result ≤ 16) }
+        ensures { (1 ≤ result) × (result ≤ 64) }
     {
         let share = match sharing {
             Sharing::OneByOne if self.sharers > 1 => 1,

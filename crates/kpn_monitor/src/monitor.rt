@@ -1,5 +1,5 @@
 //! A machine under a lock.
-ghost use Rattle.std.specs.Prelude.{◌≡◌, ◌≢◌, ◌+◌, ◌<◌, ℕ, [], ◌∷◌, Some, Ok, IfOk, IfErr, OnOk, OnErr, IsSome, IsOk, MatchResult, length, slice_get};
+ghost use Rattle.std.specs.Prelude.{◌≡◌, ◌≢◌, ◌+◌, ◌<◌, ◌↔◌, ℕ, [], ◌∷◌, Some, Ok, IfOk, IfErr, OnOk, OnErr, IsSome, IsOk, IsTrue, MatchResult, length, slice_get};
 ghost use Rattle.std.specs.List.{All, sum_by};
 ghost use Rattle.kpn_model.specs.declared.history.End.{End as EndV};
 ghost use Rattle.kpn_model.specs.Semantics.{State};
@@ -334,11 +334,11 @@ impl<B: Body, E: EntryLedger, O: Ledger> Monitor<B, E, O> {
         let mut guarded = state.into_inner();
         let (parts, entries, overs) = totals_of(seats.as_slice());
         let (len, over_count) = guarded.counts();
-        if u128::from(len) == entries && u128::from(over_count) == overs {
+        if are_booked(entries, overs, len, over_count) {
             let (chronicle, publisher) = guarded.into_chronicle();
             return Ok(Closed::new(chronicle, len, board, publisher));
         }
-        if parts == u128::from(PARTS) {
+        if are_all(parts) {
             if let Some((mut entry_share, mut over_share)) = merge(seats) {
                 guarded.audit(&mut entry_share, &mut over_share);
             }
@@ -358,4 +358,18 @@ impl<B: Body, E: EntryLedger, O: Ledger> Monitor<B, E, O> {
             fault: CloseFault::SeatsMissing,
         })
     }
+}
+
+/// Whether the books hold so many entries, and so many seats that met the end.
+fn are_booked(entries: u128, overs: u128, len: u64, over_count: u64) -> bool
+    ensures { IsTrue result ↔ ((entries ≡ len) × (overs ≡ over_count)) }
+{
+    entries == u128::from(len) && overs == u128::from(over_count)
+}
+
+/// Whether these are the parts of all seats.
+fn are_all(parts: u128) -> bool
+    ensures { IsTrue result ↔ (parts ≡ 65536) }
+{
+    parts == u128::from(PARTS)
 }

@@ -1,5 +1,5 @@
 -- The report of a run, and what it says of other runs.
-use Rattle.std.proofs.Common.{◌≡◌, ◌≢◌, ◌++◌, ◌∷◌, [], ◌<◌, ◌+◌, get_or, ℕ, true, List, Option, Some, length, take, refl, sym, ap, ◌∙◌, append_assoc}
+use Rattle.std.proofs.Common.{◌≡◌, ◌≢◌, ◌++◌, ◌∷◌, [], ◌<◌, ◌+◌, get_or, ℕ, true, List, Option, Some, length, take, refl, sym, ap, ◌∙◌, append_assoc, subst}
 use Rattle.std.proofs.Math.Path.{fun_ext}
 use Rattle.std.proofs.lemmas.List.{take_more}
 use Rattle.kpn_model.specs.declared.token.Token.{Token}
@@ -13,6 +13,8 @@ use Rattle.kpn_model.specs.Semantics.{State, wants}
 use Rattle.kpn_model.specs.Endings.{IsNatural, IsOver, MayEnd, has_report}
 use Rattle.kpn_model.specs.History.{Digest, each_process, each_channel, place_of, deeds, stream, put_on}
 use Rattle.kpn_model.specs.Determinacy.{IsFinal, OneDigest, OneOutcome}
+use Rattle.kpn_laws.specs.Alone.{BeginsWith}
+use Rattle.kpn_laws.specs.Equations.{listed, IsLeastSolution, DigestIsLeastSolution, DigestIsBelow}
 use Rattle.kpn_laws.proofs.Views.{put_on-append}
 use Rattle.kpn_state.specs.Standings.{standing, parked_answer}
 use Rattle.kpn_state.proofs.Placed.{idle_at}
@@ -20,7 +22,7 @@ use Rattle.kpn_machine.specs.MachineView.{MachineView, IsFaithful}
 use Rattle.kpn_report.specs.declared.detail.Detail.{Detail}
 use Rattle.kpn_report.specs.Reported.{IsReport}
 use Rattle.kpn_run.specs.Runs.{FinishedRun, IsFinish}
-use Rattle.kpn_run.specs.Reports.{IsEveryRuns, IsOutcome}
+use Rattle.kpn_run.specs.Reports.{IsEveryRuns, IsOutcome, TellsLeastSolution}
 
 not_budget : (cause : End) → has_report cause ≡ true → cause ≢ Budget
 not_budget Terminated has e = cc
@@ -71,6 +73,18 @@ module _ (kinds : Family) (net : Network) (E : List Entry) (M : State) (cause : 
           places = ap (λ (x : Digest). x.places) same ∙ ap (each_process net) places;
           steps = ap (λ (x : Digest). x.steps) same ∙ ap (each_process net) steps;
           streams = ap (λ (x : Digest). x.streams) same ∙ ap (each_channel net) streams;
+        },
+      )
+
+  pub least_streams : DigestIsBelow kinds → DigestIsLeastSolution kinds → TellsLeastSolution kinds net cause detail
+  least_streams below least has =
+      let (d, is, same) = report.some has in
+      let streams = ap (λ (x : Digest). x.streams) (sym same) in (
+        d,
+        is,
+        record {
+          below = λ T obeys c. subst (λ l. BeginsWith (T c) (get_or l c [])) streams (below net E M cause T (final has) obeys c);
+          least = λ own. subst (λ l. IsLeastSolution kinds net (listed l)) streams (least net E M cause (final has) own);
         },
       )
 

@@ -1,5 +1,5 @@
 -- What a report says of other runs.
-use Rattle.std.specs.Prelude.{◌≡◌, ℕ, true, List, length, Option, Some}
+use Rattle.std.specs.Prelude.{◌≡◌, ℕ, true, List, [], length, Option, Some, get_or}
 use Rattle.kpn_model.specs.declared.history.End.{End}
 use Rattle.kpn_model.specs.declared.history.Entry.{Entry}
 use Rattle.kpn_model.specs.Network.{Family, Network, resized}
@@ -7,6 +7,8 @@ use Rattle.kpn_model.specs.Semantics.{State, wants}
 use Rattle.kpn_model.specs.History.{deeds, stream, place_of, each_process, each_channel, digest}
 use Rattle.kpn_model.specs.Determinacy.{IsFinal}
 use Rattle.kpn_model.specs.Endings.{IsNatural, has_report}
+use Rattle.kpn_laws.specs.Alone.{Streams, BeginsWith}
+use Rattle.kpn_laws.specs.Equations.{listed, Obeys, IsLeastSolution}
 use Rattle.kpn_report.specs.declared.detail.Detail.{Detail}
 use Rattle.kpn_report.specs.Reported.{digest_with}
 
@@ -27,3 +29,13 @@ abbrev pub IsOutcome : Family → Network → End → List Entry → Option Deta
 IsOutcome kinds net cause history detail =
     IsNatural cause → (sizes : ℕ → ℕ) (F : List Entry) (N : State) (b : End) → IsFinal kinds (resized net sizes) F N b → IsNatural b
     → (d : Detail) × (detail ≡ Some d) × HasOutcome kinds net (resized net sizes) history F N d
+
+-- in each solution of the network's equations each stream begins with that of the detail; and if the run terminated or ended in a
+-- deadlock, the streams of the detail are the least solution
+pub record HasLeastStreams (kinds : Family) (net : Network) (cause : End) (d : Detail) : Type 0 where
+  pub below : (T : Streams) → Obeys kinds net T → (c : ℕ) → BeginsWith (T c) (get_or d.streams c [])
+  pub least : IsNatural cause → IsLeastSolution kinds net (listed d.streams)
+
+-- if the run came to its own end, there is a detail, and it has such streams
+abbrev pub TellsLeastSolution : Family → Network → End → Option Detail → Type 0
+TellsLeastSolution kinds net cause detail = has_report cause ≡ true → (d : Detail) × (detail ≡ Some d) × HasLeastStreams kinds net cause d

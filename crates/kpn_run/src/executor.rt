@@ -1,18 +1,20 @@
 //! The run of a network by many workers.
-ghost use Rattle.std.specs.Prelude.{◌≡◌, ◌≢◌, ◌<◌, ◌≤◌, ◌⊎◌, ℕ, [], map, vec_capacity, Err, IfOk, OnOk};
+ghost use Rattle.std.specs.Prelude.{◌≡◌, ◌≢◌, ◌<◌, ◌≤◌, ◌⊎◌, ℕ, false, [], length, map, vec_capacity, Err, IfOk, IsTrue, OnOk};
 ghost use Rattle.kpn_model.specs.Network.{Network as NetV};
 ghost use Rattle.kpn_machine.specs.declared.opening.OpenFault.{OpenFault as OpenFaultV};
 ghost use Rattle.kpn_machine.specs.Opening.{cards_of, IsOpenFault};
 ghost use Rattle.kpn_machine.specs.MachineView.{IsFresh};
 ghost use Rattle.kpn_laws.specs.RoomOfRun.{TakesLeastRoom};
+ghost use Rattle.kpn_laws.specs.StreamsOfRun.{ApproachLeastSolution};
 ghost use Rattle.kpn_run.specs.Runs.{IsFinish, IsComparable, SparesBudget, StaysWithinCapacities};
 ghost use Rattle.kpn_body.specs.Input.{Input};
 
+use crate::boxed::{BoxedBody, Boxes, box_all, unbox_all};
 use crate::finish::Finish;
 use crate::slot::{Hands, WorkerSlot, hands_for, leave_all, seat_all, work_all};
 use crate::worker::Gate;
 use kpn_body::{Answered, Body, Finished};
-use kpn_laws::{determinacy_of, least_room_of, valid_runs};
+use kpn_laws::{determinacy_of, least_room_of, least_solution_of, valid_runs};
 use kpn_machine::{Machine, OpenFault, OpenRefused};
 use kpn_model::Kinds;
 use kpn_monitor::{EntryLedger, Monitor, Opening, Seat};
@@ -61,7 +63,9 @@ pub enum RunFault<B: Body> {
 /// if some run that is over has fewer entries than the budget. The deeds of each process, and the
 /// streams, in this history and in any run from any starting capacities are prefix-comparable (Kahn
 /// 1974). If capacity b suffices for the network, no channel of capacity b or more grows in the run
-/// (Parks 1995; docs/least-room.md).
+/// (Parks 1995; docs/least-room.md). The streams of the run are below every solution of the network's
+/// equations, and if it terminated or ended in a deadlock they are the least solution (Kahn 1974;
+/// docs/least-solution.md).
 ///
 /// The calling thread is one worker, and each other has a thread of its own; if a thread can't be
 /// started, that worker runs in the calling thread. The call returns when all workers have met the end.
@@ -80,6 +84,7 @@ pub fn run<B: Body, R: Wait + Clock + Threads + Sync, G: Gate>(
     ensures budget { IfOk result (λ f. SparesBudget B.Kinds.family net f.cause) }
     ensures comparable { IfOk result (λ f. IsComparable B.Kinds.family net f.machine.history) }
     ensures room { IfOk result (λ f. TakesLeastRoom B.Kinds.family net f.machine.history f.machine.state) }
+    ensures streams { IfOk result (λ f. ApproachLeastSolution B.Kinds.family net f.machine.history f.machine.state) }
     ensures cards { OnOk result (map B.card bodies.items ≡ cards_of net.processes) }
     ensures workers { (n : NetV) (bs : _) → result ≡ Err (RunFault.Workers n bs) → (n ≡ net) × (bs ≡ bodies) × ((workers ≡ 0) ⊎ (16 < workers)) }
     ensures many { (workers ≡ 0) ⊎ (16 < workers) → result ≡ Err (RunFault.Workers net bodies) }
@@ -87,9 +92,69 @@ pub fn run<B: Body, R: Wait + Clock + Threads + Sync, G: Gate>(
     ensures lost { (a : Input) (b : _) → result ≡ Err (RunFault.Lost a b) → (map B.card bodies.items ≡ cards_of net.processes) × (B.card b ≡ a.card) }
     ensures memory { (n : NetV) (bs : _) → result ≡ Err (RunFault.Memory n bs) → (n ≡ net) × (map B.card bs.items ≡ map B.card bodies.items) × (map B.card bodies.items ≡ cards_of net.processes) }
 {
-    if workers == 0 || workers > 16 {
+    if !may_work(workers) {
         return Err(RunFault::Workers { net, bodies });
     }
+    match box_all(alloc, bodies) {
+        Ok(Boxes { boxed, spare }) => match run_bodies(rt, alloc, net, boxed, workers, gate) {
+            Ok(finish) => Ok(finish),
+            Err(fault) => Err(unboxed(fault, spare)),
+        },
+        Err(bodies) => run_bodies(rt, alloc, net, bodies, workers, gate),
+    }
+}
+
+/// The same fault, with the bodies in the vector that they came from.
+fn unboxed<B: Body>(fault: RunFault<BoxedBody<B>>, spare: Vec<B>) -> RunFault<B>
+    requires workers { (n : NetV) (bs : _) → fault ≢ RunFault.Workers n bs }
+    requires spare { spare.items ≡ [] }
+    requires open { (n : NetV) (bs : _) (f : OpenFaultV) → fault ≡ RunFault.Open n bs f → length bs.items ≤ vec_capacity spare }
+    requires memory { (n : NetV) (bs : _) → fault ≡ RunFault.Memory n bs → length bs.items ≤ vec_capacity spare }
+    ensures workers { (n : NetV) (bs : _) → result ≢ RunFault.Workers n bs }
+    ensures open { (n : NetV) (bs : _) (f : OpenFaultV) → result ≡ RunFault.Open n bs f → (cs : _) × (fault ≡ RunFault.Open n cs f) × (bs.items ≡ cs.items) }
+    ensures lost { (a : Input) (b : _) → result ≡ RunFault.Lost a b → fault ≡ RunFault.Lost a b }
+    ensures memory { (n : NetV) (bs : _) → result ≡ RunFault.Memory n bs → (cs : _) × (fault ≡ RunFault.Memory n cs) × (bs.items ≡ cs.items) }
+{
+    match fault {
+        RunFault::Workers { .. } => unreachable!(),
+        RunFault::Open { net, bodies, fault } => RunFault::Open {
+            net,
+            bodies: unbox_all(bodies, spare),
+            fault,
+        },
+        RunFault::Memory { net, bodies } => RunFault::Memory {
+            net,
+            bodies: unbox_all(bodies, spare),
+        },
+        RunFault::Lost { answered, body } => RunFault::Lost {
+            answered,
+            body: body.into_inner(),
+        },
+    }
+}
+
+/// The same run, with the bodies as they are, by a number of workers that may share it.
+fn run_bodies<B: Body, R: Wait + Clock + Threads + Sync, G: Gate>(
+    rt: &R,
+    alloc: Global,
+    net: Net<B::Kinds>,
+    bodies: Vec<B>,
+    workers: usize,
+    gate: &G,
+) -> Result<Finish<B::Kinds>, RunFault<B>>
+    requires { (0 < workers) × (workers ≤ 16) }
+    ensures finish { IfOk result (IsFinish B.Kinds.family net) }
+    ensures within { IfOk result (λ f. StaysWithinCapacities B.Kinds.family net f.machine.history) }
+    ensures budget { IfOk result (λ f. SparesBudget B.Kinds.family net f.cause) }
+    ensures comparable { IfOk result (λ f. IsComparable B.Kinds.family net f.machine.history) }
+    ensures room { IfOk result (λ f. TakesLeastRoom B.Kinds.family net f.machine.history f.machine.state) }
+    ensures streams { IfOk result (λ f. ApproachLeastSolution B.Kinds.family net f.machine.history f.machine.state) }
+    ensures cards { OnOk result (map B.card bodies.items ≡ cards_of net.processes) }
+    ensures workers { (n : NetV) (bs : _) → result ≢ Err (RunFault.Workers n bs) }
+    ensures open { (n : NetV) (bs : _) (fault : OpenFaultV) → result ≡ Err (RunFault.Open n bs fault) → (n ≡ net) × (bs.items ≡ bodies.items) × (fault ≢ OpenFault.Memory) × IsOpenFault net.processes (map B.card bodies.items) fault }
+    ensures lost { (a : Input) (b : _) → result ≡ Err (RunFault.Lost a b) → (map B.card bodies.items ≡ cards_of net.processes) × (B.card b ≡ a.card) }
+    ensures memory { (n : NetV) (bs : _) → result ≡ Err (RunFault.Memory n bs) → (n ≡ net) × (map B.card bs.items ≡ map B.card bodies.items) × (map B.card bodies.items ≡ cards_of net.processes) }
+{
     let machine = match Machine::open(alloc, net, bodies) {
         Ok(machine) => machine,
         Err(OpenRefused { net, bodies, fault }) => {
@@ -103,6 +168,14 @@ pub fn run<B: Body, R: Wait + Clock + Threads + Sync, G: Gate>(
         Ok(finish) => Ok(finish),
         Err(fault) => Err(fault),
     }
+}
+
+/// Whether so many workers may share a run.
+fn may_work(workers: usize) -> bool
+    ensures few { IsTrue result → (0 < workers) × (workers ≤ 16) }
+    ensures other { result ≡ false → (workers ≡ 0) ⊎ (16 < workers) }
+{
+    workers > 0 && workers <= 16
 }
 
 /// The same, for a machine that is open.
@@ -120,6 +193,7 @@ fn run_machine<B: Body, R: Wait + Clock + Threads + Sync, G: Gate>(
     ensures budget { IfOk result (λ f. SparesBudget B.Kinds.family machine.network f.cause) }
     ensures comparable { IfOk result (λ f. IsComparable B.Kinds.family machine.network f.machine.history) }
     ensures room { IfOk result (λ f. TakesLeastRoom B.Kinds.family machine.network f.machine.history f.machine.state) }
+    ensures streams { IfOk result (λ f. ApproachLeastSolution B.Kinds.family machine.network f.machine.history f.machine.state) }
     ensures workers { (n : NetV) (bs : _) → result ≢ Err (RunFault.Workers n bs) }
     ensures open { (n : NetV) (bs : _) (fault : OpenFaultV) → result ≢ Err (RunFault.Open n bs fault) }
     ensures lost { (a : Input) (b : _) → result ≡ Err (RunFault.Lost a b) → B.card b ≡ a.card }
@@ -143,9 +217,11 @@ fn told_by_laws<K: Kinds>(finish: &Finish<K>)
     ensures budget { SparesBudget K.family finish.now.machine.network finish.now.cause }
     ensures comparable { IsComparable K.family finish.now.machine.network finish.now.machine.history }
     ensures room { TakesLeastRoom K.family finish.now.machine.network finish.now.machine.history finish.now.machine.state }
+    ensures streams { ApproachLeastSolution K.family finish.now.machine.network finish.now.machine.history finish.now.machine.state }
 {
     determinacy_of::<K>();
     least_room_of::<K>();
+    least_solution_of::<K>();
     valid_runs();
     finish.net().assure_valid();
     finish.end();

@@ -4,6 +4,7 @@
 //! sequential machine from the start of the network (Kahn 1974, Parks 1995).
 #![tactic(auto)]
 
+mod boxed;
 mod executor;
 mod finish;
 mod hold;

@@ -5,7 +5,7 @@
 use kpn_monitor::{Next, Rest};
 
 /// The greatest number of tasks of one round.
-const MOST: usize = 16;
+const MOST: usize = 64;
 /// If the calls of a round take less time than this many of its exchanges, the next round has up to
 /// twice as many tasks.
 const FEW_EXCHANGES: u64 = 8;

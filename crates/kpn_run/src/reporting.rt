@@ -2,10 +2,10 @@
 ghost use Rattle.std.specs.Prelude.{◌≡◌, ◌<◌, ◌∷◌, ◌++◌, [], length, IfOk, MatchOption, OnOk};
 ghost use Rattle.kpn_model.specs.History.{put_on, stream};
 ghost use Rattle.kpn_report.specs.Reported.{IsReport};
-ghost use Rattle.kpn_run.specs.Reports.{IsEveryRuns, IsOutcome};
+ghost use Rattle.kpn_run.specs.Reports.{IsEveryRuns, IsOutcome, TellsLeastSolution};
 
 use crate::finish::Finish;
-use kpn_laws::determinacy_of;
+use kpn_laws::{determinacy_of, least_solution_of};
 use kpn_model::{Deed, Entry, Kinds, Token};
 use kpn_network::Net;
 use kpn_report::{Report, places_of, report_of};
@@ -17,14 +17,18 @@ use std::alloc::{AllocError, Global};
 /// The detail is that of every run of the network that is over, whatever the schedule and the number of
 /// workers (`every`). If the run terminated or ended in a deadlock, every run that does so too, from
 /// any starting capacities, has the same deeds, streams and places (`any_capacities`; Kahn 1974, Parks
-/// 1995).
+/// 1995). The streams of the detail are below every solution of the network's equations, and if the
+/// run terminated or ended in a deadlock they are the least solution (`streams`; Kahn 1974,
+/// docs/least-solution.md).
 pub fn report<K: Kinds>(alloc: Global, finish: &Finish<K>) -> Result<Report, AllocError>
     ensures end { IfOk result (λ r. r.end ≡ finish.now.cause) }
     ensures own { IfOk result (λ r. IsReport K.family finish.now.machine.network finish.now.cause finish.now.machine.history finish.now.machine.state r.detail) }
     ensures every { IfOk result (λ r. IsEveryRuns K.family finish.now.machine.network finish.now.cause r.detail) }
     ensures any_capacities { IfOk result (λ r. IsOutcome K.family finish.now.machine.network finish.now.cause finish.now.machine.history r.detail) }
+    ensures streams { IfOk result (λ r. TellsLeastSolution K.family finish.now.machine.network finish.now.cause r.detail) }
 {
     determinacy_of::<K>();
+    least_solution_of::<K>();
     let end = finish.end();
     let net = finish.net();
     let places = places_of(alloc, net, finish.standings())?;

@@ -25,18 +25,23 @@ fn start_of<K: Kinds>(card: Card) -> Local
     start
 }
 
-/// The answer of a body as the task of process 0 at its start, for which no machine asked.
-fn unasked<K: Computes>(body: CardBody<K>) -> Finished<CardBody<K>> {
+/// A task of process 0 at its start, which no machine sent out.
+fn unsent<K: Computes>(body: CardBody<K>) -> Task<CardBody<K>> {
     let start = start_of::<K>(body.card());
-    Task::new(0, body, start, None).call()
+    Task::new(0, body, start, None)
+}
+
+/// The counter's first task, with a body that belongs to no machine.
+fn task_of_another_body<R: Abort>(rt: &R, alloc: Global) -> CardTask {
+    let mut parts = fresh_parts(rt, alloc, SINK_OF_THREE);
+    parts.bodies.pop();
+    let counter = parts.bodies.pop().expect(rt, "no body");
+    unsent(counter)
 }
 
 /// The counter's first answer, from a body that belongs to no machine.
 fn answer_of_another_body<R: Abort>(rt: &R, alloc: Global) -> CardFinished {
-    let mut parts = fresh_parts(rt, alloc, SINK_OF_THREE);
-    parts.bodies.pop();
-    let counter = parts.bodies.pop().expect(rt, "no body");
-    unasked(counter)
+    task_of_another_body(rt, alloc).call()
 }
 
 /// Compares the counter's first answer.
@@ -185,4 +190,29 @@ fn an_answer_that_was_asked_for_is_taken_at_once(rt: HostRuntime) {
     let mut machine = machine_of(&rt, rt.alloc(), SINK_OF_THREE);
     let finished = counter_answers(&rt, rt.alloc(), &mut machine);
     take_at_once(&rt, &mut machine, finished);
+}
+
+/// Asks for the counter's first task while the counter is ready, while it is out with that task, and
+/// while it is out with its second; and for the second.
+fn know_tasks<R: Abort>(rt: &R, alloc: Global, machine: &mut CardMachine) {
+    let first = task_of_another_body(rt, alloc);
+    let ready = machine.has_sent(&first);
+    let finished = counter_answers(rt, alloc, machine);
+    let out = machine.has_sent(&first);
+    accept_first(rt, machine, finished);
+    let second = second_task(rt, machine);
+    let known = [
+        ready,
+        out,
+        machine.has_sent(&first),
+        machine.has_sent(&second),
+    ];
+    same(rt, "known", known, [false, true, false, true]);
+}
+
+/// A task is known while its process is out, in the state that the task has.
+#[test]
+fn a_task_is_known_while_its_process_is_out(rt: HostRuntime) {
+    let mut machine = machine_of(&rt, rt.alloc(), SINK_OF_THREE);
+    know_tasks(&rt, rt.alloc(), &mut machine);
 }

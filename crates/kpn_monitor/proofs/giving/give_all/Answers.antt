@@ -5,20 +5,21 @@ use Rattle.kpn_monitor.specs.Kept.{WasCommitted}
 use Rattle.kpn_monitor.proofs.Handing.{gave_machine, gave_committed, gave_many}
 use Rattle.kpn_monitor.proofs.giving.give_all.Goals as goal
 
-pub loop-finished-preserved : goal.loop-finished-preserved
-loop-finished-preserved g c =
+pub loop-task-preserved : goal.loop-task-preserved
+loop-task-preserved g c =
     let kinds = g.B.Kinds.Kinds.family in
     let admits = g.B.Kinds.Kinds.admits in
-    let i = c.loop-finished.invariant in
-    let first = c.in-Some.ensures.first in
-    let same = c.give.ensures.outcomes in
+    let i = c.loop-task.invariant in
+    let finished = c.give-in-Some.result in
+    let first = c.give-in-Some.ensures.first in
+    let same = c.give-in-Some.ensures.outcomes in
     let noted = c.note.ensures in
-    let many = gave_many c.loop-finished.hand c.give.new.self c.note.new.self c.in-Some.finished c.give_one-outcome.result first same noted in
+    let many = gave_many c.loop-task.hand c.give-in-Some.new.self c.note.new.self finished c.give_one-outcome.result first same noted in
     record {
-      machine = gave_machine kinds _ _ c.loop-finished.hand c.give.new.self c.note.new.self _ _ c.in-Some.finished c.give_one-outcome.result first same noted i.machine c.give_one-outcome.ensures.commits c.give_one-outcome.ensures.appends;
+      machine = gave_machine kinds _ _ c.loop-task.hand c.give-in-Some.new.self c.note.new.self _ _ finished c.give_one-outcome.result first same noted i.machine c.give_one-outcome.ensures.commits c.give_one-outcome.ensures.appends;
       network = c.give_one-outcome.ensures.network ∙ i.network;
-      committed = gave_committed kinds admits _ _ c.loop-finished.hand c.give.new.self c.note.new.self c.in-Some.finished c.give_one-outcome.result first same noted i.committed (subst (λ (n : Network). WasCommitted kinds admits n c.in-Some.finished c.give_one-outcome.result) i.network c.give_one-outcome.ensures.committed);
-      called = omega (arith, i.called, many.0, many.2, c.in-Some.ensures.called);
+      committed = gave_committed kinds admits _ _ c.loop-task.hand c.give-in-Some.new.self c.note.new.self finished c.give_one-outcome.result first same noted i.committed (subst (λ (n : Network). WasCommitted kinds admits n finished c.give_one-outcome.result) i.network c.give_one-outcome.ensures.committed);
+      called = omega (arith, i.called, many.0, many.2, c.give-in-Some.ensures.called);
       count = omega (arith, i.count, many.0, many.1);
       few = i.few;
     }

@@ -1,5 +1,5 @@
 -- The report is that of the finish, and so of every run that is over.
-use Rattle.kpn_run.proofs.Told.{own_report, every_runs, outcome, final_of}
+use Rattle.kpn_run.proofs.Told.{own_report, every_runs, outcome, least_streams, final_of}
 use Rattle.kpn_run.proofs.reporting.report.Goals as goal
 
 pub returns-clause-own : goal.returns-clause-own
@@ -23,3 +23,11 @@ returns-clause-any_capacities g c =
     let f = c.args.finish.now in
     let net = f.machine.network in
     outcome kinds net f.machine.history f.machine.state f.cause c.in_ok-report.report.detail (returns-clause-own g c) (final_of kinds net f c.end-end.ensures.finish) c.determinacy_of.ensures.one_outcome
+
+pub returns-clause-streams : goal.returns-clause-streams
+returns-clause-streams g c =
+    let kinds = g.K.Kinds.family in
+    let f = c.args.finish.now in
+    let net = f.machine.network in
+    let laws = c.least_solution_of.ensures in
+    least_streams kinds net f.machine.history f.machine.state f.cause c.in_ok-report.report.detail (returns-clause-own g c) (final_of kinds net f c.end-end.ensures.finish) laws.below_digest laws.digest_is_least

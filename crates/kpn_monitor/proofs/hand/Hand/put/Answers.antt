@@ -7,6 +7,6 @@ pub invariant_of-self : goal.invariant_of-self
 invariant_of-self g c =
     let k = c.self.invariant in
     let tasks = c.self.inside.tasks.items in
-    let room : length tasks < 16 = rw (← c.self.view_is) at c.requires in
+    let room : length tasks < 64 = rw (← c.self.view_is) at c.requires in
     let more = length_more tasks c.args.task in
     rw c.append.ensures (k.0, k.1, k.2, omega (arith, room, more), omega (arith, k.4, more), answers_put g.B.Kinds.Kinds.family tasks c.self.inside.answers.items c.args.task k.5)

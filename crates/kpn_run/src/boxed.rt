@@ -1,0 +1,122 @@
+//! Bodies that stay in their place while their tasks go from the machine to the workers and back.
+ghost use Rattle.std.specs.Prelude.{◌≡◌, ◌≤◌, ◌+◌, ◌++◌, [], length, vec_capacity, true, IfOk, IfErr, IfSome, IfNone};
+ghost use Rattle.std.specs.VecDeque.{deque_capacity, deque_len};
+
+use kpn_body::Body;
+use kpn_model::{Answer, Card, Local, Token};
+use std::alloc::{AllocFailed, Global};
+use std::collections::VecDeque;
+use std::marker::Model;
+
+/// A body on the heap, which contracts see as the body. Moving it moves one word, and a worker that calls
+/// it reads it where it lies.
+#[derive(Drop)]
+pub(crate) struct BoxedBody<B: Body> {
+    body: Box<B>,
+}
+
+impl<B: Body> Model for BoxedBody<B> {
+    ghost Value = { B };
+
+    ghost coded = { B.code };
+
+    ghost view = { λ b. b.body.value };
+}
+
+impl<B: Body> BoxedBody<B> {
+    /// Returns the body.
+    pub(crate) fn into_inner(self) -> B
+        ensures { result ≡ self }
+    {
+        let BoxedBody { body } = self;
+        Box::into_inner(body)
+    }
+}
+
+impl<B: Body> Body for BoxedBody<B> {
+    type Kinds = B::Kinds;
+
+    ghost card = { λ b. B.card b };
+
+    #[inline(always)]
+    fn card(&self) -> Card {
+        self.body.as_ref().card()
+    }
+
+    #[inline(always)]
+    fn answer(&self, local: Local, last: Option<Token>) -> Answer {
+        self.body.as_ref().answer(local, last)
+    }
+}
+
+/// Bodies on the heap, and the emptied vector that they came from.
+#[derive(Drop)]
+pub(crate) struct Boxes<B: Body> {
+    pub(crate) boxed: Vec<BoxedBody<B>>,
+    pub(crate) spare: Vec<B>,
+}
+
+/// Moves bodies to the heap. If memory is refused, they are handed back.
+pub(crate) fn box_all<B: Body>(alloc: Global, bodies: Vec<B>) -> Result<Boxes<B>, Vec<B>>
+    ensures boxed { IfOk result (λ r. r.boxed.items ≡ bodies.items) }
+    ensures spare { IfOk result (λ r. r.spare.items ≡ []) }
+    ensures room { IfOk result (λ r. length bodies.items ≤ vec_capacity r.spare) }
+    ensures back { IfErr result (λ v. v.items ≡ bodies.items) }
+{
+    let mut bodies = bodies;
+    let Ok(mut boxed) = VecDeque::with_capacity(alloc, bodies.len()) else {
+        return Err(bodies);
+    };
+    if box_each(alloc, &mut bodies, &mut boxed) {
+        Ok(Boxes {
+            boxed: boxed.into_vec(),
+            spare: bodies,
+        })
+    } else {
+        unbox_each(&mut boxed, &mut bodies);
+        Err(bodies)
+    }
+}
+
+/// Returns bodies that were moved to the heap, in the emptied vector that they came from.
+pub(crate) fn unbox_all<B: Body>(boxed: Vec<BoxedBody<B>>, spare: Vec<B>) -> Vec<B>
+    requires empty { spare.items ≡ [] }
+    requires room { length boxed.items ≤ vec_capacity spare }
+    ensures { result.items ≡ boxed.items }
+{
+    let mut boxed = VecDeque::from_vec(boxed);
+    let mut bodies = spare;
+    unbox_each(&mut boxed, &mut bodies);
+    bodies
+}
+
+// Moves bodies to the heap, from the last one on, to the front of those that are there. Returns whether
+// all were moved; if not, memory was refused.
+fn box_each<B: Body>(alloc: Global, bodies: &mut Vec<B>, boxed: &mut VecDeque<BoxedBody<B>>) -> bool
+    requires { length bodies.old.items + deque_len boxed.old ≤ deque_capacity boxed.old }
+    ensures order { bodies.new.items ++ boxed.new.items ≡ bodies.old.items ++ boxed.old.items }
+    ensures all { result ≡ true → bodies.new.items ≡ [] }
+    ensures count { length bodies.new.items + deque_len boxed.new ≡ length bodies.old.items + deque_len boxed.old }
+    ensures room { vec_capacity bodies.new ≡ vec_capacity bodies.old }
+{
+    while let Some(body) = bodies.pop() {
+        match Box::new(alloc, body) {
+            Ok(body) => boxed.push_front_reserved(BoxedBody { body }),
+            Err(AllocFailed { value }) => {
+                bodies.push_reserved(value);
+                return false;
+            }
+        }
+    }
+    true
+}
+
+// Appends the bodies that are on the heap to the others.
+fn unbox_each<B: Body>(boxed: &mut VecDeque<BoxedBody<B>>, bodies: &mut Vec<B>)
+    requires { length bodies.old.items + deque_len boxed.old ≤ vec_capacity bodies.old }
+    ensures { bodies.new.items ≡ bodies.old.items ++ boxed.old.items }
+{
+    while let Some(one) = boxed.pop_front() {
+        bodies.push_reserved(one.into_inner());
+    }
+}
