@@ -1,5 +1,5 @@
 //! The message of a refused description.
-ghost use Rattle.std.specs.Prelude.{◌≡◌, ◌≢◌, ◌⊎◌, [], IfSome, string_bytes};
+ghost use Rattle.std.specs.Prelude.{◌≡◌, ◌≢◌, ◌⊎◌, ◌<◌, [], true, length, IfSome, string_bytes};
 
 use crate::channels::push_channel;
 use crate::keys::push_misfit;
@@ -7,7 +7,7 @@ use crate::location::{Location, locate};
 use crate::processes::push_process;
 use kpn_model::limits::{GREATEST_STEP, MOST_CHANNELS, MOST_PROCESSES};
 use kpn_net::version::greatest_budget_in;
-use kpn_net::{Kinds, NetFault, Sketch, read_sketch};
+use kpn_net::{Kinds, NetFault, ProcessSketch, Sketch, read_sketch};
 use std::alloc::{AllocError, Global};
 use std::fmt::Write;
 
@@ -25,9 +25,11 @@ pub fn message_of<K: Kinds>(
     ensures plain { (fault ≡ NetFault.Memory) ⊎ (fault ≡ NetFault.Input) → result ≡ None }
     ensures said { IfSome result (λ message. string_bytes message ≢ []) }
 {
+    if says_all(fault) {
+        return None;
+    }
     let mut out = String::new(alloc);
     match fault {
-        NetFault::Memory | NetFault::Input => return None,
         NetFault::NotToml | NetFault::Keys => match toml::table_from_slice(alloc, text) {
             Ok(table) => push_misfit(&mut out, &table).ok()?,
             Err(error) => push_syntax(&mut out, text, &error).ok()?,
@@ -37,6 +39,20 @@ pub fn message_of<K: Kinds>(
             push_fault::<K>(&mut out, &sketch, fault, kinds).ok()?;
         }
     }
+    unless_empty(out)
+}
+
+/// Whether no text has the fault, so that its name says all.
+fn says_all(fault: NetFault) -> bool
+    ensures { (fault ≡ NetFault.Memory) ⊎ (fault ≡ NetFault.Input) → result ≡ true }
+{
+    matches!(fault, NetFault::Memory | NetFault::Input)
+}
+
+/// A message that says something.
+fn unless_empty(out: String) -> Option<String>
+    ensures { IfSome result (λ message. string_bytes message ≢ []) }
+{
     if out.is_empty() { None } else { Some(out) }
 }
 
@@ -73,8 +89,7 @@ fn push_fault<K: Kinds>(
 ) -> Result<(), AllocError> {
     match locate::<K>(sketch, fault) {
         Location::Process(p) => {
-            let process = &sketch.processes.as_slice()[p];
-            push_process::<K>(out, sketch, process, fault, kinds)
+            push_process::<K>(out, sketch, process_at(sketch, p), fault, kinds)
         }
         Location::Channel(c) => {
             let (earlier, rest) = sketch.channels.as_slice().split_at(c);
@@ -85,6 +100,12 @@ fn push_fault<K: Kinds>(
         }
         Location::Description => push_whole(out, sketch, fault),
     }
+}
+
+fn process_at(sketch: &Sketch, p: usize) -> &ProcessSketch
+    requires { p < length sketch.now.processes }
+{
+    &sketch.processes.as_slice()[p]
 }
 
 /// What is wrong with a description as a whole.
