@@ -1,7 +1,7 @@
 #!/usr/bin/env python3
 """An independent, slow interpreter of the rules: from the arguments of the command and the text of a
 description to what is written on standard output and the exit status. It is written from docs/format.md
-and docs/model.md and shares nothing with the engine: TOML is read by Python's tomllib, a process is
+and docs/model.md and shares nothing with the engine: TOML is read by Python's tomllib (tests/toml_1_1.py), a process is
 a Python generator, and any process that can go on may be the next, as a seed decides.
 
     tests/interpreter.py [--seed N] [--versions 1] run --show NAME < FILE
@@ -12,6 +12,8 @@ import re
 import sys
 import tomllib
 from collections import deque
+
+from toml_1_1 import as_1_0
 
 LIMIT = 1048576  # bytes of a description
 DEPTH = 80  # how deep arrays may lie in one another
@@ -185,7 +187,7 @@ def document(text):
     if len(text) > LIMIT:
         raise Refused(15)
     try:
-        table = tomllib.loads(text.removeprefix(BYTE_ORDER_MARK).decode("utf-8"), parse_float=finite)
+        table = tomllib.loads(as_1_0(text.removeprefix(BYTE_ORDER_MARK).decode("utf-8")), parse_float=finite)
     except (UnicodeDecodeError, tomllib.TOMLDecodeError, RecursionError):
         raise Refused(1) from None
     except ValueError:  # Python's own limit on the digits of an integer

@@ -262,7 +262,8 @@ def odd_value(choices, value):
         if "'" not in value and value.isprintable():
             forms += [f"'{value}'", f"'''{value}'''", f'"""{value}"""' if '"' not in value and "\\" not in value else basic(value)]
         if value.isascii() and value.isalnum():
-            forms.append('"' + "".join(f"\\u{ord(it):04x}" if choices.random() < 0.3 else it for it in value) + '"')
+            escape = choices.choice(["\\u{:04x}", "\\x{:02x}"])
+            forms.append('"' + "".join(escape.format(ord(it)) if choices.random() < 0.3 else it for it in value) + '"')
         return choices.choice(forms)
     if type(value) is list:
         between = choices.choice([", ", ",", " ,\n  ", ", # more\n"])
@@ -291,7 +292,7 @@ def odd(choices, network):
         lines.append(key + choices.choice([" = ", "=", "\t=  "]) + value)
     inline = [key for key in ("process", "channel") if tables(network, key) and choices.random() < 0.1]
     for key in inline:
-        items = ["{" + ", ".join(f"{k} = {v}" for k, v in flat_pairs(choices, it)) + "}" for it in tables(network, key)]
+        items = [inline_table(choices, it) for it in tables(network, key)]
         lines.append(f"{odd_key(choices, key)} = [" + ", ".join(items) + "]")
     queues = [[(key, it) for it in tables(network, key)] for key in ("process", "channel") if key not in inline]
     while any(queues):
@@ -301,9 +302,10 @@ def odd(choices, network):
     return "".join(f"{line}\n" for line in lines).replace("\n", end).encode()
 
 
-def flat_pairs(choices, table):
-    """The pairs of an inline table, on one line."""
-    return [(odd_key(choices, key), value_text(value)) for key, value in table.items()]
+def inline_table(choices, table):
+    """A table on one line, or on several, as TOML 1.1 allows."""
+    begin, between, last = choices.choice([("", ", ", "")] * 3 + [("", ",", ", "), ("\n", ",\n  ", "\n"), (" ", " # so\n, ", ",# more\n")])
+    return "{" + begin + between.join(f"{odd_key(choices, key)} = {value_text(value)}" for key, value in table.items()) + last + "}"
 
 
 # Edits of networks.

@@ -275,6 +275,32 @@ entries 49
 stream c3 20 10 21 11
 """, 5)
 
+# Budgets that are spent, or just not: a run that terminates with as many entries as the budget has come to its end.
+
+
+def spending(text, budget):
+    return edit(text, ("version = 1", f"version = 1\nbudget = {budget}"))
+
+
+for budget in (11, 12):
+    row(f"an endless loop with a budget of {budget}", run(), net("p=prefix(1) cp=copy snk=sink(2)", "c0 p.0>cp.0; c1 cp.0>p.0; c2 cp.1>snk.0", budget=budget), "end budget\n", 3)
+FIVE = edit(COUNTER, ("[1, 3]", "[1, 5]"), ("[3]", "[5]"))
+FIVE_END = COUNTED.replace("steps 4", "steps 6").replace("put 3", "put 5").replace("entries 8", "entries 12")
+SIX = edit(FIVE, ("[5]", "[6]"))
+SIX_END = """end deadlock
+process src stopped steps 6
+process snk reads c0 steps 5
+channel c0 put 5 left 0 capacity 1
+entries 11
+"""
+row("five are counted with a budget of 12, their entries", run(), spending(FIVE, 12), FIVE_END, 0)
+row("two grow with a budget of 12, their entries", run(), two(3, 2, budget=12), two_end(3, 2, (3, 2), ["c0 2", "c1 2", "c0 3"]), 0)
+row("a sink that wants a sixth with a budget of 12", run(), spending(SIX, 12), SIX_END, 5)
+for budget in (10, 11):
+    row(f"five are counted with a budget of {budget}", run(), spending(FIVE, budget), "end budget\n", 3)
+    row(f"two grow with a budget of {budget}", run(), two(3, 2, budget=budget), "end budget\n", 3)
+row("a sink that wants a sixth with a budget of 10", run(), spending(SIX, 10), "end budget\n", 3)
+
 # Descriptions that are refused.
 
 CHANNEL = '\n[[channel]]\nname = "c1"\nfrom = "src"\nto = "snk"\n'
