@@ -4,8 +4,7 @@
 #![tactic(auto)]
 
 use kpn_body::{Body, Standard, answer};
-use kpn_front::load::load;
-use kpn_front::streams::Fallible;
+use kpn_front::{Fallible, load};
 use kpn_machine::Machine;
 use kpn_net::{Answer, Card, Kinds, Local, Net, Token};
 use kpn_run::{Open, run};

@@ -6,9 +6,7 @@ use example_signals::{Gains, MovingSums};
 use kpn_args::{Choice, read_words};
 use kpn_compute::{Both, Filtered};
 use kpn_execute::execute_net;
-use kpn_front::load::load;
-use kpn_front::say::{say_checked, say_refused};
-use kpn_front::streams::Fallible;
+use kpn_front::{Fallible, load, say_checked, say_refused};
 use kpn_net::Net;
 use kpn_standard::Standard;
 use std::process::ExitCode;
@@ -37,5 +35,5 @@ fn main(rt: HostRuntime) -> io::Result<ExitCode> {
             execute_net(&rt, alloc, net, workers, show, &mut sink)
         }
     };
-    Ok(ExitCode::from(status.code()))
+    Ok(ExitCode::from(status))
 }

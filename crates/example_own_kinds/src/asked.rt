@@ -7,14 +7,14 @@ use kpn_net::{Answer, Kinds, Local, Token};
 /// Returns what a body answers as the task of process 0.
 pub fn answer_of<B: Body>(body: B, local: Local, last: Option<Token>) -> Answer
     requires { B.Kinds.admits (B.card body) local last }
-    ensures { result ≡ B.Kinds.family.answer (B.card body) local last }
+    ensures { result ≡ B.Kinds.answer_of (B.card body) local last }
 {
     Task::new(0, body, local, last).call().answer()
 }
 
 /// Returns what a body answers at the start of its process.
 pub fn first_answer<B: Body>(body: B) -> Answer
-    ensures { result ≡ B.Kinds.family.answer (B.card body) (B.Kinds.family.start (B.card body)) None }
+    ensures { result ≡ B.Kinds.answer_of (B.card body) (B.Kinds.start (B.card body)) None }
 {
     let card = body.card();
     let start = B::Kinds::start(&card);

@@ -43,7 +43,7 @@ fn signed_card(net: &Net<Standard>, process: usize) -> Card
 }
 
 fn each_first_answer<B: Body>(alloc: Global, bodies: Vec<B>) -> Result<Vec<Answer>, AllocError>
-    ensures { IfOk result (λ answers. answers.items ≡ map (λ b. B.Kinds.family.answer (B.card b) (B.Kinds.family.start (B.card b)) None) bodies.items) }
+    ensures { IfOk result (λ answers. answers.items ≡ map (λ b. B.Kinds.answer_of (B.card b) (B.Kinds.start (B.card b)) None) bodies.items) }
 {
     let mut answers = Vec::with_capacity(alloc, bodies.len())?;
     for body in bodies {

@@ -15,9 +15,11 @@ pub struct Flips;
 impl Kinds for Flips {
     ghost named = { number_named };
 
-    ghost signature_of = { ports };
+    ghost signature = { ports };
 
-    ghost family = { flips };
+    ghost start = { flips.start };
+
+    ghost answer_of = { flips.answer };
 
     ghost admits = { λ card. FlipLine };
 

@@ -12,9 +12,11 @@ pub struct Gains;
 impl Kinds for Gains {
     ghost named = { number_named };
 
-    ghost signature_of = { ports };
+    ghost signature = { ports };
 
-    ghost family = { gains };
+    ghost start = { gains.start };
+
+    ghost answer_of = { gains.answer };
 
     ghost admits = { λ card. GainLine };
 

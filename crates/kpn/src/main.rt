@@ -3,8 +3,7 @@
 
 use kpn_args::WordsFault;
 use kpn_execute::{Served, serve};
-use kpn_front::Status;
-use kpn_front::streams::Fallible;
+use kpn_front::{Fallible, Status};
 use std::process::ExitCode;
 use std::rt::{Clock, Env};
 use std::sync::Wait;
@@ -12,13 +11,13 @@ use std::thread::Threads;
 use std::{env, io};
 
 fn main(rt: HostRuntime) -> ExitCode {
-    ExitCode::from(status_of(&rt).code())
+    ExitCode::from(status_of(&rt))
 }
 
 /// Reads the arguments, does what they ask for, and returns the exit status.
 fn status_of<R: Env + Input + Print + Eprint + AllocGlobal + Wait + Clock + Threads + Sync>(
     rt: &R,
-) -> Status {
+) -> u8 {
     let Ok(words) = words_of(rt) else {
         return say_no_memory(rt);
     };
@@ -46,9 +45,9 @@ fn say_why<R: Eprint>(rt: &R, served: &Served) {
 }
 
 /// Says that the arguments could not be collected, since memory was refused.
-fn say_no_memory<R: Eprint>(rt: &R) -> Status {
+fn say_no_memory<R: Eprint>(rt: &R) -> u8 {
     let _ = eprintln!(rt; "kpn: memory was refused while the words were read");
-    Status::WrongArguments
+    Status::WrongArguments.code()
 }
 
 fn words_of<R: Env + AllocGlobal>(rt: &R) -> io::Result<Vec<String>> {
@@ -65,14 +64,14 @@ fn texts_of<'a>(rt: &impl AllocGlobal, words: &'a Vec<String>) -> io::Result<Vec
 }
 
 /// Writes help to standard output, and a fault of the arguments to standard error.
-fn say_words_refused<R: Print + Eprint>(rt: &R, fault: &WordsFault) -> Status {
+fn say_words_refused<R: Print + Eprint>(rt: &R, fault: &WordsFault) -> u8 {
     let said = if fault.asks_for_help() {
         print!(rt; "{fault}")
     } else {
         eprint!(rt; "{fault}")
     };
     match said {
-        Ok(()) => fault.status(),
-        Err(_) => Status::WriteFailed,
+        Ok(()) => fault.status().code(),
+        Err(_) => Status::WriteFailed.code(),
     }
 }

@@ -25,11 +25,11 @@ pub trait Body: Send + Drop {
     /// Returns the card, which has a signature.
     fn card(&self) -> Card
         ensures card { result ≡ card self.now }
-        ensures signed { IsSome (Self.Kinds.signature_of (card self.now)) };
+        ensures signed { IsSome (Self.Kinds.signature (card self.now)) };
 
     /// Returns what a process of the card answers in this local state, after it has just read `last`
     /// (`None` if its last act was no read). The card must admit the two.
     fn answer(&self, local: Local, last: Option<Token>) -> Answer
         requires { Self.Kinds.admits (card self.now) local last }
-        ensures { result ≡ Self.Kinds.family.answer (card self.now) local last };
+        ensures { result ≡ Self.Kinds.answer_of (card self.now) local last };
 }

@@ -1,5 +1,6 @@
 //! Tasks, and the answers that come back.
 ghost use Rattle.std.specs.Prelude.{◌≡◌, IsSome};
+ghost use Rattle.kpn_model.specs.Network.{family_of};
 ghost use Rattle.kpn_body.specs.Input.{input, answer_to};
 
 use crate::answered::Answered;
@@ -54,7 +55,7 @@ impl<B: Body> Task<B> {
     /// Returns the body's card, which has a signature.
     pub fn card(&self) -> Card
         ensures card { result ≡ self.now.card }
-        ensures signed { IsSome (B.Kinds.signature_of self.now.card) }
+        ensures signed { IsSome (B.Kinds.signature self.now.card) }
     {
         self.body.card()
     }
@@ -87,7 +88,7 @@ impl<B: Body> Task<B> {
     /// together. Each call calls the body. Takes no lock and no memory.
     #[inline]
     pub fn ask(&self) -> Answer
-        ensures { result ≡ answer_to B.Kinds.family self.now }
+        ensures { result ≡ answer_to (family_of B.Kinds.start B.Kinds.answer_of) self.now }
     {
         self.body.answer(self.local, self.last)
     }
@@ -95,7 +96,7 @@ impl<B: Body> Task<B> {
     /// Puts the answer that `ask` returned together with the task.
     #[inline]
     pub fn answered(self, answer: Answer) -> Finished<B>
-        requires { answer ≡ answer_to B.Kinds.family self }
+        requires { answer ≡ answer_to (family_of B.Kinds.start B.Kinds.answer_of) self }
         ensures { result ≡ self }
     {
         let Task {
@@ -142,7 +143,7 @@ impl<B: Body> Finished<B> {
     /// Returns the body's card, which has a signature.
     pub fn card(&self) -> Card
         ensures card { result ≡ self.now.card }
-        ensures signed { IsSome (B.Kinds.signature_of self.now.card) }
+        ensures signed { IsSome (B.Kinds.signature self.now.card) }
     {
         self.answered.card()
     }
@@ -165,7 +166,7 @@ impl<B: Body> Finished<B> {
 
     /// Returns the answer: the card's for this local state and last token.
     pub fn answer(&self) -> Answer
-        ensures { result ≡ answer_to B.Kinds.family self.now }
+        ensures { result ≡ answer_to (family_of B.Kinds.start B.Kinds.answer_of) self.now }
     {
         self.answered.answer()
     }

@@ -1,7 +1,7 @@
 -- The growth of the chosen channel and its writer's put are steps of the definitions.
-use Rattle.std.proofs.Common.{◌≡◌, List, length, refl, sym, ap, ◌∙◌, arith, ℕ, ◌<◌, ◌≤◌, ◌+◌, min, false, Some, None, Option, set, subst}
+use Rattle.std.proofs.Common.{◌≡◌, ◌≢◌, ◌↔◌, List, length, refl, sym, ap, ◌∙◌, arith, ℕ, ◌<◌, ◌≤◌, ◌+◌, min, false, Some, None, Option, set, subst}
 use Rattle.std.proofs.lemmas.Option.{same_Some}
-use Rattle.std.specs.List.{list_any}
+use Rattle.std.specs.List.{list_any, Contains}
 use Rattle.kpn_model.specs.declared.token.Token.{Token}
 use Rattle.kpn_model.specs.declared.kinds.Card.{Card}
 use Rattle.kpn_model.specs.declared.kinds.Act.{Act}
@@ -12,15 +12,18 @@ use Rattle.kpn_model.specs.declared.history.Deed.TheVariants.{Put}
 use Rattle.kpn_model.specs.declared.history.Entry.TheVariants.{Did, Grew}
 use Rattle.kpn_model.specs.Network.{Network, Family, channel_of}
 use Rattle.kpn_model.specs.Semantics.{State, tokens, capacity, with_channel, IsPossible, IsDeed, after_deed, Grows}
-use Rattle.kpn_laws.proofs.States.{out_of-writer}
+use Rattle.kpn_laws.proofs.States.{out_of-writer, capacity_set_other}
+use Rattle.kpn_laws.proofs.Steps.{capacity_after}
 use Rattle.kpn_state.specs.StateAndHistory.{StateAndHistory, more}
+use Rattle.kpn_state.specs.Candidates.{CandidateList}
 use Rattle.kpn_state.specs.declared.standing.Standing.{Standing}
 use Rattle.kpn_state.specs.declared.standing.Standing.TheVariants.{Parked}
 use Rattle.kpn_state.specs.Standings.{standing, is_busy, standing_after, partner, StandingsFit}
-use Rattle.kpn_commit.specs.Choice.{written_by, awaited_by, awaited, IsSmallest}
+use Rattle.kpn_commit.specs.Choice.{written_by, awaited_by, awaited, IsSmallest, AreCandidates}
 use Rattle.kpn_commit.specs.Settling.{GrowsAndPuts}
 use Rattle.kpn_state.proofs.Placed.{standing_within, parked_not_ended}
-use Rattle.kpn_commit.proofs.Idle.{writing, awaits_blocked, smallest_chosen, smallest_artificial}
+use Rattle.kpn_commit.proofs.Candidates.{writing, served, acted_awaits, acted_not_counted}
+use Rattle.kpn_commit.proofs.Idle.{awaits_blocked, smallest_chosen, smallest_artificial}
 use Rattle.kpn_commit.proofs.Growing.{keeps_grown, keeps_put, grown_possible}
 use Rattle.kpn_commit.proofs.Reacting.{acted}
 
@@ -75,7 +78,20 @@ module _ (kinds : Family) (admits : Card → List ℕ → Option Token → Type 
       subst (λ (M : State). StandingsFit kinds admits net None M moved) (sym now)
       (keeps_put kinds admits net s.state c to within standings w a.next put.0 moved k is_writer holds there (moves ∙ ap (λ (x : Deed). set standings w (standing_after x)) put.1) by_put)
 
-  module _ (idle : list_any is_busy standings ≡ false) (best : IsSmallest net s.state standings (length standings) (Some (c, w))) (below : capacity s.state c < net.ceiling) (to_is : to ≡ min (capacity s.state c + net.step) net.ceiling) where
+  -- after the growth and the put the channel is no candidate any more
+  pub candidates_after_put :
+      (s1 : StateAndHistory) (d : Deed) (t : StateAndHistory) (moved : List Standing) (candidates fewer : CandidateList)
+      → s1 ≡ more s after_growth (Grew c to) → t ≡ more s1 (after_deed kinds net s1.state w a.next d) (Did w d) → moved ≡ set standings w (standing_after d)
+      → AreCandidates net s.state standings candidates → ((y : ℕ × ℕ) → Contains fewer.pairs y ↔ ((y ≢ (capacity s.state c, c)) × Contains candidates.pairs y))
+      → (Contains candidates.pairs (capacity s.state c, c) → length fewer.pairs + 1 ≡ length candidates.pairs) → fewer.room ≡ candidates.room → AreCandidates net t.state moved fewer
+  candidates_after_put s1 d t moved candidates fewer first entry moves are taken many room =
+      let there = standing_within standings w (λ e. parked_not_ended a (sym parked ∙ e)) in
+      let now : t.state ≡ after_deed kinds net after_growth w a.next d = ap (λ (x : StateAndHistory). x.state) entry ∙ ap (λ (x : StateAndHistory). after_deed kinds net x.state w a.next d) first in
+      subst (λ (l : List Standing). AreCandidates net t.state l fewer) (sym moves)
+      (served net s.state standings candidates are w there c t.state (standing_after d) fewer waits (acted_awaits net w d) (acted_not_counted d)
+      (λ b ne. ap (λ (M : State). capacity M b) now ∙ capacity_after kinds net after_growth w b a.next d ∙ capacity_set_other s.state c b (tokens s.state c) to ne) taken many room)
+
+  module _ (idle : list_any is_busy standings ≡ false) (best : IsSmallest net s.state standings (Some (c, w))) (below : capacity s.state c < net.ceiling) (to_is : to ≡ min (capacity s.state c + net.step) net.ceiling) where
     -- the growth is that of the definitions
     pub growth : Grows kinds net s.state c to after_growth
     growth =

@@ -16,21 +16,9 @@ use Rattle.kpn_state.specs.declared.standing.Standing.{Standing}
 use Rattle.kpn_state.specs.declared.standing.Standing.TheVariants.{Ready, Out, Parked, Stopped}
 use Rattle.kpn_state.specs.Standings.{standing, is_busy, has_stopped, StandingsFit}
 use Rattle.kpn_commit.specs.Choice.{written_by, awaited_by, awaited, IsSmallest}
+use Rattle.kpn_commit.proofs.Candidates.{awaiting, writing}
 use Rattle.kpn_state.proofs.Placed.{idle_at, stopped_at, one_live}
 use Rattle.kpn_state.proofs.Contradictions.{none_some, true_false}
-
--- a process for which a channel is awaited is parked with a write to it
-awaiting : (net : Network) (p c : ℕ) (x : Standing) → awaited_by net p x ≡ Some c → (a : Answer) × (x ≡ Parked a) × (written_by net p a.act ≡ Some c)
-awaiting net p c Ready e = cc
-awaiting net p c Out e = cc
-awaiting net p c (Parked a) e = (a, refl, e)
-awaiting net p c Stopped e = cc
-
--- an act that writes to a channel
-pub writing : (net : Network) (p c : ℕ) (x : Act) → written_by net p x ≡ Some c → (k : ℕ) × (t : Token) × (x ≡ Write k t) × (out_of net p k ≡ Some c)
-writing net p c (Read k) e = cc
-writing net p c (Write k t) e = (k, t, refl, e)
-writing net p c Stop e = cc
 
 module _ (kinds : Family) (admits : Card → List ℕ → Option Token → Type 0) (net : Network) (M : State) (standings : List Standing) (k : StandingsFit kinds admits net None M standings) where
   -- a process that wants something and is neither ready nor out is parked with it
@@ -77,39 +65,30 @@ module _ (kinds : Family) (admits : Card → List ℕ → Option Token → Type 
         full = ⊎_elim (λ room. absurd (cant (subst (λ x. IsPossible kinds net M p x) (sym act.2) (c, act.3, room)))) (λ full. full) (cases_lt (length (tokens M c)) (capacity M c));
       }
 
-  -- it is a process of the network
-  pub awaits_within : (p c : ℕ) → awaited net standings p ≡ Some c → p < length standings
-  awaits_within p c e =
-      let b = awaits_blocked p c e in
-      let within = live_within kinds net M p b.answer b.wanted in
-      let many = k.processes in
-      let one_each = k.one_each in
-      omega arith
-
   module _ (idle : list_any is_busy standings ≡ false) where
     -- the smallest awaited channel is the chosen one
-    pub smallest_chosen : (c w : ℕ) → IsSmallest net M standings (length standings) (Some (c, w)) → IsChosen kinds net M c
+    pub smallest_chosen : (c w : ℕ) → IsSmallest net M standings (Some (c, w)) → IsChosen kinds net M c
     smallest_chosen c w best =
         record {
           writer = w;
           blocked = awaits_blocked w c best.0;
           no_smaller = λ q d b.
               let waits = blocked_awaits idle q d b in
-              ⊎_elim (λ less. omega arith) (λ same. let e = same.0 in omega arith) (best.1 q d (awaits_within q d waits) waits);
+              ⊎_elim (λ less. omega arith) (λ same. let e = same.0 in omega arith) (best.1 q d waits);
           no_earlier = λ q d b e.
               let waits = blocked_awaits idle q d b in
-              ⊎_elim (λ less. absurd (omega arith)) (λ same. same.1) (best.1 q d (awaits_within q d waits) waits);
+              ⊎_elim (λ less. absurd (omega arith)) (λ same. same.1) (best.1 q d waits);
         }
 
     -- and a channel has to grow
-    pub smallest_artificial : (c w : ℕ) → IsSmallest net M standings (length standings) (Some (c, w)) → IsArtificial kinds net M
+    pub smallest_artificial : (c w : ℕ) → IsSmallest net M standings (Some (c, w)) → IsArtificial kinds net M
     smallest_artificial c w best = record { quiet = idle_quiet idle; writer = w; channel = c; blocked = awaits_blocked w c best.0 }
 
     -- if no process waits to write, none is blocked on a write
-    pub none_blocked : IsSmallest net M standings (length standings) None → (p c : ℕ) → IsBlocked kinds net M p c → ⊥
+    pub none_blocked : IsSmallest net M standings None → (p c : ℕ) → IsBlocked kinds net M p c → ⊥
     none_blocked none p c b =
         let waits = blocked_awaits idle p c b in
-        none_some c (sym (none p (awaits_within p c waits)) ∙ waits)
+        none_some c (sym (none p) ∙ waits)
 
   -- if not all have stopped, some process is live
   pub some_live : list_all has_stopped standings ≡ false → (p : ℕ) × (status M p ≢ Done)

@@ -2,6 +2,7 @@ pub mod Deeds
 pub mod Keeping
 mod Wanted
 pub mod Reacting
+pub mod Candidates
 pub mod Idle
 pub mod Growing
 pub mod Enlarging

@@ -1,12 +1,13 @@
--- The channels to which parked processes wait to write, and the smallest of them.
-use Rattle.std.specs.Prelude.{◌≡◌, ℕ, ◌<◌, ◌≤◌, ◌⊎◌, List, Option, Some, None}
+-- The channels to which parked processes wait to write: the candidates for a growth, and the first of them.
+use Rattle.std.specs.Prelude.{◌≡◌, ◌↔◌, ℕ, ◌<◌, ◌≤◌, ◌⊎◌, Bool, true, false, List, Option, Some, None, length, count_by, Contains}
 use Rattle.kpn_model.specs.declared.kinds.Act.{Act}
 use Rattle.kpn_model.specs.declared.kinds.Act.TheVariants.{Read, Write, Stop}
-use Rattle.kpn_model.specs.Network.{Network, out_of}
+use Rattle.kpn_model.specs.Network.{Network, channel_of, out_of}
 use Rattle.kpn_model.specs.Semantics.{State, capacity}
 use Rattle.kpn_state.specs.declared.standing.Standing.{Standing}
 use Rattle.kpn_state.specs.declared.standing.Standing.TheVariants.{Ready, Out, Parked, Stopped}
 use Rattle.kpn_state.specs.Standings.{standing}
+use Rattle.kpn_state.specs.Candidates.{CandidateList}
 
 -- the channel to which p's act writes
 abbrev pub written_by : Network → ℕ → Act → Option ℕ
@@ -28,9 +29,34 @@ awaited net standings p = awaited_by net p (standing standings p)
 abbrev pub IsNoLater : State → ℕ → ℕ → Type 0
 IsNoLater M c d = (capacity M c < capacity M d) ⊎ ((capacity M c ≡ capacity M d) × (c ≤ d))
 
--- none of the first `count` processes waits to write; or this process does, to the smallest such channel, and among equals to the
--- one of least number
-abbrev pub IsSmallest : Network → State → List Standing → ℕ → Option (ℕ × ℕ) → Type 0
-IsSmallest net M standings count None = (q : ℕ) → q < count → awaited net standings q ≡ None
-IsSmallest net M standings count (Some best) =
-    (awaited net standings best.1 ≡ Some best.0) × ((q d : ℕ) → q < count → awaited net standings q ≡ Some d → IsNoLater M best.0 d)
+-- no process waits to write; or this process does, to the smallest such channel, and among equals to the one of least number
+abbrev pub IsSmallest : Network → State → List Standing → Option (ℕ × ℕ) → Type 0
+IsSmallest net M standings None = (q : ℕ) → awaited net standings q ≡ None
+IsSmallest net M standings (Some best) = (awaited net standings best.1 ≡ Some best.0) × ((q d : ℕ) → awaited net standings q ≡ Some d → IsNoLater M best.0 d)
+
+-- a pair's channel, and the process that writes to it
+abbrev pub with_writer : Network → ℕ × ℕ → ℕ × ℕ
+with_writer net x = (x.1, (channel_of net x.1).writer)
+
+-- a channel to which some process waits to write, with its capacity
+abbrev pub IsCandidate : Network → State → List Standing → ℕ × ℕ → Type 0
+IsCandidate net M standings x = (x.0 ≡ capacity M x.1) × ((p : ℕ) × (awaited net standings p ≡ Some x.1))
+
+-- a process that is parked with a write
+abbrev pub is_write : Act → Bool
+is_write (Read k) = false
+is_write (Write k t) = true
+is_write Stop = false
+
+abbrev pub waits_to_write : Standing → Bool
+waits_to_write Ready = false
+waits_to_write Out = false
+waits_to_write (Parked a) = is_write a.act
+waits_to_write Stopped = false
+
+-- the list has the candidates and no other pair; there are no more of them than processes that wait to write, and room for one of
+-- each process
+pub record AreCandidates (net : Network) (M : State) (standings : List Standing) (candidates : CandidateList) : Type 0 where
+  pub each : (x : ℕ × ℕ) → Contains candidates.pairs x ↔ IsCandidate net M standings x
+  pub few : length candidates.pairs ≤ count_by waits_to_write standings
+  pub room : length standings ≤ candidates.room

@@ -1,7 +1,7 @@
 //! Does what a process wants, if it can be done.
 ghost use Rattle.std.specs.Prelude.{◌≡◌, ◌<◌, ℕ, List, Option, length, set, Some, IfSome, IfNone, IsSome};
 ghost use Rattle.kpn_model.specs.declared.token.Token.{Token as TokenV};
-ghost use Rattle.kpn_model.specs.Network.{card_of};
+ghost use Rattle.kpn_model.specs.Network.{card_of, family_of};
 ghost use Rattle.kpn_model.specs.Lawful.{NamesPort, LeadsOn};
 ghost use Rattle.kpn_model.specs.Semantics.{wants, IsPossible, IsDeed, after_deed};
 ghost use Rattle.kpn_model.specs.declared.history.Entry.TheVariants.{Did};
@@ -25,9 +25,9 @@ fn read<K: Kinds>(
     requires process { process < length store.old.state.processes }
     requires channels { length store.old.state.channels ≡ length net.now.channels }
     requires room { length store.old.history < store.old.room }
-    ensures is_deed { IfSome result (IsDeed K.family net.now store.old.state process (Act.Read port)) }
-    ensures entry { IfSome result (λ deed. store.new ≡ more store.old (after_deed K.family net.now store.old.state process next deed) (Did process deed)) }
-    ensures cannot { IfNone result (IsPossible K.family net.now store.old.state process (Act.Read port) → ⊥) }
+    ensures is_deed { IfSome result (IsDeed (family_of K.start K.answer_of) net.now store.old.state process (Act.Read port)) }
+    ensures entry { IfSome result (λ deed. store.new ≡ more store.old (after_deed (family_of K.start K.answer_of) net.now store.old.state process next deed) (Did process deed)) }
+    ensures cannot { IfNone result (IsPossible (family_of K.start K.answer_of) net.now store.old.state process (Act.Read port) → ⊥) }
     ensures same { IfNone result (store.new ≡ store.old) }
 {
     let channel = net.in_of(process, usize::from(port))?;
@@ -53,9 +53,9 @@ fn write<K: Kinds>(
     requires process { process < length store.old.state.processes }
     requires channels { length store.old.state.channels ≡ length net.now.channels }
     requires room { length store.old.history < store.old.room }
-    ensures is_deed { IfSome result (IsDeed K.family net.now store.old.state process (Act.Write port token)) }
-    ensures entry { IfSome result (λ deed. store.new ≡ more store.old (after_deed K.family net.now store.old.state process next deed) (Did process deed)) }
-    ensures cannot { IfNone result (IsPossible K.family net.now store.old.state process (Act.Write port token) → ⊥) }
+    ensures is_deed { IfSome result (IsDeed (family_of K.start K.answer_of) net.now store.old.state process (Act.Write port token)) }
+    ensures entry { IfSome result (λ deed. store.new ≡ more store.old (after_deed (family_of K.start K.answer_of) net.now store.old.state process next deed) (Did process deed)) }
+    ensures cannot { IfNone result (IsPossible (family_of K.start K.answer_of) net.now store.old.state process (Act.Write port token) → ⊥) }
     ensures same { IfNone result (store.new ≡ store.old) }
 {
     let channel = net.out_of(process, usize::from(port))?;
@@ -78,9 +78,9 @@ fn perform<K: Kinds>(
     requires process { process < length store.old.state.processes }
     requires channels { length store.old.state.channels ≡ length net.now.channels }
     requires room { length store.old.history < store.old.room }
-    ensures is_deed { IfSome result (IsDeed K.family net.now store.old.state process answer.act) }
-    ensures entry { IfSome result (λ deed. store.new ≡ more store.old (after_deed K.family net.now store.old.state process answer.next deed) (Did process deed)) }
-    ensures cannot { IfNone result (IsPossible K.family net.now store.old.state process answer.act → ⊥) }
+    ensures is_deed { IfSome result (IsDeed (family_of K.start K.answer_of) net.now store.old.state process answer.act) }
+    ensures entry { IfSome result (λ deed. store.new ≡ more store.old (after_deed (family_of K.start K.answer_of) net.now store.old.state process answer.next deed) (Did process deed)) }
+    ensures cannot { IfNone result (IsPossible (family_of K.start K.answer_of) net.now store.old.state process answer.act → ⊥) }
     ensures same { IfNone result (store.new ≡ store.old) }
 {
     match answer.act {
@@ -95,9 +95,9 @@ fn perform<K: Kinds>(
 
 /// Does nothing: a caller knows from here on the laws of the family for each answer of a card.
 fn obey<K: Kinds>(card: Card)
-    requires signed { IsSome (K.signature_of card) }
-    ensures names { (local : List ℕ) (last : Option TokenV) → K.admits card local last → NamesPort K.signature_of card (K.family.answer card local last).act }
-    ensures leads { (local : List ℕ) (last : Option TokenV) (token : TokenV) → K.admits card local last → LeadsOn K.signature_of K.admits card (K.family.answer card local last) token }
+    requires signed { IsSome (K.signature card) }
+    ensures names { (local : List ℕ) (last : Option TokenV) → K.admits card local last → NamesPort K.signature card (K.answer_of card local last).act }
+    ensures leads { (local : List ℕ) (last : Option TokenV) (token : TokenV) → K.admits card local last → LeadsOn K.signature K.admits card (K.answer_of card local last) token }
 {
     K::lawful();
     let _kind = card.kind;
@@ -114,16 +114,16 @@ pub fn advance<K: Kinds>(
     process: usize,
     answer: Answer,
 ) -> Option<Deed>
-    requires keeps { StandingsFit K.family K.admits net.now (Some process) store.old.state standings.old }
+    requires keeps { StandingsFit (family_of K.start K.answer_of) K.admits net.now (Some process) store.old.state standings.old }
     requires process { process < length standings.old }
-    requires wants { wants K.family net.now store.old.state process ≡ Some answer }
+    requires wants { wants (family_of K.start K.answer_of) net.now store.old.state process ≡ Some answer }
     requires room { length store.old.history < store.old.room }
-    ensures is_deed { IfSome result (IsDeed K.family net.now store.old.state process answer.act) }
-    ensures entry { IfSome result (λ deed. store.new ≡ more store.old (after_deed K.family net.now store.old.state process answer.next deed) (Did process deed)) }
+    ensures is_deed { IfSome result (IsDeed (family_of K.start K.answer_of) net.now store.old.state process answer.act) }
+    ensures entry { IfSome result (λ deed. store.new ≡ more store.old (after_deed (family_of K.start K.answer_of) net.now store.old.state process answer.next deed) (Did process deed)) }
     ensures standing { IfSome result (λ deed. standings.new ≡ set standings.old process (standing_after deed)) }
     ensures channel { IfSome result (HasChannel net.now) }
-    ensures keeps { IfSome result (λ deed. StandingsFit K.family K.admits net.now (partner net.now deed) store.new.state standings.new) }
-    ensures cannot { IfNone result (IsPossible K.family net.now store.old.state process answer.act → ⊥) }
+    ensures keeps { IfSome result (λ deed. StandingsFit (family_of K.start K.answer_of) K.admits net.now (partner net.now deed) store.new.state standings.new) }
+    ensures cannot { IfNone result (IsPossible (family_of K.start K.answer_of) net.now store.old.state process answer.act → ⊥) }
     ensures same { IfNone result (store.new ≡ store.old) }
     ensures same_standings { IfNone result (standings.new ≡ standings.old) }
 {

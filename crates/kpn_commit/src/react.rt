@@ -1,18 +1,21 @@
 //! What an answer does at once: a deed, or the process is parked; and the deed of the parked process
 //! that it enables.
-ghost use Rattle.std.specs.Prelude.{◌≡◌, ◌≢◌, ◌<◌, ◌≤◌, ◌+◌, length, Some, None, IsTrue, false};
+ghost use Rattle.std.specs.Prelude.{◌≡◌, ◌≢◌, ◌<◌, ◌≤◌, ◌+◌, length, Some, None, IsTrue, true, false};
+ghost use Rattle.kpn_model.specs.Network.{family_of};
 ghost use Rattle.kpn_model.specs.declared.kinds.Answer.{Answer as AnswerV};
 ghost use Rattle.kpn_model.specs.Semantics.{wants, status, IsPossible};
 ghost use Rattle.kpn_model.specs.declared.history.Status.TheVariants.{Done};
 ghost use Rattle.kpn_state.specs.declared.standing.Standing.TheVariants.{Parked};
-ghost use Rattle.kpn_state.specs.Standings.{StandingsFit, standing, partner, HasChannel};
+ghost use Rattle.kpn_state.specs.Standings.{StandingsFit, standing, is_busy, partner, HasChannel};
+ghost use Rattle.kpn_commit.specs.Choice.{AreCandidates};
 ghost use Rattle.kpn_commit.specs.Reactions.{Reacts, Resumes};
 
 use crate::act::advance;
+use crate::choose::park;
 use kpn_model::{Act, Answer, Deed, Kinds, Token};
 use kpn_network::Net;
 use kpn_state::standing::{is_parked, parked};
-use kpn_state::{Roster, Standing, Store};
+use kpn_state::{Candidates, Roster, Store};
 
 /// What a process's answer led to. `Waits`: it could not be done, and the process is parked. `Acts`: it
 /// was done. `HandsOn`: it was done, and then the parked process at the other end of the channel did
@@ -24,22 +27,26 @@ pub enum Reaction {
     HandsOn,
 }
 
-/// Does the answer of a live process, or parks the process with it; then does the deed of the
+/// Does the answer of a process that is ready or out, or parks the process with it; then does the deed of the
 /// parked process that this enables. The history must have room for two entries.
 #[inline(always)]
 pub fn react<K: Kinds>(
     net: &Net<K>,
     store: &mut Store,
     standings: &mut Roster,
+    candidates: &mut Candidates,
     process: usize,
     answer: Answer,
 ) -> Reaction
-    requires keeps { StandingsFit K.family K.admits net.now None store.old.state standings.old }
+    requires keeps { StandingsFit (family_of K.start K.answer_of) K.admits net.now None store.old.state standings.old }
     requires process { process < length standings.old }
-    requires wants { wants K.family net.now store.old.state process ≡ Some answer }
+    requires wants { wants (family_of K.start K.answer_of) net.now store.old.state process ≡ Some answer }
+    requires busy { is_busy (standing standings.old process) ≡ true }
     requires room { length store.old.history + 2 ≤ store.old.room }
-    ensures reacts { Reacts K.family net.now store.old standings.old process answer result store.new standings.new }
-    ensures keeps { StandingsFit K.family K.admits net.now None store.new.state standings.new }
+    requires candidates { AreCandidates net.now store.old.state standings.old candidates.old }
+    ensures reacts { Reacts (family_of K.start K.answer_of) net.now store.old standings.old process answer result store.new standings.new }
+    ensures keeps { StandingsFit (family_of K.start K.answer_of) K.admits net.now None store.new.state standings.new }
+    ensures candidates { AreCandidates net.now store.new.state standings.new candidates.new }
 {
     let next = answer.next;
     match answer.act {
@@ -48,21 +55,21 @@ pub fn react<K: Kinds>(
                 next,
                 act: Act::Read(port),
             };
-            react_to(net, store, standings, process, answer)
+            react_to(net, store, standings, candidates, process, answer)
         }
         Act::Write(port, token) => {
             let answer = Answer {
                 next,
                 act: Act::Write(port, token),
             };
-            react_to(net, store, standings, process, answer)
+            react_to(net, store, standings, candidates, process, answer)
         }
         Act::Stop => {
             let answer = Answer {
                 next,
                 act: Act::Stop,
             };
-            react_to(net, store, standings, process, answer)
+            react_to(net, store, standings, candidates, process, answer)
         }
     }
 }
@@ -73,18 +80,22 @@ fn react_to<K: Kinds>(
     net: &Net<K>,
     store: &mut Store,
     standings: &mut Roster,
+    candidates: &mut Candidates,
     process: usize,
     answer: Answer,
 ) -> Reaction
-    requires keeps { StandingsFit K.family K.admits net.now None store.old.state standings.old }
+    requires keeps { StandingsFit (family_of K.start K.answer_of) K.admits net.now None store.old.state standings.old }
     requires process { process < length standings.old }
-    requires wants { wants K.family net.now store.old.state process ≡ Some answer }
+    requires wants { wants (family_of K.start K.answer_of) net.now store.old.state process ≡ Some answer }
+    requires busy { is_busy (standing standings.old process) ≡ true }
     requires room { length store.old.history + 2 ≤ store.old.room }
-    ensures reacts { Reacts K.family net.now store.old standings.old process answer result store.new standings.new }
-    ensures keeps { StandingsFit K.family K.admits net.now None store.new.state standings.new }
+    requires candidates { AreCandidates net.now store.old.state standings.old candidates.old }
+    ensures reacts { Reacts (family_of K.start K.answer_of) net.now store.old standings.old process answer result store.new standings.new }
+    ensures keeps { StandingsFit (family_of K.start K.answer_of) K.admits net.now None store.new.state standings.new }
+    ensures candidates { AreCandidates net.now store.new.state standings.new candidates.new }
 {
     let Some(deed) = advance(net, store, standings, process, answer) else {
-        standings.update(process, Standing::Parked(anew(answer)));
+        park(net, store, standings, candidates, process, anew(answer));
         return Reaction::Waits;
     };
     let Some(other) = partner(net, deed) else {
@@ -93,7 +104,7 @@ fn react_to<K: Kinds>(
     if !is_parked(standings.as_slice(), other) {
         return Reaction::Acts;
     }
-    if resume(net, store, standings, other) {
+    if resume(net, store, standings, candidates, other) {
         Reaction::HandsOn
     } else {
         Reaction::Acts
@@ -101,21 +112,36 @@ fn react_to<K: Kinds>(
 }
 
 /// Does what a process answered when it was parked, if it can now be done, and returns whether it was;
-/// otherwise nothing changes. It is a function of its own, out of the way of a commit after which no
-/// parked process goes on.
+/// otherwise nothing changes. A channel to which it waited to write is then no candidate any more. It is
+/// a function of its own, out of the way of a commit after which no parked process goes on.
 #[inline(never)]
-fn resume<K: Kinds>(net: &Net<K>, store: &mut Store, standings: &mut Roster, process: usize) -> bool
-    requires keeps { StandingsFit K.family K.admits net.now (Some process) store.old.state standings.old }
+fn resume<K: Kinds>(
+    net: &Net<K>,
+    store: &mut Store,
+    standings: &mut Roster,
+    candidates: &mut Candidates,
+    process: usize,
+) -> bool
+    requires keeps { StandingsFit (family_of K.start K.answer_of) K.admits net.now (Some process) store.old.state standings.old }
     requires room { length store.old.history < store.old.room }
-    ensures resumes { IsTrue result → Resumes K.family K.admits net.now store.old standings.old process store.new standings.new }
-    ensures cannot { result ≡ false → (a : AnswerV) → standing standings.old process ≡ Parked a → IsPossible K.family net.now store.old.state process a.act → ⊥ }
+    requires candidates { AreCandidates net.now store.old.state standings.old candidates.old }
+    ensures resumes { IsTrue result → Resumes (family_of K.start K.answer_of) K.admits net.now store.old standings.old process store.new standings.new }
+    ensures cannot { result ≡ false → (a : AnswerV) → standing standings.old process ≡ Parked a → IsPossible (family_of K.start K.answer_of) net.now store.old.state process a.act → ⊥ }
     ensures same { result ≡ false → store.new ≡ store.old }
     ensures same_standings { result ≡ false → standings.new ≡ standings.old }
+    ensures candidates { AreCandidates net.now store.new.state standings.new candidates.new }
 {
-    match parked(standings.as_slice(), process) {
-        Some(wanted) => advance(net, store, standings, process, wanted).is_some(),
-        None => false,
+    let Some(wanted) = parked(standings.as_slice(), process) else {
+        return false;
+    };
+    let Some(deed) = advance(net, store, standings, process, wanted) else {
+        return false;
+    };
+    if let Deed::Put { channel, .. } = deed {
+        let (_, capacity) = store.filling(channel);
+        candidates.remove(capacity, channel);
     }
+    true
 }
 
 /// The same answer, put together of its parts. To park a copy of the whole, all its bytes would have to

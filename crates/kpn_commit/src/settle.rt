@@ -1,7 +1,9 @@
 //! What follows when no process is ready or out.
 ghost use Rattle.std.specs.Prelude.{◌≡◌, ◌<◌, ◌≤◌, ◌+◌, min, length, None, false};
+ghost use Rattle.kpn_model.specs.Network.{family_of};
 ghost use Rattle.std.specs.List.{list_any};
 ghost use Rattle.kpn_state.specs.Standings.{StandingsFit, is_busy};
+ghost use Rattle.kpn_commit.specs.Choice.{AreCandidates};
 ghost use Rattle.kpn_commit.specs.Settling.{Settles};
 
 use crate::act::advance;
@@ -9,7 +11,7 @@ use crate::choose::choose;
 use kpn_model::{End, Kinds};
 use kpn_network::Net;
 use kpn_state::standing::parked;
-use kpn_state::{Roster, Store};
+use kpn_state::{Candidates, Roster, Store};
 
 /// How the run goes on. `Busy`: some process is ready or out. `Ended`: none is, and the run ended.
 /// `Enlarged`: none was, a channel grew, and its writer's token was put.
@@ -36,18 +38,25 @@ fn enlarged(capacity: usize, step: usize, ceiling: usize) -> usize
 /// growth is refused memory.
 #[cold]
 #[inline(never)]
-fn settle_idle<K: Kinds>(net: &Net<K>, store: &mut Store, standings: &mut Roster) -> Settled
-    requires keeps { StandingsFit K.family K.admits net.now None store.old.state standings.old }
+fn settle_idle<K: Kinds>(
+    net: &Net<K>,
+    store: &mut Store,
+    standings: &mut Roster,
+    candidates: &mut Candidates,
+) -> Settled
+    requires keeps { StandingsFit (family_of K.start K.answer_of) K.admits net.now None store.old.state standings.old }
     requires idle { list_any is_busy standings.old ≡ false }
     requires room { length store.old.history + 2 ≤ store.old.room }
-    ensures settles { Settles K.family net.now store.old standings.old result store.new standings.new }
-    ensures keeps { StandingsFit K.family K.admits net.now None store.new.state standings.new }
+    requires candidates { AreCandidates net.now store.old.state standings.old candidates.old }
+    ensures settles { Settles (family_of K.start K.answer_of) net.now store.old standings.old result store.new standings.new }
+    ensures keeps { StandingsFit (family_of K.start K.answer_of) K.admits net.now None store.new.state standings.new }
+    ensures candidates { AreCandidates net.now store.new.state standings.new candidates.new }
 {
     net.assure_valid();
     if standings.all_stopped() {
         return Settled::Ended(End::Terminated);
     }
-    let Some((channel, writer)) = choose(net, store, standings.as_slice()) else {
+    let Some((channel, writer)) = choose(net, candidates) else {
         return Settled::Ended(End::Deadlock);
     };
     let (_, capacity) = store.filling(channel);
@@ -61,6 +70,7 @@ fn settle_idle<K: Kinds>(net: &Net<K>, store: &mut Store, standings: &mut Roster
     let Ok(()) = store.grow(channel, to) else {
         return Settled::Ended(End::Memory);
     };
+    candidates.remove(capacity, channel);
     let Some(_) = advance(net, store, standings, writer, answer) else {
         unreachable!()
     };
@@ -71,15 +81,22 @@ fn settle_idle<K: Kinds>(net: &Net<K>, store: &mut Store, standings: &mut Roster
 /// token (Parks 1995). The run also ends if the growth is refused memory. In this case the history must
 /// have room for two entries.
 #[inline(always)]
-pub fn settle<K: Kinds>(net: &Net<K>, store: &mut Store, standings: &mut Roster) -> Settled
-    requires keeps { StandingsFit K.family K.admits net.now None store.old.state standings.old }
+pub fn settle<K: Kinds>(
+    net: &Net<K>,
+    store: &mut Store,
+    standings: &mut Roster,
+    candidates: &mut Candidates,
+) -> Settled
+    requires keeps { StandingsFit (family_of K.start K.answer_of) K.admits net.now None store.old.state standings.old }
     requires room { list_any is_busy standings.old ≡ false → length store.old.history + 2 ≤ store.old.room }
-    ensures settles { Settles K.family net.now store.old standings.old result store.new standings.new }
-    ensures keeps { StandingsFit K.family K.admits net.now None store.new.state standings.new }
+    requires candidates { AreCandidates net.now store.old.state standings.old candidates.old }
+    ensures settles { Settles (family_of K.start K.answer_of) net.now store.old standings.old result store.new standings.new }
+    ensures keeps { StandingsFit (family_of K.start K.answer_of) K.admits net.now None store.new.state standings.new }
+    ensures candidates { AreCandidates net.now store.new.state standings.new candidates.new }
 {
     if standings.any_busy() {
         Settled::Busy
     } else {
-        settle_idle(net, store, standings)
+        settle_idle(net, store, standings, candidates)
     }
 }

@@ -1,7 +1,9 @@
 //! The work of a commit.
-ghost use Rattle.std.specs.Prelude.{◌≡◌, ◌<◌, ◌≤◌, ◌+◌, length, Some, None};
+ghost use Rattle.std.specs.Prelude.{◌≡◌, ◌<◌, ◌≤◌, ◌+◌, length, Some, None, true};
+ghost use Rattle.kpn_model.specs.Network.{family_of};
 ghost use Rattle.kpn_model.specs.Semantics.{wants};
-ghost use Rattle.kpn_state.specs.Standings.{StandingsFit};
+ghost use Rattle.kpn_state.specs.Standings.{StandingsFit, standing, is_busy};
+ghost use Rattle.kpn_commit.specs.Choice.{AreCandidates};
 ghost use Rattle.kpn_commit.specs.Works.{Works, outcome_of, end_after, settled_entries};
 
 use crate::outcome::Outcome;
@@ -9,7 +11,7 @@ use crate::react::{Reaction, react};
 use crate::settle::{Settled, settle};
 use kpn_model::{Answer, End, Kinds};
 use kpn_network::Net;
-use kpn_state::{Roster, Store};
+use kpn_state::{Candidates, Roster, Store};
 
 /// How many entries were appended after the reaction.
 fn settled_entries(settled: Settled) -> usize
@@ -50,25 +52,29 @@ fn end_after(settled: Settled, budget: u64, entries: u64) -> Option<End>
     }
 }
 
-/// Works on the answer of a live process, in a run that has not ended. Returns the outcome, and
+/// Works on the answer of a process that is ready or out, in a run that has not ended. Returns the outcome, and
 /// how the run ended, if it did. The history must have room for three entries.
 #[inline(always)]
 pub fn work<K: Kinds>(
     net: &Net<K>,
     store: &mut Store,
     standings: &mut Roster,
+    candidates: &mut Candidates,
     process: usize,
     answer: Answer,
 ) -> (Outcome, Option<End>)
-    requires keeps { StandingsFit K.family K.admits net.now None store.old.state standings.old }
+    requires keeps { StandingsFit (family_of K.start K.answer_of) K.admits net.now None store.old.state standings.old }
     requires process { process < length standings.old }
-    requires wants { wants K.family net.now store.old.state process ≡ Some answer }
+    requires wants { wants (family_of K.start K.answer_of) net.now store.old.state process ≡ Some answer }
+    requires busy { is_busy (standing standings.old process) ≡ true }
     requires room { length store.old.history + 3 ≤ store.old.room }
-    ensures works { Works K.family net.now store.old standings.old process answer result.0 store.new standings.new result.1 }
-    ensures keeps { StandingsFit K.family K.admits net.now None store.new.state standings.new }
+    requires candidates { AreCandidates net.now store.old.state standings.old candidates.old }
+    ensures works { Works (family_of K.start K.answer_of) net.now store.old standings.old process answer result.0 store.new standings.new result.1 }
+    ensures keeps { StandingsFit (family_of K.start K.answer_of) K.admits net.now None store.new.state standings.new }
+    ensures candidates { AreCandidates net.now store.new.state standings.new candidates.new }
 {
-    let reaction = react(net, store, standings, process, answer);
-    let settled = settle(net, store, standings);
+    let reaction = react(net, store, standings, candidates, process, answer);
+    let settled = settle(net, store, standings, candidates);
     let end = end_after(settled, net.budget(), store.history().len() as u64);
     (outcome_of(reaction, settled), end)
 }

@@ -25,13 +25,13 @@ impl<K: Computes> Model for CardBody<K> {
 
     ghost view = { λ b. b.card };
 
-    ghost invariant = { λ b. IsSome (K.signature_of b.card) };
+    ghost invariant = { λ b. IsSome (K.signature b.card) };
 }
 
 impl<K: Computes> CardBody<K> {
     /// Makes the body of a card that has a signature.
     pub fn new(card: Card) -> Self
-        requires { IsSome (K.signature_of card) }
+        requires { IsSome (K.signature card) }
         ensures { result ≡ card }
     {
         CardBody {
@@ -71,9 +71,9 @@ pub fn bodies_of<K: Computes>(alloc: Global, net: &Net<K>) -> Result<Vec<CardBod
 
 /// The card of a process, which has a signature.
 fn signed_card<K: Computes>(net: &Net<K>, process: usize) -> Card
-    requires valid { IsValid K.signature_of net.now }
+    requires valid { IsValid K.signature net.now }
     requires within { process < length net.now.processes }
-    ensures signed { IsSome (K.signature_of result) }
+    ensures signed { IsSome (K.signature result) }
     ensures is { slice_get (map (λ p. p.card) net.now.processes) process ≡ Some result }
 {
     net.card(process)

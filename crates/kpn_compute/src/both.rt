@@ -1,5 +1,6 @@
 //! Two families as one.
 ghost use Rattle.std.specs.Prelude.{◌≡◌, ◌⊎◌, ◌↔◌, ◌<◌, ◌-◌, ◌^◌, true, false, None, IsSome, IfSome};
+ghost use Rattle.kpn_model.specs.Network.{family_of};
 ghost use Rattle.kpn_compute.specs.Both.{is_first, own_card, both_named, both_ports, both_family, BothAdmit, IsNameRefused, MeansOwn, number_in_both};
 
 use crate::computes::Computes;
@@ -52,9 +53,11 @@ fn number_in_both(place: u16, kind: u16) -> u16
 impl<A: Kinds, B: Kinds> Kinds for Both<A, B> {
     ghost named = { both_named A.named B.named };
 
-    ghost signature_of = { both_ports A.signature_of B.signature_of };
+    ghost signature = { both_ports A.signature B.signature };
 
-    ghost family = { both_family A.family B.family };
+    ghost start = { (both_family (family_of A.start A.answer_of) (family_of B.start B.answer_of)).start };
+
+    ghost answer_of = { (both_family (family_of A.start A.answer_of) (family_of B.start B.answer_of)).answer };
 
     ghost admits = { BothAdmit A.admits B.admits };
 
@@ -67,7 +70,7 @@ impl<A: Kinds, B: Kinds> Kinds for Both<A, B> {
     fn named(name: &str) -> Option<(u16, usize)>
         ensures is { result ≡ both_named A.named B.named name.now }
         ensures known { IsSome result ↔ (IsSome (A.named name.now) ⊎ IsSome (B.named name.now)) }
-        ensures shared { IsSome (A.named name.now) → IsSome (B.named name.now) → IsNameRefused (both_ports A.signature_of B.signature_of) result }
+        ensures shared { IsSome (A.named name.now) → IsSome (B.named name.now) → IsNameRefused (both_ports A.signature B.signature) result }
         ensures first { IfSome (A.named name.now) (λ own. B.named name.now ≡ None → own.0 < 2 ^ 15 - 1 → MeansOwn true own result) }
         ensures second { IfSome (B.named name.now) (λ own. A.named name.now ≡ None → own.0 < 2 ^ 15 - 1 → MeansOwn false own result) }
     {

@@ -10,9 +10,9 @@ pub trait Computes: Kinds {
     /// Returns what a process of this card answers in this local state, after it has just read `last`
     /// (`None` if its last act was no read). The card must have a signature, and must admit the two.
     fn answer(card: Card, local: Local, last: Option<Token>) -> Answer
-        requires signed { IsSome (Self.signature_of card) }
+        requires signed { IsSome (Self.signature card) }
         requires admitted { Self.admits card local last }
-        ensures { result ≡ Self.family.answer card local last };
+        ensures { result ≡ Self.answer_of card local last };
 }
 
 impl Computes for Standard {

@@ -59,9 +59,11 @@ pub struct Filtered<F: Filters> {
 impl<F: Filters> Kinds for Filtered<F> {
     ghost named = { F.named };
 
-    ghost signature_of = { filter_ports F.accepts };
+    ghost signature = { filter_ports F.accepts };
 
-    ghost family = { filter_family F.start F.step };
+    ghost start = { F.start };
+
+    ghost answer_of = { (filter_family F.start F.step).answer };
 
     ghost admits = { λ card. FilterAdmits };
 

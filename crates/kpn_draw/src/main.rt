@@ -4,9 +4,7 @@
 ghost use Rattle.kpn_drawing.specs.DrawChoices.{HasFewIfRun};
 
 use kpn_drawing::{Choice, Served, WordsFault, read_words, serve};
-use kpn_front::Status;
-use kpn_front::say::say_refused;
-use kpn_front::streams::Fallible;
+use kpn_front::{Fallible, Status, say_refused};
 use kpn_net::NetFault;
 use std::process::ExitCode;
 use std::rt::{Clock, Env, Files};
@@ -15,13 +13,13 @@ use std::thread::Threads;
 use std::{env, fs, io};
 
 fn main(rt: HostRuntime) -> ExitCode {
-    ExitCode::from(status_of(&rt).code())
+    ExitCode::from(status_of(&rt))
 }
 
 /// Reads the arguments, draws what they ask for, and returns the exit status.
 fn status_of<R: Env + Files + Input + Print + Eprint + AllocGlobal + Wait + Clock + Threads + Sync>(
     rt: &R,
-) -> Status {
+) -> u8 {
     let Ok(words) = words_of(rt) else {
         return say_no_memory(rt);
     };
@@ -66,9 +64,9 @@ fn serve_choice<R: Files + Input + Print + AllocGlobal + Wait + Clock + Threads 
 }
 
 /// Says that the arguments could not be collected, since memory was refused.
-fn say_no_memory<R: Eprint>(rt: &R) -> Status {
+fn say_no_memory<R: Eprint>(rt: &R) -> u8 {
     let _ = eprintln!(rt; "kpn-draw: memory was refused while the words were read");
-    Status::WrongArguments
+    Status::WrongArguments.code()
 }
 
 fn words_of<R: Env + AllocGlobal>(rt: &R) -> io::Result<Vec<String>> {
@@ -85,14 +83,14 @@ fn texts_of<'a>(rt: &impl AllocGlobal, words: &'a Vec<String>) -> io::Result<Vec
 }
 
 /// Writes help to standard output, and a fault of the arguments to standard error.
-fn say_words_refused<R: Print + Eprint>(rt: &R, fault: &WordsFault) -> Status {
+fn say_words_refused<R: Print + Eprint>(rt: &R, fault: &WordsFault) -> u8 {
     let said = if fault.asks_for_help() {
         print!(rt; "{fault}")
     } else {
         eprint!(rt; "{fault}")
     };
     match said {
-        Ok(()) => fault.status(),
-        Err(_) => Status::WriteFailed,
+        Ok(()) => fault.status().code(),
+        Err(_) => Status::WriteFailed.code(),
     }
 }

@@ -15,10 +15,10 @@ use Rattle.kpn_report.specs.declared.detail.Detail.{Detail}
 use Rattle.kpn_picture.specs.Titles.{standard_title}
 use Rattle.kpn_picture.specs.Picture.{picture}
 use Rattle.kpn_front.specs.declared.status.Status.{Status}
-use Rattle.kpn_front.specs.declared.status.Status.TheVariants.{Success, Lost}
-use Rattle.kpn_front.specs.Lines.{lost_line, refused_line, status_of_fault}
+use Rattle.kpn_front.specs.declared.status.Status.TheVariants.{Success}
+use Rattle.kpn_front.specs.Lines.{refused_line, status_of_fault}
 use Rattle.kpn_front.specs.Loading.{Loads}
-use Rattle.kpn_execute.specs.Execution.{TellsRefused, Writes}
+use Rattle.kpn_execute.specs.Execution.{TellsRefused, TellsLost, Writes}
 use Rattle.kpn_execute.specs.Program.{fault_of}
 
 -- the picture of a network after a run, from the run's digest
@@ -46,11 +46,6 @@ pub record DrawsRun (net : Network) (status : Status) (text : List ℕ) : Type 0
   pub text_is : text ≡ run_picture net cause history state
   pub settled : has_report cause ≡ true → (F : List Entry) (N : State) (b : End) → IsFinal standard net F N b → text ≡ digest_picture net (digest standard net b F N)
 
--- an answer of a worker was refused
-pub record DrawsLost (status : Status) (text : List ℕ) : Type 0 where
-  pub status_is : status ≡ Lost
-  pub text_is : text ≡ lost_line
-
 -- the network itself is drawn
 pub record DrawsNet (net : Network) (status : Status) (text : List ℕ) : Type 0 where
   pub status_is : status ≡ Success
@@ -63,7 +58,7 @@ DrawsEnd net status text = TellsRefused status text ⊎ DrawsRun net status text
 -- what is drawn of a network: itself, or as a run by this number of workers left it; or why not
 abbrev pub DrawsOf : Option ℕ → Network → Status → List ℕ → Type 0
 DrawsOf None net status text = TellsRefused status text ⊎ DrawsNet net status text
-DrawsOf (Some workers) net status text = DrawsLost status text ⊎ DrawsEnd net status text
+DrawsOf (Some workers) net status text = TellsLost workers status text ⊎ DrawsEnd net status text
 
 -- what is drawn of a description that was loaded, or written of one that was refused
 abbrev pub DrawsLoaded : Option ℕ → Result Network NetFault → Status → List ℕ → Type 0
@@ -72,7 +67,7 @@ DrawsLoaded workers (Err fault) status text = (status ≡ status_of_fault fault)
 
 -- the input is loaded, and what is drawn of it is written; known of the input are its bytes, if they are known at all, and
 -- whether a read had failed before and after
-pub record Draws (workers : Option ℕ) (input : Option (List ℕ)) (failed_before failed_after : Bool) (takes : ℕ → Bool) (before after : Option (List ℕ)) (status : Status) (fault : Option NetFault) : Type 0 where
+pub record Draws (workers : Option ℕ) (input : Option (List ℕ)) (failed_before failed_after : Bool) (takes : ℕ → Bool) (before after : Option (List ℕ)) (status : ℕ) (fault : Option NetFault) : Type 0 where
   pub loaded : Result Network NetFault
   pub loads : failed_before ≡ false → IfSome input (λ text. Loads named signature failed_after text loaded)
   pub failed : failed_before ≡ false → failed_after ≡ true → loaded ≡ Err Input

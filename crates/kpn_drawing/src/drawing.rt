@@ -6,10 +6,7 @@ ghost use Rattle.kpn_drawing.specs.DrawChoices.{HasFewIfRun};
 ghost use Rattle.kpn_drawing.specs.Drawing.{Draws, DrawsOf};
 
 use crate::running::draw_run;
-use kpn_front::Status;
-use kpn_front::load::load;
-use kpn_front::say::{say, say_refused};
-use kpn_front::streams::{Sink, Source};
+use kpn_front::{Sink, Source, Status, load, say, say_refused};
 use kpn_net::{Net, NetFault};
 use kpn_picture::{Left, picture_of};
 use kpn_standard::Standard;
@@ -21,7 +18,7 @@ use std::thread::Threads;
 /// The outcome of a description: the exit status, and its fault if it was refused.
 #[derive(Drop)]
 pub struct Served {
-    pub status: Status,
+    pub status: u8,
     pub fault: Option<NetFault>,
 }
 
@@ -64,7 +61,7 @@ pub fn serve<I: Source, O: Sink, R: Wait + Clock + Threads + Sync>(
 ///
 /// Returns the exit status: 0, 4 if memory was refused (`refused 14` is then written), and 7 if the
 /// write fails.
-fn draw_net<S: Sink>(alloc: Global, net: &Net<Standard>, sink: &mut S) -> Status
+fn draw_net<S: Sink>(alloc: Global, net: &Net<Standard>, sink: &mut S) -> u8
     ensures { Writes (DrawsOf None net.now) (S.takes sink.old) (S.contents sink.old) (S.contents sink.new) result }
 {
     let start = Left {

@@ -1,17 +1,17 @@
 //! Running a network, and drawing it as the run left it.
-ghost use Rattle.std.specs.Prelude.{◌≡◌, ◌≤◌, Some, IfOk, map, string_bytes};
+ghost use Rattle.std.specs.Prelude.{◌≡◌, ◌<◌, ◌≤◌, Some, IfOk, IsSome, map, string_bytes};
 ghost use Rattle.kpn_execute.specs.Execution.{Writes};
 ghost use Rattle.kpn_drawing.specs.Drawing.{DrawsEnd, DrawsOf, DrawsRun, report_picture};
 
 use kpn_body::Body;
 use kpn_compute::{CardBody, bodies_of};
-use kpn_front::Status;
-use kpn_front::say::{say, say_lost, say_refused};
-use kpn_front::streams::Sink;
+use kpn_front::{Sink, Status, say, say_lost, say_refused};
+use kpn_laws::determinacy_of;
+use kpn_machine::{Chronicle, Machine};
 use kpn_net::{Net, NetFault};
 use kpn_picture::{Left, picture_of};
-use kpn_report::Report;
-use kpn_run::{Finish, Open, RunFault, report, run};
+use kpn_report::{Report, places_of, report_of};
+use kpn_run::{Open, RunFault, run};
 use kpn_standard::Standard;
 use std::alloc::{AllocError, Global};
 use std::rt::Clock;
@@ -21,14 +21,15 @@ use std::thread::Threads;
 /// Runs a network by 1 to 16 workers, and writes the picture of how the run left it.
 ///
 /// Returns the exit status: 0 however the run ended, 4 if memory was refused (`refused 14` is then
-/// written), 7 if the write fails, and 8 if the machine refused an answer of a worker (`lost`).
+/// written), 7 if the write fails, and 8 if the machine refused an answer of one of several workers
+/// (`lost`).
 pub(crate) fn draw_run<S: Sink, R: Wait + Clock + Threads + Sync>(
     rt: &R,
     alloc: Global,
     net: Net<Standard>,
     workers: usize,
     sink: &mut S,
-) -> Status
+) -> u8
     requires { (1 ≤ workers) × (workers ≤ 16) }
     ensures { Writes (DrawsOf (Some workers) net) (S.takes sink.old) (S.contents sink.old) (S.contents sink.new) result }
 {
@@ -38,7 +39,7 @@ pub(crate) fn draw_run<S: Sink, R: Wait + Clock + Threads + Sync>(
     }
 }
 
-/// The same, with a body for each process.
+/// The same, with a body for each process. A single worker is the calling thread.
 fn draw_run_of<S: Sink, R: Wait + Clock + Threads + Sync>(
     rt: &R,
     alloc: Global,
@@ -46,13 +47,49 @@ fn draw_run_of<S: Sink, R: Wait + Clock + Threads + Sync>(
     bodies: Vec<CardBody<Standard>>,
     workers: usize,
     sink: &mut S,
-) -> Status
+) -> u8
     requires cards { map ⟦<CardBody<Standard> as Body>⟧.card bodies.items ≡ map (λ p. p.card) net.processes }
     requires workers { (1 ≤ workers) × (workers ≤ 16) }
     ensures { Writes (DrawsOf (Some workers) net) (S.takes sink.old) (S.contents sink.old) (S.contents sink.new) result }
 {
+    if workers == 1 {
+        draw_alone(alloc, net, bodies, sink)
+    } else {
+        draw_by_workers(rt, alloc, net, bodies, workers, sink)
+    }
+}
+
+/// The same, in the calling thread.
+fn draw_alone<S: Sink>(
+    alloc: Global,
+    net: Net<Standard>,
+    bodies: Vec<CardBody<Standard>>,
+    sink: &mut S,
+) -> u8
+    ensures { Writes (DrawsEnd net) (S.takes sink.old) (S.contents sink.old) (S.contents sink.new) result }
+{
+    let Ok(mut machine) = Machine::open(alloc, net, bodies) else {
+        return say_refused(&NetFault::Memory, sink);
+    };
+    machine.finish_alone();
+    draw_ended(alloc, &machine.into_chronicle(), sink)
+}
+
+/// The same, by several workers.
+fn draw_by_workers<S: Sink, R: Wait + Clock + Threads + Sync>(
+    rt: &R,
+    alloc: Global,
+    net: Net<Standard>,
+    bodies: Vec<CardBody<Standard>>,
+    workers: usize,
+    sink: &mut S,
+) -> u8
+    requires cards { map ⟦<CardBody<Standard> as Body>⟧.card bodies.items ≡ map (λ p. p.card) net.processes }
+    requires workers { (1 < workers) × (workers ≤ 16) }
+    ensures { Writes (DrawsOf (Some workers) net) (S.takes sink.old) (S.contents sink.old) (S.contents sink.new) result }
+{
     match run(rt, alloc, net, bodies, workers, &Open) {
-        Ok(finish) => draw_finish(alloc, &finish, sink),
+        Ok(finish) => draw_ended(alloc, finish.chronicle(), sink),
         Err(RunFault::Memory { .. }) => say_refused(&NetFault::Memory, sink),
         Err(RunFault::Lost { .. }) => say_lost(sink),
         Err(RunFault::Workers { .. }) => unreachable!(),
@@ -60,23 +97,30 @@ fn draw_run_of<S: Sink, R: Wait + Clock + Threads + Sync>(
     }
 }
 
-/// Writes the picture of a run that is over.
-fn draw_finish<S: Sink>(alloc: Global, finish: &Finish<Standard>, sink: &mut S) -> Status
-    ensures { Writes (DrawsEnd finish.now.machine.network) (S.takes sink.old) (S.contents sink.old) (S.contents sink.new) result }
+/// Writes the picture of a run that ended.
+fn draw_ended<S: Sink>(alloc: Global, chronicle: &Chronicle<Standard>, sink: &mut S) -> u8
+    requires { IsSome chronicle.now.end }
+    ensures { Writes (DrawsEnd chronicle.now.network) (S.takes sink.old) (S.contents sink.old) (S.contents sink.new) result }
 {
-    match picture_of_run(alloc, finish) {
+    match picture_of_run(alloc, chronicle) {
         Ok(picture) => say(sink, picture.as_str(), Status::Success),
         Err(_) => say_refused(&NetFault::Memory, sink),
     }
 }
 
-/// The picture of a run that is over.
-fn picture_of_run(alloc: Global, finish: &Finish<Standard>) -> Result<String, AllocError>
-    ensures { IfOk result (λ picture. DrawsRun finish.now.machine.network Status.Success (string_bytes picture)) }
+/// The picture of a run that ended.
+fn picture_of_run(alloc: Global, chronicle: &Chronicle<Standard>) -> Result<String, AllocError>
+    requires { IsSome chronicle.now.end }
+    ensures { IfOk result (λ picture. DrawsRun chronicle.now.network Status.Success (string_bytes picture)) }
 {
-    let _end = finish.end();
-    let report = report(alloc, finish)?;
-    let picture = picture_of_report(alloc, finish.net(), &report)?;
+    let Some(end) = chronicle.end() else {
+        unreachable!()
+    };
+    determinacy_of::<Standard>();
+    let net = chronicle.net();
+    let places = places_of(alloc, net, chronicle.standings())?;
+    let report = report_of(alloc, net, chronicle.history(), places, end)?;
+    let picture = picture_of_report(alloc, net, &report)?;
     Ok(picture)
 }
 

@@ -46,7 +46,7 @@ module _ (kinds : Family) (net : Network) where
       over_text a E M channel e.over ∙ ap (text_of channel) (one net E F M N a b e f) ∙ sym (over_text b F N channel f.over)
 
 -- an end is justified
-bound_by : (kinds : Family) (admits : Card → List ℕ → Option Token → Type 0) (s : MachineView) (cause : End) → IsFaithful kinds admits s → s.end ≡ Some cause → MayEnd kinds s.network s.history s.state cause
+pub bound_by : (kinds : Family) (admits : Card → List ℕ → Option Token → Type 0) (s : MachineView) (cause : End) → IsFaithful kinds admits s → s.end ≡ Some cause → MayEnd kinds s.network s.history s.state cause
 bound_by kinds admits s cause faithful ended = subst (MayStand kinds s.network s.history s.state) ended faithful.bound
 
 -- the text of a run that ended is that of its history

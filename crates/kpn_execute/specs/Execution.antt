@@ -15,6 +15,7 @@ use Rattle.kpn_laws.specs.StreamsOfRun.{ApproachLeastSolution}
 use Rattle.kpn_report.specs.Text.{text as report_text}
 use Rattle.kpn_front.specs.declared.status.Status.{Status}
 use Rattle.kpn_front.specs.declared.status.Status.TheVariants.{Success, WrongArguments, BudgetSpent, MemoryRefused, Deadlocked, AtCeiling, WriteFailed, Lost}
+use Rattle.kpn_front.specs.Statuses.{code_of}
 use Rattle.kpn_front.specs.Lines.{lost_line, refused_line, no_channel_line}
 
 -- the exit status of a run with this end
@@ -87,19 +88,19 @@ Tells kinds net workers show status text = TellsNoChannel net show status text �
 abbrev pub TellsOfBodies : Family → Network → ℕ → Option (List ℕ) → Status → List ℕ → Type 0
 TellsOfBodies kinds net workers show status text = TellsRefused status text ⊎ Tells kinds net workers show status text
 
--- a text is written, and the status belongs to it; the status is `WriteFailed` if the write fails, which it does not if the sink takes that
--- many bytes
-pub record Writes (tells : Status → List ℕ → Type 0) (takes : ℕ → Bool) (before after : Option (List ℕ)) (result : Status) : Type 0 where
+-- a text is written, and the number is that of the status that belongs to it; it is the number of `WriteFailed` if the write fails, which
+-- it does not if the sink takes that many bytes
+pub record Writes (tells : Status → List ℕ → Type 0) (takes : ℕ → Bool) (before after : Option (List ℕ)) (result : ℕ) : Type 0 where
   pub status : Status
   pub text : List ℕ
   pub told : tells status text
-  pub written : result ≢ WriteFailed → (result ≡ status) × Appends before after text
-  pub room : takes (length text) ≡ true → result ≢ WriteFailed
+  pub written : result ≢ code_of WriteFailed → (result ≡ code_of status) × Appends before after text
+  pub room : takes (length text) ≡ true → result ≢ code_of WriteFailed
 
 -- what the program writes of a network
-abbrev pub Executes : Family → Network → ℕ → Option (List ℕ) → (ℕ → Bool) → Option (List ℕ) → Option (List ℕ) → Status → Type 0
+abbrev pub Executes : Family → Network → ℕ → Option (List ℕ) → (ℕ → Bool) → Option (List ℕ) → Option (List ℕ) → ℕ → Type 0
 Executes kinds net workers show takes before after result = Writes (Tells kinds net workers show) takes before after result
 
 -- the same for a program that makes the bodies of the network
-abbrev pub MakesAndExecutes : Family → Network → ℕ → Option (List ℕ) → (ℕ → Bool) → Option (List ℕ) → Option (List ℕ) → Status → Type 0
+abbrev pub MakesAndExecutes : Family → Network → ℕ → Option (List ℕ) → (ℕ → Bool) → Option (List ℕ) → Option (List ℕ) → ℕ → Type 0
 MakesAndExecutes kinds net workers show takes before after result = Writes (TellsOfBodies kinds net workers show) takes before after result

@@ -30,7 +30,7 @@ TellsLoaded choice (Err fault) status text = (status ≡ status_of_fault fault) 
 
 -- the input is loaded, and what the choice asks for is written; known of the input are its bytes, if they are known at all, and
 -- whether a read had failed before and after
-pub record Serves (choice : Choice) (input : Option (List ℕ)) (failed_before failed_after : Bool) (takes : ℕ → Bool) (before after : Option (List ℕ)) (status : Status) (fault : Option NetFault) : Type 0 where
+pub record Serves (choice : Choice) (input : Option (List ℕ)) (failed_before failed_after : Bool) (takes : ℕ → Bool) (before after : Option (List ℕ)) (status : ℕ) (fault : Option NetFault) : Type 0 where
   pub loaded : Result Network NetFault
   pub loads : failed_before ≡ false → IfSome input (λ text. Loads named signature failed_after text loaded)
   pub failed : failed_before ≡ false → failed_after ≡ true → loaded ≡ Err Input

@@ -1,12 +1,11 @@
 //! Networks of families for which a plain function answers, with bodies that are made here.
 ghost use Rattle.std.specs.Prelude.{◌≤◌, option_map};
+ghost use Rattle.kpn_model.specs.Network.{family_of};
 ghost use Rattle.kpn_execute.specs.Execution.{MakesAndExecutes};
 
 use crate::running::execute;
 use kpn_compute::{Computes, bodies_of};
-use kpn_front::Status;
-use kpn_front::say::say_refused;
-use kpn_front::streams::Sink;
+use kpn_front::{Sink, say_refused};
 use kpn_net::{Net, NetFault};
 use std::alloc::Global;
 use std::rt::Clock;
@@ -24,9 +23,9 @@ pub fn execute_net<K: Computes, S: Sink, R: Wait + Clock + Threads + Sync>(
     workers: usize,
     show: Option<&str>,
     sink: &mut S,
-) -> Status
+) -> u8
     requires workers { (1 ≤ workers) × (workers ≤ 16) }
-    ensures { MakesAndExecutes K.family net workers (option_map (λ s. s.now) show.entry) (S.takes sink.old) (S.contents sink.old) (S.contents sink.new) result }
+    ensures { MakesAndExecutes (family_of K.start K.answer_of) net workers (option_map (λ s. s.now) show.entry) (S.takes sink.old) (S.contents sink.old) (S.contents sink.new) result }
 {
     match bodies_of(alloc, &net) {
         Ok(bodies) => execute(rt, alloc, net, bodies, workers, show, sink),

@@ -1,5 +1,5 @@
 //! The program, from its arguments and its input to what it writes.
-ghost use Rattle.std.specs.Prelude.{◌≡◌, ◌+◌, IfOk, IfErr, OnErr, map};
+ghost use Rattle.std.specs.Prelude.{◌≡◌, ◌≢◌, ◌+◌, [], Some, None, string_bytes, IfSome, IfOk, IfErr, OnErr, map};
 ghost use Rattle.kpn_args.specs.Choices.{HasFewWorkers, IsChoice, IsWordsFault};
 ghost use Rattle.kpn_front.specs.Loading.{ReadsAtMost, longest};
 ghost use Rattle.kpn_args.specs.declared.words.Choice.{Choice as ChoiceV};
@@ -9,10 +9,7 @@ ghost use Rattle.kpn_execute.specs.Program.{Serves, TellsOf};
 use crate::standard::execute_standard;
 use kpn_args::{Choice, WordsFault, read_words};
 use kpn_body::Standard;
-use kpn_front::Status;
-use kpn_front::load::load_or_refuse;
-use kpn_front::say::{say_checked, say_refused};
-use kpn_front::streams::{Sink, Source};
+use kpn_front::{Sink, Source, load_or_refuse, say_checked, say_refused};
 use kpn_message::message_of;
 use kpn_net::{Net, NetFault};
 use std::alloc::Global;
@@ -27,11 +24,11 @@ const KINDS: &str =
 /// The outcome of a choice: the exit status, and if the description was refused its fault, and what is
 /// wrong with it and where.
 ///
-/// No contract says what the message is. There is none if the fault says all (`Memory` and `Input`), or
-/// if memory for the message was refused.
+/// There is no message if the description was accepted, if the fault says all (`Memory` and `Input`),
+/// or if memory for the message was refused. No contract says what a message is, but that it isn't empty.
 #[derive(Drop)]
 pub struct Served {
-    pub status: Status,
+    pub status: u8,
     pub fault: Option<NetFault>,
     pub message: Option<String>,
 }
@@ -53,6 +50,10 @@ pub fn serve<'a, I: Source, O: Sink, R: Wait + Clock + Threads + Sync>(
     sink: &mut O,
 ) -> Result<Served, WordsFault>
     ensures served { IfOk result (λ served. (choice : ChoiceV) × IsChoice (map (λ w. w.now) words.entry.now) choice × Serves choice (I.remaining source.old) (I.has_failed source.old) (I.has_failed source.new) (O.takes sink.old) (O.contents sink.old) (O.contents sink.new) served.status served.fault) }
+    ensures accepted { IfOk result (λ served. served.fault ≡ None → served.message ≡ None) }
+    ensures memory { IfOk result (λ served. served.fault ≡ Some NetFault.Memory → served.message ≡ None) }
+    ensures input { IfOk result (λ served. served.fault ≡ Some NetFault.Input → served.message ≡ None) }
+    ensures said { IfOk result (λ served. IfSome served.message (λ message. string_bytes message ≢ [])) }
     ensures words { IfErr result (IsWordsFault (map (λ w. w.now) words.entry.now)) }
     ensures untouched { OnErr result ((source.new ≡ source.old) × (sink.new ≡ sink.old)) }
     ensures taken { ReadsAtMost (longest + 1) (I.remaining source.old) (I.remaining source.new) }
@@ -70,6 +71,10 @@ fn serve_choice<I: Source, O: Sink, R: Wait + Clock + Threads + Sync>(
     sink: &mut O,
 ) -> Served
     requires workers { HasFewWorkers choice }
+    ensures accepted { result.fault ≡ None → result.message ≡ None }
+    ensures memory { result.fault ≡ Some NetFault.Memory → result.message ≡ None }
+    ensures input { result.fault ≡ Some NetFault.Input → result.message ≡ None }
+    ensures said { IfSome result.message (λ message. string_bytes message ≢ []) }
     ensures served { Serves choice.entry (I.remaining source.old) (I.has_failed source.old) (I.has_failed source.new) (O.takes sink.old) (O.contents sink.old) (O.contents sink.new) result.status result.fault }
     ensures taken { ReadsAtMost (longest + 1) (I.remaining source.old) (I.remaining source.new) }
 {
@@ -102,7 +107,7 @@ fn serve_net<O: Sink, R: Wait + Clock + Threads + Sync>(
     choice: Choice<'_>,
     net: Net<Standard>,
     sink: &mut O,
-) -> Status
+) -> u8
     requires workers { HasFewWorkers choice }
     ensures { Writes (TellsOf choice.entry net) (O.takes sink.old) (O.contents sink.old) (O.contents sink.new) result }
 {

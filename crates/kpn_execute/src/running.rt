@@ -1,12 +1,11 @@
 //! Running a network, and writing the outcome.
 ghost use Rattle.std.specs.Prelude.{◌≡◌, ◌≢◌, ◌<◌, ◌≤◌, Some, None, IfOk, IsSome, map, option_map, string_bytes};
+ghost use Rattle.kpn_model.specs.Network.{family_of};
 ghost use Rattle.kpn_machine.specs.Opening.{cards_of};
 ghost use Rattle.kpn_execute.specs.Execution.{status_of_end, Executes, TellsEnded, TellsKnown, TellsRun, Writes};
 
 use kpn_body::Body;
-use kpn_front::Status;
-use kpn_front::say::{say, say_lost, say_no_channel, say_refused};
-use kpn_front::streams::Sink;
+use kpn_front::{Sink, Status, say, say_lost, say_no_channel, say_refused};
 use kpn_laws::{determinacy_of, least_room_of, least_solution_of};
 use kpn_machine::{Chronicle, Machine};
 use kpn_net::{End, Kinds, Net, NetFault};
@@ -50,10 +49,10 @@ pub fn execute<B: Body, S: Sink, R: Wait + Clock + Threads + Sync>(
     workers: usize,
     show: Option<&str>,
     sink: &mut S,
-) -> Status
+) -> u8
     requires cards { map B.card bodies.items ≡ cards_of net.processes }
     requires workers { (1 ≤ workers) × (workers ≤ 16) }
-    ensures { Executes B.Kinds.family net workers (option_map (λ s. s.now) show.entry) (S.takes sink.old) (S.contents sink.old) (S.contents sink.new) result }
+    ensures { Executes (family_of B.Kinds.start B.Kinds.answer_of) net workers (option_map (λ s. s.now) show.entry) (S.takes sink.old) (S.contents sink.old) (S.contents sink.new) result }
 {
     match show {
         None => tell(rt, alloc, net, bodies, workers, None, sink),
@@ -73,10 +72,10 @@ fn tell<B: Body, S: Sink, R: Wait + Clock + Threads + Sync>(
     workers: usize,
     channel: Option<usize>,
     sink: &mut S,
-) -> Status
+) -> u8
     requires cards { map B.card bodies.items ≡ cards_of net.processes }
     requires workers { (1 ≤ workers) × (workers ≤ 16) }
-    ensures { Writes (TellsKnown B.Kinds.family net workers channel) (S.takes sink.old) (S.contents sink.old) (S.contents sink.new) result }
+    ensures { Writes (TellsKnown (family_of B.Kinds.start B.Kinds.answer_of) net workers channel) (S.takes sink.old) (S.contents sink.old) (S.contents sink.new) result }
 {
     if workers == 1 {
         tell_alone(alloc, net, bodies, channel, sink)
@@ -93,8 +92,8 @@ fn tell_alone<B: Body, S: Sink>(
     bodies: Vec<B>,
     channel: Option<usize>,
     sink: &mut S,
-) -> Status
-    ensures { Writes (TellsEnded B.Kinds.family net channel) (S.takes sink.old) (S.contents sink.old) (S.contents sink.new) result }
+) -> u8
+    ensures { Writes (TellsEnded (family_of B.Kinds.start B.Kinds.answer_of) net channel) (S.takes sink.old) (S.contents sink.old) (S.contents sink.new) result }
 {
     let Ok(mut machine) = Machine::open(alloc, net, bodies) else {
         return say_refused(&NetFault::Memory, sink);
@@ -113,10 +112,10 @@ fn tell_by_workers<B: Body, S: Sink, R: Wait + Clock + Threads + Sync>(
     workers: usize,
     channel: Option<usize>,
     sink: &mut S,
-) -> Status
+) -> u8
     requires cards { map B.card bodies.items ≡ cards_of net.processes }
     requires workers { (1 < workers) × (workers ≤ 16) }
-    ensures { Writes (TellsKnown B.Kinds.family net workers channel) (S.takes sink.old) (S.contents sink.old) (S.contents sink.new) result }
+    ensures { Writes (TellsKnown (family_of B.Kinds.start B.Kinds.answer_of) net workers channel) (S.takes sink.old) (S.contents sink.old) (S.contents sink.new) result }
 {
     match run(rt, alloc, net, bodies, workers, &Open) {
         Ok(finish) => say_told(alloc, finish.chronicle(), channel, sink),
@@ -133,9 +132,9 @@ fn say_told<K: Kinds, S: Sink>(
     chronicle: &Chronicle<K>,
     channel: Option<usize>,
     sink: &mut S,
-) -> Status
+) -> u8
     requires { IsSome chronicle.now.end }
-    ensures { Writes (TellsEnded K.family chronicle.now.network channel) (S.takes sink.old) (S.contents sink.old) (S.contents sink.new) result }
+    ensures { Writes (TellsEnded (family_of K.start K.answer_of) chronicle.now.network channel) (S.takes sink.old) (S.contents sink.old) (S.contents sink.new) result }
 {
     match told_of(alloc, chronicle, channel) {
         Ok(told) => say(sink, told.text.as_str(), told.status),
@@ -150,7 +149,7 @@ fn told_of<K: Kinds>(
     channel: Option<usize>,
 ) -> Result<Told, AllocError>
     requires { IsSome chronicle.now.end }
-    ensures { IfOk result (λ told. TellsRun K.family chronicle.now.network channel told.status (string_bytes told.text)) }
+    ensures { IfOk result (λ told. TellsRun (family_of K.start K.answer_of) chronicle.now.network channel told.status (string_bytes told.text)) }
 {
     let Some(end) = chronicle.end() else {
         unreachable!()

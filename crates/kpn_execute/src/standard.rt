@@ -7,9 +7,7 @@ ghost use Rattle.kpn_execute.specs.Execution.{Executes, MakesAndExecutes};
 
 use crate::running::execute;
 use kpn_body::{Call, Standard, StandardBody, answer};
-use kpn_front::Status;
-use kpn_front::say::say_refused;
-use kpn_front::streams::Sink;
+use kpn_front::{Sink, say_refused};
 use kpn_machine::cards_of;
 use kpn_net::{Answer, Card, Local, Net, NetFault, Token};
 use std::alloc::{AllocError, Global};
@@ -28,7 +26,7 @@ pub fn execute_standard<S: Sink, R: Wait + Clock + Threads + Sync>(
     workers: usize,
     show: Option<&str>,
     sink: &mut S,
-) -> Status
+) -> u8
     requires workers { (1 ≤ workers) × (workers ≤ 16) }
     ensures { MakesAndExecutes standard net workers (option_map (λ s. s.now) show.entry) (S.takes sink.old) (S.contents sink.old) (S.contents sink.new) result }
 {
@@ -52,7 +50,7 @@ fn make_and_execute<S: Sink, R: Wait + Clock + Threads + Sync>(
     workers: usize,
     show: Option<&str>,
     sink: &mut S,
-) -> Result<Status, AllocError>
+) -> Result<u8, AllocError>
     requires signed { All (λ card. IsSome (signature card)) cards.now }
     requires cards { IfSome net (λ n. cards.now ≡ cards_of n.processes) }
     requires some { IsSome net }

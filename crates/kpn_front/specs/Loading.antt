@@ -3,7 +3,7 @@ use Rattle.std.specs.Prelude.{◌≡◌, ◌⊎◌, ◌≤◌, ◌<◌, ℕ, Boo
 use Rattle.std.specs.Io.KnownBytes.{Consumes}
 use Rattle.kpn_sketch.specs.declared.fault.NetFault.{NetFault}
 use Rattle.kpn_sketch.specs.declared.fault.NetFault.TheVariants.{NotToml, Keys, Memory, Input}
-use Rattle.kpn_front.specs.declared.load.Refused.{Refused}
+use Rattle.kpn_front.specs.declared.loading.Refused.{Refused}
 use Rattle.kpn_model.specs.declared.kinds.Card.{Card}
 use Rattle.kpn_model.specs.declared.kinds.Signature.{Signature}
 use Rattle.kpn_sketch.specs.declared.sketch.Sketch.{Sketch}

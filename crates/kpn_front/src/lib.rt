@@ -1,9 +1,12 @@
 //! The ends of the program: its input and its lines.
 #![tactic(auto)]
 
-pub mod load;
-pub mod say;
-pub mod status;
-pub mod streams;
+mod lines;
+mod loading;
+mod status;
+mod streams;
 
+pub use lines::{say, say_checked, say_lost, say_no_channel, say_refused};
+pub use loading::{Refused, load, load_or_refuse};
 pub use status::Status;
+pub use streams::{Fallible, Sink, Source};

@@ -1,5 +1,5 @@
 //! The streams of a network are the least solution of its equations (Kahn 1974).
-ghost use Rattle.kpn_model.specs.Network.{Family};
+ghost use Rattle.kpn_model.specs.Network.{Family, family_of};
 ghost use Rattle.kpn_laws.specs.Alone.{IsFunction, IsContinuous};
 ghost use Rattle.kpn_laws.specs.Equations.{StreamsAreBelow, EndIsLeastSolution, DigestIsLeastSolution, DigestIsBelow, EndIsLeastFromAny, AllIsReached, LimitIsLeastSolution, OneLeastSolution, TwoHaveCommonRun};
 ghost use Rattle.kpn_laws.specs.StreamsOfRun.{EachApproachesLeastSolution};
@@ -43,16 +43,16 @@ pub fn least_solution()
 
 /// Does nothing: the laws of [`least_solution`] for a family that is given as a type.
 pub fn least_solution_of<K: Kinds>()
-    ensures function { IsFunction K.family }
-    ensures continuous { IsContinuous K.family }
-    ensures below { StreamsAreBelow K.family }
-    ensures end_is_least { EndIsLeastSolution K.family }
-    ensures digest_is_least { DigestIsLeastSolution K.family }
-    ensures below_digest { DigestIsBelow K.family }
-    ensures end_is_least_from_any { EndIsLeastFromAny K.family }
-    ensures one_least { OneLeastSolution K.family }
-    ensures all_reached { AllIsReached K.family }
-    ensures limit_is_least { LimitIsLeastSolution K.family }
-    ensures common_run { TwoHaveCommonRun K.family }
-    ensures each_run { EachApproachesLeastSolution K.family }
+    ensures function { IsFunction (family_of K.start K.answer_of) }
+    ensures continuous { IsContinuous (family_of K.start K.answer_of) }
+    ensures below { StreamsAreBelow (family_of K.start K.answer_of) }
+    ensures end_is_least { EndIsLeastSolution (family_of K.start K.answer_of) }
+    ensures digest_is_least { DigestIsLeastSolution (family_of K.start K.answer_of) }
+    ensures below_digest { DigestIsBelow (family_of K.start K.answer_of) }
+    ensures end_is_least_from_any { EndIsLeastFromAny (family_of K.start K.answer_of) }
+    ensures one_least { OneLeastSolution (family_of K.start K.answer_of) }
+    ensures all_reached { AllIsReached (family_of K.start K.answer_of) }
+    ensures limit_is_least { LimitIsLeastSolution (family_of K.start K.answer_of) }
+    ensures common_run { TwoHaveCommonRun (family_of K.start K.answer_of) }
+    ensures each_run { EachApproachesLeastSolution (family_of K.start K.answer_of) }
 {}

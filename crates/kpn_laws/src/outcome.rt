@@ -1,5 +1,5 @@
 //! Whichever process goes on next, the outcome is the same.
-ghost use Rattle.kpn_model.specs.Network.{Family};
+ghost use Rattle.kpn_model.specs.Network.{Family, family_of};
 ghost use Rattle.kpn_model.specs.Determinacy.{OneDigest, NoneLonger, OneOutcome, AllPrefixComparable};
 ghost use Rattle.kpn_model.specs.Moments.{OneState, PrefixesAreRuns, AlwaysWithin, HistoryTellsState, BudgetSuffices, EnabledCanDo, OneCause};
 
@@ -25,17 +25,17 @@ pub fn determinacy()
 /// Does nothing: the laws of [`determinacy`] and of `moments` for a family that
 /// is given as a type.
 pub fn determinacy_of<K: Kinds>()
-    ensures one_digest { OneDigest K.family }
-    ensures none_longer { NoneLonger K.family }
-    ensures one_outcome { OneOutcome K.family }
-    ensures all_comparable { AllPrefixComparable K.family }
-    ensures one_state { OneState K.family }
-    ensures prefixes { PrefixesAreRuns K.family }
-    ensures within { AlwaysWithin K.family }
-    ensures told { HistoryTellsState K.family }
-    ensures budget { BudgetSuffices K.family }
-    ensures enabled { EnabledCanDo K.family }
-    ensures one_cause { OneCause K.family }
+    ensures one_digest { OneDigest (family_of K.start K.answer_of) }
+    ensures none_longer { NoneLonger (family_of K.start K.answer_of) }
+    ensures one_outcome { OneOutcome (family_of K.start K.answer_of) }
+    ensures all_comparable { AllPrefixComparable (family_of K.start K.answer_of) }
+    ensures one_state { OneState (family_of K.start K.answer_of) }
+    ensures prefixes { PrefixesAreRuns (family_of K.start K.answer_of) }
+    ensures within { AlwaysWithin (family_of K.start K.answer_of) }
+    ensures told { HistoryTellsState (family_of K.start K.answer_of) }
+    ensures budget { BudgetSuffices (family_of K.start K.answer_of) }
+    ensures enabled { EnabledCanDo (family_of K.start K.answer_of) }
+    ensures one_cause { OneCause (family_of K.start K.answer_of) }
 {
     determinacy();
     moments();

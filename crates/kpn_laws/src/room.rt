@@ -1,5 +1,5 @@
 //! No run takes more room than the network needs.
-ghost use Rattle.kpn_model.specs.Network.{Family};
+ghost use Rattle.kpn_model.specs.Network.{Family, family_of};
 ghost use Rattle.kpn_laws.specs.Sufficient.{OwnEndSuffices, KeepsCapacities};
 ghost use Rattle.kpn_laws.specs.LeastRoom.{Dominates, ChosenHasFewer, GrowsBelow, StaysBelow, LeastPossible, FewGrowths, CeilingSuffices};
 ghost use Rattle.kpn_laws.specs.RoomOfRun.{EachTakesLeastRoom};
@@ -39,14 +39,14 @@ pub fn least_room()
 
 /// Does nothing: the laws of [`least_room`] for a family that is given as a type.
 pub fn least_room_of<K: Kinds>()
-    ensures chosen_has_fewer { ChosenHasFewer K.family }
-    ensures grows_below { GrowsBelow K.family }
-    ensures stays_below { StaysBelow K.family }
-    ensures least_possible { LeastPossible K.family }
-    ensures few_growths { FewGrowths K.family }
-    ensures ceiling_suffices { CeilingSuffices K.family }
-    ensures dominates { Dominates K.family }
-    ensures own_end { OwnEndSuffices K.family }
-    ensures keeps_capacities { KeepsCapacities K.family }
-    ensures each_run { EachTakesLeastRoom K.family }
+    ensures chosen_has_fewer { ChosenHasFewer (family_of K.start K.answer_of) }
+    ensures grows_below { GrowsBelow (family_of K.start K.answer_of) }
+    ensures stays_below { StaysBelow (family_of K.start K.answer_of) }
+    ensures least_possible { LeastPossible (family_of K.start K.answer_of) }
+    ensures few_growths { FewGrowths (family_of K.start K.answer_of) }
+    ensures ceiling_suffices { CeilingSuffices (family_of K.start K.answer_of) }
+    ensures dominates { Dominates (family_of K.start K.answer_of) }
+    ensures own_end { OwnEndSuffices (family_of K.start K.answer_of) }
+    ensures keeps_capacities { KeepsCapacities (family_of K.start K.answer_of) }
+    ensures each_run { EachTakesLeastRoom (family_of K.start K.answer_of) }
 {}

@@ -3,6 +3,7 @@ pub mod Moves
 pub mod Sound
 pub mod Seats
 pub mod Opened
+pub mod Listed
 pub mod Finishing
 pub mod Ends
 pub mod NetworkCards

@@ -21,13 +21,13 @@ use Rattle.kpn_state.proofs.Placed.{busy_at}
 use Rattle.kpn_machine.proofs.Seats.{card_at}
 
 -- each process is ready
-ready_at : (n p : ℕ) → p < n → standing (replicate n Ready) p ≡ Ready
+pub ready_at : (n p : ℕ) → p < n → standing (replicate n Ready) p ≡ Ready
 ready_at zero p h = absurd (omega arith)
 ready_at (suc n) zero h = refl
 ready_at (suc n) (suc p) h = ready_at n p (omega arith)
 
 -- and there is no other
-ended_past : (n p : ℕ) → n ≤ p → standing (replicate n Ready) p ≡ Stopped
+pub ended_past : (n p : ℕ) → n ≤ p → standing (replicate n Ready) p ≡ Stopped
 ended_past n p h = let many = length-replicate n Ready in get_or_past (replicate n Ready) p Stopped (omega arith)
 
 ready_ended : Ready ≡ Stopped → ⊥

@@ -1,5 +1,6 @@
 //! What a machine leaves behind.
 ghost use Rattle.std.specs.Prelude.{◌≡◌};
+ghost use Rattle.kpn_model.specs.Network.{family_of};
 ghost use Rattle.kpn_machine.specs.MachineView.{machine_view, IsFaithful};
 
 use kpn_model::{End, Entry, Kinds};
@@ -23,12 +24,13 @@ pub struct Chronicle<K: Kinds> {
 
 impl<K: Kinds> Model for Chronicle<K> {
     ghost use Rattle.kpn_machine.specs.MachineView.{MachineView, machine_view, IsFaithful};
+    ghost use Rattle.kpn_model.specs.Network.{family_of};
 
     ghost Value = { MachineView };
 
     ghost view = { λ m. machine_view m.net m.store.state m.store.history m.standings m.end m.commits };
 
-    ghost invariant = { λ m. IsFaithful K.family K.admits (machine_view m.net m.store.state m.store.history m.standings m.end m.commits) };
+    ghost invariant = { λ m. IsFaithful (family_of K.start K.answer_of) K.admits (machine_view m.net m.store.state m.store.history m.standings m.end m.commits) };
 }
 
 impl<K: Kinds> Chronicle<K> {
@@ -39,7 +41,7 @@ impl<K: Kinds> Chronicle<K> {
         ended: Option<End>,
         commits: u64,
     ) -> Self
-        requires faithful { IsFaithful K.family K.admits (machine_view net store.state store.history standings ended commits) }
+        requires faithful { IsFaithful (family_of K.start K.answer_of) K.admits (machine_view net store.state store.history standings ended commits) }
         ensures { result ≡ machine_view net store.state store.history standings ended commits }
     {
         Chronicle {
@@ -75,7 +77,7 @@ impl<K: Kinds> Chronicle<K> {
     /// Returns how the run ended; `None` if it did not.
     pub fn end(&self) -> Option<End>
         ensures end { result ≡ self.now.end }
-        ensures faithful { IsFaithful K.family K.admits self.now }
+        ensures faithful { IsFaithful (family_of K.start K.answer_of) K.admits self.now }
     {
         self.end
     }

@@ -1,6 +1,6 @@
 //! The machine.
 ghost use Rattle.std.specs.Prelude.{count_by, ◌≡◌, ◌≢◌, ℕ, ◌<◌, ◌+◌, ◌↔◌, [], replicate, length, get_or, set, map, option_map, Some, None, IfSome, IfNone, IfErr, IfOk, OnOk, IsTrue, IsSome};
-ghost use Rattle.kpn_model.specs.Network.{card_of};
+ghost use Rattle.kpn_model.specs.Network.{card_of, family_of};
 ghost use Rattle.kpn_model.specs.Semantics.{status, start};
 ghost use Rattle.kpn_machine.specs.Opening.{cards_of, IsOpenFault};
 ghost use Rattle.kpn_model.specs.declared.history.Status.TheVariants.{Done, Live};
@@ -23,7 +23,7 @@ use kpn_laws::{least_room_of, least_solution_of, typed_runs, valid_runs};
 use kpn_model::{Act, Card, End, Entry, Kinds, Local, Status, Token};
 use kpn_network::Net;
 use kpn_state::standing::all_ready;
-use kpn_state::{Roster, Standing, Store};
+use kpn_state::{Candidates, Roster, Standing, Store};
 use std::alloc::Global;
 use std::marker::Model;
 
@@ -34,6 +34,7 @@ pub struct Machine<B: Body> {
     net: Net<B::Kinds>,
     store: Store,
     standings: Roster,
+    candidates: Candidates,
     bodies: Vec<Option<B>>,
     spare: Vec<B>,
     end: Option<End>,
@@ -43,13 +44,15 @@ pub struct Machine<B: Body> {
 impl<B: Body> Model for Machine<B> {
     ghost use Rattle.std.specs.Prelude.{map, option_map};
     ghost use Rattle.std.specs.Vec.{vec_capacity};
+    ghost use Rattle.kpn_commit.specs.Choice.{AreCandidates};
     ghost use Rattle.kpn_machine.specs.MachineView.{MachineView, machine_view, IsSound, HasRoom};
+    ghost use Rattle.kpn_model.specs.Network.{family_of};
 
     ghost Value = { MachineView };
 
     ghost view = { λ m. machine_view m.net m.store.state m.store.history m.standings m.end m.commits };
 
-    ghost invariant = { λ m. IsSound B.Kinds.family B.Kinds.admits (machine_view m.net m.store.state m.store.history m.standings m.end m.commits) m.store.room (map (option_map B.card) m.bodies.items) × HasRoom m.net m.spare.items (vec_capacity m.spare) };
+    ghost invariant = { λ m. IsSound (family_of B.Kinds.start B.Kinds.answer_of) B.Kinds.admits (machine_view m.net m.store.state m.store.history m.standings m.end m.commits) m.store.room (map (option_map B.card) m.bodies.items) × HasRoom m.net m.spare.items (vec_capacity m.spare) × AreCandidates m.net m.store.state m.standings m.candidates };
 }
 
 /// Why a machine was not opened, with the network and the bodies handed back.
@@ -78,7 +81,7 @@ impl<B: Body> Machine<B> {
         net: Net<B::Kinds>,
         mut bodies: Vec<B>,
     ) -> Result<Machine<B>, OpenRefused<B>>
-        ensures opened { IfOk result (λ m. m ≡ machine_view net (start B.Kinds.family net) [] (replicate (length net.processes) Ready) None 0) }
+        ensures opened { IfOk result (λ m. m ≡ machine_view net (start (family_of B.Kinds.start B.Kinds.answer_of) net) [] (replicate (length net.processes) Ready) None 0) }
         ensures fresh { IfOk result IsFresh }
         ensures cards { OnOk result (map B.card bodies.items ≡ cards_of net.processes) }
         ensures net_back { IfErr result (λ refused. refused.net ≡ net) }
@@ -99,6 +102,7 @@ impl<B: Body> Machine<B> {
         let Start {
             store,
             standings,
+            candidates,
             mut slots,
         } = start;
         seat_all(&mut bodies, &mut slots);
@@ -106,6 +110,7 @@ impl<B: Body> Machine<B> {
             net,
             store,
             standings,
+            candidates,
             bodies: slots,
             spare: bodies,
             end: None,
@@ -116,7 +121,7 @@ impl<B: Body> Machine<B> {
     /// Returns how the run ended; `None` if it did not.
     pub fn end(&self) -> Option<End>
         ensures end { result ≡ self.now.end }
-        ensures faithful { IsFaithful B.Kinds.family B.Kinds.admits self.now }
+        ensures faithful { IsFaithful (family_of B.Kinds.start B.Kinds.answer_of) B.Kinds.admits self.now }
     {
         self.assure_faithful();
         self.end
@@ -124,7 +129,7 @@ impl<B: Body> Machine<B> {
 
     /// Does nothing: a caller knows from here on what holds of each machine at each time.
     pub fn assure_faithful(&self)
-        ensures faithful { IsFaithful B.Kinds.family B.Kinds.admits self.now }
+        ensures faithful { IsFaithful (family_of B.Kinds.start B.Kinds.answer_of) B.Kinds.admits self.now }
     {
         self.net.assure_valid();
         valid_runs();
@@ -239,7 +244,7 @@ fn is_out<K: Kinds>(
     local: Local,
     last: Option<Token>,
 ) -> bool
-    requires keeps { StandingsFit K.family K.admits net.now None store.now.state standings.now }
+    requires keeps { StandingsFit (family_of K.start K.answer_of) K.admits net.now None store.now.state standings.now }
     ensures { IsTrue result ↔ IsOutAt net.now store.now.state standings.now (input process card local last) }
 {
     if process >= standings.len() {
@@ -309,10 +314,10 @@ impl<B: Body> Machine<B> {
         ensures stranger { IfErr result (λ stranger. (stranger.finished ≡ finished) × (self.new ≡ self.old)) }
         ensures deserved { IfErr result (λ _. IsOut self.old finished → ⊥) }
         ensures out { OnOk result (IsOut self.old finished) }
-        ensures commits { IfOk result (λ outcome. Commits B.Kinds.family self.old finished outcome self.new) }
-        ensures appends { IfOk result (λ outcome. Appends B.Kinds.family self.old self.new (number outcome)) }
-        ensures tells { IfOk result (TellsEnabled B.Kinds.family self.old finished.process) }
-        ensures ends { OnOk result (self.old.end ≡ None → EndsAs B.Kinds.family self.new) }
+        ensures commits { IfOk result (λ outcome. Commits (family_of B.Kinds.start B.Kinds.answer_of) self.old finished outcome self.new) }
+        ensures appends { IfOk result (λ outcome. Appends (family_of B.Kinds.start B.Kinds.answer_of) self.old self.new (number outcome)) }
+        ensures tells { IfOk result (TellsEnabled (family_of B.Kinds.start B.Kinds.answer_of) self.old finished.process) }
+        ensures ends { OnOk result (self.old.end ≡ None → EndsAs (family_of B.Kinds.start B.Kinds.answer_of) self.new) }
         ensures back { OnOk result (standing self.new.standings finished.process ≢ Out) }
         ensures others { OnOk result ((p : ℕ) → p ≢ finished.process → (standing self.new.standings p ≡ Out) ↔ (standing self.old.standings p ≡ Out)) }
     {
@@ -327,10 +332,10 @@ impl<B: Body> Machine<B> {
     #[inline(always)]
     pub fn commit_asked(&mut self, finished: Finished<B>) -> Outcome
         requires { IsOut self.old finished }
-        ensures commits { Commits B.Kinds.family self.old finished result self.new }
-        ensures appends { Appends B.Kinds.family self.old self.new (number result) }
-        ensures tells { TellsEnabled B.Kinds.family self.old finished.process result }
-        ensures ends { self.old.end ≡ None → EndsAs B.Kinds.family self.new }
+        ensures commits { Commits (family_of B.Kinds.start B.Kinds.answer_of) self.old finished result self.new }
+        ensures appends { Appends (family_of B.Kinds.start B.Kinds.answer_of) self.old self.new (number result) }
+        ensures tells { TellsEnabled (family_of B.Kinds.start B.Kinds.answer_of) self.old finished.process result }
+        ensures ends { self.old.end ≡ None → EndsAs (family_of B.Kinds.start B.Kinds.answer_of) self.new }
         ensures back { standing self.new.standings finished.process ≢ Out }
         ensures others { (p : ℕ) → p ≢ finished.process → (standing self.new.standings p ≡ Out) ↔ (standing self.old.standings p ≡ Out) }
     {
@@ -347,6 +352,7 @@ impl<B: Body> Machine<B> {
             &self.net,
             &mut self.store,
             &mut self.standings,
+            &mut self.candidates,
             process,
             answer,
         );
@@ -367,6 +373,7 @@ impl<B: Body> Machine<B> {
             net,
             store: _,
             standings: _,
+            candidates: _,
             mut bodies,
             mut spare,
             end: _,
@@ -392,6 +399,7 @@ impl<B: Body> Machine<B> {
             net,
             store,
             standings,
+            candidates: _,
             bodies: _,
             spare: _,
             end,
@@ -424,7 +432,7 @@ impl<B: Body> Machine<B> {
         requires on { self.old.end ≡ None }
         requires none_out { count_by is_out self.old.standings ≡ 0 }
         requires again { IfSome again (λ p. standing self.old.standings p ≡ Ready) }
-        ensures round { GoesRound B.Kinds.family self.old self.new }
+        ensures round { GoesRound (family_of B.Kinds.start B.Kinds.answer_of) self.old self.new }
         ensures again { IfSome result (λ p. standing self.new.standings p ≡ Ready) }
     {
         self.net.assure_valid();
@@ -444,6 +452,7 @@ impl<B: Body> Machine<B> {
             &self.net,
             &mut self.store,
             &mut self.standings,
+            &mut self.candidates,
             process,
             answer,
         );
@@ -461,11 +470,11 @@ impl<B: Body> Machine<B> {
     /// ended in a deadlock they are the least solution (Kahn 1974; docs/least-solution.md).
     pub fn finish_alone(&mut self)
         requires { count_by is_out self.old.standings ≡ 0 }
-        ensures goes { ContinuesRun B.Kinds.family self.old self.new }
+        ensures goes { ContinuesRun (family_of B.Kinds.start B.Kinds.answer_of) self.old self.new }
         ensures end { IsSome self.new.end }
-        ensures faithful { IsFaithful B.Kinds.family B.Kinds.admits self.new }
-        ensures room { TakesLeastRoom B.Kinds.family self.new.network self.new.history self.new.state }
-        ensures streams { ApproachLeastSolution B.Kinds.family self.new.network self.new.history self.new.state }
+        ensures faithful { IsFaithful (family_of B.Kinds.start B.Kinds.answer_of) B.Kinds.admits self.new }
+        ensures room { TakesLeastRoom (family_of B.Kinds.start B.Kinds.answer_of) self.new.network self.new.history self.new.state }
+        ensures streams { ApproachLeastSolution (family_of B.Kinds.start B.Kinds.answer_of) self.new.network self.new.history self.new.state }
     {
         let mut again = None;
         while self.end().is_none() {

@@ -1,10 +1,11 @@
 //! What a machine begins with.
 ghost use Rattle.std.specs.Prelude.{◌≡◌, ℕ, ◌<◌, ◌+◌, length, [], All, Some, None, IsSome, IfOk, OnOk, IfSome, IfNone, map, option_map, replicate};
 ghost use Rattle.std.specs.Vec.{vec_capacity};
-ghost use Rattle.kpn_model.specs.Network.{card_of};
+ghost use Rattle.kpn_model.specs.Network.{card_of, family_of};
 ghost use Rattle.kpn_model.specs.Semantics.{start};
 ghost use Rattle.kpn_state.specs.declared.standing.Standing.TheVariants.{Ready};
 ghost use Rattle.kpn_state.specs.StateAndHistory.{state_and_history};
+ghost use Rattle.kpn_state.specs.Candidates.{candidate_list};
 ghost use Rattle.kpn_machine.specs.OpenFaults.{number_of_open_fault};
 ghost use Rattle.kpn_machine.specs.Opening.{starting, filled, cards_of, IsOpenFault, AreSeated};
 
@@ -12,7 +13,7 @@ use crate::same::same_card;
 use kpn_body::Body;
 use kpn_model::{Card, Kinds, Status};
 use kpn_network::Net;
-use kpn_state::{Ring, Roster, Store};
+use kpn_state::{Candidates, Ring, Roster, Store};
 use std::alloc::{AllocError, Global};
 
 /// Why a machine was not opened. `Bodies`: there are not as many bodies as processes. `Card`: a body
@@ -43,7 +44,7 @@ impl OpenFault {
 /// Errors: memory was refused.
 pub fn cards_of<K: Kinds>(alloc: Global, net: &Net<K>) -> Result<Vec<Card>, AllocError>
     ensures cards { IfOk result (λ v. v.items ≡ cards_of net.now.processes) }
-    ensures signed { IfOk result (λ v. All (λ card. IsSome (K.signature_of card)) v.items) }
+    ensures signed { IfOk result (λ v. All (λ card. IsSome (K.signature card)) v.items) }
 {
     let mut cards = Vec::with_capacity(alloc, net.processes())?;
     for process in 0..net.processes() {
@@ -70,8 +71,8 @@ pub(crate) fn misfit<B: Body>(net: &Net<B::Kinds>, bodies: &[B]) -> Option<OpenF
 
 /// Each process live, with its card's start.
 fn start_statuses<K: Kinds>(alloc: Global, net: &Net<K>) -> Result<Vec<Status>, AllocError>
-    ensures items { IfOk result (λ v. v.items ≡ map (starting K.family) net.now.processes) }
-    ensures admitted { OnOk result ((p : ℕ) → p < length net.now.processes → K.admits (card_of net.now p) (K.family.start (card_of net.now p)) None) }
+    ensures items { IfOk result (λ v. v.items ≡ map (starting (family_of K.start K.answer_of)) net.now.processes) }
+    ensures admitted { OnOk result ((p : ℕ) → p < length net.now.processes → K.admits (card_of net.now p) (K.start (card_of net.now p)) None) }
 {
     let mut statuses = Vec::with_capacity(alloc, net.processes())?;
     for p in 0..net.processes() {
@@ -99,8 +100,8 @@ fn start_rings<K: Kinds>(alloc: Global, net: &Net<K>) -> Result<Vec<Ring>, Alloc
 
 /// The start of a network, with room for two entries more than its budget.
 fn start_store<K: Kinds>(alloc: Global, net: &Net<K>) -> Result<Store, AllocError>
-    ensures store { IfOk result (λ s. s ≡ state_and_history (start K.family net.now) [] (net.now.budget + 2)) }
-    ensures admitted { OnOk result ((p : ℕ) → p < length net.now.processes → K.admits (card_of net.now p) (K.family.start (card_of net.now p)) None) }
+    ensures store { IfOk result (λ s. s ≡ state_and_history (start (family_of K.start K.answer_of) net.now) [] (net.now.budget + 2)) }
+    ensures admitted { OnOk result ((p : ℕ) → p < length net.now.processes → K.admits (card_of net.now p) (K.start (card_of net.now p)) None) }
 {
     net.assure_valid();
     let room = net.budget() as usize + 2;
@@ -122,24 +123,27 @@ fn empty_slots<B: Body>(alloc: Global, count: usize) -> Result<Vec<Option<B>>, A
 }
 
 /// What a machine begins with, except its network and its bodies: the state, the standings of the
-/// processes, and a slot for each body.
+/// processes, no candidates for a growth but room for one of each process, and a slot for each body.
 #[derive(Drop)]
 pub(crate) struct Start<B: Body> {
     pub(crate) store: Store,
     pub(crate) standings: Roster,
+    pub(crate) candidates: Candidates,
     pub(crate) slots: Vec<Option<B>>,
 }
 
 /// The start of a network.
 pub(crate) fn prepare<B: Body>(alloc: Global, net: &Net<B::Kinds>) -> Result<Start<B>, AllocError>
-    ensures store { IfOk result (λ r. r.store ≡ state_and_history (start B.Kinds.family net.now) [] (net.now.budget + 2)) }
+    ensures store { IfOk result (λ r. r.store ≡ state_and_history (start (family_of B.Kinds.start B.Kinds.answer_of) net.now) [] (net.now.budget + 2)) }
     ensures standings { IfOk result (λ r. r.standings ≡ replicate (length net.now.processes) Ready) }
+    ensures candidates { IfOk result (λ r. r.candidates ≡ candidate_list [] (length net.now.processes)) }
     ensures slots { IfOk result (λ r. length r.slots.items ≡ length net.now.processes) }
-    ensures admitted { OnOk result ((p : ℕ) → p < length net.now.processes → B.Kinds.admits (card_of net.now p) (B.Kinds.family.start (card_of net.now p)) None) }
+    ensures admitted { OnOk result ((p : ℕ) → p < length net.now.processes → B.Kinds.admits (card_of net.now p) (B.Kinds.start (card_of net.now p)) None) }
 {
     Ok(Start {
         store: start_store(alloc, net)?,
         standings: Roster::new(alloc, net.processes())?,
+        candidates: Candidates::new(alloc, net.processes())?,
         slots: empty_slots(alloc, net.processes())?,
     })
 }

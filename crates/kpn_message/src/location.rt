@@ -23,7 +23,7 @@ pub enum Location {
 /// channel, and any other fault that the sketch has is of one.
 #[tactic(auto, using(crate::proofs::Locations::nowhere_else))]
 pub fn locate<K: Kinds>(sketch: &Sketch, fault: NetFault) -> Location
-    ensures { IsLocation K.named K.signature_of sketch.now fault result }
+    ensures { IsLocation K.named K.signature sketch.now fault result }
 {
     if let Some(p) = first_process::<K>(sketch, fault) {
         return Location::Process(p);
@@ -35,8 +35,8 @@ pub fn locate<K: Kinds>(sketch: &Sketch, fault: NetFault) -> Location
 }
 
 fn first_process<K: Kinds>(sketch: &Sketch, fault: NetFault) -> Option<usize>
-    ensures first { IfSome result (IsFirst (process_has_fault K.named K.signature_of sketch.now fault) (length sketch.now.processes)) }
-    ensures none { IfNone result (HoldsNowhere (process_has_fault K.named K.signature_of sketch.now fault) (length sketch.now.processes)) }
+    ensures first { IfSome result (IsFirst (process_has_fault K.named K.signature sketch.now fault) (length sketch.now.processes)) }
+    ensures none { IfNone result (HoldsNowhere (process_has_fault K.named K.signature sketch.now fault) (length sketch.now.processes)) }
 {
     for p in 0..sketch.processes.as_slice().len() {
         if process_has_fault::<K>(sketch, fault, p) {
@@ -47,8 +47,8 @@ fn first_process<K: Kinds>(sketch: &Sketch, fault: NetFault) -> Option<usize>
 }
 
 fn first_channel<K: Kinds>(sketch: &Sketch, fault: NetFault) -> Option<usize>
-    ensures first { IfSome result (IsFirst (channel_has_fault K.named K.signature_of sketch.now fault) (length sketch.now.channels)) }
-    ensures none { IfNone result (HoldsNowhere (channel_has_fault K.named K.signature_of sketch.now fault) (length sketch.now.channels)) }
+    ensures first { IfSome result (IsFirst (channel_has_fault K.named K.signature sketch.now fault) (length sketch.now.channels)) }
+    ensures none { IfNone result (HoldsNowhere (channel_has_fault K.named K.signature sketch.now fault) (length sketch.now.channels)) }
 {
     for c in 0..sketch.channels.as_slice().len() {
         if channel_has_fault::<K>(sketch, fault, c) {
@@ -59,7 +59,7 @@ fn first_channel<K: Kinds>(sketch: &Sketch, fault: NetFault) -> Option<usize>
 }
 
 fn process_has_fault<K: Kinds>(sketch: &Sketch, fault: NetFault, p: usize) -> bool
-    ensures { result ≡ process_has_fault K.named K.signature_of sketch.now fault p }
+    ensures { result ≡ process_has_fault K.named K.signature sketch.now fault p }
 {
     let processes = sketch.processes.as_slice();
     let Some(process) = processes.get(p) else {
@@ -77,7 +77,7 @@ fn process_has_fault<K: Kinds>(sketch: &Sketch, fault: NetFault, p: usize) -> bo
 }
 
 fn channel_has_fault<K: Kinds>(sketch: &Sketch, fault: NetFault, c: usize) -> bool
-    ensures { result ≡ channel_has_fault K.named K.signature_of sketch.now fault c }
+    ensures { result ≡ channel_has_fault K.named K.signature sketch.now fault c }
 {
     let channels = sketch.channels.as_slice();
     let Some(channel) = channels.get(c) else {

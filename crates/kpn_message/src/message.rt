@@ -1,5 +1,5 @@
 //! The message of a refused description.
-ghost use Rattle.std.specs.Prelude.{◌≡◌, ◌≢◌, ◌⊎◌, ◌<◌, [], true, length, IfSome, string_bytes};
+ghost use Rattle.std.specs.Prelude.{◌≡◌, ◌≢◌, ◌⊎◌, ◌<◌, [], true, length, slice_index_or, IfSome, string_bytes};
 
 use crate::channels::push_channel;
 use crate::keys::push_misfit;
@@ -14,8 +14,8 @@ use std::fmt::Write;
 /// What is wrong with the text of a description, and where, on one line that no line feed ends.
 ///
 /// `fault` is the fault that the description was refused for, and `kinds` names the kinds that there
-/// are. There is no message where the fault says all (`Memory` and `Input`), where the text does not
-/// have it, or where memory is refused.
+/// are. There is no message where the fault says all (`Memory` and `Input`), or where memory is refused.
+/// Of a text that does not have the fault the message may say what isn't so, and there may be none.
 pub fn message_of<K: Kinds>(
     alloc: Global,
     text: &[u8],
@@ -102,8 +102,10 @@ fn push_fault<K: Kinds>(
     }
 }
 
+// The process of this number.
 fn process_at(sketch: &Sketch, p: usize) -> &ProcessSketch
     requires { p < length sketch.now.processes }
+    ensures { result.now ≡ slice_index_or sketch.now.processes p result.now }
 {
     &sketch.processes.as_slice()[p]
 }

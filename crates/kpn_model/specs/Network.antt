@@ -13,6 +13,9 @@ pub record Family : Type 0 where
   pub start : Card → List ℕ
   pub answer : Card → List ℕ → Option Token → Answer
 
+abbrev pub family_of : (Card → List ℕ) → (Card → List ℕ → Option Token → Answer) → Family
+family_of begin answers = record { start = begin; answer = answers }
+
 -- a channel leads from a port of its one writer to a port of its one reader; a growth adds `step` to a capacity, up to the
 -- ceiling
 pub record Network : Type 0 where

@@ -45,8 +45,8 @@ pub struct Answer {
 /// the read just done give its answer. A type that implements this trait stands for a family; callers
 /// may bring families of their own.
 ///
-/// `family` says how processes begin and what they answer, `signature_of` which ports a card has,
-/// `named` which kind a name means, and `admits` with which local states and last tokens a process of a
+/// `start` says how a process of a card begins, `answer_of` what it answers, `signature` which ports a card
+/// has, `named` which kind a name means, and `admits` with which local states and last tokens a process of a
 /// card may be asked: it holds only of local states of four numbers and of words, all below 2^64.
 ///
 /// The laws of a family are functions that do nothing: a caller that calls one may use what it ensures.
@@ -56,14 +56,17 @@ pub trait Kinds: Send + Sync {
     ghost use Rattle.kpn_model.specs.declared.kinds.Card.{Card};
     ghost use Rattle.kpn_model.specs.declared.kinds.Signature.{Signature};
     ghost use Rattle.kpn_model.specs.declared.token.Token.{Token};
-    ghost use Rattle.kpn_model.specs.Network.{Family};
+    ghost use Rattle.kpn_model.specs.declared.kinds.Answer.{Answer};
+    ghost use Rattle.kpn_model.specs.Network.{family_of};
     ghost use Rattle.kpn_model.specs.Lawful.{AreLawful, NamesPort, LeadsOn, is_filled};
 
     ghost named: { List ℕ → Option (ℕ × ℕ) };
 
-    ghost signature_of: { Card → Option Signature };
+    ghost signature: { Card → Option Signature };
 
-    ghost family: { Family };
+    ghost start: { Card → List ℕ };
+
+    ghost answer_of: { Card → List ℕ → Option Token → Answer };
 
     ghost admits: { Card → List ℕ → Option Token → Type 0 };
 
@@ -75,26 +78,26 @@ pub trait Kinds: Send + Sync {
     /// Returns the ports of a card, filled from the front; `None` if the family has no such kind, or if
     /// the kind refuses these arguments.
     fn signature(card: &Card) -> Option<Signature>
-        ensures is { result ≡ signature_of card.now }
+        ensures is { result ≡ signature card.now }
         ensures filled { IfSome result (λ s. IsTrue (is_filled s.ins) × IsTrue (is_filled s.outs)) };
 
     /// Returns the local state with which a process of a card begins. The card must have a signature.
     fn start(card: &Card) -> Local
-        requires { IsSome (signature_of card.now) }
-        ensures { result ≡ family.start card.now };
+        requires { IsSome (signature card.now) }
+        ensures { result ≡ start card.now };
 
     /// The laws of the family, of every card that has a signature: an admitted answer names a port of
     /// the card, and a written token has the port's sort; what follows an admitted answer is
     /// admitted; the start is admitted. Each implementation proves them here.
     fn lawful()
-        ensures { AreLawful signature_of admits family };
+        ensures { AreLawful signature admits (family_of start answer_of) };
 
     /// The law that an admitted answer names a port of the card, and that a written token has the
     /// port's sort.
     fn names_port(card: Card, local: Local, last: Option<Token>)
-        requires signed { IsSome (signature_of card) }
+        requires signed { IsSome (signature card) }
         requires admitted { admits card local last }
-        ensures { NamesPort signature_of card (family.answer card local last).act }
+        ensures { NamesPort signature card (answer_of card local last).act }
     {
         Self::lawful();
         card_fits(card);
@@ -103,9 +106,9 @@ pub trait Kinds: Send + Sync {
     /// The law that what follows an admitted answer is admitted: after a read, with each token of
     /// the port's sort; after a write, with none.
     fn leads_on(card: Card, local: Local, last: Option<Token>, token: Token)
-        requires signed { IsSome (signature_of card) }
+        requires signed { IsSome (signature card) }
         requires admitted { admits card local last }
-        ensures { LeadsOn signature_of admits card (family.answer card local last) token }
+        ensures { LeadsOn signature admits card (answer_of card local last) token }
     {
         Self::lawful();
         card_fits(card);
@@ -113,8 +116,8 @@ pub trait Kinds: Send + Sync {
 
     /// The law that the start is admitted, with no token read.
     fn starts(card: Card)
-        requires { IsSome (signature_of card) }
-        ensures { admits card (family.start card) None }
+        requires { IsSome (signature card) }
+        ensures { admits card (start card) None }
     {
         Self::lawful();
         card_fits(card);

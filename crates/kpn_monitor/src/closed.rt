@@ -1,5 +1,6 @@
 //! A monitor that was closed.
 ghost use Rattle.std.specs.Prelude.{◌≡◌, ◌≢◌, length};
+ghost use Rattle.kpn_model.specs.Network.{family_of};
 ghost use mathlib.Core.List.{IsPrefix};
 ghost use Rattle.kpn_watch.specs.declared.progress.Phase.TheVariants.{Running};
 ghost use Rattle.kpn_watch.specs.Phases.{phase_of};
@@ -25,12 +26,31 @@ pub enum CloseFault {
     SeatsMissing = 1,
 }
 
-/// What `close` hands back if it fails: the reason, the monitor and the seats.
+impl CloseFault {
+    /// Returns the number of the fault: 1.
+    pub fn number(&self) -> u8
+        ensures { result ≡ 1 }
+    {
+        match self {
+            CloseFault::SeatsMissing => 1,
+        }
+    }
+}
+
+/// What `close` hands back if it fails: the monitor and the seats.
 #[derive(Drop)]
 pub struct Unclosed<B: Body, E: EntryLedger, O: Ledger> {
     pub monitor: Monitor<B, E, O>,
     pub seats: Vec<Seat<E, O>>,
-    pub fault: CloseFault,
+}
+
+impl<B: Body, E: EntryLedger, O: Ledger> Unclosed<B, E, O> {
+    /// Returns why the monitor was not closed.
+    pub fn fault(&self) -> CloseFault
+        ensures { result ≡ CloseFault.SeatsMissing }
+    {
+        CloseFault::SeatsMissing
+    }
 }
 
 /// A monitor that was closed: what its machine left behind, and the receipts, which are the sum of the
@@ -50,12 +70,13 @@ impl<K: Kinds, E: EntryLedger> Model for Closed<K, E> {
     ghost use Rattle.std.specs.Prelude.{◌≡◌};
     ghost use Rattle.kpn_monitor.specs.Names.{Account};
     ghost use Rattle.kpn_monitor.specs.Kept.{IsAccount, IsShown};
+    ghost use Rattle.kpn_model.specs.Network.{family_of};
 
     ghost Value = { Account };
 
     ghost view = { λ c. record { machine = c.chronicle; receipts = c.receipts } };
 
-    ghost invariant = { λ c. IsAccount K.family K.admits E.net (record { machine = c.chronicle; receipts = c.receipts }) × IsShown E.board c.chronicle c.publisher × (c.board ≡ E.board) };
+    ghost invariant = { λ c. IsAccount (family_of K.start K.answer_of) K.admits E.net (record { machine = c.chronicle; receipts = c.receipts }) × IsShown E.board c.chronicle c.publisher × (c.board ≡ E.board) };
 }
 
 impl<K: Kinds, E: EntryLedger> Closed<K, E> {
@@ -66,7 +87,7 @@ impl<K: Kinds, E: EntryLedger> Closed<K, E> {
         publisher: CountingPublisher,
     ) -> Self
         requires network { chronicle.network ≡ E.net }
-        requires faithful { IsFaithful K.family K.admits chronicle }
+        requires faithful { IsFaithful (family_of K.start K.answer_of) K.admits chronicle }
         requires shown { IsShown E.board chronicle publisher }
         requires board { board ≡ E.board }
         requires receipts { length chronicle.history ≡ receipts }
@@ -106,7 +127,7 @@ impl<K: Kinds, E: EntryLedger> Closed<K, E> {
     /// Returns how the run ended; `None` if it did not.
     pub fn end(&self) -> Option<End>
         ensures end { result ≡ self.now.machine.end }
-        ensures faithful { IsFaithful K.family K.admits self.now.machine }
+        ensures faithful { IsFaithful (family_of K.start K.answer_of) K.admits self.now.machine }
     {
         self.chronicle.end()
     }

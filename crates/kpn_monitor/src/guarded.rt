@@ -3,7 +3,8 @@
 //! Whenever the lock is free, the history is a run of the network from its start; an end is justified
 //! and stays; the total of the book of entries is the length of the history; the run has ended if the
 //! book of overs is not empty; and what is published is the history with the phase of its end.
-ghost use Rattle.std.specs.Prelude.{◌≡◌, ◌+◌, ◌<◌, ◌≤◌, ◌↔◌, [], ◌∷◌, ◌++◌, true, false, length, Some, IfNone, Ok, IfSome, IfOk, IfErr, IsErr, OnOk, OnErr, IsSome, MatchOption, MatchResult};
+ghost use Rattle.std.specs.Prelude.{◌≡◌, ◌≢◌, ◌+◌, ◌<◌, ◌≤◌, ◌↔◌, [], ◌∷◌, ◌++◌, true, false, length, Some, IfNone, Ok, IfSome, IfOk, IfErr, IsErr, OnOk, OnErr, IsSome, MatchOption, MatchResult};
+ghost use Rattle.kpn_model.specs.Network.{family_of};
 ghost use Rattle.std.specs.List.{All, sum_by};
 ghost use Rattle.kpn_model.specs.declared.history.End.{End as EndV};
 ghost use Rattle.kpn_model.specs.Semantics.{State};
@@ -75,12 +76,13 @@ impl<B: Body, E: EntryLedger, O: Ledger> Model for Guarded<B, E, O> {
     ghost use Rattle.std.specs.Prelude.{◌≡◌};
     ghost use Rattle.kpn_monitor.specs.Names.{UnderLock};
     ghost use Rattle.kpn_monitor.specs.Kept.{IsKept, IsShown};
+    ghost use Rattle.kpn_model.specs.Network.{family_of};
 
     ghost Value = { UnderLock };
 
     ghost view = { λ i. record { machine = i.machine; overs = i.over_count; watchers = i.publisher.watchers } };
 
-    ghost invariant = { λ i. IsKept B.Kinds.family B.Kinds.admits E.net i.machine i.entries.total i.overs.total × IsShown E.board i.machine i.publisher × (i.overs.total ≡ i.over_count) × (E.parts ≡ 65536) × (O.parts ≡ 65536) };
+    ghost invariant = { λ i. IsKept (family_of B.Kinds.start B.Kinds.answer_of) B.Kinds.admits E.net i.machine i.entries.total i.overs.total × IsShown E.board i.machine i.publisher × (i.overs.total ≡ i.over_count) × (E.parts ≡ 65536) × (O.parts ≡ 65536) };
 }
 
 impl<B: Body, E: EntryLedger, O: Ledger> Guarded<B, E, O> {
@@ -114,11 +116,11 @@ impl<B: Body, E: EntryLedger, O: Ledger> Guarded<B, E, O> {
     /// or if the book of overs is full.
     pub(crate) fn take(&mut self, seat: &mut Seat<E, O>) -> Option<Taken<B>>
         ensures none { IfNone result ((seat.new ≡ seat.old) × (self.new ≡ self.old)) }
-        ensures nothing { IfNone result (FoundNothing B.Kinds.family B.Kinds.admits E.net) }
+        ensures nothing { IfNone result (FoundNothing (family_of B.Kinds.start B.Kinds.answer_of) B.Kinds.admits E.net) }
         ensures task { (t : Input) → result ≡ Some (Taken.Task t) → (seat.new ≡ seat.old) × TakesOut self.old.machine t self.new.machine }
         ensures over { (e : EndV) → result ≡ Some (Taken.Over e) → (seat.new ≡ record seat.old { overs = 1 }) × (self.old.machine.end ≡ Some e) × (self.new.machine ≡ self.old.machine) }
-        ensures taken { (t : Input) → result ≡ Some (Taken.Task t) → WasTaken B.Kinds.family B.Kinds.admits E.net t }
-        ensures ended { (e : EndV) → result ≡ Some (Taken.Over e) → HasEnded B.Kinds.family B.Kinds.admits E.net e }
+        ensures taken { (t : Input) → result ≡ Some (Taken.Task t) → WasTaken (family_of B.Kinds.start B.Kinds.answer_of) B.Kinds.admits E.net t }
+        ensures ended { (e : EndV) → result ≡ Some (Taken.Over e) → HasEnded (family_of B.Kinds.start B.Kinds.answer_of) B.Kinds.admits E.net e }
     {
         match self.machine.end() {
             Some(end) => {
@@ -146,9 +148,9 @@ impl<B: Body, E: EntryLedger, O: Ledger> Guarded<B, E, O> {
         seat: &mut Seat<E, O>,
     ) -> Result<Outcome, Stranger<B>>
         requires { board.now ≡ E.board }
-        ensures machine { MatchResult result (λ o. Commits B.Kinds.family self.old.machine finished o self.new.machine × Appends B.Kinds.family self.old.machine self.new.machine (number o)) (λ s. (self.new ≡ self.old) × (s.finished ≡ finished)) }
+        ensures machine { MatchResult result (λ o. Commits (family_of B.Kinds.start B.Kinds.answer_of) self.old.machine finished o self.new.machine × Appends (family_of B.Kinds.start B.Kinds.answer_of) self.old.machine self.new.machine (number o)) (λ s. (self.new ≡ self.old) × (s.finished ≡ finished)) }
         ensures seat { MatchResult result (λ o. seat.new ≡ record seat.old { entries = seat.old.entries + number o }) (λ _. seat.new ≡ seat.old) }
-        ensures committed { IfOk result (λ o. WasCommitted B.Kinds.family B.Kinds.admits E.net finished o) }
+        ensures committed { IfOk result (λ o. WasCommitted (family_of B.Kinds.start B.Kinds.answer_of) B.Kinds.admits E.net finished o) }
     {
         if !self.machine.has_asked(&finished) {
             return Err(Stranger { finished });
@@ -170,8 +172,8 @@ impl<B: Body, E: EntryLedger, O: Ledger> Guarded<B, E, O> {
         seat: &mut Seat<E, O>,
     ) -> Option<Finished<B>>
         requires { board.now ≡ E.board }
-        ensures machine { MatchOption result (CommitsAll B.Kinds.family self.old.machine hand.old.tasks hand.new.outcomes self.new.machine hand.new.tasks) (λ i. CommitsAll B.Kinds.family self.old.machine hand.old.tasks hand.new.outcomes self.new.machine (i ∷ hand.new.tasks)) }
-        ensures committed { MatchOption result (WereCommitted B.Kinds.family B.Kinds.admits E.net hand.old.tasks hand.new.outcomes hand.new.tasks) (λ i. WereCommitted B.Kinds.family B.Kinds.admits E.net hand.old.tasks hand.new.outcomes (i ∷ hand.new.tasks)) }
+        ensures machine { MatchOption result (CommitsAll (family_of B.Kinds.start B.Kinds.answer_of) self.old.machine hand.old.tasks hand.new.outcomes self.new.machine hand.new.tasks) (λ i. CommitsAll (family_of B.Kinds.start B.Kinds.answer_of) self.old.machine hand.old.tasks hand.new.outcomes self.new.machine (i ∷ hand.new.tasks)) }
+        ensures committed { MatchOption result (WereCommitted (family_of B.Kinds.start B.Kinds.answer_of) B.Kinds.admits E.net hand.old.tasks hand.new.outcomes hand.new.tasks) (λ i. WereCommitted (family_of B.Kinds.start B.Kinds.answer_of) B.Kinds.admits E.net hand.old.tasks hand.new.outcomes (i ∷ hand.new.tasks)) }
         ensures called { MatchOption result ((hand.new.called ≡ 0) × (length hand.new.outcomes ≡ hand.old.called)) (λ _. hand.new.called + 1 + length hand.new.outcomes ≡ hand.old.called) }
         ensures count { MatchOption result (length hand.new.tasks + length hand.new.outcomes ≡ length hand.old.tasks) (λ _. length hand.new.tasks + 1 + length hand.new.outcomes ≡ length hand.old.tasks) }
         ensures seat { seat.new ≡ record seat.old { entries = seat.old.entries + sum_by number hand.new.outcomes } }
@@ -187,23 +189,43 @@ impl<B: Body, E: EntryLedger, O: Ledger> Guarded<B, E, O> {
         refused
     }
 
+    // Meets the end of the run and notes it in the seat, if there is one; takes no task.
+    fn meet_end(&mut self, seat: &mut Seat<E, O>) -> Next
+        ensures machine { self.new.machine ≡ self.old.machine }
+        ensures none { result ≢ Next.Tasks }
+        ensures nothing { result ≡ Next.Nothing → seat.new ≡ seat.old }
+        ensures seat { (seat.new.parts ≡ seat.old.parts) × (seat.new.entries ≡ seat.old.entries) }
+        ensures over { (e : EndV) → result ≡ Next.Over e → (seat.new ≡ record seat.old { overs = 1 }) × (self.new.machine.end ≡ Some e) }
+        ensures ended { (e : EndV) → result ≡ Next.Over e → HasEnded (family_of B.Kinds.start B.Kinds.answer_of) B.Kinds.admits E.net e }
+    {
+        let Some(end) = self.machine.end() else {
+            return Next::Nothing;
+        };
+        if seat.meet_end(&mut self.overs, &mut self.over_count) {
+            Next::Over(end)
+        } else {
+            Next::Nothing
+        }
+    }
+
     /// Takes at most `most` tasks for a hand that has none; or meets the end of the run and notes it in
-    /// the seat. Takes nothing if `most` is 0.
+    /// the seat, also if `most` is 0.
     pub(crate) fn deal(&mut self, hand: &mut Hand<B>, seat: &mut Seat<E, O>, most: usize) -> Next
         requires tasks { hand.old.tasks ≡ [] }
         requires called { hand.old.called ≡ 0 }
         ensures out { TakesOutAll self.old.machine hand.new.tasks self.new.machine }
-        ensures taken { All (WasTaken B.Kinds.family B.Kinds.admits E.net) hand.new.tasks }
+        ensures taken { All (WasTaken (family_of B.Kinds.start B.Kinds.answer_of) B.Kinds.admits E.net) hand.new.tasks }
         ensures rest { (hand.new.called ≡ 0) × (hand.new.outcomes ≡ hand.old.outcomes) }
+        ensures most { length hand.new.tasks ≤ most }
         ensures tasks { result ≡ Next.Tasks → (seat.new ≡ seat.old) × (0 < length hand.new.tasks) }
         ensures nothing { result ≡ Next.Nothing → (seat.new ≡ seat.old) × (hand.new.tasks ≡ []) }
-        ensures found { result ≡ Next.Nothing → 0 < most → FoundNothing B.Kinds.family B.Kinds.admits E.net }
+        ensures found { result ≡ Next.Nothing → 0 < most → FoundNothing (family_of B.Kinds.start B.Kinds.answer_of) B.Kinds.admits E.net }
         ensures seat { (seat.new.parts ≡ seat.old.parts) × (seat.new.entries ≡ seat.old.entries) }
         ensures over { (e : EndV) → result ≡ Next.Over e → (seat.new ≡ record seat.old { overs = 1 }) × (hand.new.tasks ≡ []) × (self.new.machine.end ≡ Some e) }
-        ensures ended { (e : EndV) → result ≡ Next.Over e → HasEnded B.Kinds.family B.Kinds.admits E.net e }
+        ensures ended { (e : EndV) → result ≡ Next.Over e → HasEnded (family_of B.Kinds.start B.Kinds.answer_of) B.Kinds.admits E.net e }
     {
         if most == 0 {
-            return Next::Nothing;
+            return self.meet_end(seat);
         }
         let wanted = hand.wanted(self.machine.ready(), most, self.sharing());
         match self.take(seat) {
@@ -227,17 +249,18 @@ impl<B: Body, E: EntryLedger, O: Ledger> Guarded<B, E, O> {
     ) -> Result<Next, Stranger<B>>
         requires board { board.now ≡ E.board }
         requires called { hand.old.called ≡ length hand.old.tasks }
-        ensures machine { IfOk result (λ _. (m : MachineView) × CommitsAll B.Kinds.family self.old.machine hand.old.tasks hand.new.outcomes m [] × TakesOutAll m hand.new.tasks self.new.machine) }
-        ensures committed { OnOk result (WereCommitted B.Kinds.family B.Kinds.admits E.net hand.old.tasks hand.new.outcomes []) }
-        ensures stranger { IfErr result (λ s. WereCommitted B.Kinds.family B.Kinds.admits E.net hand.old.tasks hand.new.outcomes (s.finished ∷ hand.new.tasks) × CommitsAll B.Kinds.family self.old.machine hand.old.tasks hand.new.outcomes self.new.machine (s.finished ∷ hand.new.tasks)) }
+        ensures machine { IfOk result (λ _. (m : MachineView) × CommitsAll (family_of B.Kinds.start B.Kinds.answer_of) self.old.machine hand.old.tasks hand.new.outcomes m [] × TakesOutAll m hand.new.tasks self.new.machine) }
+        ensures committed { OnOk result (WereCommitted (family_of B.Kinds.start B.Kinds.answer_of) B.Kinds.admits E.net hand.old.tasks hand.new.outcomes []) }
+        ensures stranger { IfErr result (λ s. WereCommitted (family_of B.Kinds.start B.Kinds.answer_of) B.Kinds.admits E.net hand.old.tasks hand.new.outcomes (s.finished ∷ hand.new.tasks) × CommitsAll (family_of B.Kinds.start B.Kinds.answer_of) self.old.machine hand.old.tasks hand.new.outcomes self.new.machine (s.finished ∷ hand.new.tasks)) }
         ensures kept { OnErr result ((seat.new.overs ≡ seat.old.overs) × (hand.new.called ≡ length hand.new.tasks)) }
         ensures seat { (seat.new.parts ≡ seat.old.parts) × (seat.new.entries ≡ seat.old.entries + sum_by number hand.new.outcomes) }
-        ensures taken { OnOk result (All (WasTaken B.Kinds.family B.Kinds.admits E.net) hand.new.tasks × (hand.new.called ≡ 0)) }
+        ensures taken { OnOk result (All (WasTaken (family_of B.Kinds.start B.Kinds.answer_of) B.Kinds.admits E.net) hand.new.tasks × (hand.new.called ≡ 0)) }
+        ensures most { OnOk result (length hand.new.tasks ≤ most) }
         ensures tasks { result ≡ Ok Next.Tasks → (seat.new.overs ≡ seat.old.overs) × (0 < length hand.new.tasks) }
         ensures nothing { result ≡ Ok Next.Nothing → (seat.new.overs ≡ seat.old.overs) × (hand.new.tasks ≡ []) }
-        ensures found { result ≡ Ok Next.Nothing → 0 < most → FoundNothing B.Kinds.family B.Kinds.admits E.net }
+        ensures found { result ≡ Ok Next.Nothing → 0 < most → FoundNothing (family_of B.Kinds.start B.Kinds.answer_of) B.Kinds.admits E.net }
         ensures over { (e : EndV) → result ≡ Ok (Next.Over e) → (seat.new.overs ≡ 1) × (hand.new.tasks ≡ []) × (self.new.machine.end ≡ Some e) }
-        ensures ended { (e : EndV) → result ≡ Ok (Next.Over e) → HasEnded B.Kinds.family B.Kinds.admits E.net e }
+        ensures ended { (e : EndV) → result ≡ Ok (Next.Over e) → HasEnded (family_of B.Kinds.start B.Kinds.answer_of) B.Kinds.admits E.net e }
     {
         match self.give(board, hand, seat) {
             Some(finished) => Err(Stranger { finished }),
@@ -248,10 +271,11 @@ impl<B: Body, E: EntryLedger, O: Ledger> Guarded<B, E, O> {
     // Takes more tasks, until there are as many as are wanted or no process is ready.
     fn deal_more(&mut self, hand: &mut Hand<B>, wanted: usize)
         requires one { length hand.old.tasks ≡ 1 }
-        requires room { wanted ≤ 64 }
+        requires room { (1 ≤ wanted) × (wanted ≤ 64) }
         ensures out { (s : MachineView) → TakesOutAll s hand.old.tasks self.old.machine → TakesOutAll s hand.new.tasks self.new.machine }
-        ensures taken { All (WasTaken B.Kinds.family B.Kinds.admits E.net) hand.old.tasks → All (WasTaken B.Kinds.family B.Kinds.admits E.net) hand.new.tasks }
+        ensures taken { All (WasTaken (family_of B.Kinds.start B.Kinds.answer_of) B.Kinds.admits E.net) hand.old.tasks → All (WasTaken (family_of B.Kinds.start B.Kinds.answer_of) B.Kinds.admits E.net) hand.new.tasks }
         ensures some { 0 < length hand.new.tasks }
+        ensures many { length hand.new.tasks ≤ wanted }
         ensures rest { (hand.new.called ≡ hand.old.called) × (hand.new.outcomes ≡ hand.old.outcomes) }
     {
         for _i in 1..wanted {
@@ -264,7 +288,7 @@ impl<B: Body, E: EntryLedger, O: Ledger> Guarded<B, E, O> {
     // Takes one more task. False if no process is ready.
     fn deal_one(&mut self, hand: &mut Hand<B>) -> bool
         requires { length hand.old.tasks < 64 }
-        ensures more { result ≡ true → (i : Input) × (hand.new ≡ record hand.old { tasks = hand.old.tasks ++ i ∷ [] }) × TakesOut self.old.machine i self.new.machine × WasTaken B.Kinds.family B.Kinds.admits E.net i }
+        ensures more { result ≡ true → (i : Input) × (hand.new ≡ record hand.old { tasks = hand.old.tasks ++ i ∷ [] }) × TakesOut self.old.machine i self.new.machine × WasTaken (family_of B.Kinds.start B.Kinds.answer_of) B.Kinds.admits E.net i }
         ensures none { result ≡ false → (hand.new ≡ hand.old) × (self.new ≡ self.old) }
     {
         self.machine.assure_faithful();
@@ -352,7 +376,7 @@ impl<B: Body, E: EntryLedger, O: Ledger> Guarded<B, E, O> {
     pub(crate) fn watch(&mut self, board: &Board) -> Result<Watcher, WatchFault>
         requires { board.now ≡ E.board }
         ensures seen { IfOk result (λ w. w ≡ record { board = E.board; entries = self.old.machine.history; phase = phase_of self.old.machine.end }) }
-        ensures run { IfOk result (λ w. (M : State) × IsRun B.Kinds.family E.net w.entries M × MayStand B.Kinds.family E.net w.entries M self.old.machine.end) }
+        ensures run { IfOk result (λ w. (M : State) × IsRun (family_of B.Kinds.start B.Kinds.answer_of) E.net w.entries M × MayStand (family_of B.Kinds.start B.Kinds.answer_of) E.net w.entries M self.old.machine.end) }
         ensures made { IfOk result (λ _. self.new ≡ record self.old { watchers = self.old.watchers + 1 }) }
         ensures full { IsErr result ↔ (self.old.watchers ≡ MOST_WATCHERS) }
         ensures kept { OnErr result (self.new ≡ self.old) }
@@ -375,7 +399,7 @@ impl<B: Body, E: EntryLedger, O: Ledger> Guarded<B, E, O> {
     pub(crate) fn into_chronicle(self) -> (Chronicle<B::Kinds>, CountingPublisher)
         ensures is { result.0 ≡ self.machine }
         ensures network { result.0.network ≡ E.net }
-        ensures faithful { IsFaithful B.Kinds.family B.Kinds.admits result.0 }
+        ensures faithful { IsFaithful (family_of B.Kinds.start B.Kinds.answer_of) B.Kinds.admits result.0 }
         ensures shown { IsShown E.board result.0 result.1 }
     {
         let Guarded {

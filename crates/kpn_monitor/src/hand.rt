@@ -44,12 +44,13 @@ impl<B: Body> Model for Hand<B> {
     ghost use Rattle.std.specs.Prelude.{◌≡◌, ◌≤◌, length, vec_capacity};
     ghost use Rattle.kpn_monitor.specs.Names.{Holding};
     ghost use Rattle.kpn_monitor.specs.Hands.{AreAnswers};
+    ghost use Rattle.kpn_model.specs.Network.{family_of};
 
     ghost Value = { Holding };
 
     ghost view = { λ h. record { tasks = h.tasks.items; called = length h.answers.items; outcomes = h.outcomes.items } };
 
-    ghost invariant = { λ h. (h.tasks.capacity ≡ 64) × (h.answers.capacity ≡ 64) × (64 ≤ vec_capacity h.outcomes) × (length h.tasks.items ≤ 64) × (length h.answers.items ≤ length h.tasks.items) × AreAnswers B.Kinds.family h.tasks.items h.answers.items };
+    ghost invariant = { λ h. (h.tasks.capacity ≡ 64) × (h.answers.capacity ≡ 64) × (64 ≤ vec_capacity h.outcomes) × (length h.tasks.items ≤ 64) × (length h.answers.items ≤ length h.tasks.items) × AreAnswers (family_of B.Kinds.start B.Kinds.answer_of) h.tasks.items h.answers.items };
 }
 
 impl<B: Body> Hand<B> {
@@ -178,7 +179,8 @@ impl<B: Body> Hand<B> {
     /// How many tasks to take if `ready` processes are ready and at most `most` tasks are wanted: the
     /// worker's share, but at least one.
     pub(crate) fn wanted(&self, ready: usize, most: usize, sharing: Sharing) -> usize
-        ensures { (1 ≤ result) × (result ≤ 64) }
+        ensures some { (1 ≤ result) × (result ≤ 64) }
+        ensures most { 1 ≤ most → result ≤ most }
     {
         let share = match sharing {
             Sharing::OneByOne if self.sharers > 1 => 1,

@@ -1,5 +1,6 @@
 //! A machine under a lock.
-ghost use Rattle.std.specs.Prelude.{◌≡◌, ◌≢◌, ◌+◌, ◌<◌, ◌↔◌, ℕ, [], ◌∷◌, Some, Ok, IfOk, IfErr, OnOk, OnErr, IsSome, IsOk, IsTrue, MatchResult, length, slice_get};
+ghost use Rattle.std.specs.Prelude.{◌≡◌, ◌≢◌, ◌+◌, ◌<◌, ◌≤◌, ◌↔◌, ℕ, [], ◌∷◌, Some, Ok, IfOk, IfErr, OnOk, OnErr, IsSome, IsOk, IsTrue, MatchResult, length, slice_get};
+ghost use Rattle.kpn_model.specs.Network.{family_of};
 ghost use Rattle.std.specs.List.{All, sum_by};
 ghost use Rattle.kpn_model.specs.declared.history.End.{End as EndV};
 ghost use Rattle.kpn_model.specs.Semantics.{State};
@@ -13,7 +14,7 @@ ghost use Rattle.kpn_monitor.specs.Names.{Shares};
 ghost use Rattle.kpn_monitor.specs.Kept.{FoundNothing, HasEnded, IsAccount, WasCommitted, WasTaken};
 ghost use Rattle.kpn_monitor.specs.Hands.{WereCommitted};
 
-use crate::closed::{CloseFault, Closed, Unclosed};
+use crate::closed::{Closed, Unclosed};
 use crate::guarded::{Guarded, Next, Taken, Wakes};
 use crate::hand::Hand;
 use crate::naming::EntryLedger;
@@ -86,17 +87,22 @@ impl<B: Body, E: EntryLedger, O: Ledger> Monitor<B, E, O> {
     }
 
     /// Takes a process out as a task; or, if the run is over, returns its end and notes in the seat
-    /// that it has met it (its share of overs is then 1). A task leaves the seat unchanged. Waits while
-    /// no process is ready and the run goes on. If a task is dropped, its process stays out for good.
+    /// that it has met it (its share of overs is then 1), and wakes those that rest. A task leaves the
+    /// seat unchanged. Waits while no process is ready and the run goes on. If a task is dropped, its
+    /// process stays out for good.
     pub fn take<R: Wait>(&self, rt: &R, seat: &mut Seat<E, O>) -> Taken<B>
         ensures task { (t : Input) → result ≡ Taken.Task t → seat.new ≡ seat.old }
         ensures over { (e : EndV) → result ≡ Taken.Over e → seat.new ≡ record seat.old { overs = 1 } }
-        ensures taken { (t : Input) → result ≡ Taken.Task t → WasTaken B.Kinds.family B.Kinds.admits E.net t }
-        ensures ended { (e : EndV) → result ≡ Taken.Over e → HasEnded B.Kinds.family B.Kinds.admits E.net e }
+        ensures taken { (t : Input) → result ≡ Taken.Task t → WasTaken (family_of B.Kinds.start B.Kinds.answer_of) B.Kinds.admits E.net t }
+        ensures ended { (e : EndV) → result ≡ Taken.Over e → HasEnded (family_of B.Kinds.start B.Kinds.answer_of) B.Kinds.admits E.net e }
     {
         let mut guarded = self.state.lock(rt);
         for _ in rt.forever() {
             if let Some(taken) = guarded.take(seat) {
+                drop(guarded);
+                if matches!(taken, Taken::Over(_)) {
+                    self.rouse(rt);
+                }
                 return taken;
             }
             guarded.begin_waiting();
@@ -119,7 +125,7 @@ impl<B: Body, E: EntryLedger, O: Ledger> Monitor<B, E, O> {
     ) -> Result<Outcome, Stranger<B>>
         ensures seat { MatchResult result (λ o. seat.new ≡ record seat.old { entries = seat.old.entries + number o }) (λ _. seat.new ≡ seat.old) }
         ensures stranger { IfErr result (λ s. s.finished ≡ finished) }
-        ensures committed { IfOk result (λ o. WasCommitted B.Kinds.family B.Kinds.admits E.net finished o) }
+        ensures committed { IfOk result (λ o. WasCommitted (family_of B.Kinds.start B.Kinds.answer_of) B.Kinds.admits E.net finished o) }
     {
         let mut guarded = self.state.lock(rt);
         let answer = guarded.commit(&self.board, finished, seat);
@@ -149,15 +155,16 @@ impl<B: Body, E: EntryLedger, O: Ledger> Monitor<B, E, O> {
         requires { hand.old.called ≡ length hand.old.tasks }
         ensures parts { seat.new.parts ≡ seat.old.parts }
         ensures entries { seat.new.entries ≡ seat.old.entries + sum_by number hand.new.outcomes }
-        ensures committed { OnOk result (WereCommitted B.Kinds.family B.Kinds.admits E.net hand.old.tasks hand.new.outcomes []) }
-        ensures stranger { IfErr result (λ s. WereCommitted B.Kinds.family B.Kinds.admits E.net hand.old.tasks hand.new.outcomes (s.finished ∷ hand.new.tasks)) }
+        ensures committed { OnOk result (WereCommitted (family_of B.Kinds.start B.Kinds.answer_of) B.Kinds.admits E.net hand.old.tasks hand.new.outcomes []) }
+        ensures stranger { IfErr result (λ s. WereCommitted (family_of B.Kinds.start B.Kinds.answer_of) B.Kinds.admits E.net hand.old.tasks hand.new.outcomes (s.finished ∷ hand.new.tasks)) }
         ensures kept { OnErr result ((seat.new.overs ≡ seat.old.overs) × (hand.new.called ≡ length hand.new.tasks)) }
-        ensures taken { OnOk result (All (WasTaken B.Kinds.family B.Kinds.admits E.net) hand.new.tasks × (hand.new.called ≡ 0)) }
+        ensures taken { OnOk result (All (WasTaken (family_of B.Kinds.start B.Kinds.answer_of) B.Kinds.admits E.net) hand.new.tasks × (hand.new.called ≡ 0)) }
+        ensures most { OnOk result (length hand.new.tasks ≤ most) }
         ensures tasks { result ≡ Ok Next.Tasks → (seat.new.overs ≡ seat.old.overs) × (0 < length hand.new.tasks) }
         ensures nothing { result ≡ Ok Next.Nothing → (seat.new.overs ≡ seat.old.overs) × (hand.new.tasks ≡ []) }
-        ensures found { result ≡ Ok Next.Nothing → 0 < most → FoundNothing B.Kinds.family B.Kinds.admits E.net }
+        ensures found { result ≡ Ok Next.Nothing → 0 < most → FoundNothing (family_of B.Kinds.start B.Kinds.answer_of) B.Kinds.admits E.net }
         ensures over { (e : EndV) → result ≡ Ok (Next.Over e) → (seat.new.overs ≡ 1) × (hand.new.tasks ≡ []) }
-        ensures ended { (e : EndV) → result ≡ Ok (Next.Over e) → HasEnded B.Kinds.family B.Kinds.admits E.net e }
+        ensures ended { (e : EndV) → result ≡ Ok (Next.Over e) → HasEnded (family_of B.Kinds.start B.Kinds.answer_of) B.Kinds.admits E.net e }
     {
         hand.see_awake(self.awake.load(Ordering::SeqCst));
         let mut guarded = self.lock(rt);
@@ -189,11 +196,12 @@ impl<B: Body, E: EntryLedger, O: Ledger> Monitor<B, E, O> {
     ) -> bool
         ensures { hand.new ≡ hand.old }
     {
+        // Under the lock of those that rest: else a spare one could leave work to this one and rest first.
+        let mut resters = self.resters.lock(rt);
         if why == Rest::Idle && self.lock(rt).has_work() {
             return false;
         }
         let is_new = hand.wants_rest_anew();
-        let mut resters = self.resters.lock(rt);
         let rests = resters.begin(is_new, why);
         self.awake.store(resters.awake(), Ordering::SeqCst);
         if !rests {
@@ -291,7 +299,7 @@ impl<B: Body, E: EntryLedger, O: Ledger> Monitor<B, E, O> {
     /// Fails if 64 watchers were made.
     pub fn watch<R: Wait>(&self, rt: &R) -> Result<Watcher, WatchFault>
         ensures board { IfOk result (λ w. w.board ≡ E.board) }
-        ensures run { IfOk result (λ w. (M : State) × IsRun B.Kinds.family E.net w.entries M) }
+        ensures run { IfOk result (λ w. (M : State) × IsRun (family_of B.Kinds.start B.Kinds.answer_of) E.net w.entries M) }
     {
         self.state.lock(rt).watch(&self.board)
     }
@@ -317,7 +325,7 @@ impl<B: Body, E: EntryLedger, O: Ledger> Monitor<B, E, O> {
     ///
     /// Errors: the shares do not add up to the books. The monitor and the seats are handed back.
     pub fn close(self, seats: Vec<Seat<E, O>>) -> Result<Closed<B::Kinds, E>, Unclosed<B, E, O>>
-        ensures account { IfOk result (λ c. IsAccount B.Kinds.family B.Kinds.admits E.net c) }
+        ensures account { IfOk result (λ c. IsAccount (family_of B.Kinds.start B.Kinds.answer_of) B.Kinds.admits E.net c) }
         ensures receipts { IfOk result (λ c. c.receipts ≡ sum_by (λ (s : Shares). s.entries) seats.items) }
         ensures ended { IfOk result (λ c. (k : ℕ) (s : Shares) → slice_get seats.items k ≡ Some s → s.overs ≡ 1 → IsSome c.machine.end) }
         ensures seats { IfErr result (λ u. u.seats.items ≡ seats.items) }
@@ -352,11 +360,7 @@ impl<B: Body, E: EntryLedger, O: Ledger> Monitor<B, E, O> {
             awake,
             board,
         };
-        Err(Unclosed {
-            monitor,
-            seats,
-            fault: CloseFault::SeatsMissing,
-        })
+        Err(Unclosed { monitor, seats })
     }
 }
 

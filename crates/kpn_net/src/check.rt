@@ -164,7 +164,7 @@ pub(crate) fn card_with(kind: u16, args: &[i64]) -> Card
 
 /// The ports of a process; `None` if the family has no kind of its name, or refuses its arguments.
 pub fn signature_of<K: Kinds>(process: &ProcessSketch) -> Option<Signature>
-    ensures { result ≡ signature_of K.named K.signature_of process.now }
+    ensures { result ≡ signature_of K.named K.signature process.now }
 {
     let (kind, _) = K::named(process.kind.as_str())?;
     K::signature(&card_with(kind, process.args.as_slice()))
@@ -172,14 +172,14 @@ pub fn signature_of<K: Kinds>(process: &ProcessSketch) -> Option<Signature>
 
 /// Whether the family has no kind of the name that the process gives.
 pub fn has_unknown_kind<K: Kinds>(process: &ProcessSketch) -> bool
-    ensures { result ≡ has_unknown_kind K.named K.signature_of process.now }
+    ensures { result ≡ has_unknown_kind K.named K.signature process.now }
 {
     K::named(process.kind.as_str()).is_none()
 }
 
 /// Whether the kind of the process takes another number of arguments, or is unknown.
 pub fn takes_other_count<K: Kinds>(process: &ProcessSketch) -> bool
-    ensures { result ≡ takes_other_count K.named K.signature_of process.now }
+    ensures { result ≡ takes_other_count K.named K.signature process.now }
 {
     match K::named(process.kind.as_str()) {
         Some((_, count)) => process.args.as_slice().len() != count,
@@ -190,7 +190,7 @@ pub fn takes_other_count<K: Kinds>(process: &ProcessSketch) -> bool
 /// Whether the kind takes another number of arguments, or more than three, or refuses these: one is
 /// below 0, or no process of the kind has them.
 pub fn has_wrong_args<K: Kinds>(process: &ProcessSketch) -> bool
-    ensures { result ≡ has_wrong_args K.named K.signature_of process.now }
+    ensures { result ≡ has_wrong_args K.named K.signature process.now }
 {
     let args = process.args.as_slice();
     takes_other_count::<K>(process)
@@ -201,7 +201,7 @@ pub fn has_wrong_args<K: Kinds>(process: &ProcessSketch) -> bool
 
 /// The signature of the process with this name; `None` if there is no such process, kind or card.
 fn signature_named<K: Kinds>(sketch: &Sketch, name: &str) -> Option<Signature>
-    ensures { result ≡ signature_named K.named K.signature_of sketch.now name.now }
+    ensures { result ≡ signature_named K.named K.signature sketch.now name.now }
 {
     let process = process_named(sketch.processes.as_slice(), name)?;
     signature_of::<K>(process)
@@ -216,7 +216,7 @@ pub fn process_named<'a>(processes: &'a [ProcessSketch], name: &str) -> Option<&
 
 /// The sort of the output port that a channel begins at; `None` if there is none.
 pub fn out_sort<K: Kinds>(sketch: &Sketch, channel: &ChannelSketch) -> Option<Sort>
-    ensures { result ≡ sketched_out_sort K.named K.signature_of sketch.now channel.now }
+    ensures { result ≡ sketched_out_sort K.named K.signature sketch.now channel.now }
 {
     let signature = signature_named::<K>(sketch, channel.from.as_str())?;
     port_sort(&signature.outs, channel.out)
@@ -224,7 +224,7 @@ pub fn out_sort<K: Kinds>(sketch: &Sketch, channel: &ChannelSketch) -> Option<So
 
 /// The sort of the input port that a channel ends at; `None` if there is none.
 pub fn in_sort<K: Kinds>(sketch: &Sketch, channel: &ChannelSketch) -> Option<Sort>
-    ensures { result ≡ sketched_in_sort K.named K.signature_of sketch.now channel.now }
+    ensures { result ≡ sketched_in_sort K.named K.signature sketch.now channel.now }
 {
     let signature = signature_named::<K>(sketch, channel.to.as_str())?;
     port_sort(&signature.ins, channel.input)
@@ -253,7 +253,7 @@ pub fn is_unused_out<K: Kinds>(
     signature: &Signature,
     port: i64,
 ) -> bool
-    ensures { result ≡ is_unused_out K.named K.signature_of sketch.now name.now signature.now port }
+    ensures { result ≡ is_unused_out K.named K.signature sketch.now name.now signature.now port }
 {
     port_sort(&signature.outs, port).is_some()
         && !leads_from(sketch.channels.as_slice(), name, port)
@@ -261,13 +261,13 @@ pub fn is_unused_out<K: Kinds>(
 
 /// Whether a process with this name and signature has this input port, and no channel leads to it.
 pub fn is_unused_in<K: Kinds>(sketch: &Sketch, name: &str, signature: &Signature, port: i64) -> bool
-    ensures { result ≡ is_unused_in K.named K.signature_of sketch.now name.now signature.now port }
+    ensures { result ≡ is_unused_in K.named K.signature sketch.now name.now signature.now port }
 {
     port_sort(&signature.ins, port).is_some() && !leads_to(sketch.channels.as_slice(), name, port)
 }
 
 fn is_unused<K: Kinds>(sketch: &Sketch, name: &str, signature: &Signature, port: i64) -> bool
-    ensures { result ≡ is_unused K.named K.signature_of sketch.now name.now signature.now port }
+    ensures { result ≡ is_unused K.named K.signature sketch.now name.now signature.now port }
 {
     is_unused_out::<K>(sketch, name, signature, port)
         || is_unused_in::<K>(sketch, name, signature, port)
@@ -275,7 +275,7 @@ fn is_unused<K: Kinds>(sketch: &Sketch, name: &str, signature: &Signature, port:
 
 /// Whether no channel leads from or to a port of the process.
 pub fn has_unused_port<K: Kinds>(sketch: &Sketch, process: &ProcessSketch) -> bool
-    ensures { result ≡ has_unused_port K.named K.signature_of sketch.now process.now }
+    ensures { result ≡ has_unused_port K.named K.signature sketch.now process.now }
 {
     match signature_of::<K>(process) {
         Some(signature) => {
@@ -289,13 +289,13 @@ pub fn has_unused_port<K: Kinds>(sketch: &Sketch, process: &ProcessSketch) -> bo
 }
 
 fn has_wrong_version<K: Kinds>(sketch: &Sketch) -> bool
-    ensures { result ≡ has_fault K.named K.signature_of sketch.now NetFault.Version }
+    ensures { result ≡ has_fault K.named K.signature sketch.now NetFault.Version }
 {
     sketch.version != 1 && !is_two(sketch.version)
 }
 
 fn has_wrong_counts<K: Kinds>(sketch: &Sketch) -> bool
-    ensures { result ≡ has_fault K.named K.signature_of sketch.now NetFault.Counts }
+    ensures { result ≡ has_fault K.named K.signature sketch.now NetFault.Counts }
 {
     let processes = sketch.processes.as_slice();
     processes.len() == 0
@@ -316,7 +316,7 @@ fn has_bad_channel_name(channels: &[ChannelSketch]) -> bool
 }
 
 fn has_wrong_names<K: Kinds>(sketch: &Sketch) -> bool
-    ensures { result ≡ has_fault K.named K.signature_of sketch.now NetFault.Name }
+    ensures { result ≡ has_fault K.named K.signature sketch.now NetFault.Name }
 {
     let processes = sketch.processes.as_slice();
     let channels = sketch.channels.as_slice();
@@ -326,7 +326,7 @@ fn has_wrong_names<K: Kinds>(sketch: &Sketch) -> bool
 }
 
 fn has_unknown_kinds<K: Kinds>(sketch: &Sketch) -> bool
-    ensures { result ≡ has_fault K.named K.signature_of sketch.now NetFault.Kind }
+    ensures { result ≡ has_fault K.named K.signature sketch.now NetFault.Kind }
 {
     sketch
         .processes
@@ -336,7 +336,7 @@ fn has_unknown_kinds<K: Kinds>(sketch: &Sketch) -> bool
 }
 
 fn has_process_with_wrong_args<K: Kinds>(sketch: &Sketch) -> bool
-    ensures { result ≡ has_fault K.named K.signature_of sketch.now NetFault.Args }
+    ensures { result ≡ has_fault K.named K.signature sketch.now NetFault.Args }
 {
     sketch
         .processes
@@ -347,13 +347,13 @@ fn has_process_with_wrong_args<K: Kinds>(sketch: &Sketch) -> bool
 
 /// Whether the channel begins or ends at no port: of no process of that name, or of none that has it.
 pub fn lacks_end<K: Kinds>(sketch: &Sketch, channel: &ChannelSketch) -> bool
-    ensures { result ≡ (is_none (sketched_out_sort K.named K.signature_of sketch.now channel.now) || is_none (sketched_in_sort K.named K.signature_of sketch.now channel.now)) }
+    ensures { result ≡ (is_none (sketched_out_sort K.named K.signature sketch.now channel.now) || is_none (sketched_in_sort K.named K.signature sketch.now channel.now)) }
 {
     out_sort::<K>(sketch, channel).is_none() || in_sort::<K>(sketch, channel).is_none()
 }
 
 fn has_channel_without_end<K: Kinds>(sketch: &Sketch) -> bool
-    ensures { result ≡ has_fault K.named K.signature_of sketch.now NetFault.NoEnd }
+    ensures { result ≡ has_fault K.named K.signature sketch.now NetFault.NoEnd }
 {
     sketch
         .channels
@@ -363,14 +363,14 @@ fn has_channel_without_end<K: Kinds>(sketch: &Sketch) -> bool
 }
 
 fn shares_port<K: Kinds>(sketch: &Sketch) -> bool
-    ensures { result ≡ has_fault K.named K.signature_of sketch.now NetFault.Twice }
+    ensures { result ≡ has_fault K.named K.signature sketch.now NetFault.Twice }
 {
     let channels = sketch.channels.as_slice();
     any_clash::<ChannelSketch, SameOut>(channels) || any_clash::<ChannelSketch, SameIn>(channels)
 }
 
 fn has_unused_ports<K: Kinds>(sketch: &Sketch) -> bool
-    ensures { result ≡ has_fault K.named K.signature_of sketch.now NetFault.Unused }
+    ensures { result ≡ has_fault K.named K.signature sketch.now NetFault.Unused }
 {
     sketch
         .processes
@@ -381,14 +381,14 @@ fn has_unused_ports<K: Kinds>(sketch: &Sketch) -> bool
 
 /// Whether a port at an end of the channel is of another sort than the channel, or is missing.
 pub fn has_wrong_sort<K: Kinds>(sketch: &Sketch, channel: &ChannelSketch) -> bool
-    ensures { result ≡ (not (is_sort channel.now.sort (sketched_out_sort K.named K.signature_of sketch.now channel.now)) || not (is_sort channel.now.sort (sketched_in_sort K.named K.signature_of sketch.now channel.now))) }
+    ensures { result ≡ (not (is_sort channel.now.sort (sketched_out_sort K.named K.signature sketch.now channel.now)) || not (is_sort channel.now.sort (sketched_in_sort K.named K.signature sketch.now channel.now))) }
 {
     !is_sort(channel.sort, out_sort::<K>(sketch, channel))
         || !is_sort(channel.sort, in_sort::<K>(sketch, channel))
 }
 
 fn has_wrong_sorts<K: Kinds>(sketch: &Sketch) -> bool
-    ensures { result ≡ has_fault K.named K.signature_of sketch.now NetFault.Sorts }
+    ensures { result ≡ has_fault K.named K.signature sketch.now NetFault.Sorts }
 {
     sketch
         .channels
@@ -405,7 +405,7 @@ pub fn has_wrong_capacity(version: i64, channel: &ChannelSketch) -> bool
 }
 
 fn has_wrong_capacities<K: Kinds>(sketch: &Sketch) -> bool
-    ensures { result ≡ has_fault K.named K.signature_of sketch.now NetFault.Capacity }
+    ensures { result ≡ has_fault K.named K.signature sketch.now NetFault.Capacity }
 {
     sketch
         .channels
@@ -415,7 +415,7 @@ fn has_wrong_capacities<K: Kinds>(sketch: &Sketch) -> bool
 }
 
 fn has_wrong_budget<K: Kinds>(sketch: &Sketch) -> bool
-    ensures { result ≡ has_fault K.named K.signature_of sketch.now NetFault.Budget }
+    ensures { result ≡ has_fault K.named K.signature sketch.now NetFault.Budget }
 {
     let greatest = i64::from(greatest_budget_in(sketch.version));
     is_outside(1, greatest, sketch.budget)
@@ -456,7 +456,7 @@ pub fn has_wrong_tokens(channel: &ChannelSketch) -> bool
 }
 
 fn has_channel_with_wrong_tokens<K: Kinds>(sketch: &Sketch) -> bool
-    ensures { result ≡ has_fault K.named K.signature_of sketch.now NetFault.Tokens }
+    ensures { result ≡ has_fault K.named K.signature sketch.now NetFault.Tokens }
 {
     sketch
         .channels
@@ -466,14 +466,14 @@ fn has_channel_with_wrong_tokens<K: Kinds>(sketch: &Sketch) -> bool
 }
 
 fn has_wrong_step<K: Kinds>(sketch: &Sketch) -> bool
-    ensures { result ≡ has_fault K.named K.signature_of sketch.now NetFault.Step }
+    ensures { result ≡ has_fault K.named K.signature sketch.now NetFault.Step }
 {
     is_outside(1, i64::from(GREATEST_STEP), sketch.step)
 }
 
 /// The fault of least number whose condition holds.
 pub(crate) fn first_fault<K: Kinds>(sketch: &Sketch) -> Option<NetFault>
-    ensures { result ≡ first_fault K.named K.signature_of sketch.now }
+    ensures { result ≡ first_fault K.named K.signature sketch.now }
 {
     if has_wrong_version::<K>(sketch) {
         Some(NetFault::Version)

@@ -26,9 +26,9 @@ pub trait Check {
     /// `Memory`, at any time, if memory was refused. A sketch without such a fault is refused for
     /// memory alone.
     final fn check(alloc: Global, sketch: &Sketch) -> Result<Net<Self::Kinds>, NetFault>
-        ensures ok { IfOk result (λ n. (first_fault Self.Kinds.named Self.Kinds.signature_of sketch.now ≡ None) × (n ≡ net_of Self.Kinds.named sketch.now)) }
-        ensures valid { IfOk result (IsValid Self.Kinds.signature_of) }
-        ensures fault { IfErr result (λ e. e ≢ NetFault.Memory → first_fault Self.Kinds.named Self.Kinds.signature_of sketch.now ≡ Some e) }
+        ensures ok { IfOk result (λ n. (first_fault Self.Kinds.named Self.Kinds.signature sketch.now ≡ None) × (n ≡ net_of Self.Kinds.named sketch.now)) }
+        ensures valid { IfOk result (IsValid Self.Kinds.signature) }
+        ensures fault { IfErr result (λ e. e ≢ NetFault.Memory → first_fault Self.Kinds.named Self.Kinds.signature sketch.now ≡ Some e) }
     {
         if let Some(fault) = first_fault::<Self::Kinds>(sketch) {
             return Err(fault);

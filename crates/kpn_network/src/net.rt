@@ -50,7 +50,7 @@ impl<K: Kinds> Model for Net<K> {
 
     ghost view = { λ n. record { processes = n.processes.items; channels = n.channels.items; budget = n.budget; step = n.step; ceiling = n.ceiling } };
 
-    ghost invariant = { λ n. IsValid K.signature_of (record { processes = n.processes.items; channels = n.channels.items; budget = n.budget; step = n.step; ceiling = n.ceiling }) × HasPorts n.channels.items (length n.processes.items) n.ports.items };
+    ghost invariant = { λ n. IsValid K.signature (record { processes = n.processes.items; channels = n.channels.items; budget = n.budget; step = n.step; ceiling = n.ceiling }) × HasPorts n.channels.items (length n.processes.items) n.ports.items };
 }
 
 impl<K: Kinds> Net<K> {
@@ -59,7 +59,7 @@ impl<K: Kinds> Net<K> {
     ///
     /// Errors: memory was refused, for a table of the channel at each port. The parts are dropped then.
     pub fn of_parts(alloc: Global, parts: Parts) -> Result<Net<K>, AllocError>
-        requires { IsValid K.signature_of (network_of parts) }
+        requires { IsValid K.signature (network_of parts) }
         ensures { IfOk result (λ n. n ≡ network_of parts) }
     {
         let ports = table_of(alloc, parts.channels.as_slice(), parts.processes.len())?;
@@ -77,14 +77,14 @@ impl<K: Kinds> Net<K> {
     /// Returns the number of processes: 1 to 64. A caller also learns that the network is valid.
     pub fn processes(&self) -> usize
         ensures count { result ≡ length self.now.processes }
-        ensures valid { IsValid K.signature_of self.now }
+        ensures valid { IsValid K.signature self.now }
     {
         self.processes.len()
     }
 
     /// Does nothing: a caller knows from here on that the network is valid.
     pub fn assure_valid(&self)
-        ensures valid { IsValid K.signature_of self.now }
+        ensures valid { IsValid K.signature self.now }
     {
         let _ = &self.processes;
     }

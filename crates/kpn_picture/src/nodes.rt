@@ -26,7 +26,7 @@ fn push_arguments(out: &mut String, arguments: &[u64]) -> Result<(), AllocError>
 
 /// Appends the kind of a card, with the arguments that it takes.
 fn push_kind<K: Titled>(out: &mut String, card: &Card) -> Result<(), AllocError>
-    requires { IsSome (K.signature_of card.now) }
+    requires { IsSome (K.signature card.now) }
     ensures { OnOk result (string_bytes out.new ≡ string_bytes out.old ++ kind_text K.title card.now) }
 {
     let (name, arity) = K::title(card);
@@ -60,7 +60,7 @@ fn push_place<K: Kinds>(
 fn card<K: Kinds>(net: &Net<K>, p: usize) -> Card
     requires { p < length net.now.processes }
     ensures is { result ≡ card_of net.now p }
-    ensures signed { IsSome (K.signature_of result) }
+    ensures signed { IsSome (K.signature result) }
 {
     let _valid = net.processes();
     net.card(p)

@@ -14,7 +14,7 @@ pub trait Titled: Kinds {
     /// Returns the title of the kind of a card: its name, which means this kind, and the number of its
     /// arguments. The card must have a signature.
     fn title(card: &Card) -> (&'static str, usize)
-        requires { IsSome (Self.signature_of card.now) }
+        requires { IsSome (Self.signature card.now) }
         ensures name { result.0.now ≡ (title card.now.kind).0 }
         ensures arity { result.1 ≡ (title card.now.kind).1 }
         ensures named { Self.named (title card.now.kind).0 ≡ Some (card.now.kind, (title card.now.kind).1) };

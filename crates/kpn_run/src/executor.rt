@@ -1,6 +1,6 @@
 //! The run of a network by many workers.
 ghost use Rattle.std.specs.Prelude.{◌≡◌, ◌≢◌, ◌<◌, ◌≤◌, ◌⊎◌, ℕ, false, [], length, map, vec_capacity, Err, IfOk, IsTrue, OnOk};
-ghost use Rattle.kpn_model.specs.Network.{Network as NetV};
+ghost use Rattle.kpn_model.specs.Network.{Network as NetV, family_of};
 ghost use Rattle.kpn_machine.specs.declared.opening.OpenFault.{OpenFault as OpenFaultV};
 ghost use Rattle.kpn_machine.specs.Opening.{cards_of, IsOpenFault};
 ghost use Rattle.kpn_machine.specs.MachineView.{IsFresh};
@@ -55,6 +55,23 @@ pub enum RunFault<B: Body> {
     },
 }
 
+impl<B: Body> RunFault<B> {
+    /// Returns the number of the fault: 1 to 4, in the order above.
+    pub fn number(&self) -> u8
+        ensures workers { (n : NetV) (bs : _) → self.now ≡ RunFault.Workers n bs → result ≡ 1 }
+        ensures open { (n : NetV) (bs : _) (fault : OpenFaultV) → self.now ≡ RunFault.Open n bs fault → result ≡ 2 }
+        ensures memory { (n : NetV) (bs : _) → self.now ≡ RunFault.Memory n bs → result ≡ 3 }
+        ensures lost { (a : Input) (b : _) → self.now ≡ RunFault.Lost a b → result ≡ 4 }
+    {
+        match self {
+            RunFault::Workers { .. } => 1,
+            RunFault::Open { .. } => 2,
+            RunFault::Memory { .. } => 3,
+            RunFault::Lost { .. } => 4,
+        }
+    }
+}
+
 /// Runs a network from its start to an end, by 1 to 16 workers and with a body for each process in
 /// order.
 ///
@@ -79,12 +96,12 @@ pub fn run<B: Body, R: Wait + Clock + Threads + Sync, G: Gate>(
     workers: usize,
     gate: &G,
 ) -> Result<Finish<B::Kinds>, RunFault<B>>
-    ensures finish { IfOk result (IsFinish B.Kinds.family net) }
-    ensures within { IfOk result (λ f. StaysWithinCapacities B.Kinds.family net f.machine.history) }
-    ensures budget { IfOk result (λ f. SparesBudget B.Kinds.family net f.cause) }
-    ensures comparable { IfOk result (λ f. IsComparable B.Kinds.family net f.machine.history) }
-    ensures room { IfOk result (λ f. TakesLeastRoom B.Kinds.family net f.machine.history f.machine.state) }
-    ensures streams { IfOk result (λ f. ApproachLeastSolution B.Kinds.family net f.machine.history f.machine.state) }
+    ensures finish { IfOk result (IsFinish (family_of B.Kinds.start B.Kinds.answer_of) net) }
+    ensures within { IfOk result (λ f. StaysWithinCapacities (family_of B.Kinds.start B.Kinds.answer_of) net f.machine.history) }
+    ensures budget { IfOk result (λ f. SparesBudget (family_of B.Kinds.start B.Kinds.answer_of) net f.cause) }
+    ensures comparable { IfOk result (λ f. IsComparable (family_of B.Kinds.start B.Kinds.answer_of) net f.machine.history) }
+    ensures room { IfOk result (λ f. TakesLeastRoom (family_of B.Kinds.start B.Kinds.answer_of) net f.machine.history f.machine.state) }
+    ensures streams { IfOk result (λ f. ApproachLeastSolution (family_of B.Kinds.start B.Kinds.answer_of) net f.machine.history f.machine.state) }
     ensures cards { OnOk result (map B.card bodies.items ≡ cards_of net.processes) }
     ensures workers { (n : NetV) (bs : _) → result ≡ Err (RunFault.Workers n bs) → (n ≡ net) × (bs ≡ bodies) × ((workers ≡ 0) ⊎ (16 < workers)) }
     ensures many { (workers ≡ 0) ⊎ (16 < workers) → result ≡ Err (RunFault.Workers net bodies) }
@@ -143,12 +160,12 @@ fn run_bodies<B: Body, R: Wait + Clock + Threads + Sync, G: Gate>(
     gate: &G,
 ) -> Result<Finish<B::Kinds>, RunFault<B>>
     requires { (0 < workers) × (workers ≤ 16) }
-    ensures finish { IfOk result (IsFinish B.Kinds.family net) }
-    ensures within { IfOk result (λ f. StaysWithinCapacities B.Kinds.family net f.machine.history) }
-    ensures budget { IfOk result (λ f. SparesBudget B.Kinds.family net f.cause) }
-    ensures comparable { IfOk result (λ f. IsComparable B.Kinds.family net f.machine.history) }
-    ensures room { IfOk result (λ f. TakesLeastRoom B.Kinds.family net f.machine.history f.machine.state) }
-    ensures streams { IfOk result (λ f. ApproachLeastSolution B.Kinds.family net f.machine.history f.machine.state) }
+    ensures finish { IfOk result (IsFinish (family_of B.Kinds.start B.Kinds.answer_of) net) }
+    ensures within { IfOk result (λ f. StaysWithinCapacities (family_of B.Kinds.start B.Kinds.answer_of) net f.machine.history) }
+    ensures budget { IfOk result (λ f. SparesBudget (family_of B.Kinds.start B.Kinds.answer_of) net f.cause) }
+    ensures comparable { IfOk result (λ f. IsComparable (family_of B.Kinds.start B.Kinds.answer_of) net f.machine.history) }
+    ensures room { IfOk result (λ f. TakesLeastRoom (family_of B.Kinds.start B.Kinds.answer_of) net f.machine.history f.machine.state) }
+    ensures streams { IfOk result (λ f. ApproachLeastSolution (family_of B.Kinds.start B.Kinds.answer_of) net f.machine.history f.machine.state) }
     ensures cards { OnOk result (map B.card bodies.items ≡ cards_of net.processes) }
     ensures workers { (n : NetV) (bs : _) → result ≢ Err (RunFault.Workers n bs) }
     ensures open { (n : NetV) (bs : _) (fault : OpenFaultV) → result ≡ Err (RunFault.Open n bs fault) → (n ≡ net) × (bs.items ≡ bodies.items) × (fault ≢ OpenFault.Memory) × IsOpenFault net.processes (map B.card bodies.items) fault }
@@ -188,12 +205,12 @@ fn run_machine<B: Body, R: Wait + Clock + Threads + Sync, G: Gate>(
 ) -> Result<Finish<B::Kinds>, RunFault<B>>
     requires fresh { IsFresh machine }
     requires workers { (0 < workers) × (workers ≤ 16) }
-    ensures finish { IfOk result (IsFinish B.Kinds.family machine.network) }
-    ensures within { IfOk result (λ f. StaysWithinCapacities B.Kinds.family machine.network f.machine.history) }
-    ensures budget { IfOk result (λ f. SparesBudget B.Kinds.family machine.network f.cause) }
-    ensures comparable { IfOk result (λ f. IsComparable B.Kinds.family machine.network f.machine.history) }
-    ensures room { IfOk result (λ f. TakesLeastRoom B.Kinds.family machine.network f.machine.history f.machine.state) }
-    ensures streams { IfOk result (λ f. ApproachLeastSolution B.Kinds.family machine.network f.machine.history f.machine.state) }
+    ensures finish { IfOk result (IsFinish (family_of B.Kinds.start B.Kinds.answer_of) machine.network) }
+    ensures within { IfOk result (λ f. StaysWithinCapacities (family_of B.Kinds.start B.Kinds.answer_of) machine.network f.machine.history) }
+    ensures budget { IfOk result (λ f. SparesBudget (family_of B.Kinds.start B.Kinds.answer_of) machine.network f.cause) }
+    ensures comparable { IfOk result (λ f. IsComparable (family_of B.Kinds.start B.Kinds.answer_of) machine.network f.machine.history) }
+    ensures room { IfOk result (λ f. TakesLeastRoom (family_of B.Kinds.start B.Kinds.answer_of) machine.network f.machine.history f.machine.state) }
+    ensures streams { IfOk result (λ f. ApproachLeastSolution (family_of B.Kinds.start B.Kinds.answer_of) machine.network f.machine.history f.machine.state) }
     ensures workers { (n : NetV) (bs : _) → result ≢ Err (RunFault.Workers n bs) }
     ensures open { (n : NetV) (bs : _) (fault : OpenFaultV) → result ≢ Err (RunFault.Open n bs fault) }
     ensures lost { (a : Input) (b : _) → result ≡ Err (RunFault.Lost a b) → B.card b ≡ a.card }
@@ -213,11 +230,11 @@ fn run_machine<B: Body, R: Wait + Clock + Threads + Sync, G: Gate>(
 
 /// Does nothing: a caller knows from here on what the laws say of a run that is over.
 fn told_by_laws<K: Kinds>(finish: &Finish<K>)
-    ensures within { StaysWithinCapacities K.family finish.now.machine.network finish.now.machine.history }
-    ensures budget { SparesBudget K.family finish.now.machine.network finish.now.cause }
-    ensures comparable { IsComparable K.family finish.now.machine.network finish.now.machine.history }
-    ensures room { TakesLeastRoom K.family finish.now.machine.network finish.now.machine.history finish.now.machine.state }
-    ensures streams { ApproachLeastSolution K.family finish.now.machine.network finish.now.machine.history finish.now.machine.state }
+    ensures within { StaysWithinCapacities (family_of K.start K.answer_of) finish.now.machine.network finish.now.machine.history }
+    ensures budget { SparesBudget (family_of K.start K.answer_of) finish.now.machine.network finish.now.cause }
+    ensures comparable { IsComparable (family_of K.start K.answer_of) finish.now.machine.network finish.now.machine.history }
+    ensures room { TakesLeastRoom (family_of K.start K.answer_of) finish.now.machine.network finish.now.machine.history finish.now.machine.state }
+    ensures streams { ApproachLeastSolution (family_of K.start K.answer_of) finish.now.machine.network finish.now.machine.history finish.now.machine.state }
 {
     determinacy_of::<K>();
     least_room_of::<K>();
@@ -255,7 +272,7 @@ fn run_named<
     requires board { opening.board ≡ E.board }
     requires entries { (opening.entries.name ≡ E.name) × (opening.entries.parts ≡ E.parts) }
     requires overs { (opening.overs.name ≡ O.name) × (opening.overs.parts ≡ O.parts) }
-    ensures finish { IfOk result (IsFinish B.Kinds.family E.net) }
+    ensures finish { IfOk result (IsFinish (family_of B.Kinds.start B.Kinds.answer_of) E.net) }
     ensures workers { (n : NetV) (bs : _) → result ≢ Err (RunFault.Workers n bs) }
     ensures open { (n : NetV) (bs : _) (fault : OpenFaultV) → result ≢ Err (RunFault.Open n bs fault) }
     ensures lost { (a : Input) (b : _) → result ≡ Err (RunFault.Lost a b) → B.card b ≡ a.card }
@@ -301,7 +318,7 @@ fn run_seated<
     requires all { seat.parts ≡ 65536 }
     requires slots { (slots.items ≡ []) × (workers ≤ vec_capacity slots) }
     requires seats { (seats.items ≡ []) × (workers ≤ vec_capacity seats) }
-    ensures { IfOk result (IsFinish B.Kinds.family E.net) }
+    ensures { IfOk result (IsFinish (family_of B.Kinds.start B.Kinds.answer_of) E.net) }
 {
     seat_all(seat, workers, hands, &mut slots);
     work_all(rt, &monitor, gate, &mut slots);

@@ -1,5 +1,6 @@
 //! A run that is over.
 ghost use Rattle.std.specs.Prelude.{◌≡◌, Some, IsNone, length, MatchOption};
+ghost use Rattle.kpn_model.specs.Network.{family_of};
 ghost use Rattle.kpn_machine.specs.MachineView.{IsFaithful};
 ghost use Rattle.kpn_run.specs.Runs.{IsFinish};
 
@@ -88,8 +89,8 @@ impl<K: Kinds> Finish<K> {
     pub fn end(&self) -> End
         ensures end { result ≡ self.now.cause }
         ensures stands { self.now.machine.end ≡ Some self.now.cause }
-        ensures faithful { IsFaithful K.family K.admits self.now.machine }
-        ensures finish { IsFinish K.family self.now.machine.network self.now }
+        ensures faithful { IsFaithful (family_of K.start K.answer_of) K.admits self.now.machine }
+        ensures finish { IsFinish (family_of K.start K.answer_of) self.now.machine.network self.now }
     {
         self.chronicle.end();
         self.end

@@ -17,5 +17,7 @@ mod worker;
 pub use executor::{RunFault, run};
 pub use finish::Finish;
 pub use hold::Hold;
+pub use kpn_model::Place;
+pub use kpn_report::{Detail, Growths, Places, Report, Sizes, Steps, Stream, Streams};
 pub use reporting::{report, stream_of};
 pub use worker::{Gate, Open, Worked, work};

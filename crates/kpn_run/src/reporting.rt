@@ -1,5 +1,6 @@
 //! The report of a run that is over, and the stream of a channel.
-ghost use Rattle.std.specs.Prelude.{◌≡◌, ◌<◌, ◌∷◌, ◌++◌, [], length, IfOk, MatchOption, OnOk};
+ghost use Rattle.std.specs.Prelude.{◌≡◌, ◌<◌, ◌≤◌, ◌∷◌, ◌++◌, [], length, IfOk, MatchOption, OnOk};
+ghost use Rattle.kpn_model.specs.Network.{family_of};
 ghost use Rattle.kpn_model.specs.History.{put_on, stream};
 ghost use Rattle.kpn_report.specs.Reported.{IsReport};
 ghost use Rattle.kpn_run.specs.Reports.{IsEveryRuns, IsOutcome, TellsLeastSolution};
@@ -22,10 +23,10 @@ use std::alloc::{AllocError, Global};
 /// docs/least-solution.md).
 pub fn report<K: Kinds>(alloc: Global, finish: &Finish<K>) -> Result<Report, AllocError>
     ensures end { IfOk result (λ r. r.end ≡ finish.now.cause) }
-    ensures own { IfOk result (λ r. IsReport K.family finish.now.machine.network finish.now.cause finish.now.machine.history finish.now.machine.state r.detail) }
-    ensures every { IfOk result (λ r. IsEveryRuns K.family finish.now.machine.network finish.now.cause r.detail) }
-    ensures any_capacities { IfOk result (λ r. IsOutcome K.family finish.now.machine.network finish.now.cause finish.now.machine.history r.detail) }
-    ensures streams { IfOk result (λ r. TellsLeastSolution K.family finish.now.machine.network finish.now.cause r.detail) }
+    ensures own { IfOk result (λ r. IsReport (family_of K.start K.answer_of) finish.now.machine.network finish.now.cause finish.now.machine.history finish.now.machine.state r.detail) }
+    ensures every { IfOk result (λ r. IsEveryRuns (family_of K.start K.answer_of) finish.now.machine.network finish.now.cause r.detail) }
+    ensures any_capacities { IfOk result (λ r. IsOutcome (family_of K.start K.answer_of) finish.now.machine.network finish.now.cause finish.now.machine.history r.detail) }
+    ensures streams { IfOk result (λ r. TellsLeastSolution (family_of K.start K.answer_of) finish.now.machine.network finish.now.cause r.detail) }
 {
     determinacy_of::<K>();
     least_solution_of::<K>();
@@ -60,16 +61,19 @@ fn push_put(tokens: &mut Vec<Token>, entry: Entry, channel: usize) -> Result<(),
 }
 
 /// Returns what went through a channel: its start tokens, and those that the entries put on it, in
-/// order. `channel` must be below `net.channels()`. Errors: memory was refused.
+/// order; no tokens if the network has no such channel. Errors: memory was refused.
 pub fn stream_of<K: Kinds>(
     alloc: Global,
     net: &Net<K>,
     history: &[Entry],
     channel: usize,
 ) -> Result<Vec<Token>, AllocError>
-    requires { channel < length net.now.channels }
-    ensures { IfOk result (λ v. v.items ≡ stream net.now history.now channel) }
+    ensures tokens { channel < length net.now.channels → IfOk result (λ v. v.items ≡ stream net.now history.now channel) }
+    ensures none { length net.now.channels ≤ channel → IfOk result (λ v. v.items ≡ []) }
 {
+    if channel >= net.channels() {
+        return Ok(Vec::new(alloc));
+    }
     let mut tokens = Vec::from_slice(alloc, net.tokens(channel))?;
     for entry in history {
         push_put(&mut tokens, *entry, channel)?;

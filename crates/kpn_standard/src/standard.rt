@@ -12,9 +12,11 @@ pub struct Standard;
 impl Kinds for Standard {
     ghost named = { number_named };
 
-    ghost signature_of = { standard_signature };
+    ghost signature = { standard_signature };
 
-    ghost family = { standard };
+    ghost start = { standard.start };
+
+    ghost answer_of = { standard.answer };
 
     ghost admits = { Admitted };
 

@@ -2,3 +2,4 @@ pub mod Contradictions
 pub mod Placed
 pub mod Withdrawn
 pub mod Rostered
+pub mod Ordered

@@ -7,7 +7,7 @@ use Rattle.std.specs.Prelude.{nat_eq, nat_lt}
 use Rattle.kpn_model.specs.declared.kinds.Answer.{Answer}
 use Rattle.kpn_state.specs.declared.standing.Standing.{Standing}
 use Rattle.kpn_state.specs.declared.standing.Standing.TheVariants.{Ready, Out, Parked, Stopped}
-use Rattle.kpn_state.specs.Standings.{standing, is_busy, is_ready, is_out, has_stopped}
+use Rattle.kpn_state.specs.Standings.{standing, is_busy, is_ready, is_out, is_live, is_parked, has_stopped}
 use Rattle.kpn_state.specs.Rosters.{times, Agrees, queue_after, without}
 use Rattle.std.proofs.lemmas.List.{set-get_or}
 use Rattle.kpn_state.proofs.Withdrawn.{times_gone, times_stays, length_without}
@@ -87,32 +87,47 @@ busy_counted (Stopped ∷ xs) =
     let same : count_by is_ready xs + count_by is_out xs ≡ count_by is_ready (Stopped ∷ xs) + count_by is_out (Stopped ∷ xs) = omega arith in
     busy_counted xs ∙ ap (λ n. nat_lt 0 n) same
 
-eq_suc : (a b : ℕ) → nat_eq a b ≡ nat_eq (suc a) (suc b)
-eq_suc a b = by_test (nat_eq a b) refl
-  where
-    by_test : (r : Bool) → nat_eq a b ≡ r → nat_eq a b ≡ nat_eq (suc a) (suc b)
-    by_test true e = e ∙ sym (eq-eqb (suc a) (suc b) (ap suc (eqb-true a b e)))
-    by_test false e = e ∙ sym (ne_eqb (suc a) (suc b) (λ s. eqb-false a b e (omega arith)))
-
--- all have stopped if as many are counted as there are
-pub stopped_counted : (standings : List Standing) → list_all has_stopped standings ≡ nat_eq (count_by has_stopped standings) (length standings)
+-- all have stopped if none is counted as live
+pub stopped_counted : (standings : List Standing) → list_all has_stopped standings ≡ nat_eq (count_by is_live standings) 0
 stopped_counted [] = refl
 stopped_counted (Stopped ∷ xs) =
-    let c = sum_by-cons (weight has_stopped) Stopped xs in
-    let more : suc (count_by has_stopped xs) ≡ count_by has_stopped (Stopped ∷ xs) = omega arith in
-    stopped_counted xs ∙ eq_suc (count_by has_stopped xs) (length xs) ∙ ap (λ n. nat_eq n (suc (length xs))) more
+    let c = sum_by-cons (weight is_live) Stopped xs in
+    let same : count_by is_live xs ≡ count_by is_live (Stopped ∷ xs) = omega arith in
+    stopped_counted xs ∙ ap (λ n. nat_eq n 0) same
 stopped_counted (Ready ∷ xs) =
-    let c = sum_by-cons (weight has_stopped) Ready xs in
-    let few = count_by-le-length has_stopped xs in
-    sym (ne_eqb (count_by has_stopped (Ready ∷ xs)) (suc (length xs)) (λ e. omega arith))
+    let c = sum_by-cons (weight is_live) Ready xs in
+    sym (ne_eqb (count_by is_live (Ready ∷ xs)) 0 (λ e. omega arith))
 stopped_counted (Out ∷ xs) =
-    let c = sum_by-cons (weight has_stopped) Out xs in
-    let few = count_by-le-length has_stopped xs in
-    sym (ne_eqb (count_by has_stopped (Out ∷ xs)) (suc (length xs)) (λ e. omega arith))
+    let c = sum_by-cons (weight is_live) Out xs in
+    sym (ne_eqb (count_by is_live (Out ∷ xs)) 0 (λ e. omega arith))
 stopped_counted (Parked a ∷ xs) =
-    let c = sum_by-cons (weight has_stopped) (Parked a) xs in
-    let few = count_by-le-length has_stopped xs in
-    sym (ne_eqb (count_by has_stopped (Parked a ∷ xs)) (suc (length xs)) (λ e. omega arith))
+    let c = sum_by-cons (weight is_live) (Parked a) xs in
+    sym (ne_eqb (count_by is_live (Parked a ∷ xs)) 0 (λ e. omega arith))
+
+-- a live process is ready, out or parked
+pub live_counted : (standings : List Standing) → count_by is_live standings ≡ count_by is_ready standings + count_by is_out standings + count_by is_parked standings
+live_counted [] = refl
+live_counted (x ∷ xs) =
+    let rest = live_counted xs in
+    let l = sum_by-cons (weight is_live) x xs in
+    let r = sum_by-cons (weight is_ready) x xs in
+    let o = sum_by-cons (weight is_out) x xs in
+    let p = sum_by-cons (weight is_parked) x xs in
+    let one = one_of x in
+    omega arith
+  where
+    one_of : (x : Standing) → weight is_live x ≡ weight is_ready x + weight is_out x + weight is_parked x
+    one_of Ready = refl
+    one_of Out = refl
+    one_of (Parked a) = refl
+    one_of Stopped = refl
+
+-- a process is live or has stopped
+pub live_or_stopped : (x : Standing) → weight is_live x + weight has_stopped x ≡ 1
+live_or_stopped Ready = refl
+live_or_stopped Out = refl
+live_or_stopped (Parked a) = refl
+live_or_stopped Stopped = refl
 
 -- the list with one more process
 standing_last : (standings : List Standing) (p : ℕ) (x : Standing) → p ≡ length standings → standing (standings ++ x ∷ []) p ≡ x
@@ -133,10 +148,10 @@ standing_past (y ∷ ys) zero e = absurd (omega arith)
 standing_past (y ∷ ys) (suc p) e = standing_past ys p (omega arith)
 
 pub kept_none : (room : ℕ) → Agrees [] [] room 0 0
-kept_none room = record { queued = λ p. refl; ready = refl; room_for_all = omega arith; out_is = refl; stopped_is = refl }
+kept_none room = record { queued = λ p. refl; ready = refl; room_for_all = omega arith; out_is = refl; live_is = refl }
 
-pub kept_more : (standings : List Standing) (queue : List ℕ) (room out stopped : ℕ) → (n : ℕ) → n ≡ length standings → Agrees standings queue room out stopped → n < room → Agrees (standings ++ Ready ∷ []) (queue_after queue n Ready) room out stopped
-kept_more standings queue room out stopped n is k below =
+pub kept_more : (standings : List Standing) (queue : List ℕ) (room out live : ℕ) → (n : ℕ) → n ≡ length standings → Agrees standings queue room out live → n < room → Agrees (standings ++ Ready ∷ []) (queue_after queue n Ready) room out (live + 1)
+kept_more standings queue room out live n is k below =
     record {
       queued = λ p. times_push queue n p ∙ ⊎_elim
           (λ (e : p ≡ n).
@@ -153,22 +168,22 @@ kept_more standings queue room out stopped n is k below =
       ready = let l = length-append queue (n ∷ []) in let c = sum_by_push (weight is_ready) standings Ready in let r = k.ready in omega arith;
       room_for_all = let l = length-append standings (Ready ∷ []) in omega arith;
       out_is = let c = sum_by_push (weight is_out) standings Ready in let o = k.out_is in omega arith;
-      stopped_is = let c = sum_by_push (weight has_stopped) standings Ready in let o = k.stopped_is in omega arith;
+      live_is = let c = sum_by_push (weight is_live) standings Ready in let o = k.live_is in omega arith;
     }
 
-module _ (standings : List Standing) (queue : List ℕ) (room out stopped : ℕ) (k : Agrees standings queue room out stopped) where
+module _ (standings : List Standing) (queue : List ℕ) (room out live : ℕ) (k : Agrees standings queue room out live) where
   -- a process that is out is counted
   pub out_within : (p : ℕ) → p < length standings → weight is_out (standing standings p) ≤ out
   out_within p within = let o = k.out_is in let l = get_or-le-sum_by (weight is_out) standings p Stopped within in omega arith
 
-  pub stopped_within : (p : ℕ) → p < length standings → weight has_stopped (standing standings p) ≤ stopped
-  stopped_within p within = let o = k.stopped_is in let l = get_or-le-sum_by (weight has_stopped) standings p Stopped within in omega arith
+  pub live_within : (p : ℕ) → p < length standings → weight is_live (standing standings p) ≤ live
+  live_within p within = let o = k.live_is in let l = get_or-le-sum_by (weight is_live) standings p Stopped within in omega arith
 
   pub out_few : out ≤ length standings
   out_few = let o = k.out_is in let l = count_by-le-length is_out standings in omega arith
 
-  pub stopped_few : stopped ≤ length standings
-  stopped_few = let o = k.stopped_is in let l = count_by-le-length has_stopped standings in omega arith
+  pub live_few : live ≤ length standings
+  live_few = let o = k.live_is in let l = count_by-le-length is_live standings in omega arith
 
   pub queue_few : length queue ≤ length standings
   queue_few = let r = k.ready in let l = count_by-le-length is_ready standings in omega arith
@@ -222,9 +237,9 @@ module _ (standings : List Standing) (queue : List ℕ) (room out stopped : ℕ)
 
     -- moving it keeps the invariant
     pub kept_moved :
-        (x : Standing) (out_new stopped_new : ℕ) → out_new + weight is_out (standing standings p) ≡ out + weight is_out x → stopped_new + weight has_stopped (standing standings p) ≡ stopped + weight has_stopped x
-        → Agrees (set standings p x) (queue_after queue p x) room out_new stopped_new
-    kept_moved x out_new stopped_new o s = record {
+        (x : Standing) (out_new live_new : ℕ) → out_new + weight is_out (standing standings p) ≡ out + weight is_out x → live_new + weight has_stopped x ≡ live + weight has_stopped (standing standings p)
+        → Agrees (set standings p x) (queue_after queue p x) room out_new live_new
+    kept_moved x out_new live_new o s = record {
       queued = queued_moved x (is_ready x) refl;
       ready =
           let l = longer x (is_ready x) refl in
@@ -234,7 +249,7 @@ module _ (standings : List Standing) (queue : List ℕ) (room out stopped : ℕ)
           omega arith;
       room_for_all = let m = k.room_for_all in let l = length-set standings p x in omega arith;
       out_is = let c = counted is_out standings p x within in let e = k.out_is in omega arith;
-      stopped_is = let c = counted has_stopped standings p x within in let e = k.stopped_is in omega arith;
+      live_is = let c = counted is_live standings p x within in let e = k.live_is in let a = live_or_stopped x in let b = live_or_stopped (standing standings p) in omega arith;
     }
 
   -- the process at the head of the queue is ready, and leaves the queue as it goes out
@@ -252,7 +267,7 @@ module _ (standings : List Standing) (queue : List ℕ) (room out stopped : ℕ)
   pub front_within : (p : ℕ) → slice_get queue 0 ≡ Some p → p < length standings
   front_within p e = standing_within standings p (λ f. ready_not_ended (sym (front_ready p e) ∙ f))
 
-  pub kept_sent : (p : ℕ) → slice_get queue 0 ≡ Some p → Agrees (set standings p Out) (drop 1 queue) room (out + 1) stopped
+  pub kept_sent : (p : ℕ) → slice_get queue 0 ≡ Some p → Agrees (set standings p Out) (drop 1 queue) room (out + 1) live
   kept_sent p e =
       let ready = front_ready p e in
       let within = front_within p e in
@@ -283,10 +298,10 @@ module _ (standings : List Standing) (queue : List ℕ) (room out stopped : ℕ)
             let w : weight is_out (standing standings p) ≡ 0 = ap (weight is_out) ready in
             let e = k.out_is in
             omega arith;
-        stopped_is =
-            let c = counted has_stopped standings p Out within in
-            let w : weight has_stopped (standing standings p) ≡ 0 = ap (weight has_stopped) ready in
-            let e = k.stopped_is in
+        live_is =
+            let c = counted is_live standings p Out within in
+            let w : weight is_live (standing standings p) ≡ 1 = ap (weight is_live) ready in
+            let e = k.live_is in
             omega arith;
       }
 
@@ -294,13 +309,13 @@ module _ (standings : List Standing) (queue : List ℕ) (room out stopped : ℕ)
   pub turn_room : (p : ℕ) → slice_get queue 0 ≡ Some p → length (drop 1 queue) < room
   turn_room p e = let l = head_length queue p e in let f = queue_few in let m = k.room_for_all in omega arith
 
-  pub kept_turned : (p : ℕ) → slice_get queue 0 ≡ Some p → Agrees standings (queue_after (drop 1 queue) p Ready) room out stopped
+  pub kept_turned : (p : ℕ) → slice_get queue 0 ≡ Some p → Agrees standings (queue_after (drop 1 queue) p Ready) room out live
   kept_turned p e = record {
     queued = λ q. let c = head_times queue p e q in let t = times_push (drop 1 queue) p q in let b = k.queued q in omega arith;
     ready = let l = head_length queue p e in let a = length-append (drop 1 queue) (p ∷ []) in let r = k.ready in omega arith;
     room_for_all = k.room_for_all;
     out_is = k.out_is;
-    stopped_is = k.stopped_is;
+    live_is = k.live_is;
   }
 
   module _ (p : ℕ) (within : p < length standings) (ready : standing standings p ≡ Ready) where
@@ -308,9 +323,12 @@ module _ (standings : List Standing) (queue : List ℕ) (room out stopped : ℕ)
     pub once : times queue p ≡ 1
     once = k.queued p ∙ ap (weight is_ready) ready
 
+    pub one_live : 1 ≤ live
+    one_live = let l = live_within p within in let w : weight is_live (standing standings p) ≡ 1 = ap (weight is_live) ready in omega arith
+
     -- it leaves the queue when it is no longer ready
-    pub kept_left : (x : Standing) (out_new stopped_new : ℕ) → x ≢ Ready → out_new ≡ out + weight is_out x → stopped_new ≡ stopped + weight has_stopped x → Agrees (set standings p x) (without p queue) room out_new stopped_new
-    kept_left x out_new stopped_new not o s = record {
+    pub kept_left : (x : Standing) (out_new live_new : ℕ) → x ≢ Ready → out_new ≡ out + weight is_out x → live_new + weight has_stopped x ≡ live → Agrees (set standings p x) (without p queue) room out_new live_new
+    kept_left x out_new live_new not o s = record {
       queued = λ q. ⊎_elim
           (λ (e : q ≡ p).
           let gone : times (without p queue) q ≡ 0 = ap (λ y. times (without p queue) y) e ∙ times_gone queue p in
@@ -332,10 +350,11 @@ module _ (standings : List Standing) (queue : List ℕ) (room out stopped : ℕ)
           let w : weight is_out (standing standings p) ≡ 0 = ap (weight is_out) ready in
           let e = k.out_is in
           omega arith;
-      stopped_is =
-          let c = counted has_stopped standings p x within in
-          let w : weight has_stopped (standing standings p) ≡ 0 = ap (weight has_stopped) ready in
-          let e = k.stopped_is in
+      live_is =
+          let c = counted is_live standings p x within in
+          let a = live_or_stopped x in
+          let w : weight is_live (standing standings p) ≡ 1 = ap (weight is_live) ready in
+          let e = k.live_is in
           omega arith;
     }
 

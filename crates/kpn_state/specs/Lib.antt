@@ -1,3 +1,4 @@
 pub mod StateAndHistory
 pub mod Standings
 pub mod Rosters
+pub mod Candidates

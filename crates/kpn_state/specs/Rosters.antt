@@ -1,20 +1,20 @@
 -- The queue of the ready processes and the counts beside it, and how they fit the standings.
 use Rattle.std.specs.Prelude.{◌≡◌, ℕ, ◌≤◌, List, [], ◌∷◌, ◌++◌, length, if◌then◌else◌, nat_eq, count_by, filter, not}
 use Rattle.kpn_state.specs.declared.standing.Standing.{Standing}
-use Rattle.kpn_state.specs.Standings.{standing, is_ready, is_out, has_stopped}
+use Rattle.kpn_state.specs.Standings.{standing, is_ready, is_out, is_live}
 
 -- how often p is in a queue
 abbrev pub times : List ℕ → ℕ → ℕ
 times queue p = count_by (λ q. nat_eq q p) queue
 
--- each ready process is in the queue once, and no other is; the queue has room for all; `out` processes are out, and `stopped`
--- have stopped
-pub record Agrees (standings : List Standing) (queue : List ℕ) (room out stopped : ℕ) : Type 0 where
+-- each ready process is in the queue once, and no other is; the queue has room for all; `out` processes are out, and `live` have
+-- not stopped
+pub record Agrees (standings : List Standing) (queue : List ℕ) (room out live : ℕ) : Type 0 where
   pub queued : (p : ℕ) → times queue p ≡ if is_ready (standing standings p) then 1 else 0
   pub ready : length queue ≡ count_by is_ready standings
   pub room_for_all : length standings ≤ room
   pub out_is : out ≡ count_by is_out standings
-  pub stopped_is : stopped ≡ count_by has_stopped standings
+  pub live_is : live ≡ count_by is_live standings
 
 -- the queue after p, which was not queued, has been given this standing
 abbrev pub queue_after : List ℕ → ℕ → Standing → List ℕ

@@ -48,6 +48,19 @@ has_stopped Out = false
 has_stopped (Parked a) = false
 has_stopped Ended = true
 
+-- a process that has not stopped
+abbrev pub is_live : Standing → Bool
+is_live Ready = true
+is_live Out = true
+is_live (Parked a) = true
+is_live Ended = false
+
+abbrev pub is_parked : Standing → Bool
+is_parked Ready = false
+is_parked Out = false
+is_parked (Parked a) = true
+is_parked Ended = false
+
 -- the standing of a process after its deed
 abbrev pub standing_after : Deed → Standing
 standing_after (Took c t) = Ready

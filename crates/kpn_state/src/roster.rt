@@ -2,7 +2,7 @@
 ghost use Rattle.std.specs.Prelude.{◌≡◌, ◌≢◌, ◌<◌, ◌≤◌, ℕ, length, set, replicate, if◌then◌else◌, count_by, IsTrue, IfOk, IfSome, IfNone};
 ghost use Rattle.std.specs.List.{list_any, list_all};
 ghost use Rattle.kpn_state.specs.declared.standing.Standing.TheVariants.{Ready, Out};
-ghost use Rattle.kpn_state.specs.Standings.{standing, is_busy, is_out, is_ready, has_stopped};
+ghost use Rattle.kpn_state.specs.Standings.{standing, is_busy, is_live, is_out, is_parked, is_ready, has_stopped};
 ghost use Rattle.kpn_state.specs.Rosters.{queue_after, times, without};
 
 use crate::standing::Standing;
@@ -12,9 +12,9 @@ use std::marker::Model;
 
 /// The standing of each process, in order.
 ///
-/// The numbers of the ready processes are in a queue, first in, first out, and the processes that are
-/// out and that have stopped are counted; so no call except `new` goes through all processes. All
-/// memory is taken by `new`.
+/// The numbers of the ready processes are in a queue, first in, first out, and how many processes are
+/// out and how many are live is kept, from which the parked ones follow; so no call except `new` goes
+/// through all processes. All memory is taken by `new`.
 #[derive(Drop)]
 pub struct Roster {
     standings: Vec<Standing>,
@@ -22,7 +22,7 @@ pub struct Roster {
     // bytes, and such a load stalls if one of them was stored alone just before.
     out: usize,
     queue: HeapCircularBuffer<usize>,
-    stopped: usize,
+    live: usize,
 }
 
 impl Model for Roster {
@@ -34,7 +34,7 @@ impl Model for Roster {
 
     ghost view = { λ r. r.standings.items };
 
-    ghost invariant = { λ r. Agrees r.standings.items r.queue.items r.queue.capacity r.out r.stopped };
+    ghost invariant = { λ r. Agrees r.standings.items r.queue.items r.queue.capacity r.out r.live };
 }
 
 impl Roster {
@@ -53,7 +53,7 @@ impl Roster {
             standings,
             out: 0,
             queue,
-            stopped: 0,
+            live: count,
         })
     }
 
@@ -75,7 +75,7 @@ impl Roster {
     pub fn all_stopped(&self) -> bool
         ensures { result ≡ list_all has_stopped self.now }
     {
-        self.stopped == self.standings.len()
+        self.live == 0
     }
 
     /// Returns how many processes are ready.
@@ -90,6 +90,20 @@ impl Roster {
         ensures { result ≡ count_by is_out self.now }
     {
         self.out
+    }
+
+    /// Returns how many processes are live: those that have not stopped.
+    pub fn live(&self) -> usize
+        ensures { result ≡ count_by is_live self.now }
+    {
+        self.live
+    }
+
+    /// Returns how many processes are parked: the live ones that are neither ready nor out.
+    pub fn parked(&self) -> usize
+        ensures { result ≡ count_by is_parked self.now }
+    {
+        self.live - self.ready() - self.out
     }
 
     /// Takes the first process of the queue, which has been ready for the longest time, and sends it
@@ -163,7 +177,7 @@ impl Roster {
             Standing::Out | Standing::Parked(_) | Standing::Stopped => {
                 withdraw(&mut self.queue, process);
                 self.out += out_weight(&next);
-                self.stopped += stopped_weight(&next);
+                self.live -= stopped_weight(&next);
                 self.standings[process] = next;
             }
         }
@@ -178,7 +192,7 @@ impl Roster {
     {
         let before = self.standings[process];
         self.out = self.out - out_weight(&before) + out_weight(&next);
-        self.stopped = self.stopped - stopped_weight(&before) + stopped_weight(&next);
+        self.live = self.live + stopped_weight(&before) - stopped_weight(&next);
         enqueue(&mut self.queue, process, &next);
         self.standings[process] = next;
     }
@@ -195,7 +209,7 @@ fn out_weight(standing: &Standing) -> usize
     }
 }
 
-/// How much a process with this standing adds to the count of those that have stopped.
+/// How much a process with this standing takes from the count of those that are live.
 fn stopped_weight(standing: &Standing) -> usize
     ensures value { result ≡ if has_stopped standing.now then 1 else 0 }
     ensures few { result ≤ 1 }

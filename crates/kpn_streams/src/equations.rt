@@ -1,5 +1,5 @@
 //! The equations of a network, solved by functions on streams.
-ghost use Rattle.kpn_model.specs.Network.{Family};
+ghost use Rattle.kpn_model.specs.Network.{Family, family_of};
 ghost use Rattle.kpn_streams.specs.Solving.{TestTellsPorts, TestTellsOrder, EquationByTest, FedIsAlone, FedIsAll, StepIsBelow, ApproximationsAreBelow, ApproximationsGrow, RunIsApproximated, LimitIsLeast, FixedIsComputed, SolvedIsSolution, SolutionSolves, SolvedIsComputed, OrderedIsComputed, AlikeComputeTheSame};
 
 use kpn_model::Kinds;
@@ -50,18 +50,18 @@ pub fn solving()
 
 /// Does nothing: the laws of [`solving`] for a family that is given as a type.
 pub fn solving_of<K: Kinds>()
-    ensures equation { EquationByTest K.family }
-    ensures fed_alone { FedIsAlone K.family }
-    ensures fed_all { FedIsAll K.family }
-    ensures limit { LimitIsLeast K.family }
-    ensures grow { ApproximationsGrow K.family }
-    ensures below { ApproximationsAreBelow K.family }
-    ensures approximated { RunIsApproximated K.family }
-    ensures fixed { FixedIsComputed K.family }
-    ensures solved { SolvedIsSolution K.family }
-    ensures solves { SolutionSolves K.family }
-    ensures computed { SolvedIsComputed K.family }
-    ensures step { StepIsBelow K.family }
-    ensures ordered { OrderedIsComputed K.family }
-    ensures alike { AlikeComputeTheSame K.family }
+    ensures equation { EquationByTest (family_of K.start K.answer_of) }
+    ensures fed_alone { FedIsAlone (family_of K.start K.answer_of) }
+    ensures fed_all { FedIsAll (family_of K.start K.answer_of) }
+    ensures limit { LimitIsLeast (family_of K.start K.answer_of) }
+    ensures grow { ApproximationsGrow (family_of K.start K.answer_of) }
+    ensures below { ApproximationsAreBelow (family_of K.start K.answer_of) }
+    ensures approximated { RunIsApproximated (family_of K.start K.answer_of) }
+    ensures fixed { FixedIsComputed (family_of K.start K.answer_of) }
+    ensures solved { SolvedIsSolution (family_of K.start K.answer_of) }
+    ensures solves { SolutionSolves (family_of K.start K.answer_of) }
+    ensures computed { SolvedIsComputed (family_of K.start K.answer_of) }
+    ensures step { StepIsBelow (family_of K.start K.answer_of) }
+    ensures ordered { OrderedIsComputed (family_of K.start K.answer_of) }
+    ensures alike { AlikeComputeTheSame (family_of K.start K.answer_of) }
 {}

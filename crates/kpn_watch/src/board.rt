@@ -79,6 +79,17 @@ pub enum WatchFault {
     Full = 1,
 }
 
+impl WatchFault {
+    /// Returns the number of the fault: 1.
+    pub fn number(&self) -> u8
+        ensures { result ≡ 1 }
+    {
+        match self {
+            WatchFault::Full => 1,
+        }
+    }
+}
+
 impl Board {
     /// Makes a board, which shows the empty history of a run that goes on, and its publisher. Fails if
     /// memory was refused.

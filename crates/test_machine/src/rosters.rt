@@ -1,4 +1,5 @@
-//! The queue of the ready processes, by hand: first in, first out, and one that is given goes first.
+//! The queue of the ready processes, by hand: first in, first out, and one that is given goes first; and
+//! how many processes stand where.
 use crate::checks::same;
 use kpn_net::{Act, Answer};
 use kpn_state::standing::is_parked;
@@ -36,4 +37,27 @@ fn ready_processes_take_turns(rt: HostRuntime) {
     same(&rt, "first once more", roster.turn(None), Some(0));
     same(&rt, "the second is left out", roster.turn(None), Some(2));
     same(&rt, "ready ones", roster.ready(), 2);
+}
+
+/// How many processes are ready, out, parked and live.
+fn counts(roster: &Roster) -> (usize, usize, usize, usize) {
+    (roster.ready(), roster.out(), roster.parked(), roster.live())
+}
+
+#[test]
+fn processes_are_counted_where_they_stand(rt: HostRuntime) {
+    let mut roster = Roster::new(rt.alloc(), 3).expect(&rt, "ample memory");
+    same(&rt, "at first", counts(&roster), (3, 0, 0, 3));
+    same(&rt, "sent out", roster.send_out(), Some(0));
+    same(&rt, "one out", counts(&roster), (2, 1, 0, 3));
+    if roster.as_slice().len() == 3 {
+        roster.update(1, READS);
+        same(&rt, "one parked", counts(&roster), (1, 1, 1, 3));
+        roster.update(0, Standing::Stopped);
+        same(&rt, "one stopped", counts(&roster), (1, 0, 1, 2));
+        roster.update(1, Standing::Stopped);
+        roster.update(2, Standing::Stopped);
+    }
+    same(&rt, "all stopped", counts(&roster), (0, 0, 0, 0));
+    same(&rt, "terminated", roster.all_stopped(), true);
 }

@@ -17,7 +17,7 @@ use std::process::Abort;
 
 /// The local state of a card at its start, in which it may be asked.
 fn start_of<K: Kinds>(card: Card) -> Local
-    requires { IsSome (K.signature_of card) }
+    requires { IsSome (K.signature card) }
     ensures { K.admits card result None }
 {
     let start = K::start(&card);

@@ -8,11 +8,12 @@ use kpn_compute::CardBody;
 use kpn_machine::{Machine, Outcome, Stranger};
 use kpn_monitor::{Closed, EntryLedger, Monitor, Opening, Seat, Taken};
 use kpn_net::{End, Kinds};
-use kpn_run::{Open, Worked, work};
+use kpn_run::{Gate, Open, Worked, work};
 use kpn_watch::{Progress, Watcher};
 use std::alloc::Global;
 use std::process::Abort;
 use std::sync::Wait;
+use std::sync::atomic::{AtomicU64, Ordering};
 use std::sync::ledger::Ledger;
 
 /// What is read from a monitor that was closed.
@@ -111,6 +112,34 @@ pub(crate) fn handed_back<B: Body, E: EntryLedger, O: Ledger, R: Wait + Abort>(
         panic!(rt; "not a stranger");
     };
     finished
+}
+
+/// A gate that counts how often it is asked.
+#[derive(Drop)]
+pub(crate) struct CountingGate {
+    pub(crate) asked: AtomicU64,
+}
+
+impl Gate for CountingGate {
+    fn before_commit(&self, _process: usize) {
+        self.asked.fetch_add(1, Ordering::SeqCst);
+    }
+}
+
+/// Works with one seat to the end of the run; no answer may be refused, and the gate is asked `due` times.
+pub(crate) fn work_counted<B: Body, E: EntryLedger, O: Ledger, R: Wait + Abort>(
+    rt: &R,
+    monitor: &Monitor<B, E, O>,
+    seat: Seat<E, O>,
+    due: u64,
+) -> Seat<E, O> {
+    let gate = CountingGate {
+        asked: AtomicU64::new(0),
+    };
+    let Worked { seat, stranger } = work(rt, monitor, seat, &gate);
+    same(rt, "refused", stranger.is_some(), false);
+    same(rt, "asked", gate.asked.load(Ordering::SeqCst), due);
+    seat
 }
 
 /// Works with one seat to the end of the run; no answer may be refused.

@@ -8,7 +8,7 @@ use crate::checks::same;
 use crate::exchanges::exchanged;
 use crate::monitors::{
     Ended, close_alone, close_with, ended_of, list_of, next_task, opening_of, outcome_of, seen_by,
-    shown_to, two_seats, watcher_of, work_alone,
+    shown_to, two_seats, watcher_of, work_alone, work_counted,
 };
 use kpn_body::Body;
 use kpn_monitor::{CloseFault, Closed, EntryLedger, Monitor, Opening, Seat, Unclosed};
@@ -27,8 +27,11 @@ use test_texts::{COPIED_AND_WOVEN, COUNTER_INTO_SINK};
 enum Scene {
     /// A watcher looks a thousand times while two threads work on Parks's case to its end.
     Watched,
-    /// One seat works to the end, and the monitor is first closed without the other, which is refused.
+    /// One seat works to the end, with a gate that is asked once for each of eight answers, and the
+    /// monitor is first closed without the other, which is refused.
     MissingSeat,
+    /// One seat works to the end, and the monitor is closed without the other, whose shares are empty.
+    EmptySeat,
     /// One seat commits one answer, or drops its task, and the monitor is closed with no end.
     OneTask { dropped: bool },
     /// As many watchers as there may be, of Parks's case.
@@ -90,6 +93,7 @@ fn play_opened<
     match scene {
         Scene::Watched => watched(rt, alloc, monitor, seat),
         Scene::MissingSeat => missing_seat(rt, alloc, monitor, seat),
+        Scene::EmptySeat => empty_seat(rt, alloc, monitor, seat),
         Scene::OneTask { dropped } => one_task(rt, alloc, monitor, seat, dropped),
         Scene::MostWatchers => most_watchers(rt, alloc, monitor, seat),
         Scene::Exchanged => exchanged(rt, alloc, monitor, seat),
@@ -200,15 +204,25 @@ fn missing_seat<B: Body, E: EntryLedger, O: Ledger, R: Wait + Abort>(
     seat: Seat<E, O>,
 ) {
     let (other, seat) = two_seats(rt, seat);
-    let seat = work_alone(rt, &monitor, seat);
-    let Unclosed {
-        monitor,
-        mut seats,
-        fault,
-    } = not_closed(rt, monitor, list_of(rt, alloc, [other]));
-    same(rt, "fault", fault, CloseFault::SeatsMissing);
+    let seat = work_counted(rt, &monitor, seat, 8);
+    let unclosed = not_closed(rt, monitor, list_of(rt, alloc, [other]));
+    same(rt, "fault", unclosed.fault(), CloseFault::SeatsMissing);
+    same(rt, "number", unclosed.fault().number(), 1);
+    let Unclosed { monitor, mut seats } = unclosed;
     same(rt, "pushed", seats.push(seat).is_ok(), true);
     let closed = close_with(rt, monitor, seats);
+    same(rt, "ended", ended_of(&closed), COUNTER_ENDED);
+}
+
+fn empty_seat<B: Body, E: EntryLedger, O: Ledger, R: Wait + Abort>(
+    rt: &R,
+    alloc: Global,
+    monitor: Monitor<B, E, O>,
+    seat: Seat<E, O>,
+) {
+    let (_other, seat) = two_seats(rt, seat);
+    let seat = work_alone(rt, &monitor, seat);
+    let closed = close_alone(rt, alloc, monitor, seat);
     same(rt, "ended", ended_of(&closed), COUNTER_ENDED);
 }
 
@@ -332,6 +346,7 @@ fn scenes_on_monitors(rt: HostRuntime) {
     for (text, scene) in [
         (COPIED_AND_WOVEN, Scene::Watched),
         (COUNTER_INTO_SINK, Scene::MissingSeat),
+        (COUNTER_INTO_SINK, Scene::EmptySeat),
         (COUNTER_INTO_SINK, Scene::OneTask { dropped: false }),
         (COUNTER_INTO_SINK, Scene::OneTask { dropped: true }),
         (COPIED_AND_WOVEN, Scene::MostWatchers),

@@ -3,7 +3,7 @@ ghost use Rattle.kpn_drawing.specs.DrawChoices.{HasFewIfRun};
 
 use crate::checks::same;
 use kpn_drawing::{Choice, WordsFault, read_words, serve};
-use kpn_front::streams::Fallible;
+use kpn_front::Fallible;
 use std::alloc::{AllocError, Global};
 use std::io;
 use std::io::Write;
@@ -62,7 +62,7 @@ fn told<R: AllocGlobal + Wait + Clock + Threads + Abort + Sync>(
         Some(fault) => fault.number(),
         None => 0,
     };
-    let mut told = first_line(rt, served.status.code(), number);
+    let mut told = first_line(rt, served.status, number);
     told.extend_from_slice(written.as_slice())
         .expect(rt, "no memory");
     told
@@ -189,7 +189,7 @@ fn fails_to_write<R: AllocGlobal + Wait + Clock + Threads + Abort + Sync>(
     let mut source = text.as_bytes();
     let mut sink = Fallible::new(Failing { room: 5 });
     let served = serve(rt, rt.alloc(), workers, &mut source, &mut sink);
-    same(rt, text, served.status.code(), 7);
+    same(rt, text, served.status, 7);
 }
 
 #[test]

@@ -1,6 +1,6 @@
 //! Prefixes of a description.
 use crate::texts::PARKS;
-use kpn_front::load::load;
+use kpn_front::load;
 use kpn_net::{Net, NetFault};
 use kpn_standard::Standard;
 use std::alloc::Global;

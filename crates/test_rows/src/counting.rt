@@ -9,7 +9,7 @@ use crate::rows::room;
 use crate::texts::COUNTER;
 use kpn_body::{Body, Task, answer};
 use kpn_execute::execute;
-use kpn_front::load::load;
+use kpn_front::load;
 use kpn_net::{Act, Answer, Card, Local, Net, NetFault, Token};
 use kpn_standard::Standard;
 use std::alloc::{AllocError, Global};
@@ -128,7 +128,7 @@ fn executed<R: Threads + Wait + Clock + Abort + Sync>(
 {
     let net = network_of(alloc, COUNTER).expect(rt, "no network");
     let bodies = bodies_of(alloc, &net, calls).expect(rt, "no memory");
-    execute(rt, alloc, net, bodies, workers, Some(row.name), out).code()
+    execute(rt, alloc, net, bodies, workers, Some(row.name), out)
 }
 
 /// Runs the counter's network, and compares what is written and how often the bodies are called.

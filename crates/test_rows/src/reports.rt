@@ -1,7 +1,7 @@
 //! The report of a history that was worked out by hand.
 use crate::checks::same;
 use crate::texts::COUNTER;
-use kpn_front::load::load;
+use kpn_front::load;
 use kpn_net::{Deed, End, Entry, Net, Place, Token};
 use kpn_report::{Detail, Report, report_of, report_text, text_of};
 use kpn_standard::Standard;

@@ -144,8 +144,8 @@ fn serve_words<R: Threads + Wait + Clock + Sync>(
     let mut source = input;
     match serve(rt, alloc, words, &mut source, out) {
         Ok(served) => match served.fault {
-            Some(fault) => (served.status.code(), fault.number()),
-            None => (served.status.code(), 0),
+            Some(fault) => (served.status, fault.number()),
+            None => (served.status, 0),
         },
         Err(fault) => (fault.status().code(), 0),
     }

@@ -89,18 +89,18 @@ fn thirty_two_pairs(rt: HostRuntime) -> Result<(), Fail> {
     shows_large(&rt, rt.alloc(), PAIRS, PAIR_LINES, stream)
 }
 
-/// A counter of a hundred, 62 scales by one and a sink of a hundred in a chain, over 63 channels of
+/// A counter of two hundred, 62 scales by one and a sink of two hundred in a chain, over 63 channels of
 /// capacity one.
 const CHAIN: &[Row] = &[
     Row {
         from: 0,
         to: 1,
-        template: "version = 1\nbudget = 20000\n",
+        template: "version = 1\nbudget = 30000\n",
     },
     Row {
         from: 0,
         to: 1,
-        template: "[[process]]\nname = \"p0\"\nkind = \"count\"\nargs = [1, 100]\n",
+        template: "[[process]]\nname = \"p0\"\nkind = \"count\"\nargs = [1, 200]\n",
     },
     Row {
         from: 1,
@@ -110,7 +110,7 @@ const CHAIN: &[Row] = &[
     Row {
         from: 0,
         to: 1,
-        template: "[[process]]\nname = \"p63\"\nkind = \"sink\"\nargs = [100]\n",
+        template: "[[process]]\nname = \"p63\"\nkind = \"sink\"\nargs = [200]\n",
     },
     Row {
         from: 0,
@@ -124,34 +124,34 @@ const CHAIN_LINES: &[Row] = &[
     Row {
         from: 0,
         to: 1,
-        template: "end deadlock\nprocess p0 stopped steps 101\n",
+        template: "end deadlock\nprocess p0 stopped steps 201\n",
     },
     Row {
         from: 0,
         to: 62,
-        template: "process pB reads cA steps 200\n",
+        template: "process pB reads cA steps 400\n",
     },
     Row {
         from: 0,
         to: 1,
-        template: "process p63 stopped steps 101\n",
+        template: "process p63 stopped steps 201\n",
     },
     Row {
         from: 0,
         to: 63,
-        template: "channel cA put 100 left 0 capacity 1\n",
+        template: "channel cA put 200 left 0 capacity 1\n",
     },
     Row {
         from: 0,
         to: 1,
-        template: "entries 12602\n",
+        template: "entries 25202\n",
     },
 ];
 
-/// The words from 1 to 100.
-fn hundred(alloc: Global) -> Result<Vec<Token>, AllocError> {
+/// The words from 1 to 200.
+fn two_hundred(alloc: Global) -> Result<Vec<Token>, AllocError> {
     let mut tokens = Vec::new(alloc);
-    for word in 1..=100 {
+    for word in 1..=200 {
         tokens.push(Token::Word(word))?;
     }
     Ok(tokens)
@@ -159,7 +159,7 @@ fn hundred(alloc: Global) -> Result<Vec<Token>, AllocError> {
 
 #[test]
 fn a_chain_of_sixty_four(rt: HostRuntime) -> Result<(), Fail> {
-    let tokens = hundred(rt.alloc())?;
+    let tokens = two_hundred(rt.alloc())?;
     let stream = (62, tokens.as_slice());
     shows_large(&rt, rt.alloc(), CHAIN, CHAIN_LINES, stream)
 }

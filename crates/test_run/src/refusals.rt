@@ -7,7 +7,7 @@ use crate::due::{WOVEN_ENDS, compare};
 use crate::runs::{Refusal, finish_of, handed_back};
 use kpn_body::{Body, Standard};
 use kpn_compute::bodies_of;
-use kpn_front::load::load;
+use kpn_front::load;
 use kpn_net::{End, Entry, Kinds, Net, NetFault, Token};
 use kpn_report::Report;
 use kpn_run::{Finish, Open, RunFault, report, run, stream_of};
@@ -117,7 +117,6 @@ fn stream_again<K: Kinds, R: Abort>(
     net: &Net<K>,
     history: &[Entry],
 ) -> (Vec<Token>, Refused) {
-    assert!(rt; 3 < net.channels());
     if let Ok(stream) = stream_of(alloc, net, history, 3) {
         return (stream, Refused::Nothing);
     }

@@ -1,10 +1,14 @@
 //! Schedules forced by a gate, and schedules of the greatest number of workers.
+use crate::checks::same;
 use crate::due::{COUNTER_ENDS, Due, WOVEN_ENDS};
 use crate::runs::shows;
 use kpn_net::End;
 use kpn_net::Token::Word;
-use kpn_run::{Hold, Open};
+use kpn_run::{Gate, Hold, Open};
+use std::hint::spin_loop;
+use std::sync::atomic::{AtomicU64, Ordering};
 use std::test::Fail;
+use std::thread;
 use test_texts::{COPIED_AND_WOVEN, COUNTER_INTO_SINK, GROWING_CHAIN};
 
 /// A chain whose channels grow in turn, the smallest full one first.
@@ -61,6 +65,70 @@ fn each_process_is_held_up_for_each_other(rt: HostRuntime) -> Result<(), Fail> {
             }
         }
     }
+    Ok(())
+}
+
+/// A gate that holds process 0 up until process 1 has passed, and has process 1 pass late: after process 0
+/// has come, and after a million pauses more. So without the hold process 0 would go on before process 1.
+#[derive(Drop)]
+struct LateGate {
+    hold: Hold,
+    held_came: AtomicU64,
+    other_passed: AtomicU64,
+    /// How often process 0 went on, and how often it did so before process 1 had passed.
+    went_on: AtomicU64,
+    went_early: AtomicU64,
+}
+
+impl LateGate {
+    /// Waits until process 0 has come, or for so long that a run in one hand ends all the same.
+    fn wait_for_held(&self) {
+        for _look in 0..100_000_000u32 {
+            if self.held_came.load(Ordering::SeqCst) > 0 {
+                return;
+            }
+            thread::yield_now();
+        }
+    }
+
+    /// Lets process 1 pass the hold, late.
+    fn pass_late(&self) {
+        self.wait_for_held();
+        for _pause in 0..1_000_000u32 {
+            spin_loop();
+        }
+        self.other_passed.fetch_add(1, Ordering::SeqCst);
+        self.hold.before_commit(1);
+    }
+}
+
+impl Gate for LateGate {
+    fn before_commit(&self, process: usize) {
+        if process != 0 {
+            return self.pass_late();
+        }
+        self.held_came.fetch_add(1, Ordering::SeqCst);
+        self.hold.before_commit(0);
+        self.went_on.fetch_add(1, Ordering::SeqCst);
+        if self.other_passed.load(Ordering::SeqCst) == 0 {
+            self.went_early.fetch_add(1, Ordering::SeqCst);
+        }
+    }
+}
+
+/// The counter is held up until the sink has passed: none of its four answers goes on before.
+#[test]
+fn a_process_waits_until_the_other_has_passed(rt: HostRuntime) -> Result<(), Fail> {
+    let gate = LateGate {
+        hold: Hold::new(0, 1, 1, 1_000_000_000_000),
+        held_came: AtomicU64::new(0),
+        other_passed: AtomicU64::new(0),
+        went_on: AtomicU64::new(0),
+        went_early: AtomicU64::new(0),
+    };
+    shows(&rt, rt.alloc(), COUNTER_INTO_SINK, 2, &gate, &COUNTER_ENDS)?;
+    same(&rt, "went on", gate.went_on.load(Ordering::SeqCst), 4);
+    same(&rt, "went early", gate.went_early.load(Ordering::SeqCst), 0);
     Ok(())
 }
 

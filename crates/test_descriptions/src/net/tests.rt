@@ -21,14 +21,16 @@ impl Kinds for CountAndSink {
 
     ghost named = { λ name. if bytes_eq name (codes "count") then Some (0, 2) else if bytes_eq name (codes "sink") then Some (1, 1) else None };
 
-    ghost signature_of = { λ card.
+    ghost signature = { λ card.
         if (card.kind == 0) && (slice_index card.args 2 == 0) && nat_lt (slice_index card.args 0 + slice_index card.args 1) (2 ^ 64)
         then Some (record { ins = None ∷ None ∷ None ∷ []; outs = Some Words ∷ None ∷ None ∷ [] })
         else if (card.kind == 1) && (slice_index card.args 1 == 0) && (slice_index card.args 2 == 0)
         then Some (record { ins = Some Words ∷ None ∷ None ∷ []; outs = None ∷ None ∷ None ∷ [] })
         else None };
 
-    ghost family = { record { start = λ card. 0 ∷ 0 ∷ 0 ∷ 0 ∷ []; answer = λ card local last. record { next = local; act = Stop } } };
+    ghost start = { λ card. 0 ∷ 0 ∷ 0 ∷ 0 ∷ [] };
+
+    ghost answer_of = { λ card local last. record { next = local; act = Stop } };
 
     ghost admits = { λ card local last. (local ≡ 0 ∷ 0 ∷ 0 ∷ 0 ∷ []) × (last ≡ None) };
 

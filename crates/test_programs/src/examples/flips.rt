@@ -7,8 +7,7 @@ ghost use Rattle.example_own_kinds.specs.Flip.{ports, FlipLine, flip, flips};
 use example_own_kinds::{FlipBody, Flips, line_of};
 use kpn_body::Call;
 use kpn_execute::execute;
-use kpn_front::Status;
-use kpn_front::streams::Sink;
+use kpn_front::Sink;
 use kpn_machine::cards_of;
 use kpn_net::{Answer, Card, Local, Net, Token};
 use std::alloc::{AllocError, Global};
@@ -26,7 +25,7 @@ pub(crate) fn run_flips<S: Sink, R: Wait + Clock + Threads + Sync>(
     workers: usize,
     show: Option<&str>,
     sink: &mut S,
-) -> Result<Status, AllocError>
+) -> Result<u8, AllocError>
     requires workers { (1 ≤ workers) × (workers ≤ 16) }
     ensures ok { IfOk result (Executes flips net workers (option_map (λ s. s.now) show.entry) (S.takes sink.old) (S.contents sink.old) (S.contents sink.new)) }
     ensures err { OnErr result (sink.new ≡ sink.old) }
@@ -45,7 +44,7 @@ fn run_with_cards<S: Sink, R: Wait + Clock + Threads + Sync>(
     workers: usize,
     show: Option<&str>,
     sink: &mut S,
-) -> Result<Status, AllocError>
+) -> Result<u8, AllocError>
     requires signed { All (λ card. IsSome (ports card)) cards.now }
     requires cards { IfSome net (λ n. cards.now ≡ cards_of n.processes) }
     requires some { IsSome net }

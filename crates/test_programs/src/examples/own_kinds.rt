@@ -114,7 +114,7 @@ fn compare_loop<R: Threads + Wait + Clock + Abort + Sync>(
 ) {
     let net: Net<Flips> = network(rt, alloc, FLIP_LOOP);
     let status = run_flips(rt, alloc, net, 2, Some("c0"), out).expect(rt, "no memory");
-    same(rt, "status", status.code(), 5);
+    same(rt, "status", status, 5);
     same(rt, "lines", out.as_slice(), FLIP_LINES.as_bytes());
 }
 

@@ -3,10 +3,9 @@ ghost use Rattle.std.specs.Prelude.{◌≡◌, ◌<◌, ◌+◌, ◌^◌, ◌==�
 ghost use Rattle.std.specs.Str.{bytes_eq};
 
 use crate::checks::same;
-use kpn_front::Status;
-use kpn_front::load::{Refused, load, load_or_refuse};
-use kpn_front::say::{say_checked, say_lost, say_refused};
-use kpn_front::streams::{Fallible, Source};
+use kpn_front::{
+    Fallible, Refused, Source, Status, load, load_or_refuse, say_checked, say_lost, say_refused,
+};
 use kpn_net::{Act, Answer, Card, Kinds, Local, Net, NetFault, Signature, Sort, Token};
 use std::alloc::Global;
 use std::fmt::Write as _;
@@ -24,14 +23,16 @@ impl Kinds for CountAndSink {
 
     ghost named = { λ name. if bytes_eq name (codes "count") then Some (0, 2) else if bytes_eq name (codes "sink") then Some (1, 1) else None };
 
-    ghost signature_of = { λ card.
+    ghost signature = { λ card.
         if (card.kind == 0) && (slice_index card.args 2 == 0) && nat_lt (slice_index card.args 0 + slice_index card.args 1) (2 ^ 64)
         then Some (record { ins = None ∷ None ∷ None ∷ []; outs = Some Words ∷ None ∷ None ∷ [] })
         else if (card.kind == 1) && (slice_index card.args 1 == 0) && (slice_index card.args 2 == 0)
         then Some (record { ins = Some Words ∷ None ∷ None ∷ []; outs = None ∷ None ∷ None ∷ [] })
         else None };
 
-    ghost family = { record { start = λ card. 0 ∷ 0 ∷ 0 ∷ 0 ∷ []; answer = λ card local last. record { next = local; act = Stop } } };
+    ghost start = { λ card. 0 ∷ 0 ∷ 0 ∷ 0 ∷ [] };
+
+    ghost answer_of = { λ card local last. record { next = local; act = Stop } };
 
     ghost admits = { λ card local last. (local ≡ 0 ∷ 0 ∷ 0 ∷ 0 ∷ []) × (last ≡ None) };
 
@@ -445,7 +446,7 @@ fn compare_write<R: Abort>(rt: &R, before: usize, status: u8) {
         before,
         fails_once: false,
     });
-    let found = say_refused(&NetFault::Memory, &mut sink).code();
+    let found = say_refused(&NetFault::Memory, &mut sink);
     same(rt, "write", (before, found), (before, status));
 }
 
@@ -482,10 +483,10 @@ const LINES: &str = "ok 2 processes 1 channels\nrefused 14\nrefused 9\nlost\n";
 /// Writes each line, and compares the exit statuses and the lines.
 fn compare_lines<R: Abort>(rt: &R, net: &Net<CountAndSink>, out: &mut Vec<u8>) {
     let codes = [
-        say_checked(net, out).code(),
-        say_refused(&NetFault::Memory, out).code(),
-        say_refused(&NetFault::Twice, out).code(),
-        say_lost(out).code(),
+        say_checked(net, out),
+        say_refused(&NetFault::Memory, out),
+        say_refused(&NetFault::Twice, out),
+        say_lost(out),
     ];
     same(rt, "codes", codes, [0, 4, 2, 8]);
     same(rt, "lines", out.as_slice(), LINES.as_bytes());

@@ -1,15 +1,15 @@
 -- By the laws of the family for this answer the state stays one of the network.
 use Rattle.kpn_model.specs.declared.kinds.Answer.{Answer}
 use Rattle.kpn_model.specs.Lawful.{NamesPort, LeadsOn, read_by}
-use Rattle.kpn_model.specs.Network.{card_of}
+use Rattle.kpn_model.specs.Network.{card_of, family_of}
 use Rattle.kpn_commit.proofs.Keeping.{keeps_deed}
 use Rattle.kpn_commit.proofs.Wanted.{of_wanted}
 use Rattle.kpn_commit.proofs.act.advance.Goals as goal
 
 pub returns-clause-keeps : goal.returns-clause-keeps
 returns-clause-keeps g c =
-    let kinds = g.K.Kinds.family in
-    let signature = g.K.Kinds.signature_of in
+    let kinds = (family_of g.K.Kinds.start g.K.Kinds.answer_of) in
+    let signature = g.K.Kinds.signature in
     let admits = g.K.Kinds.admits in
     let net = c.args.net.now in
     let M = c.args.store.now.state in

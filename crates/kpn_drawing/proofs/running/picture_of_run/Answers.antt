@@ -1,21 +1,33 @@
 -- The picture is that of the run's report, and the report is the run's own and that of each run.
-use Rattle.std.proofs.Common.{refl, ◌∙◌}
+use Rattle.std.proofs.Common.{refl, sym, ◌∙◌}
+use Rattle.kpn_standard.specs.Standard.{standard}
+use Rattle.kpn_standard.specs.Admitted.{Admitted}
+use Rattle.kpn_run.proofs.Told.{own_report, every_runs, over_of}
+use Rattle.kpn_execute.proofs.Telling.{bound_by}
 use Rattle.kpn_drawing.proofs.Pictures.{own_picture, every_picture}
 use Rattle.kpn_drawing.proofs.running.picture_of_run.Goals as goal
 
 pub returns : goal.returns
 returns c =
-    let f = c.args.finish.now in
-    let r = c.in_ok-report.report in
-    let kept = c.in_ok-report.ensures in
-    let drawn = rw (c.net.ensures, kept.end) at c.in_ok-picture.ensures in
+    let s = c.args.chronicle.now in
+    let cause = c.in-Some.end in
+    let detail = c.in_ok-report.report.detail in
+    let faithful = c.in-Some.ensures.faithful in
+    let ended = sym c.in-Some.ensures.end in
+    let own =
+    own_report standard Admitted s cause c.in_ok-places.places.items detail faithful ended
+    (rw (c.net-net.ensures, c.standings.ensures) at c.in_ok-places.ensures)
+    (rw (c.net-net.ensures, c.history.ensures) at (c.in_ok-report.ensures.detail standard s.state)) in
+    let bound = bound_by standard Admitted s cause faithful ended in
+    let every = every_runs standard s.network s.history s.state cause detail own (λ has. record { run = faithful.run; over = over_of standard s.network cause s.history s.state has bound }) c.determinacy_of.ensures.one_digest in
+    let drawn = rw (c.net-net.ensures, c.in_ok-report.ensures.end) at c.in_ok-picture.ensures in
     record {
-      history = f.machine.history;
-      state = f.machine.state;
-      cause = f.cause;
-      run = c.end-end.ensures.finish.run;
-      bound = c.end-end.ensures.finish.bound;
+      history = s.history;
+      state = s.state;
+      cause = cause;
+      run = faithful.run;
+      bound = bound;
       status_is = refl;
-      text_is = drawn ∙ own_picture f.machine.network f.cause f.machine.history f.machine.state r.detail kept.own;
-      settled = λ has F N b final. drawn ∙ every_picture f.machine.network f.cause r.detail kept.every has F N b final;
+      text_is = drawn ∙ own_picture s.network cause s.history s.state detail own;
+      settled = λ has F N b final. drawn ∙ every_picture s.network cause detail every has F N b final;
     }

@@ -1,7 +1,14 @@
 -- What is loaded is a network, of which what was chosen is written, or a fault.
-use Rattle.std.proofs.Common.{Ok, Err, refl}
+use Rattle.std.proofs.Common.{◌≡◌, Ok, Err, refl, inl, inr}
+use Rattle.kpn_sketch.specs.declared.fault.NetFault.TheVariants.{Memory, Input}
 use Rattle.kpn_front.specs.Lines.{refused_line, status_of_fault}
 use Rattle.kpn_execute.proofs.program.serve_choice.Goals as goal
+
+pub returns-in-Err-clause-memory : goal.returns-in-Err-clause-memory
+returns-in-Err-clause-memory g c = λ e. let is : c.in-Err.refused.fault ≡ Memory = cc in c.message_of.ensures.plain (inl is)
+
+pub returns-in-Err-clause-input : goal.returns-in-Err-clause-input
+returns-in-Err-clause-input g c = λ e. let is : c.in-Err.refused.fault ≡ Input = cc in c.message_of.ensures.plain (inr is)
 
 pub returns-in-Err-clause-served : goal.returns-in-Err-clause-served
 returns-in-Err-clause-served g c =

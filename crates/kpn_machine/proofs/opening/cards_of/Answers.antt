@@ -13,4 +13,4 @@ pub returns-clause-signed : goal.returns-clause-signed
 returns-clause-signed g c =
     let all = length-map c.args.net.now.processes (λ (p : Process). p.card) in
     let long : length (cards_of c.args.net.now.processes) ≤ c.loop-process.process = omega (arith, c.processes-process-end.ensures.count) in
-    all_signed g.K.Kinds.signature_of _ _ (c.loop-process.invariant.is ∙ take_all c.loop-process.process (cards_of c.args.net.now.processes) long) c.processes-process-end.ensures.valid.signed
+    all_signed g.K.Kinds.signature _ _ (c.loop-process.invariant.is ∙ take_all c.loop-process.process (cards_of c.args.net.now.processes) long) c.processes-process-end.ensures.valid.signed

@@ -1,13 +1,13 @@
 -- One more answer was given, and its outcome was noted.
 use Rattle.std.proofs.Common.{◌∙◌, arith, subst}
-use Rattle.kpn_model.specs.Network.{Network}
+use Rattle.kpn_model.specs.Network.{Network, family_of}
 use Rattle.kpn_monitor.specs.Kept.{WasCommitted}
 use Rattle.kpn_monitor.proofs.Handing.{gave_machine, gave_committed, gave_many}
 use Rattle.kpn_monitor.proofs.giving.give_all.Goals as goal
 
 pub loop-task-preserved : goal.loop-task-preserved
 loop-task-preserved g c =
-    let kinds = g.B.Kinds.Kinds.family in
+    let kinds = (family_of g.B.Kinds.Kinds.start g.B.Kinds.Kinds.answer_of) in
     let admits = g.B.Kinds.Kinds.admits in
     let i = c.loop-task.invariant in
     let finished = c.give-in-Some.result in

@@ -1,6 +1,6 @@
 -- The machine is one of this network.
 use Rattle.std.proofs.Common.{◌∙◌, ap, subst, sym}
-use Rattle.kpn_model.specs.Network.{Network}
+use Rattle.kpn_model.specs.Network.{Network, family_of}
 use Rattle.kpn_machine.specs.Opening.{cards_of}
 use Rattle.kpn_machine.specs.MachineView.{MachineView}
 use Rattle.kpn_run.specs.Runs.{IsFinish, StaysWithinCapacities, SparesBudget, IsComparable}
@@ -8,11 +8,11 @@ use Rattle.kpn_run.proofs.executor.run_bodies.Goals as goal
 
 pub returns-in-Ok-run_machine-clause-finish : goal.returns-in-Ok-run_machine-clause-finish
 returns-in-Ok-run_machine-clause-finish g c =
-    subst (λ (n : Network). IsFinish g.B.Kinds.Kinds.family n c.in-Ok-run_machine.finish) (ap (λ (m : MachineView). m.network) c.in-Ok.ensures.opened) c.in-Ok-run_machine.ensures.finish
+    subst (λ (n : Network). IsFinish (family_of g.B.Kinds.Kinds.start g.B.Kinds.Kinds.answer_of) n c.in-Ok-run_machine.finish) (ap (λ (m : MachineView). m.network) c.in-Ok.ensures.opened) c.in-Ok-run_machine.ensures.finish
 
 pub returns-in-Ok-run_machine-clause-within : goal.returns-in-Ok-run_machine-clause-within
 returns-in-Ok-run_machine-clause-within g c =
-    subst (λ (n : Network). StaysWithinCapacities g.B.Kinds.Kinds.family n c.in-Ok-run_machine.finish.machine.history) (ap (λ (m : MachineView). m.network) c.in-Ok.ensures.opened)
+    subst (λ (n : Network). StaysWithinCapacities (family_of g.B.Kinds.Kinds.start g.B.Kinds.Kinds.answer_of) n c.in-Ok-run_machine.finish.machine.history) (ap (λ (m : MachineView). m.network) c.in-Ok.ensures.opened)
     c.in-Ok-run_machine.ensures.within
 
 pub returns-in-Err-run_machine-clause-workers : goal.returns-in-Err-run_machine-clause-workers
@@ -29,12 +29,12 @@ returns-in-Err-run_machine-clause-memory g c = λ n bs is.
 
 pub returns-in-Ok-run_machine-clause-budget : goal.returns-in-Ok-run_machine-clause-budget
 returns-in-Ok-run_machine-clause-budget g c =
-    subst (λ (n : Network). SparesBudget g.B.Kinds.Kinds.family n c.in-Ok-run_machine.finish.cause) (ap (λ (m : MachineView). m.network) c.in-Ok.ensures.opened)
+    subst (λ (n : Network). SparesBudget (family_of g.B.Kinds.Kinds.start g.B.Kinds.Kinds.answer_of) n c.in-Ok-run_machine.finish.cause) (ap (λ (m : MachineView). m.network) c.in-Ok.ensures.opened)
     c.in-Ok-run_machine.ensures.budget
 
 pub returns-in-Ok-run_machine-clause-comparable : goal.returns-in-Ok-run_machine-clause-comparable
 returns-in-Ok-run_machine-clause-comparable g c =
-    subst (λ (n : Network). IsComparable g.B.Kinds.Kinds.family n c.in-Ok-run_machine.finish.machine.history) (ap (λ (m : MachineView). m.network) c.in-Ok.ensures.opened)
+    subst (λ (n : Network). IsComparable (family_of g.B.Kinds.Kinds.start g.B.Kinds.Kinds.answer_of) n c.in-Ok-run_machine.finish.machine.history) (ap (λ (m : MachineView). m.network) c.in-Ok.ensures.opened)
     c.in-Ok-run_machine.ensures.comparable
 
 pub returns-in-Err-run_machine-clause-lost : goal.returns-in-Err-run_machine-clause-lost

@@ -1,5 +1,5 @@
 use Rattle.std.proofs.Common.{◌∙◌, arith, ap, subst}
-use Rattle.kpn_model.specs.Network.{Network}
+use Rattle.kpn_model.specs.Network.{Network, family_of}
 use Rattle.kpn_run.specs.Runs.{IsFinish}
 use Rattle.std.specs.Prelude.{IsSome}
 use Rattle.kpn_run.proofs.Slots.{some_met, not_refused, not_open}
@@ -20,4 +20,4 @@ unreachable-requires-in-Err g c =
 
 pub returns : goal.returns
 returns g c =
-    subst (λ (n : Network). IsFinish g.B.Kinds.Kinds.family n c.in-Some-of.finish) (ap (λ m. m.network) c.in-Some-of.ensures.0 ∙ c.in-Ok.ensures.account.network) c.end.ensures.finish
+    subst (λ (n : Network). IsFinish (family_of g.B.Kinds.Kinds.start g.B.Kinds.Kinds.answer_of) n c.in-Some-of.finish) (ap (λ m. m.network) c.in-Some-of.ensures.0 ∙ c.in-Ok.ensures.account.network) c.end.ensures.finish

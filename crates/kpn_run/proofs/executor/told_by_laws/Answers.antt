@@ -1,6 +1,6 @@
 -- Each prefix of the history is a run of a valid network.
 use Rattle.std.proofs.Common.{sym, subst}
-use Rattle.kpn_model.specs.Network.{Network}
+use Rattle.kpn_model.specs.Network.{Network, family_of}
 use Rattle.kpn_model.specs.Semantics.{start}
 use Rattle.kpn_model.specs.Determinacy.{IsRun}
 use Rattle.kpn_model.specs.Valid.{IsValid}
@@ -8,13 +8,13 @@ use Rattle.kpn_run.proofs.executor.told_by_laws.Goals as goal
 
 pub returns-clause-within : goal.returns-clause-within
 returns-clause-within g c = λ E F is.
-    let kinds = g.K.Kinds.family in
+    let kinds = (family_of g.K.Kinds.start g.K.Kinds.answer_of) in
     let machine = c.args.finish.now.machine in
     let net = machine.network in
     let run = subst (λ l. IsRun kinds net l machine.state) (sym is) c.end.ensures.finish.run in
     let front = c.determinacy_of.ensures.prefixes net (start kinds net) machine.state E F run in
-    let valid = subst (λ (n : Network). IsValid g.K.Kinds.signature_of n) c.net.ensures c.assure_valid.ensures.valid in
-    (front.0, front.1, c.valid_runs.ensures.within g.K.Kinds.signature_of kinds net valid E front.0 front.1)
+    let valid = subst (λ (n : Network). IsValid g.K.Kinds.signature n) c.net.ensures c.assure_valid.ensures.valid in
+    (front.0, front.1, c.valid_runs.ensures.within g.K.Kinds.signature kinds net valid E front.0 front.1)
 
 pub returns-clause-budget : goal.returns-clause-budget
 returns-clause-budget g c = λ F N b over short.

@@ -1,4 +1,5 @@
 use Rattle.std.proofs.Common.{◌≡◌, ◌+◌, ◌-◌, length, IfSome}
+use Rattle.kpn_model.specs.Network.{family_of}
 use Rattle.std.specs.List.{count_by}
 use Rattle.kpn_state.specs.declared.standing.Standing.TheVariants.{Ready}
 use Rattle.kpn_state.specs.Standings.{standing, is_out}
@@ -9,7 +10,7 @@ abbrev pub invariant-loop-again : goal.invariant-loop-again
 invariant-loop-again g l = record {
   none_out : count_by is_out l.self.standings ≡ 0;
   again : IfSome l.again (λ p. standing l.self.standings p ≡ Ready);
-  goes : ContinuesRun g.B.Kinds.Kinds.family l.initial.self l.self;
+  goes : ContinuesRun (family_of g.B.Kinds.Kinds.start g.B.Kinds.Kinds.answer_of) l.initial.self l.self;
 }
 
 abbrev pub decreases-loop-again : goal.decreases-loop-again

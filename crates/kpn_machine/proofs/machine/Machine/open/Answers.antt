@@ -1,9 +1,11 @@
 -- A machine that was just opened meets its invariant.
 use Rattle.std.proofs.Common.{◌≡◌, length, map, ap, ◌∙◌, arith, rules}
+use Rattle.kpn_model.specs.Network.{family_of}
 use Rattle.std.proofs.lemmas.List.{length-map}
 use Rattle.kpn_model.specs.declared.parts.Process.{Process}
 use Rattle.kpn_model.specs.Semantics.{start}
 use Rattle.kpn_machine.specs.Opening.{cards_of}
+use Rattle.kpn_machine.proofs.Listed.{candidates_none}
 use Rattle.kpn_machine.proofs.Opened.{sound_opened}
 use Rattle.kpn_machine.proofs.Fresh.{opened_fresh}
 use Rattle.kpn_machine.proofs.machine.Machine.open.Goals as goal
@@ -15,10 +17,11 @@ invariant_of-result g c =
     let many = length-map c.args.bodies.items g.B.Body.card in
     let same = ap length cards in (
       rw (c.in-Ok.ensures.store, c.in-Ok.ensures.standings)
-          (sound_opened g.B.Kinds.Kinds.signature_of g.B.Kinds.Kinds.admits g.B.Kinds.Kinds.family c.args.net c.assure_valid.ensures.valid c.in-Ok.ensures.admitted (map g.B.Body.card c.args.bodies.items) _ cards c.seat_all.ensures.seated
+          (sound_opened g.B.Kinds.Kinds.signature g.B.Kinds.Kinds.admits (family_of g.B.Kinds.Kinds.start g.B.Kinds.Kinds.answer_of) c.args.net c.assure_valid.ensures.valid c.in-Ok.ensures.admitted (map g.B.Body.card c.args.bodies.items) _ cards c.seat_all.ensures.seated
           (length-map c.seat_all.new.slots.items _ ∙ c.seat_all.ensures.slots ∙ c.in-Ok.ensures.slots)),
       record { emptied = c.seat_all.ensures.emptied; enough = omega (arith, c.seat_all.ensures.room, c.args.bodies.ok.0, c.args.bodies.ok.1) },
+      rw (c.in-Ok.ensures.store, c.in-Ok.ensures.standings, c.in-Ok.ensures.candidates) (candidates_none c.args.net (start (family_of g.B.Kinds.Kinds.start g.B.Kinds.Kinds.answer_of) c.args.net) (length c.args.net.processes)),
     )
 
 pub returns-clause-fresh : goal.returns-clause-fresh
-returns-clause-fresh g c = opened_fresh _ c.args.net (start g.B.Kinds.Kinds.family c.args.net) (length c.args.net.processes) (search rules)
+returns-clause-fresh g c = opened_fresh _ c.args.net (start (family_of g.B.Kinds.Kinds.start g.B.Kinds.Kinds.answer_of) c.args.net) (length c.args.net.processes) (search rules)

@@ -1,5 +1,6 @@
 -- The first task went out, and then others; or none did.
 use Rattle.std.proofs.Common.{◌∙◌, ◌++◌, ◌∷◌, List, [], refl, ap, sym, subst}
+use Rattle.kpn_model.specs.Network.{family_of}
 use Rattle.std.specs.Prelude.{Some}
 use Rattle.kpn_body.specs.Input.{Input}
 use Rattle.kpn_monitor.specs.Names.{Holding, Shares}
@@ -19,7 +20,7 @@ pub returns-in-Some-Task-clause-taken : goal.returns-in-Some-Task-clause-taken
 returns-in-Some-Task-clause-taken g c =
     let t = c.in-Some-Task.first in
     let one = ap (λ (h : Holding). h.tasks) c.put.ensures ∙ ap (λ (l : List Input). l ++ t ∷ []) c.requires.tasks in
-    c.deal_more.ensures.taken (all_one (WasTaken g.B.Kinds.Kinds.family g.B.Kinds.Kinds.admits g.E.EntryLedger.net) c.put.new.self.tasks t one (c.in-Some-Task.ensures.taken t (ap Some c.in-Some-Task.field-0-is)))
+    c.deal_more.ensures.taken (all_one (WasTaken (family_of g.B.Kinds.Kinds.start g.B.Kinds.Kinds.answer_of) g.B.Kinds.Kinds.admits g.E.EntryLedger.net) c.put.new.self.tasks t one (c.in-Some-Task.ensures.taken t (ap Some c.in-Some-Task.field-0-is)))
 
 pub returns-in-Some-Task-clause-tasks : goal.returns-in-Some-Task-clause-tasks
 returns-in-Some-Task-clause-tasks g c = λ is. ((c.in-Some-Task.ensures.task c.in-Some-Task.first (ap Some c.in-Some-Task.field-0-is)).0, c.deal_more.ensures.some)

@@ -1,5 +1,6 @@
 -- All answers were given, so that the hand is empty when tasks are dealt.
 use Rattle.std.proofs.Common.{◌∙◌, List, ap, subst, arith}
+use Rattle.kpn_model.specs.Network.{family_of}
 use Rattle.kpn_body.specs.Input.{Input}
 use Rattle.kpn_monitor.specs.Names.{Shares}
 use Rattle.kpn_monitor.specs.Hands.{CommitsAll, WereCommitted}
@@ -13,14 +14,14 @@ pub returns-in-None-clause-machine : goal.returns-in-None-clause-machine
 returns-in-None-clause-machine g c =
     let empty = no_item c.give.new.hand.tasks (omega (arith, c.in-None.ensures.count, c.in-None.ensures.called.1, c.requires.called)) in (
       c.give.new.self.machine,
-      rw c.deal.ensures.rest.1 (subst (λ (l : List Input). CommitsAll g.B.Kinds.Kinds.family c.args.self.now.machine c.args.hand.now.tasks c.give.new.hand.outcomes c.give.new.self.machine l) empty c.in-None.ensures.machine),
+      rw c.deal.ensures.rest.1 (subst (λ (l : List Input). CommitsAll (family_of g.B.Kinds.Kinds.start g.B.Kinds.Kinds.answer_of) c.args.self.now.machine c.args.hand.now.tasks c.give.new.hand.outcomes c.give.new.self.machine l) empty c.in-None.ensures.machine),
       c.deal.ensures.out,
     )
 
 pub returns-in-None-clause-committed : goal.returns-in-None-clause-committed
 returns-in-None-clause-committed g c =
     let empty = no_item c.give.new.hand.tasks (omega (arith, c.in-None.ensures.count, c.in-None.ensures.called.1, c.requires.called)) in
-    rw c.deal.ensures.rest.1 (subst (λ (l : List Input). WereCommitted g.B.Kinds.Kinds.family g.B.Kinds.Kinds.admits g.E.EntryLedger.net c.args.hand.now.tasks c.give.new.hand.outcomes l) empty c.in-None.ensures.committed)
+    rw c.deal.ensures.rest.1 (subst (λ (l : List Input). WereCommitted (family_of g.B.Kinds.Kinds.start g.B.Kinds.Kinds.answer_of) g.B.Kinds.Kinds.admits g.E.EntryLedger.net c.args.hand.now.tasks c.give.new.hand.outcomes l) empty c.in-None.ensures.committed)
 
 pub returns-in-None-clause-seat : goal.returns-in-None-clause-seat
 returns-in-None-clause-seat g c = (

@@ -1,5 +1,6 @@
 -- What the answers appended is published and booked.
 use Rattle.std.proofs.Common.{◌∙◌, ◌+◌, length, ap, sym, subst, arith}
+use Rattle.kpn_model.specs.Network.{family_of}
 use Rattle.std.specs.Prelude.{IsSome}
 use mathlib.Core.List.{IsPrefix}
 use Rattle.kpn_watch.specs.Boards.{Published}
@@ -9,24 +10,24 @@ use Rattle.kpn_monitor.proofs.guarded.Guarded.give.Goals as goal
 
 pub publish-requires-clause-goes_on : goal.publish-requires-clause-goes_on
 publish-requires-clause-goes_on g c =
-    let gone = gave g.B.Kinds.Kinds.family _ _ _ _ _ _ c.give_all-refused.ensures.machine in
+    let gone = gave (family_of g.B.Kinds.Kinds.start g.B.Kinds.Kinds.answer_of) _ _ _ _ _ _ c.give_all-refused.ensures.machine in
     subst (λ l. IsPrefix l c.history-history.result.now) (sym c.self.invariant.1.entries) (subst (λ l. IsPrefix c.self.inside.machine.history l) (sym c.history-history.ensures) gone.history)
 
 pub publish-requires-clause-ended : goal.publish-requires-clause-ended
 publish-requires-clause-ended g c = λ ended.
-    let gone = gave g.B.Kinds.Kinds.family _ _ _ _ _ _ c.give_all-refused.ensures.machine in
+    let gone = gave (family_of g.B.Kinds.Kinds.start g.B.Kinds.Kinds.answer_of) _ _ _ _ _ _ c.give_all-refused.ensures.machine in
     let shown = c.self.invariant.1 in
     let same = gone.ended (λ none. ended (shown.phase ∙ ap phase_of none)) in
     (c.history-history.ensures ∙ same.0 ∙ sym shown.entries, ap phase_of (c.end-ended.ensures.end ∙ same.1) ∙ sym shown.phase)
 
 pub overflow_sub-history : goal.overflow_sub-history
 overflow_sub-history g c =
-    let gone = gave g.B.Kinds.Kinds.family _ _ _ _ _ _ c.give_all-refused.ensures.machine in
+    let gone = gave (family_of g.B.Kinds.Kinds.start g.B.Kinds.Kinds.answer_of) _ _ _ _ _ _ c.give_all-refused.ensures.machine in
     omega (arith, gone.count, ap length c.history-before.ensures, ap length c.history-history.ensures)
 
 pub invariant_of-self : goal.invariant_of-self
 invariant_of-self g c =
-    let gone = gave g.B.Kinds.Kinds.family _ _ _ _ _ _ c.give_all-refused.ensures.machine in
+    let gone = gave (family_of g.B.Kinds.Kinds.start g.B.Kinds.Kinds.answer_of) _ _ _ _ _ _ c.give_all-refused.ensures.machine in
     let kept = c.self.invariant.0 in (
       record {
         network = c.give_all-refused.ensures.network ∙ kept.network;
@@ -46,5 +47,5 @@ invariant_of-self g c =
 
 pub returns-clause-seat : goal.returns-clause-seat
 returns-clause-seat g c =
-    let gone = gave g.B.Kinds.Kinds.family _ _ _ _ _ _ c.give_all-refused.ensures.machine in
+    let gone = gave (family_of g.B.Kinds.Kinds.start g.B.Kinds.Kinds.answer_of) _ _ _ _ _ _ c.give_all-refused.ensures.machine in
     c.add_entries.ensures.seat ∙ ap (λ k. record c.args.seat.now { entries = c.args.seat.now.entries + k }) (omega (arith, gone.count, ap length c.history-before.ensures, ap length c.history-history.ensures))

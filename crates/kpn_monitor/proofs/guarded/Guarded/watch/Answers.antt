@@ -1,5 +1,6 @@
 -- What is published is the history that the lock keeps.
 use Rattle.std.proofs.Common.{subst}
+use Rattle.kpn_model.specs.Network.{family_of}
 use Rattle.std.specs.Prelude.{IfOk}
 use Rattle.kpn_model.specs.Semantics.{State}
 use Rattle.kpn_model.specs.Determinacy.{IsRun}
@@ -10,7 +11,7 @@ use Rattle.kpn_monitor.proofs.guarded.Guarded.watch.Goals as goal
 
 pub returns-clause-run : goal.returns-clause-run
 returns-clause-run g c =
-    let kinds = g.B.Kinds.Kinds.family in
+    let kinds = (family_of g.B.Kinds.Kinds.start g.B.Kinds.Kinds.answer_of) in
     let net = g.E.EntryLedger.net in
     let i = c.self.inside in
     subst (λ (h : UnderLock). IfOk c.watch.result (λ w. (M : State) × IsRun kinds net w.entries M × MayStand kinds net w.entries M h.machine.end)) c.self.view_is

@@ -7,5 +7,5 @@ abbrev pub invariant-loop-process : goal.invariant-loop-process
 invariant-loop-process l = record {
   are : l.standings.items ≡ replicate l.process Ready;
   room : l.queue.capacity ≡ l.count;
-  kept : Agrees l.standings.items l.queue.items l.queue.capacity 0 0;
+  kept : Agrees l.standings.items l.queue.items l.queue.capacity 0 l.process;
 }

@@ -1,0 +1,127 @@
+//! The lines that the program writes about a description.
+ghost use Rattle.std.specs.Prelude.{◌≡◌, ◌≢◌, ◌≤◌, ◌+◌, ◌++◌, true, OnOk, IsOk, decimal, length};
+ghost use Rattle.arrayvec.specs.ArrayString.{array_string_len};
+ghost use Rattle.std.specs.Io.KnownBytes.{Appends};
+ghost use Rattle.kpn_front.specs.Statuses.{code_of};
+ghost use Rattle.kpn_front.specs.Lines.{checked_line, lost_line, refused_line, no_channel_line, status_of_fault};
+
+use crate::status::Status;
+use crate::streams::Sink;
+use arrayvec::ArrayString;
+use itoa::Buffer;
+use kpn_net::{Kinds, Net, NetFault};
+use std::io;
+
+/// The capacity of a line: two numbers and the text around them.
+const ROOM: usize = 64;
+
+/// Writes a text, and returns the number of `status`, or 7 if the write fails.
+///
+/// The write does not fail if the sink takes that many bytes. If it fails, some of them may have been
+/// written. `status` must not be `WriteFailed`.
+pub fn say<S: Sink>(sink: &mut S, text: &str, status: Status) -> u8
+    requires { status ≢ Status.WriteFailed }
+    ensures said { result ≢ code_of Status.WriteFailed → (result ≡ code_of status) × Appends (S.contents sink.old) (S.contents sink.new) text.now }
+    ensures room { S.takes sink.old (length text.now) ≡ true → result ≢ code_of Status.WriteFailed }
+{
+    match sink.write_all(text.as_bytes()) {
+        Ok(()) => status.code(),
+        Err(_) => Status::WriteFailed.code(),
+    }
+}
+
+/// Writes that a network was accepted, as `ok 2 processes 1 channels` for a counter and a sink.
+///
+/// Returns the exit status: 0, or 7 if the write fails. Takes no memory.
+pub fn say_checked<K: Kinds, S: Sink>(net: &Net<K>, sink: &mut S) -> u8
+    ensures said { result ≢ code_of Status.WriteFailed → (result ≡ code_of Status.Success) × Appends (S.contents sink.old) (S.contents sink.new) (checked_line net.now) }
+    ensures room { S.takes sink.old (length (checked_line net.now)) ≡ true → result ≢ code_of Status.WriteFailed }
+{
+    say(sink, checked_text(net).as_str(), Status::Success)
+}
+
+/// Writes that a description was refused, as `refused 9` if two channels share a port.
+///
+/// Returns the exit status: 4 if memory was refused, 2 for every other fault, and 7 if the write fails.
+/// Takes no memory.
+pub fn say_refused<S: Sink>(fault: &NetFault, sink: &mut S) -> u8
+    ensures said { result ≢ code_of Status.WriteFailed → (result ≡ code_of (status_of_fault fault.now)) × Appends (S.contents sink.old) (S.contents sink.new) (refused_line fault.now) }
+    ensures room { S.takes sink.old (length (refused_line fault.now)) ≡ true → result ≢ code_of Status.WriteFailed }
+{
+    say(sink, refused_text(fault).as_str(), status_of(fault))
+}
+
+/// Writes the line `lost`: a run was given up, since the machine refused a worker's answer.
+///
+/// Returns the exit status: 8, or 7 if the write fails. Takes no memory.
+pub fn say_lost<S: Sink>(sink: &mut S) -> u8
+    ensures said { result ≢ code_of Status.WriteFailed → (result ≡ code_of Status.Lost) × Appends (S.contents sink.old) (S.contents sink.new) lost_line }
+    ensures room { S.takes sink.old (length lost_line) ≡ true → result ≢ code_of Status.WriteFailed }
+{
+    say(sink, "lost\n", Status::Lost)
+}
+
+/// Writes that no channel has this name, as `no channel c9`.
+///
+/// Returns the exit status: 1, or 7 if the write fails. Takes no memory.
+pub fn say_no_channel<S: Sink>(name: &str, sink: &mut S) -> u8
+    ensures said { result ≢ code_of Status.WriteFailed → (result ≡ code_of Status.WrongArguments) × Appends (S.contents sink.old) (S.contents sink.new) (no_channel_line name.now) }
+    ensures room { S.takes sink.old (length (no_channel_line name.now)) ≡ true → result ≢ code_of Status.WriteFailed }
+{
+    match write_no_channel(name, sink) {
+        Ok(()) => Status::WrongArguments.code(),
+        Err(_) => Status::WriteFailed.code(),
+    }
+}
+
+/// Writes the line in three parts, since a name may be of any length.
+fn write_no_channel<S: Sink>(name: &str, sink: &mut S) -> io::Result<()>
+    ensures bytes { OnOk result (Appends (S.contents sink.old) (S.contents sink.new) (no_channel_line name.now)) }
+    ensures room { S.takes sink.old (length (no_channel_line name.now)) ≡ true → IsOk result }
+{
+    sink.write_all(b"no channel ")?;
+    sink.write_all(name.as_bytes())?;
+    sink.write_all(b"\n")?;
+    Ok(())
+}
+
+fn status_of(fault: &NetFault) -> Status
+    ensures { result ≡ status_of_fault fault.now }
+{
+    match fault {
+        NetFault::Memory => Status::MemoryRefused,
+        _ => Status::Refused,
+    }
+}
+
+fn checked_text<K: Kinds>(net: &Net<K>) -> ArrayString<ROOM>
+    ensures { result.bytes ≡ checked_line net.now }
+{
+    let mut line = ArrayString::new();
+    line.push_str("ok ");
+    push_number(&mut line, net.processes());
+    line.push_str(" processes ");
+    push_number(&mut line, net.channels());
+    line.push_str(" channels\n");
+    line
+}
+
+fn refused_text(fault: &NetFault) -> ArrayString<ROOM>
+    ensures { result.bytes ≡ refused_line fault.now }
+{
+    let mut line = ArrayString::new();
+    line.push_str("refused ");
+    push_number(&mut line, usize::from(fault.number()));
+    line.push_str("\n");
+    line
+}
+
+/// Appends a number in decimal.
+fn push_number(line: &mut ArrayString<ROOM>, n: usize)
+    requires { array_string_len line.old + 20 ≤ 64 }
+    ensures bytes { line.new.bytes ≡ line.old.bytes ++ decimal n }
+    ensures len { array_string_len line.new ≤ array_string_len line.old + 20 }
+{
+    let mut buffer = Buffer::new();
+    line.push_str(buffer.format(n));
+}

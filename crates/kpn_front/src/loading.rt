@@ -1,0 +1,89 @@
+//! Reading a network from a source.
+ghost use Rattle.std.specs.Prelude.{◌≡◌, ◌≢◌, false, ◌≤◌, ◌<◌, ◌+◌, ◌⊎◌, true, IfOk, IfErr, IfSome, length};
+ghost use Rattle.kpn_front.specs.Loading.{Loads, ReadsAtMost, longest, without_text, IsTextOf};
+
+use crate::streams::Source;
+use kpn_model::limits::LONGEST_TEXT;
+use kpn_net::{Check, Kinds, Net, NetFault, read_sketch};
+use std::alloc::Global;
+
+/// How many bytes one turn reads at most.
+const CHUNK: usize = 4096;
+
+/// A description of which no network was made: the fault, and the text that has it. If the fault is
+/// `Input` or `Memory` the text may be empty: it was then not read to its end.
+#[derive(Drop)]
+pub struct Refused {
+    pub fault: NetFault,
+    pub text: Vec<u8>,
+}
+
+/// Reads a description to its end, and makes its network. Reads at most 1,048,577 bytes.
+///
+/// Errors: `Input` if the source has more than 1,048,576 bytes or a read fails, whatever the bytes say.
+/// Otherwise the fault that `read_sketch` finds in the bytes, or that `Net::check` finds in what they
+/// describe; or `Memory` if memory was refused. What was read has then been consumed from the source.
+pub fn load<K: Kinds, S: Source>(alloc: Global, source: &mut S) -> Result<Net<K>, NetFault>
+    ensures loads { S.has_failed source.old ≡ false → IfSome (S.remaining source.old) (λ text. Loads K.named K.signature (S.has_failed source.new) text result) }
+    ensures failed { S.has_failed source.old ≡ false → S.has_failed source.new ≡ true → result ≡ Err NetFault.Input }
+    ensures steady { S.is_steady source.old ≡ true → S.has_failed source.new ≡ S.has_failed source.old }
+    ensures taken { ReadsAtMost (longest + 1) (S.remaining source.old) (S.remaining source.new) }
+{
+    load_or_refuse(alloc, source).map_err(|refused| refused.fault)
+}
+
+/// The same as `load`, but it hands back the text of a refused description beside the fault.
+pub fn load_or_refuse<K: Kinds, S: Source>(alloc: Global, source: &mut S) -> Result<Net<K>, Refused>
+    ensures loads { S.has_failed source.old ≡ false → IfSome (S.remaining source.old) (λ text. Loads K.named K.signature (S.has_failed source.new) text (without_text result)) }
+    ensures text { IfSome (S.remaining source.old) (λ text. IfErr result (IsTextOf text)) }
+    ensures failed { S.has_failed source.old ≡ false → S.has_failed source.new ≡ true → without_text result ≡ Err NetFault.Input }
+    ensures steady { S.is_steady source.old ≡ true → S.has_failed source.new ≡ S.has_failed source.old }
+    ensures taken { ReadsAtMost (longest + 1) (S.remaining source.old) (S.remaining source.new) }
+{
+    let text = match read_text(alloc, source) {
+        Ok(text) => text,
+        Err(fault) => {
+            let text = Vec::new(alloc);
+            return Err(Refused { fault, text });
+        }
+    };
+    match net_of_text(alloc, text.as_slice()) {
+        Ok(net) => Ok(net),
+        Err(fault) => Err(Refused { fault, text }),
+    }
+}
+
+/// The network that a text describes.
+fn net_of_text<K: Kinds>(alloc: Global, text: &[u8]) -> Result<Net<K>, NetFault>
+    requires { length text.now ≤ longest }
+    ensures { Loads K.named K.signature false text.now result }
+{
+    let sketch = read_sketch(alloc, text)?;
+    Net::check(alloc, &sketch)
+}
+
+/// The bytes of a source, if a description may have that many.
+fn read_text<S: Source>(alloc: Global, source: &mut S) -> Result<Vec<u8>, NetFault>
+    ensures ok { IfOk result (λ t. (length t.items ≤ longest) × IfSome (S.remaining source.old) (λ text. t.items ≡ text)) }
+    ensures input { result ≡ Err NetFault.Input → (S.has_failed source.new ≡ true) ⊎ IfSome (S.remaining source.old) (λ text. longest < length text) }
+    ensures fault { IfErr result (λ e. (e ≡ NetFault.Input) ⊎ (e ≡ NetFault.Memory)) }
+    ensures failed { result ≢ Err NetFault.Input → S.has_failed source.new ≡ S.has_failed source.old }
+    ensures steady { S.is_steady source.old ≡ true → S.has_failed source.new ≡ S.has_failed source.old }
+    ensures taken { ReadsAtMost (longest + 1) (S.remaining source.old) (S.remaining source.new) }
+{
+    let mut text = Vec::new(alloc);
+    let mut chunk = [0; CHUNK];
+    while text.len() <= LONGEST_TEXT {
+        let room = CHUNK.min(LONGEST_TEXT + 1 - text.len());
+        match source.read(&mut chunk[..room]) {
+            Ok(0) => return Ok(text),
+            Ok(n) => {
+                if text.extend_from_slice(&chunk[..n]).is_err() {
+                    return Err(NetFault::Memory);
+                }
+            }
+            Err(_) => return Err(NetFault::Input),
+        }
+    }
+    Err(NetFault::Input)
+}

@@ -1,0 +1,115 @@
+//! The candidates for a growth.
+ghost use Rattle.std.specs.Prelude.{◌≡◌, ◌≢◌, ◌↔◌, ◌⊎◌, ℕ, ◌<◌, ◌≤◌, ◌+◌, length, [], get_or, slice_get, Contains, IfOk, IsTrue};
+ghost use Rattle.kpn_state.specs.Candidates.{IsBefore, IsInOrder, candidate_list};
+
+use std::alloc::{AllocError, Global};
+use std::marker::Model;
+
+/// The candidates for a growth, each a pair of a capacity and a channel: sorted by capacity, and among
+/// equals by the channel's number, so that the first is the one that grows (Parks 1995). All memory is
+/// taken by `new`.
+#[derive(Drop)]
+pub struct Candidates {
+    pairs: Vec<(usize, usize)>,
+    room: usize,
+}
+
+impl Model for Candidates {
+    ghost use Rattle.std.specs.Prelude.{◌≤◌};
+    ghost use Rattle.std.specs.Vec.{vec_capacity};
+    ghost use Rattle.kpn_state.specs.Candidates.{CandidateList, candidate_list, IsInOrder};
+
+    ghost Value = { CandidateList };
+
+    ghost view = { λ c. candidate_list c.pairs.items c.room };
+
+    ghost invariant = { λ c. (IsInOrder c.pairs.items) × (c.room ≤ vec_capacity c.pairs) };
+}
+
+impl Candidates {
+    /// Makes an empty list with room for `room` pairs. Fails if memory was refused.
+    pub fn new(alloc: Global, room: usize) -> Result<Candidates, AllocError>
+        ensures { IfOk result (λ c. c ≡ candidate_list [] room) }
+    {
+        let pairs = Vec::with_capacity(alloc, room)?;
+        Ok(Candidates { pairs, room })
+    }
+
+    /// Returns the first pair: the capacity and the channel that grows before all others; `None` if
+    /// there is no pair.
+    pub fn first(&self) -> Option<(usize, usize)>
+        ensures first { result ≡ slice_get self.now.pairs 0 }
+        ensures ordered { IsInOrder self.now.pairs }
+    {
+        self.pairs.as_slice().first().copied()
+    }
+
+    /// Inserts a channel of this capacity at its place; if it is there already, nothing changes. There
+    /// must be room. Takes no memory.
+    pub fn insert(&mut self, capacity: usize, channel: usize)
+        requires { length self.old.pairs < self.old.room }
+        ensures pairs { (x : ℕ × ℕ) → Contains self.new.pairs x ↔ ((x ≡ (capacity, channel)) ⊎ Contains self.old.pairs x) }
+        ensures many { length self.new.pairs ≤ length self.old.pairs + 1 }
+        ensures room { self.new.room ≡ self.old.room }
+    {
+        let pair = (capacity, channel);
+        let place = place_of(self.pairs.as_slice(), pair);
+        if is_at(self.pairs.as_slice(), place, pair) {
+            return;
+        }
+        if self.pairs.insert(place, pair).is_err() {
+            unreachable!()
+        }
+    }
+
+    /// Removes a channel of this capacity; if it isn't there, nothing changes.
+    pub fn remove(&mut self, capacity: usize, channel: usize)
+        ensures pairs { (x : ℕ × ℕ) → Contains self.new.pairs x ↔ ((x ≢ (capacity, channel)) × Contains self.old.pairs x) }
+        ensures many { Contains self.old.pairs (capacity, channel) → length self.new.pairs + 1 ≡ length self.old.pairs }
+        ensures room { self.new.room ≡ self.old.room }
+    {
+        let pair = (capacity, channel);
+        let place = place_of(self.pairs.as_slice(), pair);
+        if is_at(self.pairs.as_slice(), place, pair) {
+            self.pairs.remove(place);
+        }
+    }
+}
+
+/// Whether a pair is before another.
+fn is_before(pair: (usize, usize), other: (usize, usize)) -> bool
+    ensures { IsTrue result ↔ IsBefore pair other }
+{
+    pair.0 < other.0 || (pair.0 == other.0 && pair.1 < other.1)
+}
+
+/// Whether this pair is at this place.
+fn is_at(pairs: &[(usize, usize)], place: usize, pair: (usize, usize)) -> bool
+    ensures { IsTrue result ↔ ((place < length pairs.now) × (get_or pairs.now place pair ≡ pair)) }
+{
+    if place >= pairs.len() {
+        return false;
+    }
+    let found = pairs[place];
+    found.0 == pair.0 && found.1 == pair.1
+}
+
+/// How many pairs are before this one: its place.
+fn place_of(pairs: &[(usize, usize)], pair: (usize, usize)) -> usize
+    requires { IsInOrder pairs.now }
+    ensures within { result ≤ length pairs.now }
+    ensures before { (k : ℕ) (d : ℕ × ℕ) → k < result → IsBefore (get_or pairs.now k d) pair }
+    ensures rest { (k : ℕ) (d : ℕ × ℕ) → result ≤ k → k < length pairs.now → IsBefore (get_or pairs.now k d) pair → ⊥ }
+{
+    let mut low = 0;
+    let mut high = pairs.len();
+    while low < high {
+        let middle = low + (high - low) / 2;
+        if is_before(pairs[middle], pair) {
+            low = middle + 1;
+        } else {
+            high = middle;
+        }
+    }
+    low
+}
