@@ -183,6 +183,14 @@ process snk stopped steps 1
 channel c0 put 65535 left 65535 capacity 65535
 entries 65536
 """, 6)
+MANY, FIRST = 55_000, 9_000_000_000_000_000_000
+row("a report of more than a million bytes", run("c0"), net(f"src=count({FIRST},{MANY}) snk=sink({MANY})", "c0 src.0>snk.0", budget=1000000), f"""end terminated
+process src stopped steps {MANY + 1}
+process snk stopped steps {MANY + 1}
+channel c0 put {MANY} left 0 capacity 1
+entries {2 * MANY + 2}
+stream c0 {" ".join(str(FIRST + k) for k in range(MANY))}
+""", 0)
 row("an endless loop", run(), net("p=prefix(1) cp=copy snk=sink(2)", "c0 p.0>cp.0; c1 cp.0>p.0; c2 cp.1>snk.0", budget=10), "end budget\n", 3)
 row("products and sums that wrap", run("c3"), net(
     "s=count(9223372036854775807,1) d=scale(2) t=count(2,1) ad=add snk=sink(1)",

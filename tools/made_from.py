@@ -16,13 +16,18 @@ def toolchain():
     rt = shutil.which("rt")
     if rt:
         return read(os.path.join(os.path.dirname(os.path.dirname(os.path.realpath(rt))), "KIT-ID"))
+    return toolchain_of_shipped()
+
+
+def toolchain_of_shipped():
+    """The identity of the toolchain by which the shipped programs were proved and built."""
     return read(os.path.join(SHIPPED, "toolchain"))
 
 
-def sum_of(name):
-    """The sum of all that a program is made from."""
+def sum_of(name, by=None):
+    """The sum of all that a program is made from, with this toolchain, or with that of this machine."""
     crates = read_crates()
-    found = hashlib.sha256(toolchain().strip())
+    found = hashlib.sha256((by or toolchain()).strip())
     for it in crates_below(name, crates, []):
         found.update(repr((it, crates[it])).encode())
         folder = os.path.join(TOP, "crates", it)
