@@ -13,11 +13,13 @@ use Rattle.kpn_model.specs.Semantics.{State, tokens, capacity, with_status, IsPo
 use Rattle.kpn_laws.proofs.States.{in_of-reader, out_of-writer, tokens_set_other}
 use Rattle.kpn_laws.proofs.Steps.{capacity_after, took_read, put_write}
 use Rattle.kpn_state.specs.Standings.{partner}
+use Rattle.kpn_commit.specs.Choice.{written_by}
+use Rattle.kpn_commit.specs.Waiting.{read_by_act}
 use Rattle.kpn_state.proofs.Contradictions.{none_some}
 
 module _ (kinds : Family) (net : Network) where
   -- the deed is on channel c
-  abbrev Touches : Deed → ℕ → Type 0
+  abbrev pub Touches : Deed → ℕ → Type 0
   Touches (Took b t) c = c ≡ b
   Touches (Put b t) c = c ≡ b
   Touches Stopped c = ⊥
@@ -49,20 +51,34 @@ module _ (kinds : Family) (net : Network) where
       let r = put_write kinds net M p b t a is in
       ne (sym (out_of-writer net q k c at).1 ∙ ap (λ x. (channel_of net x).writer) on ∙ (out_of-writer net p r.0 b r.2).1)
 
+  -- an act on another channel than the deed's that is possible after the deed was possible before
+  pub possible_off :
+      (M : State) (p : ℕ) (next : List ℕ) (d : Deed) (q : ℕ) (x : Act) → ((c : ℕ) → read_by_act net q x ≡ Some c → Touches d c → ⊥) → ((c : ℕ) → written_by net q x ≡ Some c → Touches d c → ⊥)
+      → IsPossible kinds net (after_deed kinds net M p next d) q x → IsPossible kinds net M q x
+  possible_off M p next d q Stop reads writes can = tt
+  possible_off M p next d q (Read k) reads writes can = (can.0, can.1, λ e. can.2 (untouched M p next d can.0 (reads can.0 can.1) ∙ e))
+  possible_off M p next d q (Write k t) reads writes can =
+      let same = untouched M p next d can.0 (writes can.0 can.1) in
+      let size = capacity_after kinds net M p can.0 next d in
+      let short : length (tokens (after_deed kinds net M p next d) can.0) < capacity (after_deed kinds net M p next d) can.0 = can.2 in
+      let same_length = ap (λ (l : List Token). length l) same in
+      (can.0, can.1, omega arith)
+
   -- what a third process can do after a deed, it could do before
   pub possible_before :
       (M : State) (p : ℕ) (a : Answer) (d : Deed) (q : ℕ) (x : Act) → IsDeed kinds net M p a.act d → q ≢ p → partner net d ≢ Some q
       → IsPossible kinds net (after_deed kinds net M p a.next d) q x → IsPossible kinds net M q x
-  possible_before M p a d q Stop is ne np can = tt
-  possible_before M p a d q (Read k) is ne np can =
-      let same = untouched M p a.next d can.0 (λ on. reader_is M p a.act d q k can.0 is can.1 on ne np) in
-      (can.0, can.1, λ e. can.2 (same ∙ e))
-  possible_before M p a d q (Write k t) is ne np can =
-      let same = untouched M p a.next d can.0 (λ on. writer_is M p a.act d q k can.0 is can.1 on ne np) in
-      let size = capacity_after kinds net M p can.0 a.next d in
-      let short : length (tokens (after_deed kinds net M p a.next d) can.0) < capacity (after_deed kinds net M p a.next d) can.0 = can.2 in
-      let same_length = ap (λ (l : List Token). length l) same in
-      (can.0, can.1, omega arith)
+  possible_before M p a d q x is ne np can = possible_off M p a.next d q x (reads x) (writes x) can
+    where
+      reads : (x : Act) (c : ℕ) → read_by_act net q x ≡ Some c → Touches d c → ⊥
+      reads (Read k) c at on = reader_is M p a.act d q k c is at on ne np
+      reads (Write k t) c at on = cc
+      reads Stop c at on = cc
+
+      writes : (x : Act) (c : ℕ) → written_by net q x ≡ Some c → Touches d c → ⊥
+      writes (Write k t) c at on = writer_is M p a.act d q k c is at on ne np
+      writes (Read k) c at on = cc
+      writes Stop c at on = cc
 
   -- a list with a first token is not empty
   some_token : (t : Token) (ts xs : List Token) → xs ≡ t ∷ ts → xs ≢ []

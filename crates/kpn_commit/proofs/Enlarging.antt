@@ -16,13 +16,16 @@ use Rattle.kpn_laws.proofs.States.{out_of-writer, capacity_set_other}
 use Rattle.kpn_laws.proofs.Steps.{capacity_after}
 use Rattle.kpn_state.specs.StateAndHistory.{StateAndHistory, more}
 use Rattle.kpn_state.specs.Candidates.{CandidateList}
+use Rattle.kpn_state.specs.Marks.{MarkLists, mark_lists}
 use Rattle.kpn_state.specs.declared.standing.Standing.{Standing}
 use Rattle.kpn_state.specs.declared.standing.Standing.TheVariants.{Parked}
 use Rattle.kpn_state.specs.Standings.{standing, is_busy, standing_after, partner, StandingsFit}
 use Rattle.kpn_commit.specs.Choice.{written_by, awaited_by, awaited, IsSmallest, AreCandidates}
+use Rattle.kpn_commit.specs.Waiting.{AreMarks}
 use Rattle.kpn_commit.specs.Settling.{GrowsAndPuts}
 use Rattle.kpn_state.proofs.Placed.{standing_within, parked_not_ended}
 use Rattle.kpn_commit.proofs.Candidates.{writing, served, acted_awaits, acted_not_counted}
+use Rattle.kpn_commit.proofs.Marks.{put_marks}
 use Rattle.kpn_commit.proofs.Idle.{awaits_blocked, smallest_chosen, smallest_artificial}
 use Rattle.kpn_commit.proofs.Growing.{keeps_grown, keeps_put, grown_possible}
 use Rattle.kpn_commit.proofs.Reacting.{acted}
@@ -65,6 +68,18 @@ module _ (kinds : Family) (admits : Card → List ℕ → Option Token → Type 
       let x = writing net w c a.act writes in
       subst (λ (y : StateAndHistory). IsPossible kinds net y.state w a.act) (sym first)
       (subst (λ y. IsPossible kinds net after_growth w y) (sym x.2) (grown_possible kinds admits net s.state c to within w x.0 x.1 x.3 room))
+
+  -- after the put the channel has no mark of its writer
+  pub marks_after_put :
+      (s1 : StateAndHistory) (d : Deed) (moved : List Standing) (marks cleared : MarkLists) → AreMarks net standings marks → IsDeed kinds net s1.state w a.act d → moved ≡ set standings w (standing_after d) → cleared ≡ mark_lists marks.readers (set marks.writers c false)
+      → AreMarks net moved cleared
+  marks_after_put s1 d moved marks cleared are is moves e =
+      let put = deed_put kinds net s1.state w c a.act d writes is in
+      let here : w < length standings = standing_within standings w (λ f. parked_not_ended a (sym parked ∙ f)) in
+      let is_put : IsDeed kinds net s1.state w a.act (Put c put.0) = subst (λ (x : Deed). IsDeed kinds net s1.state w a.act x) put.1 is in
+      subst (λ (m : MarkLists). AreMarks net moved m) (sym e)
+      (subst (λ (l : List Standing). AreMarks net l (mark_lists marks.readers (set marks.writers c false))) (sym (moves ∙ ap (λ (x : Deed). set standings w (standing_after x)) put.1))
+      (put_marks kinds net s1.state standings marks are w a parked here c put.0 is_put))
 
   -- after the put no parked process can go on
   pub keeps_after_put :

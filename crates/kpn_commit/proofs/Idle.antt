@@ -1,17 +1,15 @@
 -- If no process is ready or out, the parked ones decide how the run goes on.
-use Rattle.std.proofs.Common.{◌≡◌, ◌≢◌, ⊎_elim, List, length, refl, sym, ap, ◌∙◌, arith, ℕ, ◌<◌, Bool, true, false, Some, None, Option, subst}
+use Rattle.std.proofs.Common.{◌≡◌, ◌≢◌, ⊎_elim, List, length, refl, sym, ap, ◌∙◌, arith, ℕ, Bool, true, false, Some, None, Option, subst}
 use Rattle.std.proofs.lemmas.Bool.{cases_lt}
 use Rattle.std.proofs.lemmas.Option.{same_Some}
 use Rattle.std.specs.List.{list_any, list_all}
 use Rattle.kpn_model.specs.declared.token.Token.{Token}
 use Rattle.kpn_model.specs.declared.kinds.Card.{Card}
-use Rattle.kpn_model.specs.declared.kinds.Act.{Act}
-use Rattle.kpn_model.specs.declared.kinds.Act.TheVariants.{Read, Write, Stop}
 use Rattle.kpn_model.specs.declared.kinds.Answer.{Answer}
 use Rattle.kpn_model.specs.declared.history.Status.TheVariants.{Done}
-use Rattle.kpn_model.specs.Network.{Network, Family, out_of}
+use Rattle.kpn_model.specs.Network.{Network, Family}
 use Rattle.kpn_model.specs.Semantics.{State, status, tokens, capacity, wants, IsEnabled, IsPossible, IsQuiet, IsBlocked, IsArtificial, IsChosen}
-use Rattle.kpn_laws.proofs.Steps.{live_within, done_wants_none}
+use Rattle.kpn_laws.proofs.Steps.{done_wants_none}
 use Rattle.kpn_state.specs.declared.standing.Standing.{Standing}
 use Rattle.kpn_state.specs.declared.standing.Standing.TheVariants.{Ready, Out, Parked, Stopped}
 use Rattle.kpn_state.specs.Standings.{standing, is_busy, has_stopped, StandingsFit}

@@ -3,6 +3,8 @@ pub mod Keeping
 mod Wanted
 pub mod Reacting
 pub mod Candidates
+pub mod Marks
+pub mod Waiting
 pub mod Idle
 pub mod Growing
 pub mod Enlarging

@@ -1,4 +1,5 @@
 pub mod Reactions
 pub mod Choice
+pub mod Waiting
 pub mod Settling
 pub mod Works

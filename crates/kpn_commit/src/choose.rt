@@ -1,13 +1,14 @@
-//! The candidates for a growth, and the channel that grows.
+//! Who is parked waits at a channel, and the channel that grows is one of those.
 ghost use Rattle.std.specs.Prelude.{◌≡◌, ℕ, ◌<◌, length, set, true, slice_get, option_map, Contains, IfSome};
 ghost use Rattle.kpn_state.specs.declared.standing.Standing.TheVariants.{Parked};
 ghost use Rattle.kpn_state.specs.Standings.{standing, is_busy};
 ghost use Rattle.kpn_state.specs.Candidates.{IsInOrder};
-ghost use Rattle.kpn_commit.specs.Choice.{with_writer, AreCandidates};
+ghost use Rattle.kpn_commit.specs.Choice.{with_writer};
+ghost use Rattle.kpn_commit.specs.Waiting.{AreWaiting};
 
 use kpn_model::{Act, Answer, Kinds};
 use kpn_network::Net;
-use kpn_state::{Candidates, Roster, Standing, Store};
+use kpn_state::{Candidates, Roster, Standing, Store, Waiting};
 
 /// Returns the first of the candidates, and its writer; `None` if there is none. It is the smallest full
 /// channel, which grows (Parks 1995).
@@ -21,30 +22,40 @@ pub fn choose<K: Kinds>(net: &Net<K>, candidates: &Candidates) -> Option<(usize,
     Some((channel, net.ends(channel).writer))
 }
 
-/// Parks a process that was ready or out with its answer. If it waits to write, its channel becomes a
-/// candidate. It is a function of its own, out of the way of a commit that parks nobody.
+/// Parks a process that was ready or out with its answer, and marks the channel at which it waits. If it
+/// waits to write, the channel becomes a candidate. It is a function of its own, out of the way of a commit
+/// that parks nobody.
 #[cold]
 #[inline(never)]
 pub fn park<K: Kinds>(
     net: &Net<K>,
     store: &Store,
     standings: &mut Roster,
-    candidates: &mut Candidates,
+    waiting: &mut Waiting,
     process: usize,
     answer: Answer,
 )
     requires process { process < length standings.old }
     requires busy { is_busy (standing standings.old process) ≡ true }
     requires channels { length store.now.state.channels ≡ length net.now.channels }
-    requires candidates { AreCandidates net.now store.now.state standings.old candidates.old }
+    requires waiting { AreWaiting net.now store.now.state standings.old waiting.old }
     ensures parked { standings.new ≡ set standings.old process (Parked answer) }
-    ensures candidates { AreCandidates net.now store.now.state standings.new candidates.new }
+    ensures waiting { AreWaiting net.now store.now.state standings.new waiting.new }
 {
-    if let Act::Write(port, _) = answer.act {
-        if let Some(channel) = net.out_of(process, usize::from(port)) {
-            let (_, capacity) = store.filling(channel);
-            candidates.insert(capacity, channel);
+    match answer.act {
+        Act::Read(port) => {
+            if let Some(channel) = net.in_of(process, usize::from(port)) {
+                waiting.marks.note_reader(channel, true);
+            }
         }
+        Act::Write(port, _) => {
+            if let Some(channel) = net.out_of(process, usize::from(port)) {
+                let (_, capacity) = store.filling(channel);
+                waiting.candidates.insert(capacity, channel);
+                waiting.marks.note_writer(channel, true);
+            }
+        }
+        Act::Stop => {}
     }
     standings.update(process, Standing::Parked(answer));
 }

@@ -7,15 +7,15 @@ ghost use Rattle.kpn_model.specs.Semantics.{wants, status, IsPossible};
 ghost use Rattle.kpn_model.specs.declared.history.Status.TheVariants.{Done};
 ghost use Rattle.kpn_state.specs.declared.standing.Standing.TheVariants.{Parked};
 ghost use Rattle.kpn_state.specs.Standings.{StandingsFit, standing, is_busy, partner, HasChannel};
-ghost use Rattle.kpn_commit.specs.Choice.{AreCandidates};
+ghost use Rattle.kpn_commit.specs.Waiting.{AreWaiting, HasMark, partner_marked};
 ghost use Rattle.kpn_commit.specs.Reactions.{Reacts, Resumes};
 
 use crate::act::advance;
 use crate::choose::park;
 use kpn_model::{Act, Answer, Deed, Kinds, Token};
 use kpn_network::Net;
-use kpn_state::standing::{is_parked, parked};
-use kpn_state::{Candidates, Roster, Store};
+use kpn_state::standing::parked;
+use kpn_state::{Marks, Roster, Store, Waiting};
 
 /// What a process's answer led to. `Waits`: it could not be done, and the process is parked. `Acts`: it
 /// was done. `HandsOn`: it was done, and then the parked process at the other end of the channel did
@@ -34,7 +34,7 @@ pub fn react<K: Kinds>(
     net: &Net<K>,
     store: &mut Store,
     standings: &mut Roster,
-    candidates: &mut Candidates,
+    waiting: &mut Waiting,
     process: usize,
     answer: Answer,
 ) -> Reaction
@@ -43,10 +43,10 @@ pub fn react<K: Kinds>(
     requires wants { wants (family_of K.start K.answer_of) net.now store.old.state process ≡ Some answer }
     requires busy { is_busy (standing standings.old process) ≡ true }
     requires room { length store.old.history + 2 ≤ store.old.room }
-    requires candidates { AreCandidates net.now store.old.state standings.old candidates.old }
+    requires waiting { AreWaiting net.now store.old.state standings.old waiting.old }
     ensures reacts { Reacts (family_of K.start K.answer_of) net.now store.old standings.old process answer result store.new standings.new }
     ensures keeps { StandingsFit (family_of K.start K.answer_of) K.admits net.now None store.new.state standings.new }
-    ensures candidates { AreCandidates net.now store.new.state standings.new candidates.new }
+    ensures waiting { AreWaiting net.now store.new.state standings.new waiting.new }
 {
     let next = answer.next;
     match answer.act {
@@ -55,21 +55,21 @@ pub fn react<K: Kinds>(
                 next,
                 act: Act::Read(port),
             };
-            react_to(net, store, standings, candidates, process, answer)
+            react_to(net, store, standings, waiting, process, answer)
         }
         Act::Write(port, token) => {
             let answer = Answer {
                 next,
                 act: Act::Write(port, token),
             };
-            react_to(net, store, standings, candidates, process, answer)
+            react_to(net, store, standings, waiting, process, answer)
         }
         Act::Stop => {
             let answer = Answer {
                 next,
                 act: Act::Stop,
             };
-            react_to(net, store, standings, candidates, process, answer)
+            react_to(net, store, standings, waiting, process, answer)
         }
     }
 }
@@ -80,7 +80,7 @@ fn react_to<K: Kinds>(
     net: &Net<K>,
     store: &mut Store,
     standings: &mut Roster,
-    candidates: &mut Candidates,
+    waiting: &mut Waiting,
     process: usize,
     answer: Answer,
 ) -> Reaction
@@ -89,22 +89,22 @@ fn react_to<K: Kinds>(
     requires wants { wants (family_of K.start K.answer_of) net.now store.old.state process ≡ Some answer }
     requires busy { is_busy (standing standings.old process) ≡ true }
     requires room { length store.old.history + 2 ≤ store.old.room }
-    requires candidates { AreCandidates net.now store.old.state standings.old candidates.old }
+    requires waiting { AreWaiting net.now store.old.state standings.old waiting.old }
     ensures reacts { Reacts (family_of K.start K.answer_of) net.now store.old standings.old process answer result store.new standings.new }
     ensures keeps { StandingsFit (family_of K.start K.answer_of) K.admits net.now None store.new.state standings.new }
-    ensures candidates { AreCandidates net.now store.new.state standings.new candidates.new }
+    ensures waiting { AreWaiting net.now store.new.state standings.new waiting.new }
 {
     let Some(deed) = advance(net, store, standings, process, answer) else {
-        park(net, store, standings, candidates, process, anew(answer));
+        park(net, store, standings, waiting, process, anew(answer));
         return Reaction::Waits;
     };
+    if !partner_waits(&waiting.marks, deed) {
+        return Reaction::Acts;
+    }
     let Some(other) = partner(net, deed) else {
         return Reaction::Acts;
     };
-    if !is_parked(standings.as_slice(), other) {
-        return Reaction::Acts;
-    }
-    if resume(net, store, standings, candidates, other) {
+    if resume(net, store, standings, waiting, other) {
         Reaction::HandsOn
     } else {
         Reaction::Acts
@@ -112,24 +112,25 @@ fn react_to<K: Kinds>(
 }
 
 /// Does what a process answered when it was parked, if it can now be done, and returns whether it was;
-/// otherwise nothing changes. A channel to which it waited to write is then no candidate any more. It is
-/// a function of its own, out of the way of a commit after which no parked process goes on.
+/// otherwise nothing changes. Its mark at the channel goes then, and a channel to which it waited to write
+/// is no candidate any more. It is a function of its own, out of the way of a commit after which no parked
+/// process goes on.
 #[inline(never)]
 fn resume<K: Kinds>(
     net: &Net<K>,
     store: &mut Store,
     standings: &mut Roster,
-    candidates: &mut Candidates,
+    waiting: &mut Waiting,
     process: usize,
 ) -> bool
     requires keeps { StandingsFit (family_of K.start K.answer_of) K.admits net.now (Some process) store.old.state standings.old }
     requires room { length store.old.history < store.old.room }
-    requires candidates { AreCandidates net.now store.old.state standings.old candidates.old }
+    requires waiting { AreWaiting net.now store.old.state standings.old waiting.old }
     ensures resumes { IsTrue result → Resumes (family_of K.start K.answer_of) K.admits net.now store.old standings.old process store.new standings.new }
     ensures cannot { result ≡ false → (a : AnswerV) → standing standings.old process ≡ Parked a → IsPossible (family_of K.start K.answer_of) net.now store.old.state process a.act → ⊥ }
     ensures same { result ≡ false → store.new ≡ store.old }
     ensures same_standings { result ≡ false → standings.new ≡ standings.old }
-    ensures candidates { AreCandidates net.now store.new.state standings.new candidates.new }
+    ensures waiting { AreWaiting net.now store.new.state standings.new waiting.new }
 {
     let Some(wanted) = parked(standings.as_slice(), process) else {
         return false;
@@ -137,9 +138,14 @@ fn resume<K: Kinds>(
     let Some(deed) = advance(net, store, standings, process, wanted) else {
         return false;
     };
-    if let Deed::Put { channel, .. } = deed {
-        let (_, capacity) = store.filling(channel);
-        candidates.remove(capacity, channel);
+    match deed {
+        Deed::Put { channel, .. } => {
+            let (_, capacity) = store.filling(channel);
+            waiting.candidates.remove(capacity, channel);
+            waiting.marks.note_writer(channel, false);
+        }
+        Deed::Took { channel, .. } => waiting.marks.note_reader(channel, false),
+        Deed::Stopped => {}
     }
     true
 }
@@ -158,6 +164,19 @@ fn anew(answer: Answer) -> Answer
         Act::Stop => Act::Stop,
     };
     Answer { next, act }
+}
+
+/// Returns whether the process at the other end of the deed's channel is parked on it.
+#[inline(always)]
+fn partner_waits(marks: &Marks, deed: Deed) -> bool
+    requires { HasMark marks.now deed }
+    ensures { result ≡ partner_marked marks.now deed }
+{
+    match deed {
+        Deed::Took { channel, .. } => marks.writer_waits(channel),
+        Deed::Put { channel, .. } => marks.reader_waits(channel),
+        Deed::Stopped => false,
+    }
 }
 
 /// Returns the process at the other end of the deed's channel; `None` if the deed is a stop.

@@ -3,7 +3,7 @@ ghost use Rattle.std.specs.Prelude.{◌≡◌, ◌<◌, ◌≤◌, ◌+◌, min,
 ghost use Rattle.kpn_model.specs.Network.{family_of};
 ghost use Rattle.std.specs.List.{list_any};
 ghost use Rattle.kpn_state.specs.Standings.{StandingsFit, is_busy};
-ghost use Rattle.kpn_commit.specs.Choice.{AreCandidates};
+ghost use Rattle.kpn_commit.specs.Waiting.{AreWaiting};
 ghost use Rattle.kpn_commit.specs.Settling.{Settles};
 
 use crate::act::advance;
@@ -11,7 +11,7 @@ use crate::choose::choose;
 use kpn_model::{End, Kinds};
 use kpn_network::Net;
 use kpn_state::standing::parked;
-use kpn_state::{Candidates, Roster, Store};
+use kpn_state::{Roster, Store, Waiting};
 
 /// How the run goes on. `Busy`: some process is ready or out. `Ended`: none is, and the run ended.
 /// `Enlarged`: none was, a channel grew, and its writer's token was put.
@@ -42,21 +42,21 @@ fn settle_idle<K: Kinds>(
     net: &Net<K>,
     store: &mut Store,
     standings: &mut Roster,
-    candidates: &mut Candidates,
+    waiting: &mut Waiting,
 ) -> Settled
     requires keeps { StandingsFit (family_of K.start K.answer_of) K.admits net.now None store.old.state standings.old }
     requires idle { list_any is_busy standings.old ≡ false }
     requires room { length store.old.history + 2 ≤ store.old.room }
-    requires candidates { AreCandidates net.now store.old.state standings.old candidates.old }
+    requires waiting { AreWaiting net.now store.old.state standings.old waiting.old }
     ensures settles { Settles (family_of K.start K.answer_of) net.now store.old standings.old result store.new standings.new }
     ensures keeps { StandingsFit (family_of K.start K.answer_of) K.admits net.now None store.new.state standings.new }
-    ensures candidates { AreCandidates net.now store.new.state standings.new candidates.new }
+    ensures waiting { AreWaiting net.now store.new.state standings.new waiting.new }
 {
     net.assure_valid();
     if standings.all_stopped() {
         return Settled::Ended(End::Terminated);
     }
-    let Some((channel, writer)) = choose(net, candidates) else {
+    let Some((channel, writer)) = choose(net, &waiting.candidates) else {
         return Settled::Ended(End::Deadlock);
     };
     let (_, capacity) = store.filling(channel);
@@ -70,7 +70,8 @@ fn settle_idle<K: Kinds>(
     let Ok(()) = store.grow(channel, to) else {
         return Settled::Ended(End::Memory);
     };
-    candidates.remove(capacity, channel);
+    waiting.candidates.remove(capacity, channel);
+    waiting.marks.note_writer(channel, false);
     let Some(_) = advance(net, store, standings, writer, answer) else {
         unreachable!()
     };
@@ -85,18 +86,18 @@ pub fn settle<K: Kinds>(
     net: &Net<K>,
     store: &mut Store,
     standings: &mut Roster,
-    candidates: &mut Candidates,
+    waiting: &mut Waiting,
 ) -> Settled
     requires keeps { StandingsFit (family_of K.start K.answer_of) K.admits net.now None store.old.state standings.old }
     requires room { list_any is_busy standings.old ≡ false → length store.old.history + 2 ≤ store.old.room }
-    requires candidates { AreCandidates net.now store.old.state standings.old candidates.old }
+    requires waiting { AreWaiting net.now store.old.state standings.old waiting.old }
     ensures settles { Settles (family_of K.start K.answer_of) net.now store.old standings.old result store.new standings.new }
     ensures keeps { StandingsFit (family_of K.start K.answer_of) K.admits net.now None store.new.state standings.new }
-    ensures candidates { AreCandidates net.now store.new.state standings.new candidates.new }
+    ensures waiting { AreWaiting net.now store.new.state standings.new waiting.new }
 {
     if standings.any_busy() {
         Settled::Busy
     } else {
-        settle_idle(net, store, standings, candidates)
+        settle_idle(net, store, standings, waiting)
     }
 }

@@ -3,7 +3,7 @@ ghost use Rattle.std.specs.Prelude.{◌≡◌, ◌<◌, ◌≤◌, ◌+◌, leng
 ghost use Rattle.kpn_model.specs.Network.{family_of};
 ghost use Rattle.kpn_model.specs.Semantics.{wants};
 ghost use Rattle.kpn_state.specs.Standings.{StandingsFit, standing, is_busy};
-ghost use Rattle.kpn_commit.specs.Choice.{AreCandidates};
+ghost use Rattle.kpn_commit.specs.Waiting.{AreWaiting};
 ghost use Rattle.kpn_commit.specs.Works.{Works, outcome_of, end_after, settled_entries};
 
 use crate::outcome::Outcome;
@@ -11,7 +11,7 @@ use crate::react::{Reaction, react};
 use crate::settle::{Settled, settle};
 use kpn_model::{Answer, End, Kinds};
 use kpn_network::Net;
-use kpn_state::{Candidates, Roster, Store};
+use kpn_state::{Roster, Store, Waiting};
 
 /// How many entries were appended after the reaction.
 fn settled_entries(settled: Settled) -> usize
@@ -59,7 +59,7 @@ pub fn work<K: Kinds>(
     net: &Net<K>,
     store: &mut Store,
     standings: &mut Roster,
-    candidates: &mut Candidates,
+    waiting: &mut Waiting,
     process: usize,
     answer: Answer,
 ) -> (Outcome, Option<End>)
@@ -68,13 +68,13 @@ pub fn work<K: Kinds>(
     requires wants { wants (family_of K.start K.answer_of) net.now store.old.state process ≡ Some answer }
     requires busy { is_busy (standing standings.old process) ≡ true }
     requires room { length store.old.history + 3 ≤ store.old.room }
-    requires candidates { AreCandidates net.now store.old.state standings.old candidates.old }
+    requires waiting { AreWaiting net.now store.old.state standings.old waiting.old }
     ensures works { Works (family_of K.start K.answer_of) net.now store.old standings.old process answer result.0 store.new standings.new result.1 }
     ensures keeps { StandingsFit (family_of K.start K.answer_of) K.admits net.now None store.new.state standings.new }
-    ensures candidates { AreCandidates net.now store.new.state standings.new candidates.new }
+    ensures waiting { AreWaiting net.now store.new.state standings.new waiting.new }
 {
-    let reaction = react(net, store, standings, candidates, process, answer);
-    let settled = settle(net, store, standings, candidates);
+    let reaction = react(net, store, standings, waiting, process, answer);
+    let settled = settle(net, store, standings, waiting);
     let end = end_after(settled, net.budget(), store.history().len() as u64);
     (outcome_of(reaction, settled), end)
 }

@@ -23,7 +23,7 @@ use kpn_laws::{least_room_of, least_solution_of, typed_runs, valid_runs};
 use kpn_model::{Act, Card, End, Entry, Kinds, Local, Status, Token};
 use kpn_network::Net;
 use kpn_state::standing::all_ready;
-use kpn_state::{Candidates, Roster, Standing, Store};
+use kpn_state::{Roster, Standing, Store, Waiting};
 use std::alloc::Global;
 use std::marker::Model;
 
@@ -34,7 +34,7 @@ pub struct Machine<B: Body> {
     net: Net<B::Kinds>,
     store: Store,
     standings: Roster,
-    candidates: Candidates,
+    waiting: Waiting,
     bodies: Vec<Option<B>>,
     spare: Vec<B>,
     end: Option<End>,
@@ -44,7 +44,7 @@ pub struct Machine<B: Body> {
 impl<B: Body> Model for Machine<B> {
     ghost use Rattle.std.specs.Prelude.{map, option_map};
     ghost use Rattle.std.specs.Vec.{vec_capacity};
-    ghost use Rattle.kpn_commit.specs.Choice.{AreCandidates};
+    ghost use Rattle.kpn_commit.specs.Waiting.{AreWaiting};
     ghost use Rattle.kpn_machine.specs.MachineView.{MachineView, machine_view, IsSound, HasRoom};
     ghost use Rattle.kpn_model.specs.Network.{family_of};
 
@@ -52,7 +52,7 @@ impl<B: Body> Model for Machine<B> {
 
     ghost view = { λ m. machine_view m.net m.store.state m.store.history m.standings m.end m.commits };
 
-    ghost invariant = { λ m. IsSound (family_of B.Kinds.start B.Kinds.answer_of) B.Kinds.admits (machine_view m.net m.store.state m.store.history m.standings m.end m.commits) m.store.room (map (option_map B.card) m.bodies.items) × HasRoom m.net m.spare.items (vec_capacity m.spare) × AreCandidates m.net m.store.state m.standings m.candidates };
+    ghost invariant = { λ m. IsSound (family_of B.Kinds.start B.Kinds.answer_of) B.Kinds.admits (machine_view m.net m.store.state m.store.history m.standings m.end m.commits) m.store.room (map (option_map B.card) m.bodies.items) × HasRoom m.net m.spare.items (vec_capacity m.spare) × AreWaiting m.net m.store.state m.standings m.waiting };
 }
 
 /// Why a machine was not opened, with the network and the bodies handed back.
@@ -102,7 +102,7 @@ impl<B: Body> Machine<B> {
         let Start {
             store,
             standings,
-            candidates,
+            waiting,
             mut slots,
         } = start;
         seat_all(&mut bodies, &mut slots);
@@ -110,7 +110,7 @@ impl<B: Body> Machine<B> {
             net,
             store,
             standings,
-            candidates,
+            waiting,
             bodies: slots,
             spare: bodies,
             end: None,
@@ -352,7 +352,7 @@ impl<B: Body> Machine<B> {
             &self.net,
             &mut self.store,
             &mut self.standings,
-            &mut self.candidates,
+            &mut self.waiting,
             process,
             answer,
         );
@@ -373,7 +373,7 @@ impl<B: Body> Machine<B> {
             net,
             store: _,
             standings: _,
-            candidates: _,
+            waiting: _,
             mut bodies,
             mut spare,
             end: _,
@@ -399,7 +399,7 @@ impl<B: Body> Machine<B> {
             net,
             store,
             standings,
-            candidates: _,
+            waiting: _,
             bodies: _,
             spare: _,
             end,
@@ -452,7 +452,7 @@ impl<B: Body> Machine<B> {
             &self.net,
             &mut self.store,
             &mut self.standings,
-            &mut self.candidates,
+            &mut self.waiting,
             process,
             answer,
         );

@@ -1,11 +1,12 @@
 //! What a machine begins with.
-ghost use Rattle.std.specs.Prelude.{◌≡◌, ℕ, ◌<◌, ◌+◌, length, [], All, Some, None, IsSome, IfOk, OnOk, IfSome, IfNone, map, option_map, replicate};
+ghost use Rattle.std.specs.Prelude.{◌≡◌, ℕ, ◌<◌, ◌+◌, length, [], All, Some, None, IsSome, IfOk, OnOk, IfSome, IfNone, map, option_map, replicate, false};
 ghost use Rattle.std.specs.Vec.{vec_capacity};
 ghost use Rattle.kpn_model.specs.Network.{card_of, family_of};
 ghost use Rattle.kpn_model.specs.Semantics.{start};
 ghost use Rattle.kpn_state.specs.declared.standing.Standing.TheVariants.{Ready};
 ghost use Rattle.kpn_state.specs.StateAndHistory.{state_and_history};
 ghost use Rattle.kpn_state.specs.Candidates.{candidate_list};
+ghost use Rattle.kpn_state.specs.Marks.{mark_lists};
 ghost use Rattle.kpn_machine.specs.OpenFaults.{number_of_open_fault};
 ghost use Rattle.kpn_machine.specs.Opening.{starting, filled, cards_of, IsOpenFault, AreSeated};
 
@@ -13,7 +14,7 @@ use crate::same::same_card;
 use kpn_body::Body;
 use kpn_model::{Card, Kinds, Status};
 use kpn_network::Net;
-use kpn_state::{Candidates, Ring, Roster, Store};
+use kpn_state::{Ring, Roster, Store, Waiting};
 use std::alloc::{AllocError, Global};
 
 /// Why a machine was not opened. `Bodies`: there are not as many bodies as processes. `Card`: a body
@@ -123,12 +124,12 @@ fn empty_slots<B: Body>(alloc: Global, count: usize) -> Result<Vec<Option<B>>, A
 }
 
 /// What a machine begins with, except its network and its bodies: the state, the standings of the
-/// processes, no candidates for a growth but room for one of each process, and a slot for each body.
+/// processes, nobody who waits, and a slot for each body.
 #[derive(Drop)]
 pub(crate) struct Start<B: Body> {
     pub(crate) store: Store,
     pub(crate) standings: Roster,
-    pub(crate) candidates: Candidates,
+    pub(crate) waiting: Waiting,
     pub(crate) slots: Vec<Option<B>>,
 }
 
@@ -136,14 +137,15 @@ pub(crate) struct Start<B: Body> {
 pub(crate) fn prepare<B: Body>(alloc: Global, net: &Net<B::Kinds>) -> Result<Start<B>, AllocError>
     ensures store { IfOk result (λ r. r.store ≡ state_and_history (start (family_of B.Kinds.start B.Kinds.answer_of) net.now) [] (net.now.budget + 2)) }
     ensures standings { IfOk result (λ r. r.standings ≡ replicate (length net.now.processes) Ready) }
-    ensures candidates { IfOk result (λ r. r.candidates ≡ candidate_list [] (length net.now.processes)) }
+    ensures candidates { IfOk result (λ r. r.waiting.candidates ≡ candidate_list [] (length net.now.processes)) }
+    ensures marks { IfOk result (λ r. r.waiting.marks ≡ mark_lists (replicate (length net.now.channels) false) (replicate (length net.now.channels) false)) }
     ensures slots { IfOk result (λ r. length r.slots.items ≡ length net.now.processes) }
     ensures admitted { OnOk result ((p : ℕ) → p < length net.now.processes → B.Kinds.admits (card_of net.now p) (B.Kinds.start (card_of net.now p)) None) }
 {
     Ok(Start {
         store: start_store(alloc, net)?,
         standings: Roster::new(alloc, net.processes())?,
-        candidates: Candidates::new(alloc, net.processes())?,
+        waiting: Waiting::new(alloc, net.processes(), net.channels())?,
         slots: empty_slots(alloc, net.processes())?,
     })
 }

@@ -1,7 +1,7 @@
 -- The queue and the counts while processes are moved.
 use Rattle.std.proofs.Common.{◌≡◌, ◌≢◌, ◌⊎◌, ⊎_elim, List, [], ◌∷◌, ◌++◌, length, length-set, length-append, refl, sym, ap, ◌∙◌, arith, ℕ, zero, suc, ◌+◌, ◌<◌, ◌≤◌, Bool, true, false, cond, Some, None, set, drop, slice_get}
 use Rattle.std.specs.List.{list_any, list_all, count_by}
-use Rattle.std.proofs.lemmas.Bool.{cases_eq, eq-eqb, ne_eqb, lt-ltb, eqb-true, eqb-false}
+use Rattle.std.proofs.lemmas.Bool.{cases_eq, eq-eqb, ne_eqb, lt-ltb}
 use Rattle.std.proofs.lemmas.List.Sums.{sum_by-cons, sum_by_push, sum_by-set, count_by-le-length, get_or-le-sum_by}
 use Rattle.std.specs.Prelude.{nat_eq, nat_lt}
 use Rattle.kpn_model.specs.declared.kinds.Answer.{Answer}

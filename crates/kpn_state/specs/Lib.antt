@@ -2,3 +2,4 @@ pub mod StateAndHistory
 pub mod Standings
 pub mod Rosters
 pub mod Candidates
+pub mod Marks

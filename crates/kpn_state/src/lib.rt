@@ -1,15 +1,19 @@
 //! The state of a network, with its channels as rings; the history that led to it; the standing of each
-//! process; and the candidates for a growth.
+//! process; and who waits at the channels: the candidates for a growth, and the marks.
 #![tactic(auto)]
 
 pub mod candidates;
+pub mod marks;
 pub mod ring;
 pub mod roster;
 pub mod standing;
 pub mod store;
+pub mod waiting;
 
 pub use candidates::Candidates;
+pub use marks::Marks;
 pub use ring::Ring;
 pub use roster::Roster;
 pub use standing::Standing;
 pub use store::Store;
+pub use waiting::Waiting;

@@ -1,8 +1,9 @@
-//! The candidates for a growth: their list, by hand, and the growths of a network of three full channels.
+//! Who waits at the channels: the candidates for a growth and the marks, by hand, and the growths of a network of three
+//! full channels.
 use crate::checks::same;
 use crate::machines::machine_of;
 use kpn_net::{End, Entry};
-use kpn_state::Candidates;
+use kpn_state::{Candidates, Marks, Waiting};
 use std::alloc::Global;
 use std::process::Abort;
 use std::rt::HostRuntime;
@@ -33,6 +34,33 @@ fn candidates_stand_by_capacity_and_number(rt: HostRuntime) {
     same(&rt, "the next capacity", candidates.first(), Some((2, 0)));
     candidates.remove(2, 0);
     same(&rt, "none again", candidates.first(), None);
+}
+
+#[test]
+fn marks_stand_at_their_channels(rt: HostRuntime) {
+    let mut marks = Marks::new(rt.alloc(), 2).expect(&rt, "ample memory");
+    same(&rt, "no reader at first", marks.reader_waits(1), false);
+    same(&rt, "no writer at first", marks.writer_waits(1), false);
+    marks.note_reader(1, true);
+    same(&rt, "a reader", marks.reader_waits(1), true);
+    same(&rt, "not the writer", marks.writer_waits(1), false);
+    same(&rt, "not the other channel", marks.reader_waits(0), false);
+    marks.note_writer(0, true);
+    same(&rt, "a writer", marks.writer_waits(0), true);
+    same(&rt, "still no reader", marks.reader_waits(0), false);
+    marks.note_reader(1, false);
+    same(&rt, "the reader has read", marks.reader_waits(1), false);
+    same(&rt, "the writer waits on", marks.writer_waits(0), true);
+    marks.note_writer(0, false);
+    same(&rt, "the writer has written", marks.writer_waits(0), false);
+}
+
+#[test]
+fn nobody_waits_at_first(rt: HostRuntime) {
+    let waiting = Waiting::new(rt.alloc(), 3, 2).expect(&rt, "ample memory");
+    same(&rt, "no candidate", waiting.candidates.first(), None);
+    same(&rt, "no reader", waiting.marks.reader_waits(1), false);
+    same(&rt, "no writer", waiting.marks.writer_waits(1), false);
 }
 
 /// Three counters of four tokens, whose sinks read none, over channels of capacities 3, 1 and 2.

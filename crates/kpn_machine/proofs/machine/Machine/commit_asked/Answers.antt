@@ -6,7 +6,7 @@ use Rattle.kpn_machine.specs.MachineView.{IsOutAt}
 use Rattle.kpn_state.proofs.Placed.{standing_set_same}
 use Rattle.kpn_machine.proofs.Ends.{commits_end}
 use Rattle.kpn_machine.proofs.Moves.{ready_not_out}
-use Rattle.kpn_machine.proofs.Listed.{candidates_back}
+use Rattle.kpn_machine.proofs.Listed.{waiting_back}
 use Rattle.kpn_machine.proofs.Sound.{sound_back, sound_worked, worked_appends, worked_tells, worked_back, worked_others, worked_commits, commits_fit, out_within, none_of, some_of}
 use Rattle.kpn_machine.proofs.machine.Machine.commit_asked.Goals as goal
 
@@ -25,7 +25,7 @@ invariant_of-self g c =
       rw (map-set, c.update.ensures, c.process-process.ensures, c.into_body.ensures)
           (sound_back (family_of g.B.Kinds.Kinds.start g.B.Kinds.Kinds.answer_of) g.B.Kinds.Kinds.admits _ _ _ _ _ _ _ _ c.self.invariant.0 c.args.finished out (some_of _ (sym c.is_some.ensures ∙ c.if-is_some.true))),
       c.self.invariant.1,
-      rw (c.update.ensures, c.process-process.ensures) (candidates_back _ _ _ _ c.self.invariant.2 c.args.finished.process out.out),
+      rw (c.update.ensures, c.process-process.ensures) (waiting_back _ _ _ _ c.self.invariant.2 c.args.finished.process out.out),
     )
 
 pub returns-then-is_some-clause-appends : goal.returns-then-is_some-clause-appends
@@ -44,7 +44,7 @@ invariant_of-self-2 g c =
       rw (map-set, c.process-process.ensures, c.into_body.ensures)
           (sound_worked (family_of g.B.Kinds.Kinds.start g.B.Kinds.Kinds.answer_of) g.B.Kinds.Kinds.admits _ _ _ _ _ _ _ _ c.self.invariant.0 c.args.finished out none c.work-outcome.result.0 c.work-outcome.new.store.state c.work-outcome.new.store.history c.work-outcome.new.standings c.work-outcome.result.1 c.work-outcome.new.store.room w c.work-outcome.ensures.keeps),
       c.self.invariant.1,
-      c.work-outcome.ensures.candidates,
+      c.work-outcome.ensures.waiting,
     )
 
 pub returns-clause-commits : goal.returns-clause-commits

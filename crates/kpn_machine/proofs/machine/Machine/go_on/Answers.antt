@@ -32,7 +32,7 @@ invariant_of-self g c =
     body_wants (family_of g.B.Kinds.Kinds.start g.B.Kinds.Kinds.answer_of) g.B.Kinds.Kinds.admits g.B.Body.card _ _ _ _ _ _ _ c.self.inside.bodies.items c.self.invariant.0 c.in-Some.process c.in-Some.ensures.within c.in-Some.ensures.some c.index.result.now c.in-Some-index.body c.index.ensures c.in-Some-index.is c.status.result.now c.in-Live.local c.in-Live.last c.status.ensures c.in-Live.is c.answer-answer.result c.answer-answer.ensures in (
       rw c.note_end.ensures (sound_round (family_of g.B.Kinds.Kinds.start g.B.Kinds.Kinds.answer_of) g.B.Kinds.Kinds.admits _ _ _ _ _ _ _ _ c.self.invariant.0 c.in-Some.process c.answer-answer.result none c.in-Some.ensures.some wanted c.work-ended.result.0 c.work-ended.new.store.state c.work-ended.new.store.history c.work-ended.new.standings c.work-ended.result.1 c.work-ended.new.store.room works c.work-ended.ensures.keeps),
       c.self.invariant.1,
-      c.work-ended.ensures.candidates,
+      c.work-ended.ensures.waiting,
     )
 
 pub returns-clause-round : goal.returns-clause-round

@@ -5,7 +5,7 @@ use Rattle.std.proofs.lemmas.List.{length-map}
 use Rattle.kpn_model.specs.declared.parts.Process.{Process}
 use Rattle.kpn_model.specs.Semantics.{start}
 use Rattle.kpn_machine.specs.Opening.{cards_of}
-use Rattle.kpn_machine.proofs.Listed.{candidates_none}
+use Rattle.kpn_machine.proofs.Listed.{waiting_none}
 use Rattle.kpn_machine.proofs.Opened.{sound_opened}
 use Rattle.kpn_machine.proofs.Fresh.{opened_fresh}
 use Rattle.kpn_machine.proofs.machine.Machine.open.Goals as goal
@@ -20,7 +20,7 @@ invariant_of-result g c =
           (sound_opened g.B.Kinds.Kinds.signature g.B.Kinds.Kinds.admits (family_of g.B.Kinds.Kinds.start g.B.Kinds.Kinds.answer_of) c.args.net c.assure_valid.ensures.valid c.in-Ok.ensures.admitted (map g.B.Body.card c.args.bodies.items) _ cards c.seat_all.ensures.seated
           (length-map c.seat_all.new.slots.items _ ∙ c.seat_all.ensures.slots ∙ c.in-Ok.ensures.slots)),
       record { emptied = c.seat_all.ensures.emptied; enough = omega (arith, c.seat_all.ensures.room, c.args.bodies.ok.0, c.args.bodies.ok.1) },
-      rw (c.in-Ok.ensures.store, c.in-Ok.ensures.standings, c.in-Ok.ensures.candidates) (candidates_none c.args.net (start (family_of g.B.Kinds.Kinds.start g.B.Kinds.Kinds.answer_of) c.args.net) (length c.args.net.processes)),
+      rw (c.in-Ok.ensures.store, c.in-Ok.ensures.standings) (waiting_none c.args.net (start (family_of g.B.Kinds.Kinds.start g.B.Kinds.Kinds.answer_of) c.args.net) (length c.args.net.processes) _ c.in-Ok.ensures.candidates c.in-Ok.ensures.marks),
     )
 
 pub returns-clause-fresh : goal.returns-clause-fresh

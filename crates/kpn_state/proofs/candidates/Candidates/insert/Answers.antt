@@ -1,5 +1,5 @@
 -- The pair goes to its place.
-use Rattle.std.proofs.Common.{◌≡◌, ◌≢◌, ◌↔◌, ◌⊎◌, ◌<◌, ◌≤◌, ◌∙◌, ℕ, sym, ap, arith, length, get_or, true, false, subst}
+use Rattle.std.proofs.Common.{◌≡◌, ◌≢◌, ◌↔◌, ◌⊎◌, ◌<◌, ◌≤◌, ℕ, arith, length, get_or}
 use Rattle.std.specs.List.{insert, Contains}
 use Rattle.kpn_state.specs.Candidates.{IsBefore, IsInOrder}
 use Rattle.kpn_state.proofs.Contradictions.{true_false}

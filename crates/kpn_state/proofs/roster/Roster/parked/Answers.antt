@@ -1,5 +1,5 @@
 -- A live process is ready, out or parked.
-use Rattle.std.proofs.Common.{◌≡◌, ◌+◌, ◌-◌, arith}
+use Rattle.std.proofs.Common.{◌≡◌, ◌-◌, arith}
 use Rattle.std.specs.List.{count_by}
 use Rattle.kpn_state.specs.Standings.{is_ready, is_parked}
 use Rattle.kpn_state.proofs.Rostered.{live_counted}
