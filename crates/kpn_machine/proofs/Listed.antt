@@ -1,19 +1,19 @@
 -- Who waits at the channels while processes go out and come back.
-use Rattle.std.proofs.Common.{◌≡◌, ⊎_elim, List, [], length, replicate, refl, sym, ap, ◌∙◌, arith, ℕ, zero, suc, ◌<◌, ◌≤◌, Bool, true, false, Some, None, Option, set, get_or, subst}
+use Rattle.std.proofs.Common.{◌≡◌, ⊎_elim, List, [], length, replicate, refl, sym, ap, ◌∙◌, arith, ℕ, zero, suc, ◌<◌, true, false, None, Option, set, get_or, subst}
 use Rattle.std.specs.List.{Contains}
 use Rattle.std.proofs.lemmas.Bool.{cases_lt}
 use Rattle.std.proofs.lemmas.List.{length-replicate}
 use Rattle.kpn_model.specs.Network.{Network}
 use Rattle.kpn_model.specs.Semantics.{State}
 use Rattle.kpn_state.specs.declared.standing.Standing.{Standing}
-use Rattle.kpn_state.specs.declared.standing.Standing.TheVariants.{Ready, Out, Stopped}
+use Rattle.kpn_state.specs.declared.standing.Standing.TheVariants.{Ready, Out}
 use Rattle.kpn_state.specs.declared.waiting.Waiting.{Waiting}
 use Rattle.kpn_state.specs.Standings.{standing, is_busy}
-use Rattle.kpn_state.specs.Candidates.{CandidateList, candidate_list}
-use Rattle.kpn_state.specs.Marks.{MarkLists, mark_lists}
+use Rattle.kpn_state.specs.Candidates.{candidate_list}
+use Rattle.kpn_state.specs.Marks.{mark_lists}
 use Rattle.kpn_state.proofs.Contradictions.{none_some, true_false}
 use Rattle.kpn_state.proofs.Placed.{standing_within, ready_not_ended, out_not_ended}
-use Rattle.kpn_commit.specs.Choice.{awaited_by, awaited, IsCandidate, AreCandidates}
+use Rattle.kpn_commit.specs.Choice.{awaited_by, awaited, AreCandidates}
 use Rattle.kpn_commit.specs.Waiting.{expected_by, expected, StandFor, AreMarks, AreWaiting}
 use Rattle.kpn_commit.proofs.Candidates.{busy_awaits, busy_not_counted, same_candidates}
 use Rattle.kpn_commit.proofs.Marks.{busy_expects, same_marks}
