@@ -3,6 +3,7 @@ use Rattle.std.proofs.Common.{◌≡◌, ◌<◌, ℕ, ℤ, pos, negsuc, zero, s
 use Rattle.std.proofs.lemmas.Bool.{or_parts, and_parts, false≢true}
 use Rattle.std.proofs.lemmas.Bool.Decides.{nat_tests, Decides-int_eq}
 use Rattle.std.proofs.lemmas.List.Folds.{Any-from_list_any}
+use Rattle.std.proofs.lemmas.Option.{slice_get_within}
 use Rattle.std.proofs.lemmas.Slice.Eq.{bytes_eq-Decides}
 use Rattle.std.specs.List.{find, list_any, All, position_or_len}
 use Rattle.std.specs.Ordering.{int_eq}
@@ -16,7 +17,7 @@ use Rattle.kpn_model.specs.declared.kinds.Signature.{Signature}
 use Rattle.kpn_net.specs.Faults.{any_pair, same_process, port_sort, signature_of}
 use Rattle.kpn_net.specs.Sketched.{index_of}
 use Rattle.kpn_model.specs.Valid.{JustOne}
-use Rattle.kpn_net.proofs.SketchLists.{no_pair_passes, found_index, found_passes, slice_get_within, none_passes_get}
+use Rattle.kpn_net.proofs.SketchLists.{no_pair_passes, found_index, found_passes, none_passes_get}
 
 -- the first process with a name is the only one
 own_place : (ps : List ProcessSketch) (p : ℕ) (x : ProcessSketch) → any_pair same_process ps ≡ false → slice_get ps p ≡ Some x → position_or_len (λ q. bytes_eq q.name x.name) ps ≡ p

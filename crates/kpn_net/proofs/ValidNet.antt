@@ -1,8 +1,10 @@
 -- The network of a sketch without a fault is valid.
-use Rattle.std.proofs.Common.{◌≡◌, ◌≢◌, ◌<◌, ◌≤◌, ℕ, ℤ, pos, negsuc, zero, suc, Bool, true, false, not, ◌||◌, ◌&&◌, nat_lt, List, [], ◌∷◌, length, get_or, map, Option, Some, None, IsSome, is_some, is_none, option_map, option_and_then, slice_get, unwrap_or, refl, sym, ◌∙◌, arith, lit<, lit≤}
-use Rattle.std.proofs.lemmas.Bool.{or_parts, false≢true}
+use Rattle.std.proofs.Common.{◌≡◌, ◌≢◌, ◌<◌, ◌≤◌, ℕ, ℤ, pos, negsuc, zero, suc, Bool, true, false, not, ◌||◌, ◌&&◌, nat_lt, List, [], ◌∷◌, length, get_or, map, Option, Some, None, IsSome, is_some, is_none, option_map, option_and_then, slice_get, unwrap_or, refl, arith, lit<, lit≤}
+use Rattle.std.proofs.lemmas.Bool.{or_parts, both_ways, not-false}
 use Rattle.std.proofs.lemmas.Bool.Decides.{nat_tests}
 use Rattle.std.proofs.lemmas.List.{length-map}
+use Rattle.std.proofs.lemmas.List.Elements.{All-map}
+use Rattle.std.proofs.lemmas.Option.{slice_get-map}
 use Rattle.std.proofs.lemmas.Slice.Eq.{bytes_eq-Decides}
 use Rattle.std.specs.List.{find, list_any, All, AllPairs, AllByRecursion}
 use Rattle.std.specs.Prelude.{unsigned_abs, int_lt, if◌then◌else◌}
@@ -22,21 +24,17 @@ use Rattle.kpn_model.specs.declared.kinds.Card.{Card}
 use Rattle.kpn_model.specs.declared.kinds.Signature.{Signature}
 use Rattle.kpn_model.specs.Name.{is_name}
 use Rattle.kpn_model.specs.Lawful.{CardFits, Fits, port_at, in_sort, out_sort}
-use Rattle.kpn_net.specs.Faults.{any_pair, is_outside, is_sort, same_process, same_channel, port_sort, card_with, signature_of, has_wrong_args, takes_other_count, sketched_out_sort as sketch_out, sketched_in_sort as sketch_in, is_unused, is_unused_out, is_unused_in, has_unused_port, has_unknown_kind, same_out, same_in, is_token, has_wrong_tokens, has_fault, first_fault}
+use Rattle.kpn_net.specs.Faults.{any_pair, is_outside, is_sort, same_process, same_channel, port_sort, card_with, signature_of, has_wrong_args, takes_other_count, sketched_out_sort, sketched_in_sort, is_unused, is_unused_out, is_unused_in, has_unused_port, has_unknown_kind, same_out, same_in, is_token, has_wrong_tokens, has_fault, first_fault}
 use Rattle.kpn_model.specs.Version.{is_two, greatest_budget_in}
 use Rattle.kpn_model.specs.Network.{Network, no_process, card_of}
 use Rattle.kpn_net.specs.Sketched.{net_of, process_in, token_in, channel_in, index_of}
 use Rattle.kpn_model.specs.Valid.{HasEnds, JustOne, IsValid, IsOfSort}
-use Rattle.kpn_net.proofs.SketchLists.{none_passes, no_pair_passes, none_found, All-map, All-unmap, AllPairs-map, slice_get-map, found_index, none_passes_get, JustOne-map}
+use Rattle.kpn_net.proofs.SketchLists.{none_passes, no_pair_passes, none_found, All-unmap, AllPairs-map, found_index, none_passes_get, JustOne-map}
 use Rattle.kpn_net.proofs.ValidEnds.{just_one}
 use Rattle.kpn_net.proofs.ValidTokens.{tokens_of_sort, no_more_than}
 
-true_from_not : (b : Bool) → not b ≡ false → b ≡ true
-true_from_not true h = refl
-true_from_not false h = cc
-
 differ : (a b : List ℕ) → bytes_eq a b ≡ false → a ≢ b
-differ a b h e = let same : bytes_eq a b ≡ true = (bytes_eq-Decides a b).1 e in false≢true (sym h ∙ same)
+differ a b h e = both_ways (bytes_eq a b) h ((bytes_eq-Decides a b).1 e)
 
 inside : (low high : ℕ) (z : ℤ) → is_outside (pos low) (pos high) z ≡ false → (low ≤ unsigned_abs z) × (unsigned_abs z ≤ high)
 inside low high (pos n) h = let parts = or_parts (nat_lt n low) (nat_lt high n) h in (grind (arith, nat_tests), grind (arith, nat_tests))
@@ -159,19 +157,18 @@ module _ (named : List ℕ → Option (ℕ × ℕ)) (signature : Card → Option
     abbrev net : Network
     net = net_of named s
 
-    pub some_process : 1 ≤ length net.processes
-    some_process = rw (length-map s.processes (process_in named))
-        (let first = (or_parts _ (nat_lt MOST_PROCESSES (length s.processes) || nat_lt MOST_CHANNELS (length s.channels)) counts_fine).0 in grind (arith, nat_tests))
+    -- what holds of the process of each sketch without this fault, and of the channel
+    each_process : (P : Process → Type 0) (bad : ProcessSketch → Bool) → list_any bad s.processes ≡ false → ((p : ProcessSketch) → bad p ≡ false → P (process_in named p)) → All P net.processes
+    each_process P bad none fine = All-map P (process_in named) s.processes (λ k d l. fine (get_or s.processes k d) (none_passes bad s.processes none k d l))
 
-    pub few_processes : length net.processes ≤ MOST_PROCESSES
-    few_processes = rw (length-map s.processes (process_in named))
-        (let others = (or_parts _ (nat_lt MOST_PROCESSES (length s.processes) || nat_lt MOST_CHANNELS (length s.channels)) counts_fine).1 in
-        let many = (or_parts (nat_lt MOST_PROCESSES (length s.processes)) (nat_lt MOST_CHANNELS (length s.channels)) others).0 in grind (arith, nat_tests))
+    each_channel : (P : Channel → Type 0) (bad : ChannelSketch → Bool) → list_any bad s.channels ≡ false → ((c : ChannelSketch) → bad c ≡ false → P (channel_in s.processes c)) → All P net.channels
+    each_channel P bad none fine = All-map P (channel_in s.processes) s.channels (λ k d l. fine (get_or s.channels k d) (none_passes bad s.channels none k d l))
 
-    pub few_channels : length net.channels ≤ MOST_CHANNELS
-    few_channels = rw (length-map s.channels (channel_in s.processes))
-        (let others = (or_parts _ (nat_lt MOST_PROCESSES (length s.processes) || nat_lt MOST_CHANNELS (length s.channels)) counts_fine).1 in
-        let many = (or_parts (nat_lt MOST_PROCESSES (length s.processes)) (nat_lt MOST_CHANNELS (length s.channels)) others).1 in grind (arith, nat_tests))
+    counts : (1 ≤ length net.processes) × (length net.processes ≤ MOST_PROCESSES) × (length net.channels ≤ MOST_CHANNELS)
+    counts =
+        let first = or_parts _ (nat_lt MOST_PROCESSES (length s.processes) || nat_lt MOST_CHANNELS (length s.channels)) counts_fine in
+        let others = or_parts (nat_lt MOST_PROCESSES (length s.processes)) (nat_lt MOST_CHANNELS (length s.channels)) first.1 in
+        rw (length-map s.processes (process_in named), length-map s.channels (channel_in s.processes)) (grind (arith, nat_tests, first.0), grind (arith, nat_tests, others.0), grind (arith, nat_tests, others.1))
 
     abbrev bad_process : Bool
     bad_process = list_any (λ p. not (is_name p.name)) s.processes
@@ -185,54 +182,53 @@ module _ (named : List ℕ → Option (ℕ × ℕ)) (signature : Card → Option
     doubles : (any_pair same_process s.processes || any_pair same_channel s.channels) ≡ false
     doubles = (or_parts (bad_process || bad_channel) (any_pair same_process s.processes || any_pair same_channel s.channels) names_fine).1
 
-    pub process_names : All (λ p. is_name p.name ≡ true) net.processes
-    process_names = All-map (process_in named) (λ p. is_name p.name ≡ true) s.processes
-        (λ k d l. true_from_not _ (none_passes (λ p. not (is_name p.name)) s.processes (or_parts bad_process bad_channel forms).0 k d l))
+    process_names : All (λ p. is_name p.name ≡ true) net.processes
+    process_names = each_process (λ p. is_name p.name ≡ true) (λ p. not (is_name p.name)) (or_parts bad_process bad_channel forms).0 (λ p. not-false (is_name p.name))
 
-    pub channel_names : All (λ c. is_name c.name ≡ true) net.channels
-    channel_names = All-map (channel_in s.processes) (λ c. is_name c.name ≡ true) s.channels
-        (λ k d l. true_from_not _ (none_passes (λ c. not (is_name c.name)) s.channels (or_parts bad_process bad_channel forms).1 k d l))
+    channel_names : All (λ c. is_name c.name ≡ true) net.channels
+    channel_names = each_channel (λ c. is_name c.name ≡ true) (λ c. not (is_name c.name)) (or_parts bad_process bad_channel forms).1 (λ c. not-false (is_name c.name))
 
-    pub processes_apart : AllPairs (λ p q. p.name ≢ q.name) net.processes
+    processes_apart : AllPairs (λ p q. p.name ≢ q.name) net.processes
     processes_apart = AllPairs-map (process_in named) (λ p q. p.name ≢ q.name) s.processes
         (λ i j d l m. differ _ _ (no_pair_passes same_process s.processes (or_parts (any_pair same_process s.processes) (any_pair same_channel s.channels) doubles).0 i j d l m))
 
-    pub channels_apart : AllPairs (λ c d. c.name ≢ d.name) net.channels
+    channels_apart : AllPairs (λ c d. c.name ≢ d.name) net.channels
     channels_apart = AllPairs-map (channel_in s.processes) (λ c d. c.name ≢ d.name) s.channels
         (λ i j d l m. differ _ _ (no_pair_passes same_channel s.channels (or_parts (any_pair same_process s.processes) (any_pair same_channel s.channels) doubles).1 i j d l m))
 
-    pub signed : All (λ p. IsSome (signature p.card)) net.processes
-    signed = All-map (process_in named) (λ p. IsSome (signature p.card)) s.processes (λ k d l.
-        let p = get_or s.processes k d in
-        let a : has_wrong_args named signature p ≡ false = none_passes (has_wrong_args named signature) s.processes args_fine k d l in
+    signed : All (λ p. IsSome (signature p.card)) net.processes
+    signed = each_process (λ p. IsSome (signature p.card)) (has_wrong_args named signature) args_fine (λ p a.
         let rest = (or_parts (takes_other_count named signature p) _ a).1 in
         let more = (or_parts (nat_lt 3 (length p.args)) _ rest).1 in
         card_known (named p.kind) p.args (or_parts (list_any (λ z. int_lt z (pos 0)) p.args) _ more).1)
 
-    ends_at : (c : ChannelSketch) → (not (is_sort c.sort (sketch_out named signature s c)) || not (is_sort c.sort (sketch_in named signature s c))) ≡ false → HasEnds signature net (channel_in s.processes c)
+    abbrev wrong_sort : ChannelSketch → Bool
+    wrong_sort c = not (is_sort c.sort (sketched_out_sort named signature s c)) || not (is_sort c.sort (sketched_in_sort named signature s c))
+
+    sorts_at : (c : ChannelSketch) → wrong_sort c ≡ false → (sketched_out_sort named signature s c ≡ Some c.sort) × (sketched_in_sort named signature s c ≡ Some c.sort)
+    sorts_at c h =
+        let parts = or_parts (not (is_sort c.sort (sketched_out_sort named signature s c))) (not (is_sort c.sort (sketched_in_sort named signature s c))) h in
+        (sort_is c.sort _ parts.0, sort_is c.sort _ parts.1)
+
+    ends_at : (c : ChannelSketch) → wrong_sort c ≡ false → HasEnds signature net (channel_in s.processes c)
     ends_at c h =
-        let parts = or_parts (not (is_sort c.sort (sketch_out named signature s c))) (not (is_sort c.sort (sketch_in named signature s c))) h in
-        let from = end_of_found (λ g. g.outs) c.out c.sort s.processes c.from _ refl (sort_is c.sort _ parts.0) in
-        let to = end_of_found (λ g. g.ins) c.input c.sort s.processes c.to _ refl (sort_is c.sort _ parts.1) in
+        let sorts = sorts_at c h in
+        let from = end_of_found (λ g. g.outs) c.out c.sort s.processes c.from _ refl sorts.0 in
+        let to = end_of_found (λ g. g.ins) c.input c.sort s.processes c.to _ refl sorts.1 in
         let writer = numbered signature (λ g. g.outs) (unsigned_abs c.out) c.sort net.processes (index_of s.processes c.from) from in
         let reader = numbered signature (λ g. g.ins) (unsigned_abs c.input) c.sort net.processes (index_of s.processes c.to) to in
         record { writer = writer.0; out = writer.1; reader = reader.0; input = reader.1 }
 
-    pub ends : All (HasEnds signature net) net.channels
-    ends = All-map (channel_in s.processes) (HasEnds signature net) s.channels
-        (λ k d l. ends_at (get_or s.channels k d) (none_passes (λ c. not (is_sort c.sort (sketch_out named signature s c)) || not (is_sort c.sort (sketch_in named signature s c))) s.channels sorts_fine k d l))
+    capacities : All (λ c. (1 ≤ c.capacity) × (c.capacity ≤ net.ceiling)) net.channels
+    capacities = each_channel (λ c. (1 ≤ c.capacity) × (c.capacity ≤ net.ceiling)) (λ c. is_outside (pos 1) (pos net.ceiling) c.capacity) capacities_fine (λ c. inside 1 net.ceiling c.capacity)
 
-    pub capacities : All (λ c. (1 ≤ c.capacity) × (c.capacity ≤ net.ceiling)) net.channels
-    capacities = All-map (channel_in s.processes) (λ c. (1 ≤ c.capacity) × (c.capacity ≤ net.ceiling)) s.channels
-        (λ k d l. inside 1 net.ceiling (get_or s.channels k d).capacity (none_passes (λ c. is_outside (pos 1) (pos net.ceiling) c.capacity) s.channels capacities_fine k d l))
-
-    pub budget : (1 ≤ net.budget) × (net.budget ≤ greatest_budget_in s.version)
+    budget : (1 ≤ net.budget) × (net.budget ≤ greatest_budget_in s.version)
     budget = inside 1 (greatest_budget_in s.version) s.budget budget_fine
 
-    pub small_budget : (net.budget ≤ GREATEST_HIGH_BUDGET) × (net.ceiling ≤ CEILING → net.budget ≤ GREATEST_BUDGET)
+    small_budget : (net.budget ≤ GREATEST_HIGH_BUDGET) × (net.ceiling ≤ CEILING → net.budget ≤ GREATEST_BUDGET)
     small_budget = budget_by_ceiling (is_two s.version) net.budget budget.1
 
-    pub step : (1 ≤ net.step) × (net.step ≤ GREATEST_STEP)
+    step : (1 ≤ net.step) × (net.step ≤ GREATEST_STEP)
     step = inside 1 GREATEST_STEP s.step step_fine
 
     kinds_fine : tests Kind ≡ false
@@ -244,14 +240,8 @@ module _ (named : List ℕ → Option (ℕ × ℕ)) (signature : Card → Option
     unused_fine : tests Unused ≡ false
     unused_fine = none_passes tests faults no_fault 7 Version (lit< tt)
 
-    sorts_at : (c : ChannelSketch) → (not (is_sort c.sort (sketch_out named signature s c)) || not (is_sort c.sort (sketch_in named signature s c))) ≡ false
-        → (sketch_out named signature s c ≡ Some c.sort) × (sketch_in named signature s c ≡ Some c.sort)
-    sorts_at c h =
-        let parts = or_parts (not (is_sort c.sort (sketch_out named signature s c))) (not (is_sort c.sort (sketch_in named signature s c))) h in
-        (sort_is c.sort _ parts.0, sort_is c.sort _ parts.1)
-
-    sorts_known : All (λ c. (sketch_out named signature s c ≡ Some c.sort) × (sketch_in named signature s c ≡ Some c.sort)) s.channels
-    sorts_known k d l = sorts_at (get_or s.channels k d) (none_passes (λ c. not (is_sort c.sort (sketch_out named signature s c)) || not (is_sort c.sort (sketch_in named signature s c))) s.channels sorts_fine k d l)
+    sorts_known : All (λ c. (sketched_out_sort named signature s c ≡ Some c.sort) × (sketched_in_sort named signature s c ≡ Some c.sort)) s.channels
+    sorts_known k d l = sorts_at (get_or s.channels k d) (none_passes wrong_sort s.channels sorts_fine k d l)
 
     -- the process of a port, with its signature
     abbrev HasPort : (Signature → List (Option Sort)) → ℕ → ℕ → Type 0
@@ -276,7 +266,7 @@ module _ (named : List ℕ → Option (ℕ × ℕ)) (signature : Card → Option
         let fine_here : has_unused_port named signature s x ≡ false = none_passes_get (has_unused_port named signature s) s.processes p x unused_fine at in
         three (λ n. is_unused named signature s x.name g (pos n)) (rw e at fine_here) k l
 
-    pub writers : (p k : ℕ) → p < length net.processes → k < 3 → IsSome (out_sort signature (card_of net p) k) → JustOne (λ (c : Channel). (c.writer ≡ p) × (c.out ≡ k)) net.channels
+    writers : (p k : ℕ) → p < length net.processes → k < 3 → IsSome (out_sort signature (card_of net p) k) → JustOne (λ (c : Channel). (c.writer ≡ p) × (c.out ≡ k)) net.channels
     writers p k within l h =
         let (x, g, at, e, here) = port_is (λ g. g.outs) p k (placed signature (λ g. g.outs) k net.processes p within h) in
         let unused : is_unused_out named signature s x.name g (pos k) ≡ false = (or_parts (is_unused_out named signature s x.name g (pos k)) (is_unused_in named signature s x.name g (pos k)) (used_at x g p k l at e)).0 in
@@ -285,7 +275,7 @@ module _ (named : List ℕ → Option (ℕ × ℕ)) (signature : Card → Option
         (just_one named signature (λ g. g.outs) s.processes (or_parts (any_pair same_process s.processes) (any_pair same_channel s.channels) doubles).0 (λ c. c.from) (λ c. c.out) (λ c. c.sort) s.channels p k x
         (λ i d m. (sorts_known i d m).0) (or_parts (any_pair same_out s.channels) (any_pair same_in s.channels) shared_fine).0 at leads)
 
-    pub readers : (p k : ℕ) → p < length net.processes → k < 3 → IsSome (in_sort signature (card_of net p) k) → JustOne (λ (c : Channel). (c.reader ≡ p) × (c.input ≡ k)) net.channels
+    readers : (p k : ℕ) → p < length net.processes → k < 3 → IsSome (in_sort signature (card_of net p) k) → JustOne (λ (c : Channel). (c.reader ≡ p) × (c.input ≡ k)) net.channels
     readers p k within l h =
         let (x, g, at, e, here) = port_is (λ g. g.ins) p k (placed signature (λ g. g.ins) k net.processes p within h) in
         let unused : is_unused_in named signature s x.name g (pos k) ≡ false = (or_parts (is_unused_out named signature s x.name g (pos k)) (is_unused_in named signature s x.name g (pos k)) (used_at x g p k l at e)).1 in
@@ -298,30 +288,28 @@ module _ (named : List ℕ → Option (ℕ × ℕ)) (signature : Card → Option
     tokens_at : (c : ChannelSketch) → has_wrong_tokens c ≡ false → (list_any (λ t. not (is_token c.sort t)) c.tokens ≡ false) × (int_lt c.capacity (pos (length c.tokens)) ≡ false)
     tokens_at c h = or_parts (list_any (λ t. not (is_token c.sort t)) c.tokens) (int_lt c.capacity (pos (length c.tokens))) h
 
-    pub start_tokens : All (λ c. All Fits c.tokens) net.channels → All (λ c. AllByRecursion (IsOfSort c.sort) c.tokens) net.channels
+    start_tokens : All (λ c. All Fits c.tokens) net.channels → All (λ c. AllByRecursion (IsOfSort c.sort) c.tokens) net.channels
     start_tokens fit =
         let fits = All-unmap (channel_in s.processes) (λ c. All Fits c.tokens) s.channels fit in
-        All-map (channel_in s.processes) (λ c. AllByRecursion (IsOfSort c.sort) c.tokens) s.channels (λ k d l.
+        All-map (λ c. AllByRecursion (IsOfSort c.sort) c.tokens) (channel_in s.processes) s.channels (λ k d l.
         let c = get_or s.channels k d in
         tokens_of_sort c.sort c.tokens (tokens_at c (none_passes has_wrong_tokens s.channels tokens_fine k d l)).0 (fits k d l))
 
-    pub start_fits : All (λ c. length c.tokens ≤ c.capacity) net.channels
-    start_fits = All-map (channel_in s.processes) (λ c. length c.tokens ≤ c.capacity) s.channels (λ k d l.
-        let c = get_or s.channels k d in
-        rw (length-map c.tokens token_in) (no_more_than c.capacity (length c.tokens) (tokens_at c (none_passes has_wrong_tokens s.channels tokens_fine k d l)).1))
+    start_fits : All (λ c. length c.tokens ≤ c.capacity) net.channels
+    start_fits = each_channel (λ c. length c.tokens ≤ c.capacity) has_wrong_tokens tokens_fine (λ c h. rw (length-map c.tokens token_in) (no_more_than c.capacity (length c.tokens) (tokens_at c h).1))
 
     pub valid : All (λ p. CardFits p.card) net.processes → All (λ c. All Fits c.tokens) net.channels → IsValid signature net
     valid cards tokens = record {
-      some_process = some_process;
-      few_processes = few_processes;
-      few_channels = few_channels;
+      some_process = counts.0;
+      few_processes = counts.1;
+      few_channels = counts.2;
       process_names = process_names;
       channel_names = channel_names;
       processes_apart = processes_apart;
       channels_apart = channels_apart;
       cards = cards;
       signed = signed;
-      ends = ends;
+      ends = each_channel (HasEnds signature net) wrong_sort sorts_fine ends_at;
       writers = writers;
       readers = readers;
       capacities = capacities;

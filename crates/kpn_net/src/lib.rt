@@ -3,7 +3,10 @@
 #![tactic(auto)]
 
 pub mod check;
+mod limits;
+mod names;
 pub mod net;
+mod ports;
 
 pub use kpn_model::{
     Act, Answer, Card, Channel, Deed, End, Ends, Entry, Kinds, Listed, Local, Place, Process,

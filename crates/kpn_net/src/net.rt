@@ -6,7 +6,8 @@ ghost use Rattle.kpn_model.specs.Valid.{IsValid};
 ghost use Rattle.kpn_net.specs.Faults.{first_fault};
 ghost use Rattle.kpn_net.specs.Sketched.{net_of, process_in, token_in, channel_in, index_of};
 
-use crate::check::{card_with, first_fault};
+use crate::check::first_fault;
+use crate::ports::card_with;
 use kpn_model::version::ceiling_in;
 use kpn_model::{Channel, Kinds, Listed, Process, Text, Token};
 use kpn_network::{Net, Parts};
@@ -54,6 +55,7 @@ impl<K: Kinds> Check for Net<K> {
     type Kinds = K;
 }
 
+/// The process of a sketch; a kind that the family lacks counts as kind 0. Fails if memory was refused.
 fn process_in<K: Kinds>(alloc: Global, sketch: &ProcessSketch) -> Result<Process, NetFault>
     ensures ok { IfOk result (λ p. p ≡ process_in K.named sketch.now) }
     ensures fits { IfOk result (λ p. CardFits p.card) }
@@ -69,12 +71,14 @@ fn process_in<K: Kinds>(alloc: Global, sketch: &ProcessSketch) -> Result<Process
     })
 }
 
+/// The number of the first process with this name.
 fn find_process(processes: &[ProcessSketch], name: &str) -> Option<usize>
     ensures { result ≡ position (λ p. bytes_eq p.name name.now) processes.now }
 {
     processes.iter().position(|p| p.name.as_str() == name)
 }
 
+/// The same; 0 if there is none.
 fn index_of(processes: &[ProcessSketch], name: &str) -> usize
     ensures { result ≡ index_of processes.now name.now }
 {
@@ -84,6 +88,7 @@ fn index_of(processes: &[ProcessSketch], name: &str) -> usize
     }
 }
 
+/// The token of a sketch; of an integer its size counts.
 fn token_in(sketch: TokenSketch) -> Token
     ensures is { result ≡ token_in sketch }
     ensures fits { Fits result }
@@ -94,6 +99,7 @@ fn token_in(sketch: TokenSketch) -> Token
     }
 }
 
+/// The tokens of some sketches, in order. Fails if memory was refused.
 fn tokens_in(alloc: Global, sketches: &[TokenSketch]) -> Result<Vec<Token>, NetFault>
     ensures ok { IfOk result (λ v. v.items ≡ map token_in sketches.now) }
     ensures fit { IfOk result (λ v. All Fits v.items) }
@@ -108,6 +114,7 @@ fn tokens_in(alloc: Global, sketches: &[TokenSketch]) -> Result<Vec<Token>, NetF
     Ok(tokens)
 }
 
+/// The channel of a sketch, between these processes. Fails if memory was refused.
 fn channel_in(
     alloc: Global,
     processes: &[ProcessSketch],
@@ -129,6 +136,7 @@ fn channel_in(
     })
 }
 
+/// The processes of some sketches, in order. Fails if memory was refused.
 fn processes_of<K: Kinds>(
     alloc: Global,
     sketches: &[ProcessSketch],
@@ -147,6 +155,7 @@ fn processes_of<K: Kinds>(
     Ok(processes)
 }
 
+/// The channels of some sketches, in order, between these processes. Fails if memory was refused.
 fn channels_of(
     alloc: Global,
     processes: &[ProcessSketch],
@@ -166,6 +175,7 @@ fn channels_of(
     Ok(channels)
 }
 
+/// A text once more. Fails if memory was refused.
 fn copied(alloc: Global, text: &Text) -> Result<Text, NetFault>
     ensures ok { IfOk result (λ t. t ≡ text.now) }
     ensures memory { IfErr result (λ e. e ≡ NetFault.Memory) }
