@@ -10,3 +10,4 @@ pub mod Growing
 pub mod Enlarging
 pub mod Working
 pub mod Due
+pub mod Touched

@@ -1,6 +1,8 @@
 //! Who is parked waits at a channel, and the channel that grows is one of those.
 ghost use Rattle.std.specs.Prelude.{◌≡◌, ℕ, ◌<◌, length, set, true, slice_get, option_map, Contains, IfSome};
-ghost use Rattle.kpn_state.specs.declared.standing.Standing.TheVariants.{Parked};
+ghost use Rattle.kpn_model.specs.Network.{family_of};
+ghost use Rattle.kpn_model.specs.Semantics.{IsPossible};
+ghost use Rattle.kpn_state.specs.declared.standing.Standing.TheVariants.{Parked, Ready};
 ghost use Rattle.kpn_state.specs.Standings.{standing, is_busy};
 ghost use Rattle.kpn_state.specs.Candidates.{IsInOrder};
 ghost use Rattle.kpn_commit.specs.Choice.{with_writer};
@@ -58,4 +60,41 @@ pub fn park<K: Kinds>(
         Act::Stop => {}
     }
     standings.update(process, Standing::Parked(answer));
+}
+
+/// Makes a parked process ready that can do what it answered. Its mark at the channel goes then, and a
+/// channel to which it waited to write is no candidate any more.
+#[inline(always)]
+pub fn unpark<K: Kinds>(
+    net: &Net<K>,
+    store: &Store,
+    standings: &mut Roster,
+    waiting: &mut Waiting,
+    process: usize,
+    answer: Answer,
+)
+    requires process { process < length standings.old }
+    requires parked { standing standings.old process ≡ Parked answer }
+    requires possible { IsPossible (family_of K.start K.answer_of) net.now store.now.state process answer.act }
+    requires channels { length store.now.state.channels ≡ length net.now.channels }
+    requires waiting { AreWaiting net.now store.now.state standings.old waiting.old }
+    ensures ready { standings.new ≡ set standings.old process Ready }
+    ensures waiting { AreWaiting net.now store.now.state standings.new waiting.new }
+{
+    match answer.act {
+        Act::Read(port) => {
+            if let Some(read) = net.in_of(process, usize::from(port)) {
+                waiting.marks.note_reader(read, false);
+            }
+        }
+        Act::Write(port, _) => {
+            if let Some(written) = net.out_of(process, usize::from(port)) {
+                let (_, capacity) = store.filling(written);
+                waiting.candidates.remove(capacity, written);
+                waiting.marks.note_writer(written, false);
+            }
+        }
+        Act::Stop => {}
+    }
+    standings.update(process, Standing::Ready);
 }

@@ -6,6 +6,7 @@
 pub mod act;
 pub mod choose;
 pub mod outcome;
+pub mod outside;
 pub mod react;
 pub mod settle;
 pub mod work;

@@ -87,7 +87,7 @@ module _ (kinds : Family) (net : Network) where
   other_within s standings p t moved h = standing_within h.standings_between h.other (λ e. parked_not_ended h.wanted (sym h.parked ∙ e))
 
   -- after a reaction its process is not out
-  reaction_back : (s : StateAndHistory) (standings : List Standing) (p : ℕ) (a : Answer) (r : Reaction) (t : StateAndHistory) (moved : List Standing) → p < length standings → Reacts kinds net s standings p a r t moved → standing moved p ≢ Out
+  pub reaction_back : (s : StateAndHistory) (standings : List Standing) (p : ℕ) (a : Answer) (r : Reaction) (t : StateAndHistory) (moved : List Standing) → p < length standings → Reacts kinds net s standings p a r t moved → standing moved p ≢ Out
   reaction_back s standings p a Waits t moved within h e = parked_not_out a (sym (standing_set_same standings p (Parked a) within) ∙ ap (λ (l : List Standing). standing l p) (sym h.2) ∙ e)
   reaction_back s standings p a Acts t moved within h e = acted_not_out h.0 (sym (standing_set_same standings p (standing_after h.0) within) ∙ ap (λ (l : List Standing). standing l p) (sym h.1.moves) ∙ e)
   reaction_back s standings p a HandsOn t moved within h e =
@@ -103,7 +103,7 @@ module _ (kinds : Family) (net : Network) where
       ap (λ (l : List Standing). standing l q) h.second.moves ∙ stays_out h.standings_between h.other q (standing_after h.handed) (λ f. parked_not_out h.wanted (sym h.parked ∙ f)) first
 
   -- and no other process goes out
-  reaction_in : (s : StateAndHistory) (standings : List Standing) (p : ℕ) (a : Answer) (r : Reaction) (t : StateAndHistory) (moved : List Standing) (q : ℕ) → p < length standings → Reacts kinds net s standings p a r t moved → standing standings q ≢ Out → standing moved q ≢ Out
+  pub reaction_in : (s : StateAndHistory) (standings : List Standing) (p : ℕ) (a : Answer) (r : Reaction) (t : StateAndHistory) (moved : List Standing) (q : ℕ) → p < length standings → Reacts kinds net s standings p a r t moved → standing standings q ≢ Out → standing moved q ≢ Out
   reaction_in s standings p a Waits t moved q within h n e = stays_not_out standings p q (Parked a) within (parked_not_out a) n (ap (λ (l : List Standing). standing l q) (sym h.2) ∙ e)
   reaction_in s standings p a Acts t moved q within h n e = stays_not_out standings p q (standing_after h.0) within (acted_not_out h.0) n (ap (λ (l : List Standing). standing l q) (sym h.1.moves) ∙ e)
   reaction_in s standings p a HandsOn t moved q within h n e =
@@ -146,7 +146,7 @@ module _ (kinds : Family) (net : Network) where
   settled_length s standings Enlarged t moved h = ap length h.1.puts.moves ∙ length-set standings h.1.writer Ready
 
   -- and sends no process out
-  settled_back : (s : StateAndHistory) (standings : List Standing) (x : Settled) (t : StateAndHistory) (moved : List Standing) (q : ℕ) → Settles kinds net s standings x t moved → standing standings q ≢ Out → standing moved q ≢ Out
+  pub settled_back : (s : StateAndHistory) (standings : List Standing) (x : Settled) (t : StateAndHistory) (moved : List Standing) (q : ℕ) → Settles kinds net s standings x t moved → standing standings q ≢ Out → standing moved q ≢ Out
   settled_back s standings Busy t moved q h n e = n (ap (λ (l : List Standing). standing l q) (sym h.2) ∙ e)
   settled_back s standings (Over end) t moved q h n e = n (ap (λ (l : List Standing). standing l q) (sym h.2) ∙ e)
   settled_back s standings Enlarged t moved q h n e =

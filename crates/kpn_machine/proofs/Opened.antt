@@ -51,13 +51,13 @@ module _ (kinds : Family) where
   live_start (x ∷ xs) (suc p) h e = live_start xs p (omega arith) e
 
 -- a channel's capacity at the start is the network's
-capacity_start : (ls : List Channel) (c : ℕ) → (get_or (map (λ (l : Channel). record { tokens = l.tokens; capacity = l.capacity }) ls) c nothing_held).capacity ≡ (get_or ls c no_channel).capacity
+pub capacity_start : (ls : List Channel) (c : ℕ) → (get_or (map (λ (l : Channel). record { tokens = l.tokens; capacity = l.capacity }) ls) c nothing_held).capacity ≡ (get_or ls c no_channel).capacity
 capacity_start [] c = refl
 capacity_start (l ∷ ls) zero = refl
 capacity_start (l ∷ ls) (suc c) = capacity_start ls c
 
 module _ (signature : Card → Option Signature) (admits : Card → List ℕ → Option Token → Type 0) (kinds : Family) (net : Network) (valid : IsValid signature net) (starts : (p : ℕ) → p < length net.processes → admits (card_of net p) (kinds.start (card_of net p)) None) where
-  keeps_start : StandingsFit kinds admits net None (start kinds net) (replicate (length net.processes) Ready)
+  pub keeps_start : StandingsFit kinds admits net None (start kinds net) (replicate (length net.processes) Ready)
   keeps_start =
       let n = length net.processes in
       record {

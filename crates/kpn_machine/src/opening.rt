@@ -55,7 +55,7 @@ pub fn cards_of<K: Kinds>(alloc: Global, net: &Net<K>) -> Result<Vec<Card>, Allo
 }
 
 /// What is wrong with the bodies; `None` if nothing is.
-pub(crate) fn misfit<B: Body>(net: &Net<B::Kinds>, bodies: &[B]) -> Option<OpenFault>
+pub fn misfit<B: Body>(net: &Net<B::Kinds>, bodies: &[B]) -> Option<OpenFault>
     ensures some { IfSome result (IsOpenFault net.now.processes (map B.card bodies.now)) }
     ensures none { IfNone result (map B.card bodies.now ≡ cards_of net.now.processes) }
 {
@@ -71,7 +71,7 @@ pub(crate) fn misfit<B: Body>(net: &Net<B::Kinds>, bodies: &[B]) -> Option<OpenF
 }
 
 /// Each process live, with its card's start.
-fn start_statuses<K: Kinds>(alloc: Global, net: &Net<K>) -> Result<Vec<Status>, AllocError>
+pub fn start_statuses<K: Kinds>(alloc: Global, net: &Net<K>) -> Result<Vec<Status>, AllocError>
     ensures items { IfOk result (λ v. v.items ≡ map (starting (family_of K.start K.answer_of)) net.now.processes) }
     ensures admitted { OnOk result ((p : ℕ) → p < length net.now.processes → K.admits (card_of net.now p) (K.start (card_of net.now p)) None) }
 {
@@ -88,7 +88,7 @@ fn start_statuses<K: Kinds>(alloc: Global, net: &Net<K>) -> Result<Vec<Status>, 
 }
 
 /// Each channel with its start tokens, and room for its capacity.
-fn start_rings<K: Kinds>(alloc: Global, net: &Net<K>) -> Result<Vec<Ring>, AllocError>
+pub fn start_rings<K: Kinds>(alloc: Global, net: &Net<K>) -> Result<Vec<Ring>, AllocError>
     ensures { IfOk result (λ v. v.items ≡ map filled net.now.channels) }
 {
     net.assure_valid();

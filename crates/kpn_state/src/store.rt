@@ -75,6 +75,14 @@ impl Store {
         ring.filling()
     }
 
+    /// Forgets the entries so far: what is told goes on from the state that they led to, and there is room
+    /// for as many entries as at the start.
+    pub fn forget(&mut self)
+        ensures { self.new ≡ state_and_history self.old.state [] self.old.room }
+    {
+        self.history.clear();
+    }
+
     fn note(&mut self, entry: Entry)
         requires { length self.old.history < self.old.room }
         ensures { self.new ≡ more self.old self.old.state entry }
@@ -143,6 +151,29 @@ impl Store {
             process,
             deed: Deed::Put { channel, token },
         });
+    }
+
+    /// Appends a token to a channel, from outside of the network: no process wrote it, and no entry tells
+    /// of it. The channel must hold fewer tokens than its capacity.
+    pub fn feed(&mut self, channel: usize, token: Token)
+        requires channel { channel < length self.old.state.channels }
+        requires space { length (tokens self.old.state channel) < capacity self.old.state channel }
+        ensures { self.new ≡ state_and_history (with_channel self.old.state channel (tokens self.old.state channel ++ token ∷ []) (capacity self.old.state channel)) self.old.history self.old.room }
+    {
+        let fed = &mut self.rings[channel];
+        fed.put(token);
+    }
+
+    /// Removes the first token of a channel and returns it to the outside of the network: no process read
+    /// it, and no entry tells of it. The channel must hold one.
+    pub fn drain(&mut self, channel: usize) -> Token
+        requires channel { channel < length self.old.state.channels }
+        requires some { 0 < length (tokens self.old.state channel) }
+        ensures token { tokens self.old.state channel ≡ result ∷ drop 1 (tokens self.old.state channel) }
+        ensures rest { self.new ≡ state_and_history (with_channel self.old.state channel (drop 1 (tokens self.old.state channel)) (capacity self.old.state channel)) self.old.history self.old.room }
+    {
+        let drained = &mut self.rings[channel];
+        drained.take()
     }
 
     /// Sets the capacity of a channel to `to` tokens, and appends the entry. There must be room for it.
