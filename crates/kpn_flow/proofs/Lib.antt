@@ -1,0 +1,10 @@
+pub mod Among
+pub mod Faults
+pub mod Turning
+pub mod Waiting
+pub mod Stretches
+pub mod Wired
+pub mod Ahead
+pub mod Feeding
+pub mod Kept
+pub mod Mute

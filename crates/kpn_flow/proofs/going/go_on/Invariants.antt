@@ -1,0 +1,20 @@
+use Rattle.std.proofs.Common.{◌≡◌, ◌+◌, ◌-◌, ◌*◌, ◌≤◌}
+use Rattle.std.specs.List.{sum_by}
+use Rattle.kpn_model.specs.Network.{family_of}
+use Rattle.kpn_commit.specs.Waiting.{AreWaiting}
+use Rattle.kpn_flow.specs.Flows.{IsSettledIn}
+use Rattle.kpn_flow.specs.Waits.{is_not_parked}
+use Rattle.kpn_flow.proofs.Stretches.{Ran}
+use Rattle.kpn_flow.proofs.going.go_on.Given as goal
+
+abbrev pub invariant-loop-done : goal.invariant-loop-done
+invariant-loop-done g l = record {
+  fits : IsSettledIn (family_of g.B.Kinds.Kinds.start g.B.Kinds.Kinds.answer_of) g.B.Kinds.Kinds.admits l.net l.store.state l.standings;
+  waiting : AreWaiting l.net l.store.state l.standings l.waiting;
+  room : l.store.room ≡ l.initial.store.room;
+  few : l.done ≤ l.most;
+  ran : Ran (family_of g.B.Kinds.Kinds.start g.B.Kinds.Kinds.answer_of) l.net l.inputs l.outputs l.initial.store.state l.store.state l.done;
+}
+
+abbrev pub decreases-loop-done : goal.decreases-loop-done
+decreases-loop-done g l = 2 * (l.most - l.done) + sum_by is_not_parked l.standings

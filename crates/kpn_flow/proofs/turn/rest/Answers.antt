@@ -1,0 +1,47 @@
+-- Where no process is ready, the outside can help, or a growth, or nothing.
+use Rattle.std.proofs.Common.{sym, ◌∙◌}
+use Rattle.kpn_model.specs.Network.{family_of}
+use Rattle.kpn_commit.specs.declared.settle.Settled.TheVariants.{Enlarged}
+use Rattle.kpn_commit.proofs.Idle.{idle_quiet}
+use Rattle.kpn_flow.proofs.Turning.{settled_settled, enlarged_turned}
+use Rattle.kpn_flow.proofs.Waiting.{some_starved, some_held_up, not_starved, none_can_help}
+use Rattle.kpn_flow.proofs.turn.rest.Goals as goal
+
+pub returns-then-any_starves-clause-rests : goal.returns-then-any_starves-clause-rests
+returns-then-any_starves-clause-rests g c =
+    let kinds = family_of g.K.Kinds.start g.K.Kinds.answer_of in
+    let k = c.requires.fits.keeps in (
+      idle_quiet kinds g.K.Kinds.admits c.args.net.now c.args.store.now.state c.args.standings.now k c.requires.idle,
+      some_starved kinds g.K.Kinds.admits c.args.net.now c.args.store.now.state c.args.standings.now k c.args.inputs.now (rw c.as_slice.ensures.value at (sym c.any_starves.ensures ∙ c.if-any_starves.true)),
+    )
+
+pub returns-then-any_holds_up-clause-rests : goal.returns-then-any_holds_up-clause-rests
+returns-then-any_holds_up-clause-rests g c =
+    let kinds = family_of g.K.Kinds.start g.K.Kinds.answer_of in
+    let k = c.requires.fits.keeps in (
+      idle_quiet kinds g.K.Kinds.admits c.args.net.now c.args.store.now.state c.args.standings.now k c.requires.idle,
+      not_starved kinds g.K.Kinds.admits c.args.net.now c.args.store.now.state c.args.standings.now k c.requires.idle c.args.inputs.now (rw c.as_slice.ensures.value at (sym c.any_starves.ensures ∙ c.if-any_starves.false)),
+      some_held_up kinds g.K.Kinds.admits c.args.net.now c.args.store.now.state c.args.standings.now k c.args.outputs.now (rw c.as_slice-2.ensures.value at (sym c.any_holds_up.ensures ∙ c.if-any_holds_up.true)),
+    )
+
+pub returns-in-Ended-clause-rests : goal.returns-in-Ended-clause-rests
+returns-in-Ended-clause-rests g c =
+    let kinds = family_of g.K.Kinds.start g.K.Kinds.answer_of in
+    let settles = c.in-Ended.ensures.settles in
+    rw settles.1 (
+      settles.3,
+      none_can_help kinds g.K.Kinds.admits c.args.net.now c.args.store.now.state c.args.standings.now c.requires.fits.keeps c.requires.idle c.args.inputs.now c.args.outputs.now
+          (rw c.as_slice.ensures.value at (sym c.any_starves.ensures ∙ c.if-any_starves.false)) (rw c.as_slice-2.ensures.value at (sym c.any_holds_up.ensures ∙ c.if-any_holds_up.false)),
+    )
+
+pub returns-in-Enlarged-clause-fits : goal.returns-in-Enlarged-clause-fits
+returns-in-Enlarged-clause-fits g c =
+    settled_settled (family_of g.K.Kinds.start g.K.Kinds.answer_of) g.K.Kinds.admits c.args.net.now c.args.store.now c.args.standings.now Enlarged c.settle.new.store c.settle.new.standings c.requires.fits.none_out c.in-Enlarged.ensures.settles c.in-Enlarged.ensures.keeps
+
+pub returns-in-Enlarged-clause-run : goal.returns-in-Enlarged-clause-run
+returns-in-Enlarged-clause-run g c =
+    let kinds = family_of g.K.Kinds.start g.K.Kinds.answer_of in
+    (enlarged_turned kinds c.args.net.now c.args.inputs.now c.args.outputs.now c.args.store.now c.requires.emptied c.args.standings.now c.settle.new.store c.settle.new.standings
+    (none_can_help kinds g.K.Kinds.admits c.args.net.now c.args.store.now.state c.args.standings.now c.requires.fits.keeps c.requires.idle c.args.inputs.now c.args.outputs.now
+    (rw c.as_slice.ensures.value at (sym c.any_starves.ensures ∙ c.if-any_starves.false)) (rw c.as_slice-2.ensures.value at (sym c.any_holds_up.ensures ∙ c.if-any_holds_up.false)))
+    c.in-Enlarged.ensures.settles.1).run

@@ -1,0 +1,72 @@
+-- How far a flow goes by itself, and why it comes back.
+use Rattle.std.specs.Prelude.{◌≡◌, ℕ, ◌+◌, ◌≤◌, true, List, [], ◌∷◌, Some, length}
+use Rattle.kpn_model.specs.declared.kinds.Act.TheVariants.{Read}
+use Rattle.kpn_model.specs.declared.kinds.Answer.{Answer}
+use Rattle.kpn_model.specs.declared.history.Entry.{Entry}
+use Rattle.kpn_model.specs.declared.history.Entry.TheVariants.{Did, Grew}
+use Rattle.kpn_model.specs.Network.{Family, Network, in_of}
+use Rattle.kpn_model.specs.Semantics.{State, tokens, wants, Does, Grows, IsQuiet, IsBlocked}
+use Rattle.kpn_model.specs.Endings.{HasStopped}
+use Rattle.kpn_flow.specs.declared.pause.Pause.{Pause}
+use Rattle.kpn_flow.specs.declared.pause.Pause.TheVariants.{Cut, Starved, Blocked, Over}
+use Rattle.kpn_flow.specs.Flows.{is_among}
+
+module _ (kinds : Family) (net : Network) where
+  -- p wants to read from c, which is empty
+  pub record IsStarving (M : State) (p c : ℕ) : Type 0 where
+    pub answer : Answer
+    pub wanted : wants kinds net M p ≡ Some answer
+    pub port : ℕ
+    pub act : answer.act ≡ Read port
+    pub at : in_of net p port ≡ Some c
+    pub empty : tokens M c ≡ []
+
+  -- a process wants to read from this input, which is empty
+  pub record IsStarved (inputs : List ℕ) (M : State) (c : ℕ) : Type 0 where
+    pub input : is_among inputs c ≡ true
+    pub reader : ℕ
+    pub starving : IsStarving M reader c
+
+  -- a process wants to write to this output, which is full
+  pub record IsHeldUp (outputs : List ℕ) (M : State) (c : ℕ) : Type 0 where
+    pub output : is_among outputs c ≡ true
+    pub writer : ℕ
+    pub blocked : IsBlocked kinds net M writer c
+
+  -- no feeding and no draining lets a process go on that now waits
+  pub record NoneCanHelp (inputs outputs : List ℕ) (M : State) : Type 0 where
+    pub not_starved : (c : ℕ) → IsStarved inputs M c → ⊥
+    pub not_held_up : (c : ℕ) → IsHeldUp outputs M c → ⊥
+
+  module _ (inputs outputs : List ℕ) where
+    -- a channel grows only where the outside can't help (after Parks 1995)
+    abbrev pub OpenStep : State → Entry → State → Type 0
+    OpenStep M (Did p d) N = Does kinds net M p d N
+    OpenStep M (Grew c to) N = Grows kinds net M c to N × NoneCanHelp inputs outputs M
+
+    -- the entries lead from M to N, one step each
+    abbrev pub OpenRun : State → List Entry → State → Type 0
+    OpenRun M [] N = N ≡ M
+    OpenRun M (e ∷ es) N = (mid : State) × OpenStep M e mid × OpenRun mid es N
+
+    -- nothing goes on in M: for want of a token in an input; or else for want of room in an output; or else it has stopped for this
+    -- cause
+    abbrev pub IsRest : State → Pause → Type 0
+    IsRest M Cut = ⊥
+    IsRest M Starved = IsQuiet kinds net M × ((c : ℕ) × IsStarved inputs M c)
+    IsRest M Blocked = IsQuiet kinds net M × ((c : ℕ) → IsStarved inputs M c → ⊥) × ((c : ℕ) × IsHeldUp outputs M c)
+    IsRest M (Over end) = HasStopped kinds net M end × NoneCanHelp inputs outputs M
+
+    -- or fewer than two entries were left of those that were allowed
+    abbrev pub IsPause : ℕ → ℕ → State → Pause → Type 0
+    IsPause most done M Cut = most ≤ done + 1
+    IsPause most done M Starved = IsRest M Starved
+    IsPause most done M Blocked = IsRest M Blocked
+    IsPause most done M (Over end) = IsRest M (Over end)
+
+-- at most so many entries lead from M to N, and the flow came back for this reason
+pub record Advances (kinds : Family) (net : Network) (inputs outputs : List ℕ) (M N : State) (most : ℕ) (pause : Pause) : Type 0 where
+  pub entries : List Entry
+  pub run : OpenRun kinds net inputs outputs M entries N
+  pub few : length entries ≤ most
+  pub back : IsPause kinds net inputs outputs most (length entries) N pause

@@ -1,0 +1,46 @@
+-- Processes that wait at the ends of a flow, as their standings tell.
+use Rattle.std.specs.Prelude.{ℕ, ◌==◌, ◌&&◌, Bool, false, nat_lt, List, Option, Some, None, length}
+use Rattle.kpn_model.specs.declared.kinds.Act.{Act}
+use Rattle.kpn_model.specs.declared.kinds.Act.TheVariants.{Read, Write, Stop}
+use Rattle.kpn_model.specs.Network.{Network, channel_of, in_of, out_of}
+use Rattle.kpn_state.specs.declared.standing.Standing.{Standing}
+use Rattle.kpn_state.specs.declared.standing.Standing.TheVariants.{Ready, Out, Parked, Stopped}
+use Rattle.kpn_state.specs.Standings.{standing}
+
+abbrev pub is_at : ℕ → Option ℕ → Bool
+is_at c None = false
+is_at c (Some d) = d == c
+
+-- p's act is a read from c
+abbrev pub reads_from : Network → ℕ → ℕ → Act → Bool
+reads_from net c p (Read k) = is_at c (in_of net p k)
+reads_from net c p (Write k t) = false
+reads_from net c p Stop = false
+
+-- p's act is a write to c
+abbrev pub writes_to : Network → ℕ → ℕ → Act → Bool
+writes_to net c p (Read k) = false
+writes_to net c p (Write k t) = is_at c (out_of net p k)
+writes_to net c p Stop = false
+
+-- p is parked with an act of this kind
+abbrev pub is_parked_with : (Act → Bool) → Standing → Bool
+is_parked_with test Ready = false
+is_parked_with test Out = false
+is_parked_with test (Parked a) = test a.act
+is_parked_with test Stopped = false
+
+-- the reader of c waits for a token in it
+abbrev pub starves : Network → List Standing → ℕ → Bool
+starves net standings c = nat_lt c (length net.channels) && is_parked_with (reads_from net c (channel_of net c).reader) (standing standings (channel_of net c).reader)
+
+-- the writer of c waits for room in it
+abbrev pub holds_up : Network → List Standing → ℕ → Bool
+holds_up net standings c = nat_lt c (length net.channels) && is_parked_with (writes_to net c (channel_of net c).writer) (standing standings (channel_of net c).writer)
+
+-- 1 for a process that is ready or out, or has stopped
+abbrev pub is_not_parked : Standing → ℕ
+is_not_parked Ready = 1
+is_not_parked Out = 1
+is_not_parked (Parked a) = 0
+is_not_parked Stopped = 1

@@ -1,0 +1,166 @@
+//! Which channels of a network may be fed, and which drained.
+ghost use Rattle.std.specs.Prelude.{◌≡◌, ◌<◌, length, map, None, IfSome, IfNone};
+ghost use Rattle.std.specs.List.{list_any};
+ghost use Rattle.kpn_model.specs.Network.{family_of};
+ghost use Rattle.kpn_machine.specs.Opening.{cards_of};
+ghost use Rattle.kpn_flow.specs.Ends.{IsFlowFault, stops_at_once, has_live_writer, has_live_reader, is_no_channel, has_twice, end_fault};
+ghost use Rattle.kpn_flow.specs.Flows.{is_among};
+
+use kpn_body::Body;
+use kpn_machine::OpenFault;
+use kpn_machine::opening::misfit;
+use kpn_model::{Act, Kinds};
+use kpn_network::Net;
+
+/// Why a flow was not opened. `Bodies`: there are not as many bodies as processes. `Card`: a body does
+/// not have the card of its process. `Channel`: an input or an output is no channel of the network.
+/// `Twice`: a channel stands in the lists of inputs and outputs twice. `Writer`: the writer of an input
+/// does not stop at once. `Reader`: the reader of an output does not. `Memory`: memory was refused.
+#[derive(Clone, Copy, Debug, PartialEq, Eq)]
+pub enum FlowFault {
+    Bodies,
+    Card,
+    Channel,
+    Twice,
+    Writer,
+    Reader,
+    Memory,
+}
+
+/// Whether a channel is in a list.
+pub(crate) fn is_among(channels: &[usize], channel: usize) -> bool
+    ensures { result ≡ is_among channels.now channel }
+{
+    channels.iter().any(|c| *c == channel)
+}
+
+/// Whether a channel stands in a list twice.
+fn has_twice(channels: &[usize]) -> bool
+    ensures { result ≡ has_twice channels.now }
+{
+    let mut rest = channels;
+    while let Some((first, later)) = rest.split_first() {
+        if is_among(later, *first) {
+            return true;
+        }
+        rest = later;
+    }
+    false
+}
+
+/// Whether some channel of a list is in another.
+fn any_among(channels: &[usize], others: &[usize]) -> bool
+    ensures { result ≡ list_any (is_among others.now) channels.now }
+{
+    channels.iter().any(|c| is_among(others, *c))
+}
+
+/// Whether the network has no channel of this number.
+fn is_no_channel<K: Kinds>(net: &Net<K>, channel: usize) -> bool
+    ensures { result ≡ is_no_channel net.now channel }
+{
+    !(channel < net.channels())
+}
+
+fn any_no_channel<K: Kinds>(net: &Net<K>, channels: &[usize]) -> bool
+    ensures { result ≡ list_any (is_no_channel net.now) channels.now }
+{
+    channels.iter().any(|c| is_no_channel(net, *c))
+}
+
+/// Whether a process stops at once, as its body answers at its start.
+fn stops_at_once<B: Body>(bodies: &[B], process: usize) -> bool
+    requires { process < length bodies.now }
+    ensures { result ≡ stops_at_once (family_of B.Kinds.start B.Kinds.answer_of) (map B.card bodies.now) process }
+{
+    let body = &bodies[process];
+    let card = body.card();
+    B::Kinds::starts(card);
+    let local = B::Kinds::start(&card);
+    let answer = body.answer(local, None);
+    matches!(answer.act, Act::Stop)
+}
+
+/// Whether the writer of a channel does more than to stop.
+fn has_live_writer<B: Body>(net: &Net<B::Kinds>, bodies: &[B], channel: usize) -> bool
+    requires { length bodies.now ≡ length net.now.processes }
+    ensures { result ≡ has_live_writer (family_of B.Kinds.start B.Kinds.answer_of) net.now (map B.card bodies.now) channel }
+{
+    net.assure_valid();
+    channel < net.channels() && !stops_at_once(bodies, net.ends(channel).writer)
+}
+
+/// Whether the reader of a channel does more than to stop.
+fn has_live_reader<B: Body>(net: &Net<B::Kinds>, bodies: &[B], channel: usize) -> bool
+    requires { length bodies.now ≡ length net.now.processes }
+    ensures { result ≡ has_live_reader (family_of B.Kinds.start B.Kinds.answer_of) net.now (map B.card bodies.now) channel }
+{
+    net.assure_valid();
+    channel < net.channels() && !stops_at_once(bodies, net.ends(channel).reader)
+}
+
+fn any_live_writer<B: Body>(net: &Net<B::Kinds>, bodies: &[B], channels: &[usize]) -> bool
+    requires { length bodies.now ≡ length net.now.processes }
+    ensures { result ≡ list_any (has_live_writer (family_of B.Kinds.start B.Kinds.answer_of) net.now (map B.card bodies.now)) channels.now }
+{
+    channels.iter().any(
+        |c|
+            requires { length bodies.now ≡ length net.now.processes }
+        { has_live_writer(net, bodies, *c) },
+    )
+}
+
+fn any_live_reader<B: Body>(net: &Net<B::Kinds>, bodies: &[B], channels: &[usize]) -> bool
+    requires { length bodies.now ≡ length net.now.processes }
+    ensures { result ≡ list_any (has_live_reader (family_of B.Kinds.start B.Kinds.answer_of) net.now (map B.card bodies.now)) channels.now }
+{
+    channels.iter().any(
+        |c|
+            requires { length bodies.now ≡ length net.now.processes }
+        { has_live_reader(net, bodies, *c) },
+    )
+}
+
+/// What is wrong with the inputs and outputs; `None` if nothing is.
+fn end_fault<B: Body>(
+    net: &Net<B::Kinds>,
+    bodies: &[B],
+    inputs: &[usize],
+    outputs: &[usize],
+) -> Option<FlowFault>
+    requires { length bodies.now ≡ length net.now.processes }
+    ensures { result ≡ end_fault (family_of B.Kinds.start B.Kinds.answer_of) net.now (map B.card bodies.now) inputs.now outputs.now }
+{
+    if any_no_channel(net, inputs) || any_no_channel(net, outputs) {
+        return Some(FlowFault::Channel);
+    }
+    if has_twice(inputs) || has_twice(outputs) || any_among(inputs, outputs) {
+        return Some(FlowFault::Twice);
+    }
+    if any_live_writer(net, bodies, inputs) {
+        return Some(FlowFault::Writer);
+    }
+    if any_live_reader(net, bodies, outputs) {
+        return Some(FlowFault::Reader);
+    }
+    None
+}
+
+/// What is wrong with the bodies, or with the inputs and outputs; `None` if nothing is.
+pub(crate) fn fault_of<B: Body>(
+    net: &Net<B::Kinds>,
+    bodies: &[B],
+    inputs: &[usize],
+    outputs: &[usize],
+) -> Option<FlowFault>
+    ensures some { IfSome result (IsFlowFault (family_of B.Kinds.start B.Kinds.answer_of) net.now (map B.card bodies.now) inputs.now outputs.now) }
+    ensures cards { IfNone result (map B.card bodies.now ≡ cards_of net.now.processes) }
+    ensures none { IfNone result (end_fault (family_of B.Kinds.start B.Kinds.answer_of) net.now (map B.card bodies.now) inputs.now outputs.now ≡ None) }
+{
+    match misfit(net, bodies) {
+        Some(OpenFault::Bodies) => Some(FlowFault::Bodies),
+        Some(OpenFault::Card) => Some(FlowFault::Card),
+        Some(OpenFault::Memory) => end_fault(net, bodies, inputs, outputs),
+        None => end_fault(net, bodies, inputs, outputs),
+    }
+}

@@ -1,0 +1,278 @@
+//! The flow.
+ghost use Rattle.std.specs.Prelude.{◌≡◌, ◌↔◌, ℕ, ◌≤◌, length, map, replicate, IfOk, IfErr, OnOk, IfSome, IfNone, IsTrue, true, false, []};
+ghost use Rattle.kpn_model.specs.Network.{family_of};
+ghost use Rattle.kpn_model.specs.Semantics.{start, tokens, capacity};
+ghost use Rattle.kpn_model.specs.Valid.{IsOfSort};
+ghost use Rattle.kpn_state.specs.declared.standing.Standing.TheVariants.{Ready};
+ghost use Rattle.kpn_machine.specs.Opening.{cards_of};
+ghost use Rattle.kpn_flow.specs.Ends.{IsFlowFault};
+ghost use Rattle.kpn_flow.specs.Events.{Happens, Fed, Drained};
+ghost use Rattle.kpn_flow.specs.Flows.{flow_view, is_among, AreEnds, IsReached, IsSameFlow, MayFeed};
+ghost use Rattle.kpn_flow.specs.Pauses.{Advances};
+ghost use Rattle.kpn_flow.specs.Pieces.{IsOneRunInPieces};
+ghost use Rattle.kpn_flow.specs.Waits.{starves, holds_up};
+
+use crate::ends::{FlowFault, fault_of, is_among};
+use crate::going::go_on;
+use crate::law::preloading;
+use crate::opening::{Start, prepare};
+use crate::pause::Pause;
+use crate::waits::{holds_up, starves};
+use kpn_body::Body;
+use kpn_commit::outside;
+use kpn_model::{Sort, Token};
+use kpn_network::Net;
+use kpn_state::{Roster, Standing, Store, Waiting};
+use std::alloc::Global;
+use std::marker::Model;
+
+/// A network at work in one thread that may go on for ever, in bounded memory: it is fed at its inputs
+/// and drained at its outputs, and of what it did only its state is kept.
+///
+/// An input is a channel whose writer stops at once, as `count 0 0` does, so that only the outside
+/// writes to it; an output is one whose reader does, as `sink 0`. So feeding in pieces is having had
+/// all tokens from the start, as `assure_one_run` says (docs/endless.md).
+#[derive(Drop)]
+pub struct Flow<B: Body> {
+    net: Net<B::Kinds>,
+    store: Store,
+    standings: Roster,
+    waiting: Waiting,
+    bodies: Vec<B>,
+    inputs: Vec<usize>,
+    outputs: Vec<usize>,
+}
+
+impl<B: Body> Model for Flow<B> {
+    ghost use Rattle.std.specs.Prelude.{map};
+    ghost use Rattle.kpn_model.specs.Network.{family_of};
+    ghost use Rattle.kpn_commit.specs.Waiting.{AreWaiting};
+    ghost use Rattle.kpn_flow.specs.Flows.{FlowView, flow_view, IsFlowing};
+
+    ghost Value = { FlowView };
+
+    ghost view = { λ m. flow_view m.net m.store.state m.standings m.inputs.items m.outputs.items };
+
+    ghost invariant = { λ m. IsFlowing (family_of B.Kinds.start B.Kinds.answer_of) B.Kinds.admits (flow_view m.net m.store.state m.standings m.inputs.items m.outputs.items) (map B.card m.bodies.items) m.store.room × AreWaiting m.net m.store.state m.standings m.waiting };
+}
+
+/// Why a flow was not opened, with the network and the bodies handed back.
+#[derive(Drop)]
+pub struct FlowRefused<B: Body> {
+    pub net: Net<B::Kinds>,
+    pub bodies: Vec<B>,
+    pub fault: FlowFault,
+}
+
+impl<B: Body> Flow<B> {
+    /// Opens a flow at the start of a network, with a body for each process, in order, and the numbers
+    /// of the channels that will be fed and of those that will be drained. All memory except that of
+    /// growths is taken here.
+    ///
+    /// Errors: the first of `Bodies`, `Card`, `Channel`, `Twice`, `Writer`, `Reader` and `Memory` that
+    /// applies, with the network and the bodies unchanged.
+    pub fn open(
+        alloc: Global,
+        net: Net<B::Kinds>,
+        bodies: Vec<B>,
+        inputs: &[usize],
+        outputs: &[usize],
+    ) -> Result<Flow<B>, FlowRefused<B>>
+        ensures opened { IfOk result (λ m. m ≡ flow_view net (start (family_of B.Kinds.start B.Kinds.answer_of) net) (replicate (length net.processes) Ready) inputs.now outputs.now) }
+        ensures cards { OnOk result (map B.card bodies.items ≡ cards_of net.processes) }
+        ensures ends { OnOk result (AreEnds (family_of B.Kinds.start B.Kinds.answer_of) net inputs.now outputs.now) }
+        ensures net_back { IfErr result (λ refused. refused.net ≡ net) }
+        ensures bodies_back { IfErr result (λ refused. refused.bodies.items ≡ bodies.items) }
+        ensures fault { IfErr result (λ refused. IsFlowFault (family_of B.Kinds.start B.Kinds.answer_of) net (map B.card bodies.items) inputs.now outputs.now refused.fault) }
+    {
+        if let Some(fault) = fault_of(&net, bodies.as_slice(), inputs, outputs) {
+            return Err(FlowRefused { net, bodies, fault });
+        }
+        let Ok(begun) = prepare(alloc, &net, inputs, outputs) else {
+            return Err(FlowRefused {
+                net,
+                bodies,
+                fault: FlowFault::Memory,
+            });
+        };
+        net.assure_valid();
+        let Start {
+            store,
+            standings,
+            waiting,
+            inputs,
+            outputs,
+        } = begun;
+        Ok(Flow {
+            net,
+            store,
+            standings,
+            waiting,
+            bodies,
+            inputs,
+            outputs,
+        })
+    }
+
+    /// Returns the network.
+    pub fn net(&self) -> &Net<B::Kinds>
+        ensures { result.now ≡ self.now.network }
+    {
+        &self.net
+    }
+
+    /// Returns the standing of each process, in order.
+    pub fn standings(&self) -> &[Standing]
+        ensures { result.now ≡ self.now.standings }
+    {
+        self.standings.as_slice()
+    }
+
+    /// Returns whether a channel is an input.
+    pub fn is_input(&self, channel: usize) -> bool
+        ensures { result ≡ is_among self.now.inputs channel }
+    {
+        is_among(self.inputs.as_slice(), channel)
+    }
+
+    /// Returns whether a channel is an output.
+    pub fn is_output(&self, channel: usize) -> bool
+        ensures { result ≡ is_among self.now.outputs channel }
+    {
+        is_among(self.outputs.as_slice(), channel)
+    }
+
+    /// Returns whether the reader of a channel is parked with a read from it: after `Pause::Starved` it
+    /// is so for an input.
+    pub fn is_starved(&self, channel: usize) -> bool
+        ensures { result ≡ starves self.now.network self.now.standings channel }
+    {
+        starves(&self.net, self.standings.as_slice(), channel)
+    }
+
+    /// Returns whether the writer of a channel is parked with a write to it: after `Pause::Blocked` it
+    /// is so for an output.
+    pub fn is_held_up(&self, channel: usize) -> bool
+        ensures { result ≡ holds_up self.now.network self.now.standings channel }
+    {
+        holds_up(&self.net, self.standings.as_slice(), channel)
+    }
+
+    /// Does nothing: a caller knows from here on what holds of each flow at each time. It was led to its
+    /// state by events, and only tokens of inputs came in and only tokens of outputs went out. By
+    /// whatever such events that was, and whatever will still come into the inputs, what was done is a
+    /// run of the network that held all those tokens from the start; growths are left out of it.
+    pub fn assure_one_run(&self)
+        ensures ends { AreEnds (family_of B.Kinds.start B.Kinds.answer_of) self.now.network self.now.inputs self.now.outputs }
+        ensures reached { IsReached (family_of B.Kinds.start B.Kinds.answer_of) self.now.network self.now.inputs self.now.outputs self.now.state }
+        ensures one_run { IsOneRunInPieces (family_of B.Kinds.start B.Kinds.answer_of) self.now }
+    {
+        preloading();
+        let _ = &self.net;
+    }
+}
+
+impl<B: Body> Flow<B> {
+    /// Goes on by at most `most` entries, until fewer than two of them are left or nothing goes on. It
+    /// takes no memory except that of growths, and keeps no entry. A channel grows only where neither
+    /// feeding nor draining lets a process go on (after Parks 1995).
+    pub fn advance(&mut self, most: u64) -> Pause
+        ensures same { IsSameFlow self.old self.new }
+        ensures advances { Advances (family_of B.Kinds.start B.Kinds.answer_of) self.old.network self.old.inputs self.old.outputs self.old.state self.new.state most result }
+    {
+        go_on(
+            &self.net,
+            &mut self.store,
+            &mut self.standings,
+            &mut self.waiting,
+            self.bodies.as_slice(),
+            self.inputs.as_slice(),
+            self.outputs.as_slice(),
+            most,
+        )
+    }
+
+    /// Goes on as `advance` does, where no input will be fed any more: a process that waits for a token
+    /// in an empty input waits for ever, so that the end of the run can be told.
+    pub fn finish(&mut self, most: u64) -> Pause
+        ensures same { IsSameFlow self.old self.new }
+        ensures advances { Advances (family_of B.Kinds.start B.Kinds.answer_of) self.old.network [] self.old.outputs self.old.state self.new.state most result }
+    {
+        go_on(
+            &self.net,
+            &mut self.store,
+            &mut self.standings,
+            &mut self.waiting,
+            self.bodies.as_slice(),
+            &[],
+            self.outputs.as_slice(),
+            most,
+        )
+    }
+}
+
+/// Whether a token has this sort.
+fn has_sort(token: Token, sort: Sort) -> bool
+    ensures { IsTrue result ↔ IsOfSort sort token }
+{
+    match (token, sort) {
+        (Token::Word(_), Sort::Words) => true,
+        (Token::Flag(_), Sort::Flags) => true,
+        _ => false,
+    }
+}
+
+impl<B: Body> Flow<B> {
+    /// Returns whether a channel is an input and a token has its sort.
+    pub fn may_feed(&self, channel: usize, token: Token) -> bool
+        ensures { IsTrue result ↔ MayFeed self.now channel token }
+    {
+        self.is_input(channel)
+            && channel < self.net.channels()
+            && has_sort(token, self.net.sort(channel))
+    }
+
+    /// Puts a token into an input, if it holds fewer than its capacity, and returns whether it did. The
+    /// token must have the sort of the input.
+    pub fn feed(&mut self, channel: usize, token: Token) -> bool
+        requires { MayFeed self.old channel token }
+        ensures same { IsSameFlow self.old self.new }
+        ensures fed { IsTrue result → Happens (family_of B.Kinds.start B.Kinds.answer_of) self.old.network self.old.state (Fed channel token) self.new.state }
+        ensures full { result ≡ false → (self.new ≡ self.old) × (capacity self.old.state channel ≤ length (tokens self.old.state channel)) }
+    {
+        let (held, capacity) = self.store.filling(channel);
+        if held >= capacity {
+            return false;
+        }
+        outside::feed(
+            &self.net,
+            &mut self.store,
+            &mut self.standings,
+            &mut self.waiting,
+            channel,
+            token,
+        );
+        true
+    }
+
+    /// Takes the first token of an output; `None` if the output is empty.
+    pub fn drain(&mut self, channel: usize) -> Option<Token>
+        requires { is_among self.old.outputs channel ≡ true }
+        ensures same { IsSameFlow self.old self.new }
+        ensures drained { IfSome result (λ token. Happens (family_of B.Kinds.start B.Kinds.answer_of) self.old.network self.old.state (Drained channel token) self.new.state) }
+        ensures empty { IfNone result ((self.new ≡ self.old) × (tokens self.old.state channel ≡ [])) }
+    {
+        let (held, _) = self.store.filling(channel);
+        if held == 0 {
+            return None;
+        }
+        let token = outside::drain(
+            &self.net,
+            &mut self.store,
+            &mut self.standings,
+            &mut self.waiting,
+            channel,
+        );
+        Some(token)
+    }
+}

@@ -1,0 +1,11 @@
+//! Feeding in pieces is having had all from the start.
+ghost use Rattle.kpn_model.specs.Network.{Family};
+ghost use Rattle.kpn_flow.specs.Preloaded.{FeedingIsPreloading};
+
+/// Does nothing: what it ensures is that a run that is fed and drained in pieces does what a run of the
+/// same network does whose inputs held all the tokens at the start, also those that are still to come,
+/// from capacities with room for all; growths are left out of it. This holds for every family of kinds
+/// and every network, if only the outside writes to inputs and reads from outputs.
+pub fn preloading()
+    ensures { (kinds : Family) → FeedingIsPreloading kinds }
+{}

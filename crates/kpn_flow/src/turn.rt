@@ -1,0 +1,95 @@
+//! One answer, and what follows.
+ghost use Rattle.std.specs.Prelude.{◌≡◌, ◌≢◌, ℕ, ◌+◌, ◌*◌, ◌≤◌, [], length, map, sum_by, false, IfSome, IfNone};
+ghost use Rattle.std.specs.List.{list_any};
+ghost use Rattle.kpn_model.specs.Network.{family_of};
+ghost use Rattle.kpn_state.specs.Standings.{is_busy};
+ghost use Rattle.kpn_commit.specs.Waiting.{AreWaiting};
+ghost use Rattle.kpn_machine.specs.Opening.{cards_of};
+ghost use Rattle.kpn_flow.specs.Flows.{IsSettledIn};
+ghost use Rattle.kpn_flow.specs.Pauses.{OpenRun, IsRest};
+ghost use Rattle.kpn_flow.specs.Waits.{is_not_parked};
+
+use crate::pause::Pause;
+use crate::waits::{any_holds_up, any_starves};
+use kpn_body::Body;
+use kpn_commit::react::react;
+use kpn_commit::settle::{Settled, settle};
+use kpn_model::{Kinds, Status};
+use kpn_network::Net;
+use kpn_state::{Roster, Store, Waiting};
+
+/// What follows when no process is ready: it is found why nothing goes on, or the chosen channel grows,
+/// which it does only if neither feeding nor draining lets a process go on (after Parks 1995).
+#[cold]
+#[inline(never)]
+fn rest<K: Kinds>(
+    net: &Net<K>,
+    store: &mut Store,
+    standings: &mut Roster,
+    waiting: &mut Waiting,
+    inputs: &[usize],
+    outputs: &[usize],
+) -> Option<Pause>
+    requires fits { IsSettledIn (family_of K.start K.answer_of) K.admits net.now store.old.state standings.old }
+    requires idle { list_any is_busy standings.old ≡ false }
+    requires waiting { AreWaiting net.now store.old.state standings.old waiting.old }
+    requires room { 2 ≤ store.old.room }
+    requires emptied { store.old.history ≡ [] }
+    ensures fits { IsSettledIn (family_of K.start K.answer_of) K.admits net.now store.new.state standings.new }
+    ensures waiting { AreWaiting net.now store.new.state standings.new waiting.new }
+    ensures room { store.new.room ≡ store.old.room }
+    ensures run { OpenRun (family_of K.start K.answer_of) net.now inputs.now outputs.now store.old.state store.new.history store.new.state }
+    ensures few { length store.new.history ≤ 2 }
+    ensures rests { IfSome result (IsRest (family_of K.start K.answer_of) net.now inputs.now outputs.now store.new.state) }
+    ensures none { IfSome result (λ _. store.new.history ≡ []) }
+    ensures goes { IfNone result (sum_by is_not_parked standings.new + 1 ≤ sum_by is_not_parked standings.old + 2 * length store.new.history) }
+{
+    if any_starves(net, standings.as_slice(), inputs) {
+        return Some(Pause::Starved);
+    }
+    if any_holds_up(net, standings.as_slice(), outputs) {
+        return Some(Pause::Blocked);
+    }
+    match settle(net, store, standings, waiting) {
+        Settled::Ended(end) => Some(Pause::Over(end)),
+        Settled::Enlarged => None,
+        Settled::Busy => unreachable!(),
+    }
+}
+
+/// Takes the answer of the process that has been ready the longest, and does its deed or parks it; if
+/// none is ready, lets the chosen channel grow, or finds why nothing goes on, and returns that. The
+/// history has afterwards the entries of this turn alone.
+pub(crate) fn turn<B: Body>(
+    net: &Net<B::Kinds>,
+    store: &mut Store,
+    standings: &mut Roster,
+    waiting: &mut Waiting,
+    bodies: &[B],
+    inputs: &[usize],
+    outputs: &[usize],
+) -> Option<Pause>
+    requires fits { IsSettledIn (family_of B.Kinds.start B.Kinds.answer_of) B.Kinds.admits net.now store.old.state standings.old }
+    requires cards { map B.card bodies.now ≡ cards_of net.now.processes }
+    requires room { 2 ≤ store.old.room }
+    requires waiting { AreWaiting net.now store.old.state standings.old waiting.old }
+    ensures fits { IsSettledIn (family_of B.Kinds.start B.Kinds.answer_of) B.Kinds.admits net.now store.new.state standings.new }
+    ensures waiting { AreWaiting net.now store.new.state standings.new waiting.new }
+    ensures room { store.new.room ≡ store.old.room }
+    ensures run { OpenRun (family_of B.Kinds.start B.Kinds.answer_of) net.now inputs.now outputs.now store.old.state store.new.history store.new.state }
+    ensures few { length store.new.history ≤ 2 }
+    ensures rests { IfSome result (IsRest (family_of B.Kinds.start B.Kinds.answer_of) net.now inputs.now outputs.now store.new.state) }
+    ensures none { IfSome result (λ _. store.new.history ≡ []) }
+    ensures goes { IfNone result (sum_by is_not_parked standings.new + 1 ≤ sum_by is_not_parked standings.old + 2 * length store.new.history) }
+{
+    store.forget();
+    let Some(process) = standings.turn(None) else {
+        return rest(net, store, standings, waiting, inputs, outputs);
+    };
+    let Status::Live { local, last } = store.status(process) else {
+        unreachable!()
+    };
+    let answer = bodies[process].answer(*local, *last);
+    let _ = react(net, store, standings, waiting, process, answer);
+    None
+}

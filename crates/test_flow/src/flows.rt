@@ -1,0 +1,73 @@
+//! Calls of a flow, with only such contracts as the tests need.
+use crate::checks::same;
+use crate::networks::{Parts, parts_of};
+use kpn_body::Standard;
+use kpn_compute::CardBody;
+use kpn_flow::{Flow, FlowFault};
+use kpn_net::Token;
+use std::alloc::Global;
+use std::process::Abort;
+
+pub(crate) type CardFlow = Flow<CardBody<Standard>>;
+
+/// Opens a flow of the network of a description.
+pub(crate) fn flow_of<R: Abort>(
+    rt: &R,
+    alloc: Global,
+    text: &str,
+    inputs: &[usize],
+    outputs: &[usize],
+) -> CardFlow {
+    let parts = parts_of(rt, alloc, text).expect(rt, "no memory for the parts");
+    opened(rt, alloc, parts, inputs, outputs)
+}
+
+/// Opens a flow; only memory may be refused.
+pub(crate) fn opened<R: Abort>(
+    rt: &R,
+    alloc: Global,
+    parts: Parts,
+    inputs: &[usize],
+    outputs: &[usize],
+) -> CardFlow {
+    match Flow::open(alloc, parts.net, parts.bodies, inputs, outputs) {
+        Ok(flow) => flow,
+        Err(refused) => {
+            same(rt, "fault", refused.fault, FlowFault::Memory);
+            panic!(rt; "no memory for the flow");
+        }
+    }
+}
+
+/// Feeds a word into an input, and returns whether there was room.
+pub(crate) fn feed<R: Abort>(rt: &R, flow: &mut CardFlow, channel: usize, word: u64) -> bool {
+    let token = Token::Word(word);
+    assert!(rt; flow.may_feed(channel, token));
+    flow.feed(channel, token)
+}
+
+/// Feeds words into an input that has room for them.
+pub(crate) fn feed_words<R: Abort>(rt: &R, flow: &mut CardFlow, channel: usize, words: &[u64]) {
+    for word in words {
+        same(rt, "fed", feed(rt, flow, channel, *word), true);
+    }
+}
+
+/// Drains one token of an output.
+pub(crate) fn drain<R: Abort>(rt: &R, flow: &mut CardFlow, channel: usize) -> Option<Token> {
+    assert!(rt; flow.is_output(channel));
+    flow.drain(channel)
+}
+
+/// Drains an output, which holds these words and no more.
+pub(crate) fn drain_words<R: Abort>(rt: &R, flow: &mut CardFlow, channel: usize, words: &[u64]) {
+    for word in words {
+        same(
+            rt,
+            "drained",
+            drain(rt, flow, channel),
+            Some(Token::Word(*word)),
+        );
+    }
+    same(rt, "drained", drain(rt, flow, channel), None);
+}

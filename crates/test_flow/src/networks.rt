@@ -1,0 +1,97 @@
+//! The networks of the tests.
+use crate::checks::same;
+use kpn_body::Standard;
+use kpn_compute::{CardBody, bodies_of};
+use kpn_net::{Check, Net, NetFault, read_sketch};
+use std::alloc::{AllocError, Global};
+use std::process::Abort;
+
+/// Words come in over channel 0 of two places, and go out three times as great over channel 1 of one.
+pub(crate) const SCALE: &str = "version = 1
+process = [
+    { name = \"src\", kind = \"count\", args = [0, 0] },
+    { name = \"mul\", kind = \"scale\", args = [3] },
+    { name = \"snk\", kind = \"sink\", args = [0] },
+]
+channel = [
+    { name = \"a\", from = \"src\", to = \"mul\", capacity = 2 },
+    { name = \"b\", from = \"mul\", to = \"snk\" },
+]
+";
+
+/// Words come in over channels 0 and 1. Their sums are summed up by way of channel 4, which goes back,
+/// and go out over channel 5.
+pub(crate) const RUNNING_SUM: &str = "version = 2
+process = [
+    { name = \"x\", kind = \"count\", args = [0, 0] },
+    { name = \"y\", kind = \"count\", args = [0, 0] },
+    { name = \"both\", kind = \"add\" },
+    { name = \"sum\", kind = \"add\" },
+    { name = \"two\", kind = \"copy\" },
+    { name = \"snk\", kind = \"sink\", args = [0] },
+]
+channel = [
+    { name = \"a\", from = \"x\", to = \"both\", in = 0, capacity = 3 },
+    { name = \"b\", from = \"y\", to = \"both\", in = 1, capacity = 3 },
+    { name = \"c\", from = \"both\", to = \"sum\", in = 0 },
+    { name = \"d\", from = \"sum\", to = \"two\" },
+    { name = \"e\", from = \"two\", out = 1, to = \"sum\", in = 1, tokens = [0] },
+    { name = \"f\", from = \"two\", out = 0, to = \"snk\", capacity = 3 },
+]
+";
+
+/// Words come in over channel 0, of which the sink reads two.
+pub(crate) const SINK_OF_TWO: &str = "version = 1
+process = [
+    { name = \"src\", kind = \"count\", args = [0, 0] },
+    { name = \"snk\", kind = \"sink\", args = [2] },
+]
+channel = [
+    { name = \"a\", from = \"src\", to = \"snk\" },
+]
+";
+
+/// Two words go out over channel 0 of one place; and of two words on channel 1 of one place the sink
+/// reads none, so that it grows once nothing else goes on.
+pub(crate) const OUTPUT_AND_GROWTH: &str = "version = 1
+process = [
+    { name = \"k0\", kind = \"count\", args = [7, 2] },
+    { name = \"s0\", kind = \"sink\", args = [0] },
+    { name = \"k1\", kind = \"count\", args = [1, 2] },
+    { name = \"s1\", kind = \"sink\", args = [0] },
+]
+channel = [
+    { name = \"c0\", from = \"k0\", to = \"s0\" },
+    { name = \"c1\", from = \"k1\", to = \"s1\" },
+]
+";
+
+/// A network, and a body for each of its processes in order.
+#[derive(Drop)]
+pub(crate) struct Parts {
+    pub(crate) net: Net<Standard>,
+    pub(crate) bodies: Vec<CardBody<Standard>>,
+}
+
+/// The network of a description, with its bodies. Fails if memory was refused.
+pub(crate) fn parts_of<R: Abort>(rt: &R, alloc: Global, text: &str) -> Result<Parts, AllocError> {
+    let net = net_of(rt, alloc, text)?;
+    let bodies = bodies_of(alloc, &net)?;
+    Ok(Parts { net, bodies })
+}
+
+/// The network of a description that is refused only if memory is.
+fn net_of<R: Abort>(rt: &R, alloc: Global, text: &str) -> Result<Net<Standard>, AllocError> {
+    match check_text(alloc, text) {
+        Ok(net) => Ok(net),
+        Err(fault) => {
+            same(rt, "fault", fault, NetFault::Memory);
+            Err(AllocError)
+        }
+    }
+}
+
+fn check_text(alloc: Global, text: &str) -> Result<Net<Standard>, NetFault> {
+    let sketch = read_sketch(alloc, text.as_bytes())?;
+    Net::check(alloc, &sketch)
+}

@@ -1,0 +1,68 @@
+//! Each fault for which a flow is not opened.
+use crate::checks::same;
+use crate::networks::{Parts, SCALE, parts_of};
+use kpn_body::{Body, Standard};
+use kpn_compute::CardBody;
+use kpn_flow::{Flow, FlowFault, FlowRefused};
+use std::alloc::Global;
+use std::process::Abort;
+
+/// Compares what was handed back: the fault, and all bodies.
+fn assert_handed_back<R: Abort>(
+    rt: &R,
+    refused: &FlowRefused<CardBody<Standard>>,
+    fault: FlowFault,
+    bodies: usize,
+) {
+    same(rt, "fault", refused.fault, fault);
+    same(rt, "processes", refused.net.processes(), 3);
+    same(rt, "bodies", refused.bodies.len(), bodies);
+}
+
+/// Tries to open a flow that is refused.
+fn refuse<R: Abort>(
+    rt: &R,
+    alloc: Global,
+    parts: Parts,
+    inputs: &[usize],
+    outputs: &[usize],
+    fault: FlowFault,
+) {
+    let bodies = parts.bodies.len();
+    match Flow::open(alloc, parts.net, parts.bodies, inputs, outputs) {
+        Ok(_) => panic!(rt; "opened in spite of a fault"),
+        Err(refused) => assert_handed_back(rt, &refused, fault, bodies),
+    }
+}
+
+fn fresh<R: Abort>(rt: &R, alloc: Global) -> Parts {
+    parts_of(rt, alloc, SCALE).expect(rt, "no memory for the parts")
+}
+
+#[test]
+fn inputs_and_outputs_are_checked(rt: HostRuntime) {
+    let rows: [(&[usize], &[usize], FlowFault); 8] = [
+        (&[2], &[], FlowFault::Channel),
+        (&[], &[1, 2], FlowFault::Channel),
+        (&[0, 0], &[], FlowFault::Twice),
+        (&[0], &[1, 1], FlowFault::Twice),
+        (&[0], &[1, 0], FlowFault::Twice),
+        (&[1], &[], FlowFault::Writer),
+        (&[0, 1], &[], FlowFault::Writer),
+        (&[], &[0], FlowFault::Reader),
+    ];
+    for (inputs, outputs, fault) in rows.iter() {
+        let parts = fresh(&rt, rt.alloc());
+        refuse(&rt, rt.alloc(), parts, inputs, outputs, *fault);
+    }
+}
+
+#[test]
+fn bodies_are_checked_first(rt: HostRuntime) {
+    let mut few = fresh(&rt, rt.alloc());
+    few.bodies.pop();
+    refuse(&rt, rt.alloc(), few, &[2], &[], FlowFault::Bodies);
+    let mut turned = fresh(&rt, rt.alloc());
+    turned.bodies.as_mut_slice().swap(0, 1);
+    refuse(&rt, rt.alloc(), turned, &[2], &[], FlowFault::Card);
+}

@@ -1,0 +1,81 @@
+//! Flows that are fed and drained, and why each comes back.
+use crate::checks::same;
+use crate::flows::{CardFlow, drain_words, feed, feed_words, flow_of};
+use crate::networks::{OUTPUT_AND_GROWTH, RUNNING_SUM, SCALE, SINK_OF_TWO};
+use kpn_flow::Pause;
+use kpn_net::End;
+use std::process::Abort;
+
+/// Goes on, and compares why the flow comes back.
+fn advance<R: Abort>(rt: &R, flow: &mut CardFlow, most: u64, due: Pause) {
+    same(rt, "pause", flow.advance(most), due);
+}
+
+#[test]
+fn words_are_scaled(rt: HostRuntime) {
+    let mut flow = flow_of(&rt, rt.alloc(), SCALE, &[0], &[1]);
+    advance(&rt, &mut flow, 100, Pause::Starved);
+    same(&rt, "starved", flow.is_starved(0), true);
+    feed_words(&rt, &mut flow, 0, &[5, 7]);
+    same(&rt, "full", feed(&rt, &mut flow, 0, 9), false);
+    advance(&rt, &mut flow, 100, Pause::Blocked);
+    same(&rt, "held up", flow.is_held_up(1), true);
+    drain_words(&rt, &mut flow, 1, &[15]);
+    feed_words(&rt, &mut flow, 0, &[9]);
+    advance(&rt, &mut flow, 100, Pause::Blocked);
+    drain_words(&rt, &mut flow, 1, &[21]);
+    advance(&rt, &mut flow, 100, Pause::Starved);
+    drain_words(&rt, &mut flow, 1, &[27]);
+    advance(&rt, &mut flow, 100, Pause::Starved);
+    same(&rt, "finish", flow.finish(100), Pause::Over(End::Deadlock));
+}
+
+#[test]
+fn a_flow_is_cut(rt: HostRuntime) {
+    let mut flow = flow_of(&rt, rt.alloc(), SCALE, &[0], &[1]);
+    feed_words(&rt, &mut flow, 0, &[5, 7]);
+    advance(&rt, &mut flow, 0, Pause::Cut);
+    advance(&rt, &mut flow, 1, Pause::Cut);
+    drain_words(&rt, &mut flow, 1, &[]);
+    // Two stops, a read, a write and a read: one entry is left, and two are wanted.
+    advance(&rt, &mut flow, 6, Pause::Cut);
+    advance(&rt, &mut flow, 2, Pause::Blocked);
+    drain_words(&rt, &mut flow, 1, &[15]);
+}
+
+#[test]
+fn sums_come_of_two_inputs_and_go_back(rt: HostRuntime) {
+    let mut flow = flow_of(&rt, rt.alloc(), RUNNING_SUM, &[0, 1], &[5]);
+    feed_words(&rt, &mut flow, 0, &[1, 2, 3]);
+    advance(&rt, &mut flow, 1000, Pause::Starved);
+    same(&rt, "a", flow.is_starved(0), false);
+    same(&rt, "b", flow.is_starved(1), true);
+    feed_words(&rt, &mut flow, 1, &[10, 20, 30]);
+    advance(&rt, &mut flow, 1000, Pause::Starved);
+    drain_words(&rt, &mut flow, 5, &[11, 33, 66]);
+    feed_words(&rt, &mut flow, 1, &[1]);
+    feed_words(&rt, &mut flow, 0, &[0]);
+    advance(&rt, &mut flow, 1000, Pause::Starved);
+    drain_words(&rt, &mut flow, 5, &[67]);
+}
+
+#[test]
+fn a_flow_terminates(rt: HostRuntime) {
+    let mut flow = flow_of(&rt, rt.alloc(), SINK_OF_TWO, &[0], &[]);
+    feed_words(&rt, &mut flow, 0, &[1]);
+    advance(&rt, &mut flow, 100, Pause::Starved);
+    feed_words(&rt, &mut flow, 0, &[2]);
+    advance(&rt, &mut flow, 100, Pause::Over(End::Terminated));
+}
+
+#[test]
+fn a_channel_grows_where_the_outside_can_not_help(rt: HostRuntime) {
+    let mut flow = flow_of(&rt, rt.alloc(), OUTPUT_AND_GROWTH, &[], &[0]);
+    advance(&rt, &mut flow, 100, Pause::Blocked);
+    same(&rt, "output", flow.is_held_up(0), true);
+    same(&rt, "within", flow.is_held_up(1), true);
+    drain_words(&rt, &mut flow, 0, &[7]);
+    advance(&rt, &mut flow, 100, Pause::Over(End::Terminated));
+    same(&rt, "within", flow.is_held_up(1), false);
+    drain_words(&rt, &mut flow, 0, &[8]);
+}
