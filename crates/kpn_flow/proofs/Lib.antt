@@ -8,3 +8,4 @@ pub mod Ahead
 pub mod Feeding
 pub mod Kept
 pub mod Mute
+pub mod Batches

@@ -1,6 +1,6 @@
 -- What contracts see of a flow, and what holds of each at each time.
 use Rattle.std.specs.Prelude.{◌≡◌, ◌≢◌, ℕ, ◌<◌, ◌==◌, Bool, true, List, Option, None, length}
-use Rattle.std.specs.List.{list_any}
+use Rattle.std.specs.List.{list_any, All}
 use Rattle.kpn_model.specs.declared.token.Token.{Token}
 use Rattle.kpn_model.specs.declared.kinds.Card.{Card}
 use Rattle.kpn_model.specs.Network.{Family, Network, channel_of}
@@ -55,6 +55,11 @@ pub record IsFlowing (kinds : Family) (admits : Card → List ℕ → Option Tok
 pub record MayFeed (s : FlowView) (c : ℕ) (t : Token) : Type 0 where
   pub input : is_among s.inputs c ≡ true
   pub sort : IsOfSort (channel_of s.network c).sort t
+
+-- the channel is an input, and all tokens have its sort
+pub record MayFeedAll (s : FlowView) (c : ℕ) (ts : List Token) : Type 0 where
+  pub input : is_among s.inputs c ≡ true
+  pub sorts : All (IsOfSort (channel_of s.network c).sort) ts
 
 -- the flow is of the same network, with the same inputs and outputs
 pub record IsSameFlow (s t : FlowView) : Type 0 where

@@ -1,13 +1,13 @@
 //! The flow.
-ghost use Rattle.std.specs.Prelude.{◌≡◌, ◌↔◌, ℕ, ◌≤◌, length, map, replicate, IfOk, IfErr, OnOk, IfSome, IfNone, IsTrue, true, false, []};
+ghost use Rattle.std.specs.Prelude.{◌≡◌, ◌↔◌, ℕ, ◌<◌, ◌≤◌, length, map, take, replicate, IfOk, IfErr, OnOk, IfSome, IfNone, IsTrue, true, false, []};
 ghost use Rattle.kpn_model.specs.Network.{family_of};
 ghost use Rattle.kpn_model.specs.Semantics.{start, tokens, capacity};
 ghost use Rattle.kpn_model.specs.Valid.{IsOfSort};
 ghost use Rattle.kpn_state.specs.declared.standing.Standing.TheVariants.{Ready};
 ghost use Rattle.kpn_machine.specs.Opening.{cards_of};
 ghost use Rattle.kpn_flow.specs.Ends.{IsFlowFault};
-ghost use Rattle.kpn_flow.specs.Events.{Happens, Fed, Drained};
-ghost use Rattle.kpn_flow.specs.Flows.{flow_view, is_among, AreEnds, IsReached, IsSameFlow, MayFeed};
+ghost use Rattle.kpn_flow.specs.Events.{Happens, Fed, Drained, Flows};
+ghost use Rattle.kpn_flow.specs.Flows.{flow_view, is_among, AreEnds, IsReached, IsSameFlow, MayFeed, MayFeedAll};
 ghost use Rattle.kpn_flow.specs.Pauses.{Advances};
 ghost use Rattle.kpn_flow.specs.Pieces.{IsOneRunInPieces};
 ghost use Rattle.kpn_flow.specs.Waits.{starves, holds_up};
@@ -274,5 +274,41 @@ impl<B: Body> Flow<B> {
             channel,
         );
         Some(token)
+    }
+}
+
+impl<B: Body> Flow<B> {
+    /// Returns whether a channel is an input and all tokens have its sort.
+    pub fn may_feed_all(&self, channel: usize, batch: &[Token]) -> bool
+        ensures may { IsTrue result → MayFeedAll self.now channel batch.now }
+        ensures may_not { result ≡ false → MayFeedAll self.now channel batch.now → ⊥ }
+    {
+        let mut seen = 0;
+        while seen < batch.len() {
+            if !self.may_feed(channel, batch[seen]) {
+                return false;
+            }
+            seen += 1;
+        }
+        self.is_input(channel)
+    }
+
+    /// Puts tokens into an input, in order, as many as it has room for, and returns how many. All must
+    /// have the sort of the input.
+    pub fn feed_all(&mut self, channel: usize, batch: &[Token]) -> usize
+        requires { MayFeedAll self.old channel batch.now }
+        ensures same { IsSameFlow self.old self.new }
+        ensures few { result ≤ length batch.now }
+        ensures fed { Flows (family_of B.Kinds.start B.Kinds.answer_of) self.old.network self.old.state (map (Fed channel) (take result batch.now)) self.new.state }
+        ensures full { result < length batch.now → capacity self.new.state channel ≤ length (tokens self.new.state channel) }
+    {
+        let mut fed = 0;
+        while fed < batch.len() {
+            if !self.feed(channel, batch[fed]) {
+                return fed;
+            }
+            fed += 1;
+        }
+        fed
     }
 }

@@ -53,6 +53,17 @@ pub(crate) fn feed_words<R: Abort>(rt: &R, flow: &mut CardFlow, channel: usize, 
     }
 }
 
+/// Feeds a batch into an input, and returns for how many tokens there was room.
+pub(crate) fn feed_batch<R: Abort>(
+    rt: &R,
+    flow: &mut CardFlow,
+    channel: usize,
+    batch: &[Token],
+) -> usize {
+    assert!(rt; flow.may_feed_all(channel, batch));
+    flow.feed_all(channel, batch)
+}
+
 /// Drains one token of an output.
 pub(crate) fn drain<R: Abort>(rt: &R, flow: &mut CardFlow, channel: usize) -> Option<Token> {
     assert!(rt; flow.is_output(channel));

@@ -1,9 +1,9 @@
 //! Flows that are fed and drained, and why each comes back.
 use crate::checks::same;
-use crate::flows::{CardFlow, drain_words, feed, feed_words, flow_of};
+use crate::flows::{CardFlow, drain_words, feed, feed_batch, feed_words, flow_of};
 use crate::networks::{OUTPUT_AND_GROWTH, RUNNING_SUM, SCALE, SINK_OF_TWO};
 use kpn_flow::Pause;
-use kpn_net::End;
+use kpn_net::{End, Token};
 use std::process::Abort;
 
 /// Goes on, and compares why the flow comes back.
@@ -28,6 +28,24 @@ fn words_are_scaled(rt: HostRuntime) {
     drain_words(&rt, &mut flow, 1, &[27]);
     advance(&rt, &mut flow, 100, Pause::Starved);
     same(&rt, "finish", flow.finish(100), Pause::Over(End::Deadlock));
+}
+
+#[test]
+fn a_batch_is_fed_as_far_as_there_is_room(rt: HostRuntime) {
+    let mut flow = flow_of(&rt, rt.alloc(), SCALE, &[0], &[1]);
+    let batch = [Token::Word(5), Token::Word(7), Token::Word(9)];
+    same(
+        &rt,
+        "flag",
+        flow.may_feed_all(0, &[Token::Flag(true)]),
+        false,
+    );
+    same(&rt, "first", feed_batch(&rt, &mut flow, 0, &batch), 2);
+    same(&rt, "full", feed_batch(&rt, &mut flow, 0, &batch), 0);
+    advance(&rt, &mut flow, 100, Pause::Blocked);
+    drain_words(&rt, &mut flow, 1, &[15]);
+    advance(&rt, &mut flow, 100, Pause::Starved);
+    drain_words(&rt, &mut flow, 1, &[21]);
 }
 
 #[test]
