@@ -1,0 +1,11 @@
+-- What a builder adds to a sketch.
+use Rattle.std.specs.Prelude.{ℕ, ℤ, List}
+use Rattle.kpn_sketch.specs.declared.sketch.ProcessSketch.{ProcessSketch}
+use Rattle.kpn_sketch.specs.declared.sketch.ChannelSketch.{ChannelSketch}
+use Rattle.kpn_builder.specs.declared.builder.NewChannel.{NewChannel}
+
+abbrev pub process_of : List ℕ → List ℕ → List ℤ → ProcessSketch
+process_of name kind args = record { name = name; kind = kind; args = args }
+
+abbrev pub channel_of : NewChannel → ChannelSketch
+channel_of c = record { name = c.name.now; from = c.from.now; to = c.to.now; out = c.out; input = c.input; sort = c.sort; capacity = c.capacity; tokens = c.tokens.now }

@@ -1,0 +1,67 @@
+-- The document of TOML that says what a sketch says, with every key that its version has.
+use Rattle.std.specs.Prelude.{ℕ, ℤ, pos, Bool, ◌&&◌, ◌||◌, ◌==◌, if◌then◌else◌, codes, List, length, map}
+use Rattle.std.specs.List.{list_all}
+use Rattle.std.specs.Ordering.{int_eq, nat_cmp, match_ordering}
+use Rattle.std.specs.Cmp.Lexicographic.{slice_cmp}
+use Rattle.toml.specs.Data.{Data, string, integer, boolean, array, table, Members, no_members, member}
+use Rattle.toml.specs.View.{items_of}
+use Rattle.kpn_model.specs.Version.{is_two}
+use Rattle.kpn_model.specs.declared.token.Sort.{Sort}
+use Rattle.kpn_model.specs.declared.token.Sort.TheVariants.{Words, Flags}
+use Rattle.kpn_sketch.specs.declared.sketch.TokenSketch.{TokenSketch}
+use Rattle.kpn_sketch.specs.declared.sketch.TokenSketch.TheVariants.{Integer, Boolean}
+use Rattle.kpn_sketch.specs.declared.sketch.ProcessSketch.{ProcessSketch}
+use Rattle.kpn_sketch.specs.declared.sketch.ChannelSketch.{ChannelSketch}
+use Rattle.kpn_sketch.specs.declared.sketch.Sketch.{Sketch}
+
+-- a table with one more member, at its place in the order of the keys
+abbrev pub with_member : List ℕ → Data → Members → Members
+with_member k d no_members = member k d no_members
+with_member k d (member l e ms) = match_ordering (slice_cmp nat_cmp k l) (member k d (member l e ms)) (member l d ms) (member l e (with_member k d ms))
+
+abbrev pub token_value : TokenSketch → Data
+token_value (Integer z) = integer z
+token_value (Boolean b) = boolean b
+
+abbrev pub sort_value : Sort → Data
+sort_value Words = string (codes "words")
+sort_value Flags = string (codes "flags")
+
+abbrev pub process_value : ProcessSketch → Data
+process_value p = table (member (codes "args") (array (items_of (map integer p.args))) (member (codes "kind") (string p.kind) (member (codes "name") (string p.name) no_members)))
+
+-- version 2 alone has start tokens
+abbrev pub last_members : Bool → ChannelSketch → Members
+last_members two c = member (codes "to") (string c.to) (if two then member (codes "tokens") (array (items_of (map token_value c.tokens))) no_members else no_members)
+
+abbrev pub channel_value : Bool → ChannelSketch → Data
+channel_value two c = table (
+    member (codes "capacity") (integer c.capacity) (
+    member (codes "from") (string c.from) (
+    member (codes "in") (integer c.input) (
+    member (codes "name") (string c.name) (member (codes "out") (integer c.out) (member (codes "sort") (sort_value c.sort) (last_members two c)))
+    )
+    )
+    )
+    )
+
+-- version 2 alone has a step
+abbrev pub version_members : Sketch → Members
+version_members s =
+    let version = member (codes "version") (integer s.version) no_members in
+    if is_two s.version then member (codes "step") (integer s.step) version else version
+
+abbrev pub sketch_members : Sketch → Members
+sketch_members s =
+    member (codes "budget") (integer s.budget) (
+    member (codes "channel") (array (items_of (map (channel_value (is_two s.version)) s.channels))) (
+    member (codes "process") (array (items_of (map process_value s.processes))) (version_members s)
+    )
+    )
+
+-- a description can say all that the sketch says: in version 2, or with a step of 1 and without start tokens
+abbrev pub has_no_tokens : ChannelSketch → Bool
+has_no_tokens c = length c.tokens == 0
+
+abbrev pub is_describable : Sketch → Bool
+is_describable s = is_two s.version || (int_eq s.step (pos 1) && list_all has_no_tokens s.channels)

@@ -1,0 +1,246 @@
+//! A description that is built.
+ghost use Rattle.std.specs.Prelude.{◌≡◌, ◌≢◌, ◌⊎◌, ◌++◌, ◌∷◌, [], pos, Some, None, IfOk, IfErr, IfSome, OnOk, OnErr, string_bytes};
+ghost use Rattle.kpn_model.specs.Valid.{IsValid};
+ghost use Rattle.kpn_model.specs.declared.limits.TheConstants.{DEFAULT_BUDGET};
+ghost use Rattle.kpn_sketch.specs.Description.{Describes};
+ghost use Rattle.kpn_net.specs.Faults.{first_fault};
+ghost use Rattle.kpn_net.specs.Sketched.{net_of};
+ghost use Rattle.kpn_builder.specs.Built.{channel_of, process_of};
+
+use crate::message::sketch_message;
+use crate::text::{TextFault, to_toml};
+use kpn_model::limits::DEFAULT_BUDGET;
+use kpn_model::{Kinds, Listed, Sort, Text};
+use kpn_net::{Check, Net};
+use kpn_sketch::{ChannelSketch, NetFault, ProcessSketch, Sketch, TokenSketch};
+use std::alloc::{AllocError, Global};
+use std::marker::Model;
+
+/// A channel that is to be: its name and the names of the processes that it leads from and to. What a
+/// description may leave out is as there: it leads from output 0 to input 0, carries words, holds at
+/// most one token and at first none.
+///
+/// `NewChannel::new("later", "cp", "late").out(1).capacity(16)` leads from output 1 of `cp`.
+#[derive(Clone, Copy)]
+pub struct NewChannel<'a> {
+    name: &'a str,
+    from: &'a str,
+    to: &'a str,
+    out: i64,
+    input: i64,
+    sort: Sort,
+    capacity: i64,
+    tokens: &'a [TokenSketch],
+}
+
+impl<'a> NewChannel<'a> {
+    /// A channel of words from output 0 to input 0, with room for one token.
+    pub fn new(name: &'a str, from: &'a str, to: &'a str) -> NewChannel<'a>
+        ensures names { (result.name.now ≡ name.now) × (result.from.now ≡ from.now) × (result.to.now ≡ to.now) }
+        ensures ports { (result.out ≡ pos 0) × (result.input ≡ pos 0) }
+        ensures sort { result.sort ≡ Sort.Words }
+        ensures capacity { result.capacity ≡ pos 1 }
+        ensures tokens { result.tokens.now ≡ [] }
+    {
+        NewChannel {
+            name,
+            from,
+            to,
+            out: 0,
+            input: 0,
+            sort: Sort::Words,
+            capacity: 1,
+            tokens: &[],
+        }
+    }
+
+    /// The same, from this output, counted from 0.
+    pub fn out(self, out: i64) -> NewChannel<'a>
+        ensures { result ≡ record self.entry { out = out } }
+    {
+        NewChannel { out, ..self }
+    }
+
+    /// The same, to this input, counted from 0.
+    pub fn input(self, input: i64) -> NewChannel<'a>
+        ensures { result ≡ record self.entry { input = input } }
+    {
+        NewChannel { input, ..self }
+    }
+
+    /// The same, of flags.
+    pub fn flags(self) -> NewChannel<'a>
+        ensures { result ≡ record self.entry { sort = Sort.Flags } }
+    {
+        NewChannel {
+            sort: Sort::Flags,
+            ..self
+        }
+    }
+
+    /// The same, with room for so many tokens.
+    pub fn capacity(self, capacity: i64) -> NewChannel<'a>
+        ensures { result ≡ record self.entry { capacity = capacity } }
+    {
+        NewChannel { capacity, ..self }
+    }
+
+    /// The same, with these tokens at first, in the order in which they are read.
+    pub fn tokens(self, tokens: &'a [TokenSketch]) -> NewChannel<'a>
+        ensures { result ≡ record self.entry { tokens = tokens.entry } }
+    {
+        NewChannel { tokens, ..self }
+    }
+
+    // The channel as a description has it.
+    fn to_sketch(self, alloc: Global) -> Result<ChannelSketch, AllocError>
+        ensures { IfOk result (λ c. c ≡ channel_of self.entry) }
+    {
+        Ok(ChannelSketch {
+            name: text_of(alloc, self.name)?,
+            from: text_of(alloc, self.from)?,
+            to: text_of(alloc, self.to)?,
+            out: self.out,
+            input: self.input,
+            sort: self.sort,
+            capacity: self.capacity,
+            tokens: Listed::new(Vec::from_slice(alloc, self.tokens)?),
+        })
+    }
+}
+
+/// A description of version 2 that grows by processes and channels. Contracts see it as the sketch that
+/// a text would be read as.
+#[derive(Drop)]
+pub struct Builder {
+    alloc: Global,
+    sketch: Sketch,
+}
+
+impl Model for Builder {
+    ghost use Rattle.std.specs.Prelude.{◌≡◌, pos};
+    ghost use Rattle.kpn_sketch.specs.declared.sketch.Sketch.{Sketch as SketchV};
+
+    ghost Value = { SketchV };
+
+    ghost view = { λ b. b.sketch };
+
+    ghost invariant = { λ b. b.sketch.version ≡ pos 2 };
+}
+
+impl Builder {
+    /// A description without processes and channels, with a budget of 10,000 entries and a step of 1.
+    pub fn new(alloc: Global) -> Builder
+        ensures { result ≡ record { version = pos 2; budget = pos DEFAULT_BUDGET; step = pos 1; processes = []; channels = [] } }
+    {
+        Builder {
+            alloc,
+            sketch: Sketch {
+                version: 2,
+                budget: i64::from(DEFAULT_BUDGET),
+                step: 1,
+                processes: Listed::new(Vec::new(alloc)),
+                channels: Listed::new(Vec::new(alloc)),
+            },
+        }
+    }
+
+    /// Sets the budget: how many entries a run may have.
+    pub fn set_budget(&mut self, budget: i64)
+        ensures { self.new ≡ record self.old { budget = budget } }
+    {
+        self.sketch.budget = budget;
+    }
+
+    /// Sets the step: how much a growth adds to a capacity.
+    pub fn set_step(&mut self, step: i64)
+        ensures { self.new ≡ record self.old { step = step } }
+    {
+        self.sketch.step = step;
+    }
+
+    /// Adds a process, of the kind of this name and with these arguments, after all others. Nothing is
+    /// checked of it.
+    ///
+    /// Errors: memory was refused. Nothing has changed then.
+    pub fn process(&mut self, name: &str, kind: &str, args: &[i64]) -> Result<(), AllocError>
+        ensures added { OnOk result (self.new ≡ record self.old { processes = self.old.processes ++ process_of name.now kind.now args.now ∷ [] }) }
+        ensures refused { OnErr result (self.new ≡ self.old) }
+    {
+        let process = process_in(self.alloc, name, kind, args)?;
+        self.sketch.processes.push(process)
+    }
+
+    /// Adds a channel after all others. Nothing is checked of it.
+    ///
+    /// Errors: memory was refused. Nothing has changed then.
+    pub fn channel(&mut self, channel: NewChannel<'_>) -> Result<(), AllocError>
+        ensures added { OnOk result (self.new ≡ record self.old { channels = self.old.channels ++ channel_of channel.entry ∷ [] }) }
+        ensures refused { OnErr result (self.new ≡ self.old) }
+    {
+        let channel = channel.to_sketch(self.alloc)?;
+        self.sketch.channels.push(channel)
+    }
+
+    /// Returns what was built, as a text would be read.
+    pub fn sketch(&self) -> &Sketch
+        ensures { result.now ≡ self.now }
+    {
+        &self.sketch
+    }
+
+    /// Makes the network of what was built, as `Net::check` does of a text. What was built stays.
+    ///
+    /// Errors: the first fault of the sketch, or memory was refused.
+    pub fn check<K: Kinds>(&self) -> Result<Net<K>, NetFault>
+        ensures ok { IfOk result (λ n. (first_fault K.named K.signature self.now ≡ None) × (n ≡ net_of K.named self.now)) }
+        ensures valid { IfOk result (IsValid K.signature) }
+        ensures fault { IfErr result (λ e. e ≢ NetFault.Memory → first_fault K.named K.signature self.now ≡ Some e) }
+    {
+        Net::<K>::check(self.alloc, &self.sketch)
+    }
+
+    /// Says what is wrong and where, by the names that the caller gave, on one line. `kinds` names the
+    /// kinds that there are. There is no message of `Memory`, of which the fault says all, nor where
+    /// memory is refused.
+    pub fn message<K: Kinds>(&self, fault: NetFault, kinds: &str) -> Option<String>
+        ensures plain { (fault ≡ NetFault.Memory) ⊎ (fault ≡ NetFault.Input) → result ≡ None }
+        ensures said { IfSome result (λ message. string_bytes message ≢ []) }
+    {
+        sketch_message::<K>(self.alloc, &self.sketch, fault, kinds)
+    }
+
+    /// Writes what was built as a description: reading it gives the same sketch.
+    ///
+    /// Errors: memory was refused.
+    pub fn to_toml(&self) -> Result<String, AllocError>
+        ensures { IfOk result (λ text. Describes (string_bytes text) self.now) }
+    {
+        match to_toml(self.alloc, &self.sketch) {
+            Ok(text) => Ok(text),
+            Err(TextFault::Memory) => Err(AllocError),
+            Err(TextFault::Version) => unreachable!(),
+        }
+    }
+}
+
+fn text_of(alloc: Global, text: &str) -> Result<Text, AllocError>
+    ensures { IfOk result (λ t. t ≡ text.now) }
+{
+    Ok(Text::new(String::from_str(alloc, text)?))
+}
+
+fn process_in(
+    alloc: Global,
+    name: &str,
+    kind: &str,
+    args: &[i64],
+) -> Result<ProcessSketch, AllocError>
+    ensures { IfOk result (λ p. p ≡ process_of name.now kind.now args.now) }
+{
+    Ok(ProcessSketch {
+        name: text_of(alloc, name)?,
+        kind: text_of(alloc, kind)?,
+        args: Listed::new(Vec::from_slice(alloc, args)?),
+    })
+}

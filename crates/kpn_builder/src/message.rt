@@ -1,0 +1,28 @@
+//! What is wrong with a sketch, in words.
+ghost use Rattle.std.specs.Prelude.{◌≡◌, ◌≢◌, ◌⊎◌, [], IfSome, None, string_bytes};
+
+use crate::text::to_toml;
+use kpn_message::message_of;
+use kpn_model::Kinds;
+use kpn_sketch::{NetFault, Sketch};
+use std::alloc::Global;
+
+/// What is wrong with a sketch, and where, by the names in it, on one line that no line feed ends.
+///
+/// `fault` is the fault that the sketch was refused for, and `kinds` names the kinds that there are.
+/// There is no message where the fault says all (`Memory` and `Input`), where memory is refused, or
+/// where the sketch has no text (see `to_toml`).
+pub fn sketch_message<K: Kinds>(
+    alloc: Global,
+    sketch: &Sketch,
+    fault: NetFault,
+    kinds: &str,
+) -> Option<String>
+    ensures plain { (fault ≡ NetFault.Memory) ⊎ (fault ≡ NetFault.Input) → result ≡ None }
+    ensures said { IfSome result (λ message. string_bytes message ≢ []) }
+{
+    let Ok(text) = to_toml(alloc, sketch) else {
+        return None;
+    };
+    message_of::<K>(alloc, text.as_bytes(), fault, kinds)
+}

@@ -1,0 +1,94 @@
+//! Sketches as texts.
+ghost use Rattle.std.specs.Prelude.{◌≡◌, ◌↔◌, false, Err, IfOk, length, string_bytes};
+ghost use Rattle.std.specs.List.{list_all};
+ghost use Rattle.toml.specs.View.{table_view};
+ghost use Rattle.kpn_sketch.specs.Description.{Describes};
+ghost use Rattle.kpn_builder.specs.Written.{has_no_tokens, is_describable, sketch_members, version_members};
+
+use crate::value::{ToValue, put};
+use kpn_model::version::is_two;
+use kpn_sketch::{ChannelSketch, Sketch};
+use std::alloc::{AllocError, Global};
+use thiserror::Error;
+use toml::Table;
+
+/// Why a sketch was not written.
+#[derive(Clone, Copy, Debug, PartialEq, Eq, Error)]
+pub enum TextFault {
+    /// No description says it: its version is not 2, and it has a step other than 1, or start tokens.
+    #[error("only descriptions of version 2 have a step and start tokens")]
+    Version,
+    /// Memory was refused.
+    #[error("memory was refused")]
+    Memory,
+}
+
+/// Writes a sketch as a description, with every key that its version has, each table's keys in the
+/// order of their bytes. Reading it gives the same sketch, so it is checked with the same result, and its
+/// network is the same.
+///
+/// Errors: `Version` exactly if no description says what the sketch says; `Memory` if memory was
+/// refused.
+pub fn to_toml(alloc: Global, sketch: &Sketch) -> Result<String, TextFault>
+    ensures text { IfOk result (λ text. Describes (string_bytes text) sketch.now) }
+    ensures version { (result ≡ Err TextFault.Version) ↔ (is_describable sketch.now ≡ false) }
+{
+    if !is_describable(sketch) {
+        return Err(TextFault::Version);
+    }
+    let Ok(table) = table_of(alloc, sketch) else {
+        return Err(TextFault::Memory);
+    };
+    match toml::table_to_string(alloc, &table) {
+        Ok(text) => Ok(text),
+        Err(_) => Err(TextFault::Memory),
+    }
+}
+
+fn has_no_tokens(channel: &ChannelSketch) -> bool
+    ensures { result ≡ has_no_tokens channel.now }
+{
+    channel.tokens.as_slice().is_empty()
+}
+
+fn none_has_tokens(channels: &[ChannelSketch]) -> bool
+    ensures { result ≡ list_all has_no_tokens channels.now }
+{
+    channels.iter().all(|c| has_no_tokens(c))
+}
+
+/// Whether a description can say all that a sketch says.
+fn is_describable(sketch: &Sketch) -> bool
+    ensures { result ≡ is_describable sketch.now }
+{
+    is_two(sketch.version) || (sketch.step == 1 && none_has_tokens(sketch.channels.as_slice()))
+}
+
+/// The members at the top whose keys come last.
+fn version_members(alloc: Global, sketch: &Sketch) -> Result<Table, AllocError>
+    ensures { IfOk result (λ t. table_view t ≡ version_members sketch.now) }
+{
+    let two = is_two(sketch.version);
+    let mut table = Table::new(alloc);
+    let version = sketch.version.to_value(alloc, two)?;
+    put(alloc, &mut table, "version", version)?;
+    if two {
+        put(alloc, &mut table, "step", sketch.step.to_value(alloc, two)?)?;
+    }
+    Ok(table)
+}
+
+/// The document of a sketch.
+fn table_of(alloc: Global, sketch: &Sketch) -> Result<Table, AllocError>
+    ensures { IfOk result (λ t. table_view t ≡ sketch_members sketch.now) }
+{
+    let two = is_two(sketch.version);
+    let mut table = version_members(alloc, sketch)?;
+    let processes = sketch.processes.to_value(alloc, two)?;
+    put(alloc, &mut table, "process", processes)?;
+    let channels = sketch.channels.to_value(alloc, two)?;
+    put(alloc, &mut table, "channel", channels)?;
+    let budget = sketch.budget.to_value(alloc, two)?;
+    put(alloc, &mut table, "budget", budget)?;
+    Ok(table)
+}

@@ -1,0 +1,153 @@
+//! The parts of a sketch as values of TOML.
+ghost use Rattle.std.specs.Prelude.{◌≡◌, Bool, IfOk, OnOk, map};
+ghost use Rattle.toml.specs.Data.{Data, string};
+ghost use Rattle.toml.specs.View.{view, table_view};
+ghost use Rattle.kpn_builder.specs.Written.{with_member, last_members};
+
+use kpn_model::{Listed, Sort, Text};
+use kpn_sketch::{ChannelSketch, ProcessSketch, TokenSketch};
+use std::alloc::{AllocError, Global};
+use toml::{Table, Value};
+
+/// A type of values that a description holds; how depends on whether its version is 2.
+pub(crate) trait ToValue {
+    ghost value: { Bool → Self → Data };
+
+    fn to_value(&self, alloc: Global, two: bool) -> Result<Value, AllocError>
+        ensures { IfOk result (λ v. view v ≡ value two self.now) };
+}
+
+/// Puts a value into a table.
+pub(crate) fn put(
+    alloc: Global,
+    table: &mut Table,
+    key: &str,
+    value: Value,
+) -> Result<(), AllocError>
+    ensures { OnOk result (table_view table.new ≡ with_member key.now (view value) (table_view table.old)) }
+{
+    let key = String::from_str(alloc, key)?;
+    match table.insert(key, value) {
+        Ok(_) => Ok(()),
+        Err(_) => Err(AllocError),
+    }
+}
+
+fn string_value(alloc: Global, text: &str) -> Result<Value, AllocError>
+    ensures { IfOk result (λ v. view v ≡ string text.now) }
+{
+    Ok(Value::from(String::from_str(alloc, text)?))
+}
+
+impl ToValue for i64 {
+    ghost use Rattle.toml.specs.Data.{integer};
+
+    ghost value = { λ two. integer };
+
+    fn to_value(&self, _alloc: Global, _two: bool) -> Result<Value, AllocError> {
+        Ok(Value::from(*self))
+    }
+}
+
+impl ToValue for Text {
+    ghost use Rattle.toml.specs.Data.{string};
+
+    ghost value = { λ two. string };
+
+    fn to_value(&self, alloc: Global, _two: bool) -> Result<Value, AllocError> {
+        string_value(alloc, self.as_str())
+    }
+}
+
+impl ToValue for Sort {
+    ghost use Rattle.kpn_builder.specs.Written.{sort_value};
+
+    ghost value = { λ two. sort_value };
+
+    fn to_value(&self, alloc: Global, _two: bool) -> Result<Value, AllocError> {
+        match self {
+            Sort::Words => string_value(alloc, "words"),
+            Sort::Flags => string_value(alloc, "flags"),
+        }
+    }
+}
+
+impl ToValue for TokenSketch {
+    ghost use Rattle.kpn_builder.specs.Written.{token_value};
+
+    ghost value = { λ two. token_value };
+
+    fn to_value(&self, _alloc: Global, _two: bool) -> Result<Value, AllocError> {
+        match self {
+            TokenSketch::Integer(integer) => Ok(Value::from(*integer)),
+            TokenSketch::Boolean(boolean) => Ok(Value::from(*boolean)),
+        }
+    }
+}
+
+impl<T: ToValue> ToValue for Listed<T> {
+    ghost use Rattle.std.specs.Prelude.{map};
+    ghost use Rattle.toml.specs.Data.{array};
+    ghost use Rattle.toml.specs.View.{items_of};
+
+    ghost value = { λ two xs. array (items_of (map (T.value two) xs)) };
+
+    fn to_value(&self, alloc: Global, two: bool) -> Result<Value, AllocError> {
+        Ok(Value::from(values_of(alloc, two, self.as_slice())?))
+    }
+}
+
+fn values_of<T: ToValue>(alloc: Global, two: bool, items: &[T]) -> Result<Vec<Value>, AllocError>
+    ensures { IfOk result (λ v. map view v.items ≡ map (T.value two) items.now) }
+{
+    let mut values = Vec::new(alloc);
+    for item in items {
+        values.push(item.to_value(alloc, two)?)?;
+    }
+    Ok(values)
+}
+
+impl ToValue for ProcessSketch {
+    ghost use Rattle.kpn_builder.specs.Written.{process_value};
+
+    ghost value = { λ two. process_value };
+
+    fn to_value(&self, alloc: Global, two: bool) -> Result<Value, AllocError> {
+        let mut table = Table::new(alloc);
+        put(alloc, &mut table, "name", self.name.to_value(alloc, two)?)?;
+        put(alloc, &mut table, "kind", self.kind.to_value(alloc, two)?)?;
+        put(alloc, &mut table, "args", self.args.to_value(alloc, two)?)?;
+        Ok(Value::from(table))
+    }
+}
+
+/// The members of a channel whose keys come last.
+fn last_members(alloc: Global, channel: &ChannelSketch, two: bool) -> Result<Table, AllocError>
+    ensures { IfOk result (λ t. table_view t ≡ last_members two channel.now) }
+{
+    let mut table = Table::new(alloc);
+    if two {
+        let tokens = channel.tokens.to_value(alloc, two)?;
+        put(alloc, &mut table, "tokens", tokens)?;
+    }
+    put(alloc, &mut table, "to", channel.to.to_value(alloc, two)?)?;
+    Ok(table)
+}
+
+impl ToValue for ChannelSketch {
+    ghost use Rattle.kpn_builder.specs.Written.{channel_value};
+
+    ghost value = { channel_value };
+
+    fn to_value(&self, alloc: Global, two: bool) -> Result<Value, AllocError> {
+        let mut table = last_members(alloc, self, two)?;
+        put(alloc, &mut table, "sort", self.sort.to_value(alloc, two)?)?;
+        put(alloc, &mut table, "out", self.out.to_value(alloc, two)?)?;
+        put(alloc, &mut table, "name", self.name.to_value(alloc, two)?)?;
+        put(alloc, &mut table, "in", self.input.to_value(alloc, two)?)?;
+        put(alloc, &mut table, "from", self.from.to_value(alloc, two)?)?;
+        let capacity = self.capacity.to_value(alloc, two)?;
+        put(alloc, &mut table, "capacity", capacity)?;
+        Ok(Value::from(table))
+    }
+}
