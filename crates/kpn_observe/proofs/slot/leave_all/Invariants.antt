@@ -1,0 +1,14 @@
+use Rattle.std.proofs.Common.{◌≡◌, ◌+◌, ◌≤◌, length, vec_len}
+use Rattle.std.specs.Prelude.{vec_capacity}
+use Rattle.std.specs.List.{sum_by}
+use Rattle.kpn_monitor.specs.Names.{Shares}
+use Rattle.kpn_observe.proofs.slot.leave_all.Given as goal
+
+abbrev pub invariant-loop-slot : goal.invariant-loop-slot
+invariant-loop-slot g l =
+    (sum_by (λ (s : Shares). s.parts) l.seats.items + sum_by (λ (b : Shares). b.parts) l.slots.items ≡ sum_by (λ (b : Shares). b.parts) l.fn.slots.items)
+    × (length l.seats.items + length l.slots.items ≡ length l.fn.slots.items)
+    × (length l.fn.slots.items ≤ vec_capacity l.seats)
+
+abbrev pub decreases-loop-slot : goal.decreases-loop-slot
+decreases-loop-slot g l = vec_len l.slots

@@ -1,0 +1,55 @@
+//! How the observer and the workers of a run tell each other to stop.
+//!
+//! No contract depends on this.
+
+use std::rt::Clock;
+use std::sync::atomic::{AtomicBool, Ordering};
+use std::sync::{Condvar, Mutex, Wait};
+use std::time::Duration;
+
+/// Whether the workers are done, for which the observer waits; and whether they are to stop, for which
+/// nobody waits.
+#[derive(Drop)]
+pub(crate) struct Bell {
+    is_done: Mutex<bool>,
+    rung: Condvar,
+    stops: AtomicBool,
+}
+
+impl Bell {
+    pub(crate) fn new() -> Bell {
+        Bell {
+            is_done: Mutex::new(false),
+            rung: Condvar::new(),
+            stops: AtomicBool::new(false),
+        }
+    }
+
+    /// Waits until the workers are done, for so long at most. Returns whether they are.
+    pub(crate) fn wait<R: Wait + Clock>(&self, rt: &R, period: Duration) -> bool {
+        let is_done = self.is_done.lock(rt);
+        if *is_done {
+            return true;
+        }
+        let (is_done, _) = self.rung.wait_timeout(rt, is_done, period);
+        *is_done
+    }
+
+    /// The workers are done.
+    pub(crate) fn ring<R: Wait>(&self, rt: &R) {
+        let mut is_done = self.is_done.lock(rt);
+        *is_done = true;
+        drop(is_done);
+        self.rung.notify_all();
+    }
+
+    /// The workers are to stop.
+    pub(crate) fn stop(&self) {
+        self.stops.store(true, Ordering::SeqCst);
+    }
+
+    /// Whether the workers are to stop.
+    pub(crate) fn stops(&self) -> bool {
+        self.stops.load(Ordering::SeqCst)
+    }
+}

@@ -1,0 +1,64 @@
+//! Who looks at a run.
+ghost use Rattle.std.specs.Prelude.{◌≡◌};
+ghost use Rattle.kpn_watch.specs.Shown.{shows};
+
+use crate::bell::Bell;
+use kpn_body::Body;
+use kpn_monitor::{EntryLedger, Monitor};
+use kpn_watch::{Progress, Watcher};
+use std::rt::Clock;
+use std::sync::Wait;
+use std::sync::ledger::Ledger;
+use std::time::Duration;
+
+/// Whether a run is to go on.
+#[derive(Clone, Copy, Debug, PartialEq, Eq)]
+pub enum Wish {
+    GoOn,
+    Stop,
+}
+
+/// Who is shown how far a run has come while it goes on, and may stop it. It is called in a thread of its
+/// own, and may wait; the workers don't wait for it, but the run returns only after it.
+pub trait Observer: Sync {
+    /// Called with how many entries the history has, how many of them are growths, and whether the run
+    /// has ended. If it wishes to stop, the workers finish what they hold and take nothing more.
+    fn see(&self, progress: Progress) -> Wish;
+}
+
+/// Looks once in each period, and once more when the workers are done.
+pub(crate) fn observe<B: Body, E: EntryLedger, O: Ledger, R: Wait + Clock, V: Observer>(
+    rt: &R,
+    monitor: &Monitor<B, E, O>,
+    watcher: Watcher,
+    bell: &Bell,
+    period: Duration,
+    observer: &V,
+)
+    requires { watcher.board ≡ E.board }
+{
+    let mut watcher = watcher;
+    for _ in rt.forever() {
+        let is_done = bell.wait(rt, period);
+        let progress = look(monitor, &mut watcher);
+        if observer.see(progress) == Wish::Stop {
+            bell.stop();
+        }
+        if is_done {
+            return;
+        }
+    }
+    unreachable!()
+}
+
+/// How far the history has come. Takes no lock.
+fn look<B: Body, E: EntryLedger, O: Ledger>(
+    monitor: &Monitor<B, E, O>,
+    watcher: &mut Watcher,
+) -> Progress
+    requires { watcher.old.board ≡ E.board }
+    ensures board { watcher.new.board ≡ E.board }
+    ensures shown { result ≡ shows watcher.new.entries watcher.new.phase }
+{
+    monitor.look(watcher)
+}

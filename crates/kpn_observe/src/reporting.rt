@@ -1,0 +1,57 @@
+//! The report of what a machine left behind, whoever ran it.
+ghost use Rattle.std.specs.Prelude.{◌≡◌, Some, is_some, IfOk, IfSome};
+ghost use Rattle.kpn_model.specs.declared.history.End.{End as EndV};
+ghost use Rattle.kpn_model.specs.Network.{family_of};
+ghost use Rattle.kpn_report.specs.Reported.{IsReport};
+ghost use Rattle.kpn_run.specs.Reports.{IsEveryRuns, IsOutcome, TellsLeastSolution};
+ghost use Rattle.kpn_observe.specs.Accounts.{Tells};
+
+use kpn_laws::{determinacy_of, least_solution_of};
+use kpn_machine::Chronicle;
+use kpn_model::{End, Kinds};
+use kpn_report::{Report, places_of, report_of};
+use std::alloc::{AllocError, Global};
+
+/// Returns the report of what a machine left behind, as `kpn_run::report` does of a `Finish`: of a run
+/// that was watched (`WatchedRun::chronicle`), or that threads of your own worked at
+/// (`Closed::into_chronicle` of `kpn_monitor`). There is none exactly if the run has no end, since it
+/// was stopped or given up.
+///
+/// It tells why the run ended, and its detail if it came to its own end; that detail is the one of every
+/// run of the network that is over, whatever the schedule and the number of workers, and its streams
+/// are below every solution of the network's equations, and the least one if the run terminated or
+/// ended in a deadlock (Kahn 1974, Parks 1995). Errors: memory was refused.
+pub fn chronicle_report<K: Kinds>(
+    alloc: Global,
+    chronicle: &Chronicle<K>,
+) -> Result<Option<Report>, AllocError>
+    ensures some { IfOk result (λ r. is_some r ≡ is_some chronicle.now.end) }
+    ensures tells { (cause : EndV) → chronicle.now.end ≡ Some cause → IfOk result (λ o. IfSome o (λ r. Tells (family_of K.start K.answer_of) chronicle.now cause r.end r.detail)) }
+{
+    let Some(end) = chronicle.end() else {
+        return Ok(None);
+    };
+    let report = report_at(alloc, chronicle, end)?;
+    Ok(Some(report))
+}
+
+fn report_at<K: Kinds>(
+    alloc: Global,
+    chronicle: &Chronicle<K>,
+    end: End,
+) -> Result<Report, AllocError>
+    requires { chronicle.now.end ≡ Some end }
+    ensures end { IfOk result (λ r. r.end ≡ end) }
+    ensures own { IfOk result (λ r. IsReport (family_of K.start K.answer_of) chronicle.now.network end chronicle.now.history chronicle.now.state r.detail) }
+    ensures every { IfOk result (λ r. IsEveryRuns (family_of K.start K.answer_of) chronicle.now.network end r.detail) }
+    ensures any_capacities { IfOk result (λ r. IsOutcome (family_of K.start K.answer_of) chronicle.now.network end chronicle.now.history r.detail) }
+    ensures streams { IfOk result (λ r. TellsLeastSolution (family_of K.start K.answer_of) chronicle.now.network end r.detail) }
+{
+    determinacy_of::<K>();
+    least_solution_of::<K>();
+    chronicle.end();
+    let net = chronicle.net();
+    let places = places_of(alloc, net, chronicle.standings())?;
+    let report = report_of(alloc, net, chronicle.history(), places, end)?;
+    Ok(report)
+}

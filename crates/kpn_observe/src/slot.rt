@@ -1,0 +1,194 @@
+//! The seats of the workers of a run.
+ghost use Rattle.std.specs.Prelude.{◌≡◌, ◌+◌, ◌<◌, ◌≤◌, ℕ, [], length, vec_capacity, slice_index_or};
+ghost use Rattle.std.specs.List.{sum_by};
+ghost use Rattle.kpn_monitor.specs.Names.{Shares};
+
+use crate::bell::Bell;
+use crate::worker::work_until_stopped;
+use kpn_body::{Body, Finished};
+use kpn_monitor::{EntryLedger, Hand, Monitor, Seat};
+use kpn_run::Gate;
+use std::alloc::{AllocError, Global};
+use std::marker::Model;
+use std::rt::Clock;
+use std::sync::Wait;
+use std::sync::ledger::Ledger;
+use std::thread;
+use std::thread::Threads;
+
+/// What a worker of a watched run has: its seat, its hand, and an answer that the monitor refused, if there is
+/// one.
+#[derive(Drop)]
+pub(crate) struct WorkerSlot<B: Body, E: EntryLedger, O: Ledger> {
+    seat: Seat<E, O>,
+    hand: Hand<B>,
+    stranger: Option<Finished<B>>,
+}
+
+impl<B: Body, E: EntryLedger, O: Ledger> Model for WorkerSlot<B, E, O> {
+    ghost use Rattle.kpn_monitor.specs.Names.{Shares};
+
+    ghost Value = { Shares };
+
+    ghost view = { λ b. b.seat };
+}
+
+impl<B: Body, E: EntryLedger, O: Ledger> WorkerSlot<B, E, O> {
+    fn new(seat: Seat<E, O>, hand: Hand<B>) -> WorkerSlot<B, E, O>
+        ensures { result ≡ seat }
+    {
+        WorkerSlot {
+            seat,
+            hand,
+            stranger: None,
+        }
+    }
+
+    fn leave(self) -> (Seat<E, O>, Option<Finished<B>>)
+        ensures { result.0 ≡ self }
+    {
+        let WorkerSlot {
+            seat,
+            hand: _,
+            stranger,
+        } = self;
+        (seat, stranger)
+    }
+
+    fn work<R: Wait + Clock, G: Gate>(
+        &mut self,
+        rt: &R,
+        monitor: &Monitor<B, E, O>,
+        gate: &G,
+        bell: &Bell,
+    )
+        ensures { self.new.parts ≡ self.old.parts }
+    {
+        self.stranger = work_until_stopped(rt, monitor, gate, bell, &mut self.seat, &mut self.hand);
+    }
+}
+
+/// Hands for workers, at least one.
+#[derive(Drop)]
+pub(crate) struct Hands<B: Body> {
+    last: Hand<B>,
+    others: Vec<Hand<B>>,
+}
+
+/// Makes a hand for each worker.
+pub(crate) fn hands_for<B: Body, R: Threads>(
+    rt: &R,
+    alloc: Global,
+    workers: usize,
+) -> Result<Hands<B>, AllocError> {
+    let processors = match thread::available_parallelism(rt) {
+        Ok(count) => count.get(),
+        Err(_) => workers,
+    };
+    let mut others = Vec::with_capacity(alloc, workers)?;
+    for _ in 1..workers {
+        others.push(hand_for(alloc, workers, processors)?)?;
+    }
+    Ok(Hands {
+        last: hand_for(alloc, workers, processors)?,
+        others,
+    })
+}
+
+// A hand of one of so many workers.
+fn hand_for<B: Body>(
+    alloc: Global,
+    workers: usize,
+    processors: usize,
+) -> Result<Hand<B>, AllocError> {
+    let mut hand = Hand::new(alloc, workers)?;
+    hand.know_processors(processors);
+    Ok(hand)
+}
+
+/// Makes a slot for each worker. Each seat has one part, except the last, which has the rest.
+pub(crate) fn seat_all<B: Body, E: EntryLedger, O: Ledger>(
+    seat: Seat<E, O>,
+    workers: usize,
+    hands: Hands<B>,
+    slots: &mut Vec<WorkerSlot<B, E, O>>,
+)
+    requires workers { (0 < workers) × (workers ≤ 16) }
+    requires room { (slots.old.items ≡ []) × (workers ≤ vec_capacity slots.old) }
+    ensures parts { sum_by (λ (b : Shares). b.parts) slots.new.items ≡ seat.parts }
+    ensures some { (0 < length slots.new.items) × (length slots.new.items ≤ workers) }
+{
+    let mut seat = seat;
+    let Hands { last, mut others } = hands;
+    for _i in 1..workers {
+        seat_one(&mut seat, others.pop(), slots);
+    }
+    slots.push_reserved(WorkerSlot::new(seat, last));
+}
+
+// Adds a slot, unless there is no hand for it or the seat has only one part left.
+fn seat_one<B: Body, E: EntryLedger, O: Ledger>(
+    seat: &mut Seat<E, O>,
+    hand: Option<Hand<B>>,
+    slots: &mut Vec<WorkerSlot<B, E, O>>,
+)
+    requires room { length slots.old.items < vec_capacity slots.old }
+    ensures parts { sum_by (λ (b : Shares). b.parts) slots.new.items + seat.new.parts ≡ sum_by (λ (b : Shares). b.parts) slots.old.items + seat.old.parts }
+    ensures len { length slots.new.items ≤ length slots.old.items + 1 }
+    ensures room { vec_capacity slots.new ≡ vec_capacity slots.old }
+{
+    let Some(hand) = hand else {
+        return;
+    };
+    if let Some(split) = seat.split() {
+        slots.push_reserved(WorkerSlot::new(split, hand));
+    }
+}
+
+/// Works at all slots. The calling thread is one worker, and the others are started as threads.
+pub(crate) fn work_all<
+    B: Body,
+    E: EntryLedger + Send + Sync,
+    O: Ledger + Send + Sync,
+    R: Wait + Clock + Threads + Sync,
+    G: Gate,
+>(rt: &R, monitor: &Monitor<B, E, O>, gate: &G, bell: &Bell, slots: &mut Vec<WorkerSlot<B, E, O>>)
+    ensures parts { sum_by (λ (b : Shares). b.parts) slots.new.items ≡ sum_by (λ (b : Shares). b.parts) slots.old.items }
+    ensures len { length slots.new.items ≡ length slots.old.items }
+{
+    work_each(rt, monitor, gate, bell, slots.as_mut_slice());
+}
+
+// As `work_all`, with the clauses stated slot by slot.
+fn work_each<
+    B: Body,
+    E: EntryLedger + Send + Sync,
+    O: Ledger + Send + Sync,
+    R: Wait + Clock + Threads + Sync,
+    G: Gate,
+>(rt: &R, monitor: &Monitor<B, E, O>, gate: &G, bell: &Bell, slots: &mut [WorkerSlot<B, E, O>])
+    ensures { (k : ℕ) (d : Shares) → k < length slots.old → (slice_index_or slots.new k d).parts ≡ (slice_index_or slots.old k d).parts }
+{
+    thread::for_each_mut(rt, slots, 16, &|_, slot| slot.work(rt, monitor, gate, bell));
+}
+
+/// Takes the seats out of all slots. Returns an answer that was refused, if there is one.
+pub(crate) fn leave_all<B: Body, E: EntryLedger, O: Ledger>(
+    mut slots: Vec<WorkerSlot<B, E, O>>,
+    seats: &mut Vec<Seat<E, O>>,
+) -> Option<Finished<B>>
+    requires room { length slots.items ≤ vec_capacity seats.old }
+    requires empty { seats.old.items ≡ [] }
+    ensures parts { sum_by (λ (s : Shares). s.parts) seats.new.items ≡ sum_by (λ (b : Shares). b.parts) slots.items }
+    ensures len { length seats.new.items ≡ length slots.items }
+{
+    let mut lost = None;
+    while let Some(slot) = slots.pop() {
+        let (seat, stranger) = slot.leave();
+        seats.push_reserved(seat);
+        if let Some(finished) = stranger {
+            lost = Some(finished);
+        }
+    }
+    lost
+}

@@ -1,0 +1,89 @@
+//! A run that has ended or was stopped.
+ghost use Rattle.std.specs.Prelude.{◌≡◌, length};
+ghost use Rattle.kpn_model.specs.Network.{family_of};
+ghost use Rattle.kpn_monitor.specs.Kept.{IsAccount};
+
+use kpn_machine::{Chronicle, Standing};
+use kpn_model::{End, Entry, Kinds};
+use kpn_monitor::{Closed, EntryLedger};
+use kpn_network::Net;
+use std::marker::Model;
+
+/// A run that has ended, or that its observer stopped: what its machine left behind, and as many
+/// receipts as entries.
+///
+/// The history of a stopped run is a run too: each entry is one of a commit under the lock, and what the
+/// workers held is in it.
+#[derive(Drop)]
+pub struct WatchedRun<K: Kinds> {
+    chronicle: Chronicle<K>,
+    receipts: u64,
+}
+
+impl<K: Kinds> Model for WatchedRun<K> {
+    ghost use Rattle.std.specs.Prelude.{◌≡◌, length};
+    ghost use Rattle.kpn_monitor.specs.Names.{Account};
+
+    ghost Value = { Account };
+
+    ghost view = { λ r. record { machine = r.chronicle; receipts = r.receipts } };
+
+    ghost invariant = { λ r. length r.chronicle.history ≡ r.receipts };
+}
+
+impl<K: Kinds> WatchedRun<K> {
+    pub(crate) fn of<E: EntryLedger>(closed: Closed<K, E>) -> WatchedRun<K>
+        ensures { (result.machine ≡ closed.machine) × (result.receipts ≡ closed.receipts) }
+    {
+        let receipts = closed.receipts();
+        WatchedRun {
+            chronicle: closed.into_chronicle(),
+            receipts,
+        }
+    }
+
+    /// Returns the network.
+    pub fn net(&self) -> &Net<K>
+        ensures { result.now ≡ self.now.machine.network }
+    {
+        self.chronicle.net()
+    }
+
+    /// Returns what the machine left behind: network, history, standings and end.
+    pub fn chronicle(&self) -> &Chronicle<K>
+        ensures { result.now ≡ self.now.machine }
+    {
+        &self.chronicle
+    }
+
+    /// Returns the entries, in order.
+    pub fn history(&self) -> &[Entry]
+        ensures { result.now ≡ self.now.machine.history }
+    {
+        self.chronicle.history()
+    }
+
+    /// Returns the standing of each process, in order.
+    pub fn standings(&self) -> &[Standing]
+        ensures { result.now ≡ self.now.machine.standings }
+    {
+        self.chronicle.standings()
+    }
+
+    /// Returns the sum of the shares of the workers' seats, which is the number of entries.
+    pub fn receipts(&self) -> u64
+        ensures receipts { result ≡ self.now.receipts }
+        ensures entries { result ≡ length self.now.machine.history }
+    {
+        self.receipts
+    }
+
+    /// Returns how the run ended; `None` if it was stopped before its end. In both cases the history is a
+    /// run from the start of the network, and an end is justified.
+    pub fn end(&self) -> Option<End>
+        ensures end { result ≡ self.now.machine.end }
+        ensures account { IsAccount (family_of K.start K.answer_of) K.admits self.now.machine.network self.now }
+    {
+        self.chronicle.end()
+    }
+}
