@@ -1,0 +1,258 @@
+//! Runs that are watched, and runs that are stopped.
+use crate::checks::same;
+use kpn_body::{Body, answer};
+use kpn_builder::{Builder, NewChannel};
+use kpn_compute::bodies_of;
+use kpn_machine::Standing;
+use kpn_model::{Answer, Card, Kinds, Local, Token};
+use kpn_net::{End, Net};
+use kpn_observe::{
+    Observer, Phase, Progress, WatchedFault, WatchedRun, Wish, chronicle_report, run_watched,
+};
+use kpn_report::report_text;
+use kpn_run::{Gate, Open, stream_of};
+use kpn_standard::Standard;
+use std::alloc::Global;
+use std::marker::Model;
+use std::process::Abort;
+use std::rt::Clock;
+use std::sync::Wait;
+use std::sync::atomic::{AtomicBool, AtomicU64, Ordering};
+use std::thread::Threads;
+use std::time::Duration;
+
+/// The report of a counter to three and its sink.
+const COUNTED: &str = "end terminated
+process src stopped steps 4
+process snk stopped steps 4
+channel c0 put 3 left 0 capacity 1
+entries 8
+stream c0 1 2 3
+";
+
+fn often() -> Duration {
+    Duration::from_millis(1)
+}
+
+/// Keeps what it was shown: how often it was asked, the entries of the last time, and whether the run
+/// had ended then; stops once it has seen so many entries.
+#[derive(Drop)]
+struct Witness {
+    stops_at: u64,
+    asked: AtomicU64,
+    entries: AtomicU64,
+    ended: AtomicBool,
+}
+
+impl Witness {
+    fn new(stops_at: u64) -> Witness {
+        Witness {
+            stops_at,
+            asked: AtomicU64::new(0),
+            entries: AtomicU64::new(0),
+            ended: AtomicBool::new(false),
+        }
+    }
+}
+
+impl Observer for Witness {
+    fn see(&self, progress: Progress) -> Wish {
+        self.asked.fetch_add(1, Ordering::SeqCst);
+        let entries = u64::from(progress.entries);
+        self.entries.store(entries, Ordering::SeqCst);
+        let ended = progress.phase != Phase::Running;
+        self.ended.store(ended, Ordering::SeqCst);
+        if entries >= self.stops_at {
+            Wish::Stop
+        } else {
+            Wish::GoOn
+        }
+    }
+}
+
+/// A counter of so many numbers, and a sink for them.
+fn counter<R: Abort>(rt: &R, alloc: Global, numbers: i64) -> Net<Standard> {
+    let mut made = Builder::new(alloc);
+    made.set_budget(2_000_000);
+    made.process("src", "count", &[1, numbers])
+        .expect(rt, "memory");
+    made.process("snk", "sink", &[numbers]).expect(rt, "memory");
+    let wire = NewChannel::new("c0", "src", "snk");
+    made.channel(wire).expect(rt, "memory");
+    made.check().expect(rt, "a fault")
+}
+
+/// Looks at one watched run of a counter to three: both processes write or read thrice and stop.
+fn shows_counter<R: Wait + Clock + Threads + Sync + Abort>(rt: &R, alloc: Global, workers: usize) {
+    let net = counter(rt, alloc, 3);
+    let bodies = bodies_of(alloc, &net).expect(rt, "memory");
+    let witness = Witness::new(u64::MAX);
+    let ran = run_watched(rt, alloc, net, bodies, workers, &Open, often(), &witness);
+    let Ok(run) = ran else {
+        return same(rt, "ran", false, true);
+    };
+    same(rt, "end", run.end(), Some(End::Terminated));
+    same(rt, "entries", run.history().len(), 8);
+    same(rt, "receipts", run.receipts(), 8);
+    same(rt, "shown", witness.entries.load(Ordering::SeqCst), 8);
+    same(rt, "shown end", witness.ended.load(Ordering::SeqCst), true);
+    let asked = witness.asked.load(Ordering::SeqCst);
+    same(rt, "asked", asked >= 2, true);
+    let stream = stream_of(alloc, run.net(), run.history(), 0).expect(rt, "memory");
+    let due = [Token::Word(1), Token::Word(2), Token::Word(3)];
+    same(rt, "stream", stream.as_slice(), &due);
+    tells_counter(rt, alloc, &run);
+}
+
+/// The report of a watched run is what docs/format.md says of this counter.
+fn tells_counter<R: Abort>(rt: &R, alloc: Global, run: &WatchedRun<Standard>) {
+    let report = chronicle_report(alloc, run.chronicle()).expect(rt, "memory");
+    let Some(report) = report else {
+        return same(rt, "report", false, true);
+    };
+    let text = report_text(alloc, run.net(), &report, Some(0)).expect(rt, "memory");
+    same(rt, "text", text.as_str(), COUNTED);
+}
+
+#[test]
+fn a_watched_run_comes_to_its_end(rt: HostRuntime) {
+    for workers in [1, 2, 4, 16] {
+        shows_counter(&rt, rt.alloc(), workers);
+    }
+}
+
+/// A run that is stopped before its start hands all back.
+#[test]
+fn nothing_runs_if_the_observer_stops_at_once(rt: HostRuntime) {
+    let alloc = rt.alloc();
+    let net = counter(&rt, alloc, 3);
+    let bodies = bodies_of(alloc, &net).expect(&rt, "memory");
+    let witness = Witness::new(0);
+    let ran = run_watched(&rt, alloc, net, bodies, 2, &Open, often(), &witness);
+    let Err(WatchedFault::Stopped { net, bodies }) = ran else {
+        return same(&rt, "stopped", false, true);
+    };
+    same(&rt, "processes", net.processes(), 2);
+    same(&rt, "bodies", bodies.len(), 2);
+    same(&rt, "asked", witness.asked.load(Ordering::SeqCst), 1);
+}
+
+/// A number of workers that is too great is refused before the observer is asked.
+#[test]
+fn seventeen_workers_are_refused(rt: HostRuntime) {
+    let alloc = rt.alloc();
+    let net = counter(&rt, alloc, 3);
+    let bodies = bodies_of(alloc, &net).expect(&rt, "memory");
+    let witness = Witness::new(0);
+    let ran = run_watched(&rt, alloc, net, bodies, 17, &Open, often(), &witness);
+    same(
+        &rt,
+        "refused",
+        matches!(ran, Err(WatchedFault::Workers { .. })),
+        true,
+    );
+    same(&rt, "asked", witness.asked.load(Ordering::SeqCst), 0);
+}
+
+/// A card that has a signature, for which the standard family answers after some ten microseconds.
+#[derive(Drop)]
+struct Slow {
+    card: Card,
+}
+
+impl Model for Slow {
+    ghost use Rattle.std.specs.Prelude.{IsSome};
+    ghost use Rattle.kpn_model.specs.declared.kinds.Card.{Card};
+    ghost use Rattle.kpn_body.specs.StandardKinds.{signature};
+
+    ghost Value = { Card };
+
+    ghost view = { λ b. b.card };
+
+    ghost invariant = { λ b. IsSome (signature b.card) };
+}
+
+impl Body for Slow {
+    type Kinds = Standard;
+
+    ghost card = { λ body. body };
+
+    fn card(&self) -> Card {
+        self.card
+    }
+
+    fn answer(&self, local: Local, last: Option<Token>) -> Answer {
+        answer(self.card, local, last)
+    }
+}
+
+/// A gate at which each answer takes some ten microseconds.
+struct Slowly;
+
+impl Gate for Slowly {
+    fn before_commit(&self, process: usize) {
+        let passed = AtomicU64::new(process as u64);
+        for _turn in 0..5_000 {
+            passed.fetch_add(1, Ordering::SeqCst);
+        }
+    }
+}
+
+fn slow_bodies<R: Abort>(rt: &R, alloc: Global, net: &Net<Standard>) -> Vec<Slow> {
+    let mut bodies = Vec::new(alloc);
+    for process in 0..net.processes() {
+        let card = net.card(process);
+        if Standard::signature(&card).is_some() {
+            bodies.push(Slow { card }).expect(rt, "memory");
+        }
+    }
+    bodies
+}
+
+/// What has come out is the beginning of what the counter writes.
+fn begins_as_counted<R: Abort>(rt: &R, alloc: Global, run: &WatchedRun<Standard>) -> u64 {
+    let stream = stream_of(alloc, run.net(), run.history(), 0).expect(rt, "memory");
+    let mut next = 1u64;
+    for token in stream.iter() {
+        same(rt, "token", *token, Token::Word(next));
+        next = next.saturating_add(1);
+    }
+    next.saturating_sub(1)
+}
+
+/// Looks at one run that is stopped after a hundred entries, long before its end.
+fn shows_stopped<R: Wait + Clock + Threads + Sync + Abort>(rt: &R, alloc: Global, workers: usize) {
+    let net = counter(rt, alloc, 500_000);
+    let bodies = slow_bodies(rt, alloc, &net);
+    let witness = Witness::new(100);
+    let ran = run_watched(rt, alloc, net, bodies, workers, &Slowly, often(), &witness);
+    let Ok(run) = ran else {
+        return same(rt, "ran", false, true);
+    };
+    same(rt, "end", run.end(), None);
+    let report = chronicle_report(alloc, run.chronicle()).expect(rt, "memory");
+    same(rt, "report", report.is_some(), false);
+    let entries = run.history().len();
+    same(rt, "some", entries >= 100, true);
+    same(rt, "not all", entries < 1_000_000, true);
+    same(rt, "receipts", run.receipts(), entries as u64);
+    let shown = witness.entries.load(Ordering::SeqCst);
+    same(rt, "shown", shown, entries as u64);
+    for standing in run.standings() {
+        same(
+            rt,
+            "nobody is out",
+            matches!(standing, Standing::Out),
+            false,
+        );
+    }
+    let put = begins_as_counted(rt, alloc, &run);
+    same(rt, "put", put >= 49, true);
+}
+
+#[test]
+fn a_run_is_stopped(rt: HostRuntime) {
+    for workers in [1, 2, 4, 16] {
+        shows_stopped(&rt, rt.alloc(), workers);
+    }
+}
