@@ -41,8 +41,9 @@ pub(crate) fn work_until_stopped<B: Body, E: EntryLedger, O: Ledger, R: Wait + C
     let mut most = 1;
     for _ in rt.forever() {
         let begun = Instant::now(rt).ok();
-        call_all(hand, gate);
-        most = next_most(most, nanos_since(rt, begun));
+        if call_all(hand, gate) {
+            most = next_most(most, nanos_since(rt, begun));
+        }
         let stops = bell.stops();
         match monitor.exchange(rt, hand, seat, if stops { 0 } else { most }) {
             Ok(Next::Over(_)) => return None,
@@ -57,13 +58,16 @@ pub(crate) fn work_until_stopped<B: Body, E: EntryLedger, O: Ledger, R: Wait + C
     unreachable!()
 }
 
-// Calls all tasks of a hand, and asks the gate after each.
-fn call_all<B: Body, G: Gate>(hand: &mut Hand<B>, gate: &G)
+// Calls all tasks of a hand, and asks the gate after each. Returns whether there were any.
+fn call_all<B: Body, G: Gate>(hand: &mut Hand<B>, gate: &G) -> bool
     ensures { hand.new.called ≡ length hand.new.tasks }
 {
+    let mut some = false;
     while let Some(process) = hand.call() {
         gate.before_commit(process);
+        some = true;
     }
+    some
 }
 
 // How many tasks to take after calls that took so many nanoseconds.
