@@ -18,10 +18,10 @@ fn main(rt: HostRuntime) -> ExitCode {
 fn status_of<R: Env + Input + Print + Eprint + AllocGlobal + Wait + Clock + Threads + Sync>(
     rt: &R,
 ) -> u8 {
-    let Ok(words) = words_of(rt) else {
+    let Ok(arguments) = arguments_of(rt) else {
         return say_no_memory(rt);
     };
-    let Ok(texts) = texts_of(rt, &words) else {
+    let Ok(texts) = texts_of(rt, &arguments) else {
         return say_no_memory(rt);
     };
     let mut source = Fallible::new(rt.reader());
@@ -50,15 +50,17 @@ fn say_no_memory<R: Eprint>(rt: &R) -> u8 {
     Status::WrongArguments.code()
 }
 
-fn words_of<R: Env + AllocGlobal>(rt: &R) -> io::Result<Vec<String>> {
-    let words: Vec<String> = env::args(rt)?.collect(rt.alloc())?;
-    Ok(words)
+/// The arguments, the first of which is the program's name.
+fn arguments_of<R: Env + AllocGlobal>(rt: &R) -> io::Result<Vec<String>> {
+    let arguments: Vec<String> = env::args(rt)?.collect(rt.alloc())?;
+    Ok(arguments)
 }
 
-fn texts_of<'a>(rt: &impl AllocGlobal, words: &'a Vec<String>) -> io::Result<Vec<&'a str>> {
-    let mut texts = Vec::with_capacity(rt.alloc(), words.len())?;
-    for word in words {
-        texts.push(word.as_str())?;
+/// The same as slices.
+fn texts_of<'a>(rt: &impl AllocGlobal, arguments: &'a Vec<String>) -> io::Result<Vec<&'a str>> {
+    let mut texts = Vec::with_capacity(rt.alloc(), arguments.len())?;
+    for argument in arguments {
+        texts.push(argument.as_str())?;
     }
     Ok(texts)
 }

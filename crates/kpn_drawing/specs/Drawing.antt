@@ -41,7 +41,7 @@ pub record DrawsRun (net : Network) (status : Status) (text : List ℕ) : Type 0
   pub state : State
   pub cause : End
   pub run : IsRun standard net history state
-  pub bound : MayEnd standard net history state cause
+  pub justified : MayEnd standard net history state cause
   pub status_is : status ≡ Success
   pub text_is : text ≡ run_picture net cause history state
   pub settled : has_report cause ≡ true → (F : List Entry) (N : State) (b : End) → IsFinal standard net F N b → text ≡ digest_picture net (digest standard net b F N)

@@ -23,7 +23,7 @@ use Rattle.kpn_machine.specs.Opening.{cards_of, IsOpenFault}
 use Rattle.kpn_run.proofs.Told.{at_rest, over_of}
 use Rattle.kpn_laws.specs.RoomOfRun.{TakesLeastRoom}
 use Rattle.kpn_laws.specs.StreamsOfRun.{ApproachLeastSolution}
-use Rattle.kpn_report.specs.Text.{end_line, digest_text, text}
+use Rattle.kpn_report.specs.Text.{end_line, digest_text, report_text}
 use Rattle.kpn_front.specs.declared.status.Status.{Status}
 use Rattle.kpn_front.specs.declared.status.Status.TheVariants.{WriteFailed}
 use Rattle.kpn_execute.specs.Execution.{status_of_end, TellsRun}
@@ -33,7 +33,7 @@ module _ (kinds : Family) (net : Network) where
   abbrev text_of : Option ℕ → Digest → List ℕ
   text_of channel d = end_line d.cause ++ digest_text net d channel
 
-  over_text : (cause : End) (E : List Entry) (M : State) (channel : Option ℕ) → IsOver kinds net M cause → text kinds net cause E M channel ≡ text_of channel (digest kinds net cause E M)
+  over_text : (cause : End) (E : List Entry) (M : State) (channel : Option ℕ) → IsOver kinds net M cause → report_text kinds net cause E M channel ≡ text_of channel (digest kinds net cause E M)
   over_text Terminated E M channel over = refl
   over_text Deadlock E M channel over = refl
   over_text Ceiling E M channel over = refl
@@ -41,35 +41,35 @@ module _ (kinds : Family) (net : Network) where
   over_text Memory E M channel over = elim over [ ]
 
   -- two runs that are over have one text
-  one_text : OneDigest kinds → (E F : List Entry) (M N : State) (a b : End) (channel : Option ℕ) → IsFinal kinds net E M a → IsFinal kinds net F N b → text kinds net a E M channel ≡ text kinds net b F N channel
+  one_text : OneDigest kinds → (E F : List Entry) (M N : State) (a b : End) (channel : Option ℕ) → IsFinal kinds net E M a → IsFinal kinds net F N b → report_text kinds net a E M channel ≡ report_text kinds net b F N channel
   one_text one E F M N a b channel e f =
       over_text a E M channel e.over ∙ ap (text_of channel) (one net E F M N a b e f) ∙ sym (over_text b F N channel f.over)
 
 -- an end is justified
-pub bound_by : (kinds : Family) (admits : Card → List ℕ → Option Token → Type 0) (s : MachineView) (cause : End) → IsFaithful kinds admits s → s.end ≡ Some cause → MayEnd kinds s.network s.history s.state cause
-bound_by kinds admits s cause faithful ended = subst (MayStand kinds s.network s.history s.state) ended faithful.bound
+pub justified_by : (kinds : Family) (admits : Card → List ℕ → Option Token → Type 0) (s : MachineView) (cause : End) → IsFaithful kinds admits s → s.end ≡ Some cause → MayEnd kinds s.network s.history s.state cause
+justified_by kinds admits s cause faithful ended = subst (MayStand kinds s.network s.history s.state) ended faithful.bound
 
 -- the text of a run that ended is that of its history
 pub run_told :
     (kinds : Family) (admits : Card → List ℕ → Option Token → Type 0) (s : MachineView) (cause : End) (places : List Place) (channel : Option ℕ) (status : Status) (bytes : List ℕ) → IsFaithful kinds admits s → TakesLeastRoom kinds s.network s.history s.state → ApproachLeastSolution kinds s.network s.history s.state → s.end ≡ Some cause
     → places ≡ each_process s.network (λ p. place_of s.network p (parked_answer (standing s.standings p))) → OneDigest kinds
-    → ((has_report cause ≡ true → places ≡ each_process s.network (λ p. place_of s.network p (wants kinds s.network s.state p))) → bytes ≡ text kinds s.network cause s.history s.state channel)
+    → ((has_report cause ≡ true → places ≡ each_process s.network (λ p. place_of s.network p (wants kinds s.network s.state p))) → bytes ≡ report_text kinds s.network cause s.history s.state channel)
     → status ≡ status_of_end cause → TellsRun kinds s.network channel status bytes
 run_told kinds admits s cause places channel status bytes faithful room streams ended places_are one report status_is =
-    let bound = bound_by kinds admits s cause faithful ended in
+    let justified = justified_by kinds admits s cause faithful ended in
     let told = report (λ has. places_are ∙ at_rest kinds admits s cause faithful ended has) in
     record {
       history = s.history;
       state = s.state;
       cause = cause;
       run = faithful.run;
-      bound = bound;
+      justified = justified;
       room = room;
       streams = streams;
       status_is = status_is;
       text_is = told;
       settled = λ has F N b final.
-          told ∙ one_text kinds s.network one s.history F s.state N cause b channel (record { run = faithful.run; over = over_of kinds s.network cause s.history s.state has bound }) final;
+          told ∙ one_text kinds s.network one s.history F s.state N cause b channel (record { run = faithful.run; over = over_of kinds s.network cause s.history s.state has justified }) final;
     }
 
 -- if all processes are ready, none is out

@@ -12,7 +12,7 @@ use Rattle.kpn_model.specs.Determinacy.{IsRun, IsFinal}
 use Rattle.kpn_model.specs.Endings.{MayEnd, has_report}
 use Rattle.kpn_laws.specs.RoomOfRun.{TakesLeastRoom}
 use Rattle.kpn_laws.specs.StreamsOfRun.{ApproachLeastSolution}
-use Rattle.kpn_report.specs.Text.{text as report_text}
+use Rattle.kpn_report.specs.Text.{report_text}
 use Rattle.kpn_front.specs.declared.status.Status.{Status}
 use Rattle.kpn_front.specs.declared.status.Status.TheVariants.{Success, WrongArguments, BudgetSpent, MemoryRefused, Deadlocked, AtCeiling, WriteFailed, Lost}
 use Rattle.kpn_front.specs.Statuses.{code_of}
@@ -65,7 +65,7 @@ pub record TellsRun (kinds : Family) (net : Network) (channel : Option ℕ) (sta
   pub state : State
   pub cause : End
   pub run : IsRun kinds net history state
-  pub bound : MayEnd kinds net history state cause
+  pub justified : MayEnd kinds net history state cause
   pub room : TakesLeastRoom kinds net history state
   pub streams : ApproachLeastSolution kinds net history state
   pub status_is : status ≡ status_of_end cause

@@ -45,20 +45,20 @@ pub struct Served {
 pub fn serve<'a, I: Source, O: Sink, R: Wait + Clock + Threads + Sync>(
     rt: &R,
     alloc: Global,
-    words: &'a [&'a str],
+    arguments: &'a [&'a str],
     source: &mut I,
     sink: &mut O,
 ) -> Result<Served, WordsFault>
-    ensures served { IfOk result (λ served. (choice : ChoiceV) × IsChoice (map (λ w. w.now) words.entry.now) choice × Serves choice (I.remaining source.old) (I.has_failed source.old) (I.has_failed source.new) (O.takes sink.old) (O.contents sink.old) (O.contents sink.new) served.status served.fault) }
+    ensures served { IfOk result (λ served. (choice : ChoiceV) × IsChoice (map (λ w. w.now) arguments.entry.now) choice × Serves choice (I.remaining source.old) (I.has_failed source.old) (I.has_failed source.new) (O.takes sink.old) (O.contents sink.old) (O.contents sink.new) served.status served.fault) }
     ensures accepted { IfOk result (λ served. served.fault ≡ None → served.message ≡ None) }
     ensures memory { IfOk result (λ served. served.fault ≡ Some NetFault.Memory → served.message ≡ None) }
     ensures input { IfOk result (λ served. served.fault ≡ Some NetFault.Input → served.message ≡ None) }
     ensures said { IfOk result (λ served. IfSome served.message (λ message. string_bytes message ≢ [])) }
-    ensures words { IfErr result (IsWordsFault (map (λ w. w.now) words.entry.now)) }
+    ensures arguments { IfErr result (IsWordsFault (map (λ w. w.now) arguments.entry.now)) }
     ensures untouched { OnErr result ((source.new ≡ source.old) × (sink.new ≡ sink.old)) }
     ensures taken { ReadsAtMost (longest + 1) (I.remaining source.old) (I.remaining source.new) }
 {
-    let choice = read_words(alloc, words)?;
+    let choice = read_words(alloc, arguments)?;
     Ok(serve_choice(rt, alloc, choice, source, sink))
 }
 

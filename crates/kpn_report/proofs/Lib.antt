@@ -1,3 +1,3 @@
+pub mod Tables
 pub mod Tallies
-pub mod Flows
 pub mod Counts

@@ -1,100 +1,57 @@
--- What one more entry adds to what is counted of a history.
-use Rattle.std.proofs.Common.{◌≡◌, ◌≢◌, ◌<◌, ◌≤◌, ◌+◌, ◌==◌, Bool, suc, map, ⊎_elim, ℕ, true, false, cond, List, [], ◌∷◌, ◌++◌, length, get_or, set, refl, sym, ap, ◌∙◌, arith, append-nil, length-append, add-zero, eq-eqb, ne_eqb, get_or-set_same, get_or-set_other}
-use Rattle.std.proofs.lemmas.Bool.{cases_eq, cases_lt}
-use Rattle.std.proofs.lemmas.List.{get_or_past}
+-- What one more entry adds to what is counted and kept of a history; and no count is greater than the number of entries.
+use Rattle.std.proofs.Common.{◌≡◌, ◌≢◌, ◌<◌, ◌≤◌, ◌+◌, ◌==◌, Bool, suc, ℕ, true, false, cond, List, [], ◌∷◌, ◌++◌, length, get_or, set, take, drop, refl, sym, ap, ◌∙◌, arith, append-nil, append_assoc, length-append, add-zero, eq-eqb, ne_eqb}
+use Rattle.std.proofs.lemmas.List.{take_more}
 use Rattle.std.proofs.lemmas.List.FromFn.{fill_by_all}
-use Rattle.std.proofs.lemmas.Simd.{map-map}
-use Rattle.std.specs.List.{range_with_len}
-use Rattle.std.proofs.Math.ListN.{length-set}
 use Rattle.kpn_model.specs.declared.token.Token.{Token}
-use Rattle.kpn_model.specs.declared.history.Deed.{Deed}
 use Rattle.kpn_model.specs.declared.history.Deed.TheVariants.{Took, Put, Stopped}
 use Rattle.kpn_model.specs.declared.history.Entry.{Entry}
 use Rattle.kpn_model.specs.declared.history.Entry.TheVariants.{Did, Grew}
-use Rattle.kpn_model.specs.Network.{Network, channel_of}
-use Rattle.kpn_model.specs.History.{each_process, each_channel, deeds, put_on, taken, growths, grown}
+use Rattle.kpn_model.specs.Network.{Network}
+use Rattle.kpn_model.specs.History.{each_channel, deeds, put_on, stream, taken, growths}
 use Rattle.kpn_laws.proofs.Views.{deeds_push_same, deeds_push_other, deeds_push_grew, put_on-append, taken-append, growths-append, grown_push}
 use Rattle.kpn_report.specs.declared.account.Account.{Account}
-use Rattle.kpn_report.specs.Tally.{account, no_account, account_at, with_put, with_taken, with_capacity, CountsSteps, KeepsAccounts}
+use Rattle.kpn_report.specs.Tally.{account, no_account, account_at, Tabulates, CountsSteps, KeepsAccounts, KeepsStreams, steps_after, accounts_after, streams_after}
+use Rattle.kpn_report.proofs.Tables.{changed, unchanged, at_most}
 
--- if item i of a list is f i for each i, and one item is set to what f' gives, then item i is f' i for each i
-pub places_set : {X : Type 0} (xs : List X) (d : X) (f f' : ℕ → X) (n c : ℕ) (x : X) → length xs ≡ n → ((b : ℕ) → b < n → get_or xs b d ≡ f b) → (c < n → x ≡ f' c) → ((b : ℕ) → b ≢ c → f' b ≡ f b) → (b : ℕ) → b < n → get_or (set xs c x) b d ≡ f' b
-places_set xs d f f' n c x count each here others b within =
-    ⊎_elim
-    (λ (e : b ≡ c). let at : c < length xs = omega arith in let there : c < n = omega arith in ap (λ y. get_or (set xs c x) y d) e ∙ get_or-set_same xs c x d at ∙ here there ∙ ap f' (sym e))
-    (λ ne. get_or-set_other xs c b x d ne ∙ each b within ∙ sym (others b ne))
-    (cases_eq b c)
+-- what is read off a history with one more entry
+ruleset pushes = (put_on-append, taken-append, growths-append, grown_push, length-append, append_assoc, append-nil, add-zero)
 
-pub flip : (b c : ℕ) → b ≢ c → (c == b) ≡ false
+flip : (b c : ℕ) → b ≢ c → (c == b) ≡ false
 flip b c ne = ne_eqb c b (λ e. ne (sym e))
 
-pub same_eqb : (c : ℕ) → (c == c) ≡ true
-same_eqb c = eq-eqb c c refl
+same : (c : ℕ) → (c == c) ≡ true
+same c = eq-eqb c c refl
 
 module _ (net : Network) (E : List Entry) where
-  -- one more entry adds its own parts
-  account_more : (e : Entry) (b : ℕ) → account net (E ++ e ∷ []) b ≡ record { put = length (put_on E b) + length (put_on (e ∷ []) b); taken = length (taken E b) + length (taken (e ∷ []) b); capacity = grown (channel_of net b).capacity (growths E ++ growths (e ∷ [])) b }
-  account_more e b = rw (put_on-append E (e ∷ []) b, taken-append E (e ∷ []) b, growths-append E (e ∷ []), length-append (taken E b) (taken (e ∷ []) b), length-append (put_on E b) (put_on (e ∷ []) b))
-
-  put_same : (p c : ℕ) (t : Token) → account net (E ++ Did p (Put c t) ∷ []) c ≡ with_put (account net E c)
-  put_same p c t = account_more (Did p (Put c t)) c ∙ rw (same_eqb c, append-nil (growths E), add-zero)
-
-  put_other : (p c : ℕ) (t : Token) (b : ℕ) → b ≢ c → account net (E ++ Did p (Put c t) ∷ []) b ≡ account net E b
-  put_other p c t b ne = account_more (Did p (Put c t)) b ∙ rw (flip b c ne, append-nil (growths E), add-zero, add-zero)
-
-  took_same : (p c : ℕ) (t : Token) → account net (E ++ Did p (Took c t) ∷ []) c ≡ with_taken (account net E c)
-  took_same p c t = account_more (Did p (Took c t)) c ∙ rw (same_eqb c, append-nil (growths E), add-zero)
-
-  took_other : (p c : ℕ) (t : Token) (b : ℕ) → b ≢ c → account net (E ++ Did p (Took c t) ∷ []) b ≡ account net E b
-  took_other p c t b ne = account_more (Did p (Took c t)) b ∙ rw (flip b c ne, append-nil (growths E), add-zero, add-zero)
-
-  stopped_all : (p b : ℕ) → account net (E ++ Did p Stopped ∷ []) b ≡ account net E b
-  stopped_all p b = account_more (Did p Stopped) b ∙ rw (append-nil (growths E), add-zero, add-zero)
-
-  grew_same : (c to : ℕ) → account net (E ++ Grew c to ∷ []) c ≡ with_capacity (account net E c) to
-  grew_same c to = account_more (Grew c to) c ∙ rw (add-zero, add-zero, grown_push (growths E) (channel_of net c).capacity c to c, same_eqb c)
-
-  grew_other : (c to b : ℕ) → b ≢ c → account net (E ++ Grew c to ∷ []) b ≡ account net E b
-  grew_other c to b ne = account_more (Grew c to) b ∙ rw (add-zero, add-zero, grown_push (growths E) (channel_of net b).capacity c to b, flip b c ne)
+  steps_kept : (steps : List ℕ) → CountsSteps net E steps → (e : Entry) → CountsSteps net (E ++ e ∷ []) (steps_after steps e)
+  steps_kept steps k (Did p d) = changed 0 (length net.processes) (λ q. length (deeds E q)) steps k (λ q. length (deeds (E ++ Did p d ∷ []) q)) p (get_or steps p 0 + 1) (λ l. rw (k.each p l, deeds_push_same E p d, length-append)) (λ q ne. ap length (deeds_push_other E p q d (flip q p ne)))
+  steps_kept steps k (Grew c to) = unchanged 0 (length net.processes) (λ q. length (deeds E q)) steps k (λ q. length (deeds (E ++ Grew c to ∷ []) q)) (λ q. ap length (deeds_push_grew E c to q))
 
   module _ (accounts : List Account) (k : KeepsAccounts net E accounts) where
-    -- the account of a channel of the network
-    here : (c : ℕ) → c < length net.channels → account_at accounts c ≡ account net E c
-    here c within = k.each c within
+    set_to : (e : Entry) (c : ℕ) (x : Account) → (c < length net.channels → x ≡ account net (E ++ e ∷ []) c) → ((b : ℕ) → b ≢ c → account net (E ++ e ∷ []) b ≡ account net E b) → KeepsAccounts net (E ++ e ∷ []) (set accounts c x)
+    set_to e c x = changed no_account (length net.channels) (account net E) accounts k (account net (E ++ e ∷ [])) c x
 
-    pub keeps_put : (p c : ℕ) (t : Token) → KeepsAccounts net (E ++ Did p (Put c t) ∷ []) (set accounts c (with_put (account_at accounts c)))
-    keeps_put p c t = record {
-      count = length-set accounts c _ ∙ k.count;
-      each = places_set accounts no_account (account net E) (account net (E ++ Did p (Put c t) ∷ [])) (length net.channels) c (with_put (account_at accounts c)) k.count k.each (λ within. ap with_put (here c within) ∙ sym (put_same p c t)) (put_other p c t);
-    }
+    accounts_kept : (e : Entry) → KeepsAccounts net (E ++ e ∷ []) (accounts_after accounts e)
+    accounts_kept (Did p (Put c t)) = set_to (Did p (Put c t)) c _ (λ l. rw (k.each c l) (simp (pushes, same c))) (λ b ne. simp (pushes, flip b c ne))
+    accounts_kept (Did p (Took c t)) = set_to (Did p (Took c t)) c _ (λ l. rw (k.each c l) (simp (pushes, same c))) (λ b ne. simp (pushes, flip b c ne))
+    accounts_kept (Did p Stopped) = unchanged no_account (length net.channels) (account net E) accounts k (account net (E ++ Did p Stopped ∷ [])) (λ b. simp pushes)
+    accounts_kept (Grew c to) = set_to (Grew c to) c _ (λ l. rw (k.each c l) (simp (pushes, same c))) (λ b ne. simp (pushes, flip b c ne))
 
-    pub keeps_took : (p c : ℕ) (t : Token) → KeepsAccounts net (E ++ Did p (Took c t) ∷ []) (set accounts c (with_taken (account_at accounts c)))
-    keeps_took p c t = record {
-      count = length-set accounts c _ ∙ k.count;
-      each = places_set accounts no_account (account net E) (account net (E ++ Did p (Took c t) ∷ [])) (length net.channels) c (with_taken (account_at accounts c)) k.count k.each (λ within. ap with_taken (here c within) ∙ sym (took_same p c t)) (took_other p c t);
-    }
+  module _ (streams : List (List Token)) (k : KeepsStreams net E streams) where
+    as_before : (e : Entry) → ((b : ℕ) → stream net (E ++ e ∷ []) b ≡ stream net E b) → KeepsStreams net (E ++ e ∷ []) streams
+    as_before e = unchanged [] (length net.channels) (stream net E) streams k (stream net (E ++ e ∷ []))
 
-    pub keeps_stopped : (p : ℕ) → KeepsAccounts net (E ++ Did p Stopped ∷ []) accounts
-    keeps_stopped p = record { count = k.count; each = λ c within. k.each c within ∙ sym (stopped_all p c) }
+    streams_kept : (e : Entry) → KeepsStreams net (E ++ e ∷ []) (streams_after streams e)
+    streams_kept (Did p (Put c t)) = changed [] (length net.channels) (stream net E) streams k (stream net (E ++ Did p (Put c t) ∷ [])) c (get_or streams c [] ++ t ∷ []) (λ l. rw (k.each c l) (simp (pushes, same c))) (λ b ne. simp (pushes, flip b c ne))
+    streams_kept (Did p (Took c t)) = as_before (Did p (Took c t)) (λ b. simp pushes)
+    streams_kept (Did p Stopped) = as_before (Did p Stopped) (λ b. simp pushes)
+    streams_kept (Grew c to) = as_before (Grew c to) (λ b. simp pushes)
 
-    pub keeps_grew : (c to : ℕ) → KeepsAccounts net (E ++ Grew c to ∷ []) (set accounts c (with_capacity (account_at accounts c) to))
-    keeps_grew c to = record {
-      count = length-set accounts c _ ∙ k.count;
-      each = places_set accounts no_account (account net E) (account net (E ++ Grew c to ∷ [])) (length net.channels) c (with_capacity (account_at accounts c) to) k.count k.each (λ within. ap (λ a. with_capacity a to) (here c within) ∙ sym (grew_same c to)) (grew_other c to);
-    }
-
-  module _ (steps : List ℕ) (k : CountsSteps net E steps) where
-    one_deed_more : (p : ℕ) (d : Deed) → length (deeds (E ++ Did p d ∷ []) p) ≡ length (deeds E p) + 1
-    one_deed_more p d = rw (deeds_push_same E p d, length-append (deeds E p) (d ∷ [])) refl
-
-    pub counts_did : (p : ℕ) (d : Deed) → CountsSteps net (E ++ Did p d ∷ []) (set steps p (get_or steps p 0 + 1))
-    counts_did p d = record {
-      count = length-set steps p _ ∙ k.count;
-      each = places_set steps 0 (λ q. length (deeds E q)) (λ q. length (deeds (E ++ Did p d ∷ []) q)) (length net.processes) p (get_or steps p 0 + 1) k.count k.each (λ within. ap (λ n. n + 1) (k.each p within) ∙ sym (one_deed_more p d)) (λ q ne. ap length (deeds_push_other E p q d (flip q p ne)));
-    }
-
-    pub counts_grew : (c to : ℕ) → CountsSteps net (E ++ Grew c to ∷ []) steps
-    counts_grew c to = record { count = k.count; each = λ p within. k.each p within ∙ sym (ap length (deeds_push_grew E c to p)) }
+    -- what is left of them
+    pub rests_listed :
+        (accounts : List Account) (rests : List (List Token)) → KeepsAccounts net E accounts → Tabulates [] (length streams) (λ c. drop (account_at accounts c).taken (get_or streams c [])) rests
+        → rests ≡ each_channel net (λ c. drop (length (taken E c)) (stream net E c))
+    rests_listed accounts rests a r = fill_by_all (λ c. drop (length (taken E c)) (stream net E c)) rests (length net.channels) [] (r.count ∙ k.count) (λ c l. r.each c (omega (arith, k.count)) ∙ rw (a.each c l, k.each c l))
 
 fewer_of_choice : {X : Type 0} (b : Bool) (x : X) (xs : List X) (n : ℕ) → length xs ≤ n → length (cond b (x ∷ xs) xs) ≤ suc n
 fewer_of_choice true x xs n h = omega arith
@@ -122,35 +79,30 @@ put_fewer (Did p (Took b t) ∷ es) c = omega (arith, put_fewer es c)
 put_fewer (Did p Stopped ∷ es) c = omega (arith, put_fewer es c)
 put_fewer (Grew b to ∷ es) c = omega (arith, put_fewer es c)
 
--- so no count is greater than the number of entries
-pub few_deeds : (net : Network) (E : List Entry) (steps : List ℕ) → CountsSteps net E steps → (p : ℕ) → get_or steps p 0 ≤ length E
-few_deeds net E steps k p =
-    ⊎_elim
-    (λ within. omega (arith, k.each p within, deeds_fewer E p))
-    (λ past. let out : get_or steps p 0 ≡ 0 = get_or_past steps p 0 (omega (arith, k.count)) in omega arith)
-    (cases_lt p (length net.processes))
-
-pub few_taken : (net : Network) (E : List Entry) (accounts : List Account) → KeepsAccounts net E accounts → (c : ℕ) → (account_at accounts c).taken ≤ length E
-few_taken net E accounts k c =
-    ⊎_elim
-    (λ within. let count : (account_at accounts c).taken ≡ length (taken E c) = ap (λ (a : Account). a.taken) (k.each c within) in omega (arith, taken_fewer E c))
-    (λ past. let out : account_at accounts c ≡ no_account = get_or_past accounts c no_account (omega (arith, k.count)) in let none : (account_at accounts c).taken ≡ 0 = ap (λ (a : Account). a.taken) out in omega arith)
-    (cases_lt c (length net.channels))
-
-pub few_put : (net : Network) (E : List Entry) (accounts : List Account) → KeepsAccounts net E accounts → (c : ℕ) → (account_at accounts c).put ≤ length E
-few_put net E accounts k c =
-    ⊎_elim
-    (λ within. let count : (account_at accounts c).put ≡ length (put_on E c) = ap (λ (a : Account). a.put) (k.each c within) in omega (arith, put_fewer E c))
-    (λ past. let out : account_at accounts c ≡ no_account = get_or_past accounts c no_account (omega (arith, k.count)) in let none : (account_at accounts c).put ≡ 0 = ap (λ (a : Account). a.put) out in omega arith)
-    (cases_lt c (length net.channels))
-
--- the lists of the digest
 module _ (net : Network) (E : List Entry) where
-  pub steps_listed : (steps : List ℕ) → CountsSteps net E steps → steps ≡ each_process net (λ p. length (deeds E p))
-  steps_listed steps k = fill_by_all (λ p. length (deeds E p)) steps (length net.processes) 0 k.count k.each
+  pub few_deeds : (steps : List ℕ) → CountsSteps net E steps → (p : ℕ) → get_or steps p 0 ≤ length E
+  few_deeds steps k = at_most 0 (length net.processes) (λ q. length (deeds E q)) steps k (λ n. n) (length E) refl (deeds_fewer E)
 
-  pub accounts_listed : (accounts : List Account) → KeepsAccounts net E accounts → accounts ≡ each_channel net (account net E)
-  accounts_listed accounts k = fill_by_all (account net E) accounts (length net.channels) no_account k.count k.each
+  module _ (accounts : List Account) (k : KeepsAccounts net E accounts) where
+    pub few_taken : (c : ℕ) → (account_at accounts c).taken ≤ length E
+    few_taken = at_most no_account (length net.channels) (account net E) accounts k (λ a. a.taken) (length E) refl (taken_fewer E)
 
-  pub parts_listed : {X : Type 0} (f : Account → X) (accounts : List Account) → KeepsAccounts net E accounts → map f accounts ≡ each_channel net (λ c. f (account net E c))
-  parts_listed f accounts k = ap (map f) (accounts_listed accounts k) ∙ map-map f (account net E) (range_with_len 0 (length net.channels))
+    pub few_put : (c : ℕ) → (account_at accounts c).put ≤ length E
+    few_put = at_most no_account (length net.channels) (account net E) accounts k (λ a. a.put) (length E) refl (put_fewer E)
+
+-- the next entry of a history
+module _ (net : Network) (history : List Entry) (i : ℕ) (d : Entry) (within : i < length history) where
+  pub steps_next : (old new : List ℕ) → CountsSteps net (take i history) old → new ≡ steps_after old (get_or history i d) → CountsSteps net (take (i + 1) history) new
+  steps_next old new k is = rw (take_more history i d within, is) (steps_kept net (take i history) old k (get_or history i d))
+
+  pub accounts_next : (old new : List Account) → KeepsAccounts net (take i history) old → new ≡ accounts_after old (get_or history i d) → KeepsAccounts net (take (i + 1) history) new
+  accounts_next old new k is = rw (take_more history i d within, is) (accounts_kept net (take i history) old k (get_or history i d))
+
+  pub growths_next : (old new : List (ℕ × ℕ)) → old ≡ growths (take i history) → new ≡ old ++ growths (get_or history i d ∷ []) → new ≡ growths (take (i + 1) history)
+  growths_next old new e is = rw (take_more history i d within, is, e) (simp growths-append)
+
+  pub streams_next : (old new : List (List Token)) → KeepsStreams net (take i history) old → new ≡ streams_after old (get_or history i d) → KeepsStreams net (take (i + 1) history) new
+  streams_next old new k is = rw (take_more history i d within, is) (streams_kept net (take i history) old k (get_or history i d))
+
+  pub stream_next : (c : ℕ) (old new : List Token) → old ≡ stream net (take i history) c → new ≡ old ++ put_on (get_or history i d ∷ []) c → new ≡ stream net (take (i + 1) history) c
+  stream_next c old new e is = rw (take_more history i d within, is, e) (simp pushes)

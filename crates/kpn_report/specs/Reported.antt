@@ -1,13 +1,11 @@
--- A report, its digest and its text.
-use Rattle.std.specs.Prelude.{◌≡◌, ℕ, true, false, List, ◌++◌, Option, Some, None}
+-- A report and its digest.
+use Rattle.std.specs.Prelude.{◌≡◌, true, false, List, Option, Some, None}
 use Rattle.kpn_model.specs.declared.history.End.{End}
-use Rattle.kpn_model.specs.declared.history.End.TheVariants.{Terminated}
 use Rattle.kpn_model.specs.declared.history.Entry.{Entry}
 use Rattle.kpn_model.specs.Network.{Family, Network}
 use Rattle.kpn_model.specs.Semantics.{State}
 use Rattle.kpn_model.specs.Endings.{has_report}
 use Rattle.kpn_model.specs.History.{Digest, digest}
-use Rattle.kpn_report.specs.Text.{end_line, digest_text}
 use Rattle.kpn_report.specs.declared.detail.Detail.{Detail}
 
 -- the digest of this cause and this detail
@@ -22,15 +20,6 @@ digest_with cause d = record {
   growths = d.growths;
   entries = d.entries;
 }
-
--- the digest of a detail; the lines made of it do not depend on the cause
-abbrev pub digest_of : Detail → Digest
-digest_of = digest_with Terminated
-
--- the text of a report: its end, and its detail if there is one
-abbrev pub report_text : Network → End → Option Detail → Option ℕ → List ℕ
-report_text net end None show = end_line end
-report_text net end (Some d) show = end_line end ++ digest_text net (digest_of d) show
 
 -- the report is that of a run to M that ended for this cause
 pub record IsReport (kinds : Family) (net : Network) (cause : End) (E : List Entry) (M : State) (detail : Option Detail) : Type 0 where

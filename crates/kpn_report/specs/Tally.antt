@@ -15,15 +15,22 @@ account net E c = record { put = length (put_on E c); taken = length (taken E c)
 abbrev pub no_account : Account
 no_account = record { put = 0; taken = 0; capacity = 0 }
 
+-- the list has n items, and item i of it is f i
+pub record Tabulates {X : Type 0} (none : X) (n : ℕ) (f : ℕ → X) (xs : List X) : Type 0 where
+  pub count : length xs ≡ n
+  pub each : (i : ℕ) → i < n → get_or xs i none ≡ f i
+
 -- the number of deeds of each process
-pub record CountsSteps (net : Network) (E : List Entry) (steps : List ℕ) : Type 0 where
-  pub count : length steps ≡ length net.processes
-  pub each : (p : ℕ) → p < length net.processes → get_or steps p 0 ≡ length (deeds E p)
+abbrev pub CountsSteps : Network → List Entry → List ℕ → Type 0
+CountsSteps net E steps = Tabulates 0 (length net.processes) (λ p. length (deeds E p)) steps
 
 -- the account of each channel
-pub record KeepsAccounts (net : Network) (E : List Entry) (accounts : List Account) : Type 0 where
-  pub count : length accounts ≡ length net.channels
-  pub each : (c : ℕ) → c < length net.channels → get_or accounts c no_account ≡ account net E c
+abbrev pub KeepsAccounts : Network → List Entry → List Account → Type 0
+KeepsAccounts net E accounts = Tabulates no_account (length net.channels) (account net E) accounts
+
+-- the stream of each channel
+abbrev pub KeepsStreams : Network → List Entry → List (List Token) → Type 0
+KeepsStreams net E streams = Tabulates [] (length net.channels) (stream net E) streams
 
 abbrev pub account_at : List Account → ℕ → Account
 account_at accounts c = get_or accounts c no_account
@@ -38,10 +45,19 @@ with_taken a = record a { taken = a.taken + 1 }
 abbrev pub with_capacity : Account → ℕ → Account
 with_capacity a n = record a { capacity = n }
 
--- the stream of each channel
-pub record KeepsStreams (net : Network) (E : List Entry) (streams : List (List Token)) : Type 0 where
-  pub count : length streams ≡ length net.channels
-  pub each : (c : ℕ) → c < length net.channels → get_or streams c [] ≡ stream net E c
+-- the steps and the accounts after one more entry
+abbrev pub steps_after : List ℕ → Entry → List ℕ
+steps_after steps (Did p d) = set steps p (get_or steps p 0 + 1)
+steps_after steps (Grew c to) = steps
+
+abbrev pub accounts_after_deed : List Account → Deed → List Account
+accounts_after_deed accounts (Took c t) = set accounts c (with_taken (account_at accounts c))
+accounts_after_deed accounts (Put c t) = set accounts c (with_put (account_at accounts c))
+accounts_after_deed accounts Stopped = accounts
+
+abbrev pub accounts_after : List Account → Entry → List Account
+accounts_after accounts (Did p d) = accounts_after_deed accounts d
+accounts_after accounts (Grew c to) = set accounts c (with_capacity (account_at accounts c) to)
 
 -- the streams after one more deed, or one more entry
 abbrev pub streams_after_deed : List (List Token) → Deed → List (List Token)

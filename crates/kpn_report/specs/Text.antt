@@ -75,7 +75,7 @@ module _ (net : Network) where
         ++ flat_map growth_line d.growths ++ codes "entries " ++ decimal d.entries ++ codes "\n" ++ shown_line show
 
 -- the text of a run to M that ended for this cause; if its budget was spent or memory was refused, only the first line
-abbrev pub text : Family → Network → End → List Entry → State → Option ℕ → List ℕ
-text kinds net Budget E M show = end_line Budget
-text kinds net Memory E M show = end_line Memory
-text kinds net cause E M show = end_line cause ++ digest_text net (digest kinds net cause E M) show
+abbrev pub report_text : Family → Network → End → List Entry → State → Option ℕ → List ℕ
+report_text kinds net Budget E M show = end_line Budget
+report_text kinds net Memory E M show = end_line Memory
+report_text kinds net cause E M show = end_line cause ++ digest_text net (digest kinds net cause E M) show

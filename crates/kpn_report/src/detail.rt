@@ -1,12 +1,12 @@
 //! The detail of a report.
-ghost use Rattle.std.specs.Prelude.{◌≡◌, ◌<◌, [], ℕ, true, drop, get_or, length, map, IfOk};
+ghost use Rattle.std.specs.Prelude.{◌≡◌, [], true, drop, get_or, length, map, IfOk};
 ghost use Rattle.kpn_model.specs.declared.history.End.{End as EndV};
 ghost use Rattle.kpn_model.specs.Network.{Family};
 ghost use Rattle.kpn_model.specs.Semantics.{State, wants};
 ghost use Rattle.kpn_model.specs.History.{each_process, place_of, digest};
 ghost use Rattle.kpn_report.specs.Reported.{digest_with, IsReport};
 ghost use Rattle.kpn_model.specs.Endings.{has_report};
-ghost use Rattle.kpn_report.specs.Tally.{account_at};
+ghost use Rattle.kpn_report.specs.Tally.{Tabulates, account_at};
 
 use crate::account::Account;
 use crate::streams::{Stream, Streams, streams_of};
@@ -52,8 +52,7 @@ fn rest(alloc: Global, stream: &[Token], taken: usize) -> Result<Stream, AllocEr
 /// What each channel still holds.
 fn rests(alloc: Global, streams: &[Stream], accounts: &[Account]) -> Result<Vec<Stream>, AllocError>
     requires { length accounts.now ≡ length streams.now }
-    ensures count { IfOk result (λ v. length v.items ≡ length streams.now) }
-    ensures each { IfOk result (λ v. (c : ℕ) → c < length streams.now → get_or v.items c [] ≡ drop (account_at accounts.now c).taken (get_or streams.now c [])) }
+    ensures { IfOk result (λ v. Tabulates [] (length streams.now) (λ c. drop (account_at accounts.now c).taken (get_or streams.now c [])) v.items) }
 {
     let mut rests = Vec::with_capacity(alloc, streams.len())?;
     for c in 0..streams.len() {

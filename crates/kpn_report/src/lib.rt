@@ -8,10 +8,8 @@ mod places;
 mod streams;
 mod tally;
 mod text;
-mod told;
 
 pub use detail::{Detail, Growths, Places, Report, Sizes, Steps, detail_of, report_of};
 pub use places::places_of;
-pub use streams::{Stream, Streams};
-pub use text::report_text;
-pub use told::text_of;
+pub use streams::{Stream, Streams, stream_of};
+pub use text::text_of;

@@ -9,6 +9,7 @@ use kpn_network::Net;
 use std::alloc::{AllocError, Global};
 use std::fmt::Write;
 
+/// The name of a channel; nothing if the network has no such channel.
 fn channel_name<K: Kinds>(net: &Net<K>, c: usize) -> &str
     ensures { result.now ≡ channel_name net.now c }
 {
@@ -19,6 +20,7 @@ fn channel_name<K: Kinds>(net: &Net<K>, c: usize) -> &str
     }
 }
 
+/// Appends the line of a process: its place, and the number of its deeds.
 fn push_process<K: Kinds>(
     out: &mut String,
     net: &Net<K>,
@@ -93,6 +95,7 @@ pub(crate) fn push_growths<K: Kinds>(
     Ok(())
 }
 
+/// Appends a space and a token.
 fn push_token(out: &mut String, token: Token) -> Result<(), AllocError>
     ensures { OnOk result (string_bytes out.new ≡ string_bytes out.old ++ token_part token) }
 {
@@ -102,6 +105,7 @@ fn push_token(out: &mut String, token: Token) -> Result<(), AllocError>
     }
 }
 
+/// Appends some tokens, each after a space.
 fn push_tokens(out: &mut String, tokens: &[Token]) -> Result<(), AllocError>
     ensures { OnOk result (string_bytes out.new ≡ string_bytes out.old ++ flat_map token_part tokens.now) }
 {

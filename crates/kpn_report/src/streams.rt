@@ -1,8 +1,6 @@
 //! The tokens that went through the channels.
-ghost use Rattle.std.specs.Prelude.{◌≡◌, ◌<◌, ◌++◌, ◌∷◌, [], List, length, IfOk, OnOk};
-ghost use Rattle.kpn_model.specs.declared.history.Entry.{Entry as EntryV};
-ghost use Rattle.kpn_model.specs.Network.{Network};
-ghost use Rattle.kpn_model.specs.History.{stream as stream_in, put_on};
+ghost use Rattle.std.specs.Prelude.{◌≡◌, ◌<◌, ◌≤◌, ◌++◌, ◌∷◌, [], length, IfOk, OnOk};
+ghost use Rattle.kpn_model.specs.History.{stream, put_on};
 ghost use Rattle.kpn_report.specs.Tally.{KeepsStreams, streams_after};
 
 use kpn_model::{Deed, Entry, Kinds, Listed, Token};
@@ -26,7 +24,7 @@ fn first_streams<K: Kinds>(alloc: Global, net: &Net<K>) -> Result<Vec<Stream>, A
     Ok(streams)
 }
 
-/// Appends the token that an entry puts to its channel's stream.
+/// Appends the token that an entry puts, to its channel's stream. Fails if memory was refused.
 fn push_put(streams: &mut Vec<Stream>, entry: Entry) -> Result<(), AllocError>
     ensures { OnOk result (streams.new.items ≡ streams_after streams.old.items entry) }
 {
@@ -43,14 +41,6 @@ fn push_put(streams: &mut Vec<Stream>, entry: Entry) -> Result<(), AllocError>
     Ok(())
 }
 
-/// Notes one more entry in the streams. Fails if memory was refused.
-fn note_put(streams: &mut Vec<Stream>, entry: Entry) -> Result<(), AllocError>
-    ensures { OnOk result ((net : Network) (E : List EntryV) → KeepsStreams net E streams.old.items → KeepsStreams net (E ++ entry ∷ []) streams.new.items) }
-{
-    push_put(streams, entry)?;
-    Ok(())
-}
-
 /// The streams of a history, which is read once. Fails if memory was refused.
 pub(crate) fn streams_of<K: Kinds>(
     alloc: Global,
@@ -61,45 +51,44 @@ pub(crate) fn streams_of<K: Kinds>(
 {
     let mut streams = first_streams(alloc, net)?;
     for entry in history {
-        note_put(&mut streams, *entry)?;
+        push_put(&mut streams, *entry)?;
     }
     Ok(streams)
 }
 
-/// Appends the token that an entry puts on this channel to its stream.
-fn push_shown(stream: &mut Stream, channel: usize, entry: Entry) -> Result<(), AllocError>
-    ensures { OnOk result (stream.new ≡ stream.old ++ put_on (entry ∷ []) channel) }
+/// Appends what an entry puts on this channel.
+fn push_put_on(tokens: &mut Vec<Token>, channel: usize, entry: Entry) -> Result<(), AllocError>
+    ensures { OnOk result (tokens.new.items ≡ tokens.old.items ++ put_on (entry ∷ []) channel) }
 {
     match entry {
         Entry::Did {
-            deed: Deed::Put { channel: c, token },
+            deed: Deed::Put { channel: on, token },
             ..
-        } if c == channel => stream.push(token),
+        } if on == channel => {
+            tokens.push(token)?;
+            Ok(())
+        }
         _ => Ok(()),
     }
 }
 
-/// Notes one more entry in the stream of this channel. Fails if memory was refused.
-fn note_shown(stream: &mut Stream, channel: usize, entry: Entry) -> Result<(), AllocError>
-    ensures { OnOk result ((net : Network) (E : List EntryV) → stream.old ≡ stream_in net E channel → stream.new ≡ stream_in net (E ++ entry ∷ []) channel) }
-{
-    push_shown(stream, channel, entry)?;
-    Ok(())
-}
-
-/// The stream of one channel of a history, which is read once. Fails if memory was refused.
-pub(crate) fn stream_of<K: Kinds>(
+/// Returns what went through a channel: its start tokens, and those that the entries put on it, in
+/// order; no tokens if the network has no such channel. Errors: memory was refused.
+pub fn stream_of<K: Kinds>(
     alloc: Global,
     net: &Net<K>,
     history: &[Entry],
     channel: usize,
-) -> Result<Stream, AllocError>
-    requires { channel < length net.now.channels }
-    ensures { IfOk result (λ v. v ≡ stream_in net.now history.now channel) }
+) -> Result<Vec<Token>, AllocError>
+    ensures tokens { channel < length net.now.channels → IfOk result (λ v. v.items ≡ stream net.now history.now channel) }
+    ensures none { length net.now.channels ≤ channel → IfOk result (λ v. v.items ≡ []) }
 {
-    let mut stream = Listed::new(Vec::from_slice(alloc, net.tokens(channel))?);
-    for entry in history {
-        note_shown(&mut stream, channel, *entry)?;
+    if channel >= net.channels() {
+        return Ok(Vec::new(alloc));
     }
-    Ok(stream)
+    let mut tokens = Vec::from_slice(alloc, net.tokens(channel))?;
+    for entry in history {
+        push_put_on(&mut tokens, channel, *entry)?;
+    }
+    Ok(tokens)
 }

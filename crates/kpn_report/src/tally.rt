@@ -1,9 +1,7 @@
 //! What is counted of a history, entry by entry.
-ghost use Rattle.std.specs.Prelude.{◌≡◌, ◌<◌, ◌+◌, ◌^◌, ◌++◌, ◌∷◌, [], ℕ, List, set, get_or, IfOk, OnOk};
-ghost use Rattle.kpn_model.specs.declared.history.Entry.{Entry as EntryV};
-ghost use Rattle.kpn_model.specs.Network.{Network};
+ghost use Rattle.std.specs.Prelude.{◌≡◌, ◌<◌, ◌+◌, ◌^◌, ◌++◌, ◌∷◌, [], ℕ, set, get_or, IfOk, OnOk};
 ghost use Rattle.kpn_model.specs.History.{growths as growths_of};
-ghost use Rattle.kpn_report.specs.Tally.{CountsSteps, KeepsAccounts, with_put, with_taken, with_capacity, account_at};
+ghost use Rattle.kpn_report.specs.Tally.{CountsSteps, KeepsAccounts, with_put, with_taken, with_capacity, account_at, steps_after, accounts_after_deed, accounts_after};
 
 use crate::account::Account;
 use kpn_model::{Deed, Entry, Kinds};
@@ -62,10 +60,10 @@ fn note_capacity(accounts: &mut Vec<Account>, channel: usize, to: usize)
 }
 
 /// Counts what a deed puts or takes.
-fn note_deed(accounts: &mut Vec<Account>, process: usize, deed: Deed)
+fn note_deed(accounts: &mut Vec<Account>, deed: Deed)
     requires few_put { (c : ℕ) → (account_at accounts.old.items c).put + 1 < 2 ^ 64 }
     requires few_taken { (c : ℕ) → (account_at accounts.old.items c).taken + 1 < 2 ^ 64 }
-    ensures { (net : Network) (E : List EntryV) → KeepsAccounts net E accounts.old.items → KeepsAccounts net (E ++ Entry.Did process deed ∷ []) accounts.new.items }
+    ensures { accounts.new.items ≡ accounts_after_deed accounts.old.items deed }
 {
     match deed {
         Deed::Took { channel, .. } => count_taken(accounts, channel),
@@ -84,14 +82,14 @@ fn note(
     requires few_deeds { (p : ℕ) → get_or steps.old.items p 0 + 1 < 2 ^ 64 }
     requires few_put { (c : ℕ) → (account_at accounts.old.items c).put + 1 < 2 ^ 64 }
     requires few_taken { (c : ℕ) → (account_at accounts.old.items c).taken + 1 < 2 ^ 64 }
-    ensures steps { OnOk result ((net : Network) (E : List EntryV) → CountsSteps net E steps.old.items → CountsSteps net (E ++ entry ∷ []) steps.new.items) }
-    ensures accounts { OnOk result ((net : Network) (E : List EntryV) → KeepsAccounts net E accounts.old.items → KeepsAccounts net (E ++ entry ∷ []) accounts.new.items) }
-    ensures growths { OnOk result ((E : List EntryV) → growths.old.items ≡ growths_of E → growths.new.items ≡ growths_of (E ++ entry ∷ [])) }
+    ensures steps { OnOk result (steps.new.items ≡ steps_after steps.old.items entry) }
+    ensures accounts { OnOk result (accounts.new.items ≡ accounts_after accounts.old.items entry) }
+    ensures growths { OnOk result (growths.new.items ≡ growths.old.items ++ growths_of (entry ∷ [])) }
 {
     match entry {
         Entry::Did { process, deed } => {
             count_deed(steps, process);
-            note_deed(accounts, process, deed);
+            note_deed(accounts, deed);
             Ok(())
         }
         Entry::Grew { channel, to } => {

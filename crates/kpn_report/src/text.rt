@@ -1,101 +1,136 @@
-//! The text of a report, from its detail.
-ghost use Rattle.std.specs.Prelude.{◌≡◌, ◌++◌, ◌<◌, [], OnOk, IfOk, length, slice_index_or, string_bytes};
+//! The text of a report.
+ghost use Rattle.std.specs.Prelude.{◌≡◌, ◌++◌, ◌<◌, ◌^◌, ℕ, true, OnOk, IfOk, length, string_bytes};
+ghost use Rattle.kpn_model.specs.Network.{Family};
+ghost use Rattle.kpn_model.specs.Semantics.{State, wants};
+ghost use Rattle.kpn_model.specs.History.{each_process, place_of, digest};
+ghost use Rattle.kpn_model.specs.declared.history.End.TheVariants.{Terminated};
+ghost use Rattle.kpn_report.specs.Tally.{account_at};
+ghost use Rattle.kpn_report.specs.Counted.{counted_line, counted_text, shown_of};
 ghost use Rattle.kpn_model.specs.Parts.{lines_upto};
-ghost use Rattle.kpn_report.specs.Text.{put_count, digest_line, digest_text};
-ghost use Rattle.kpn_report.specs.Reported.{digest_of, report_text};
+ghost use Rattle.kpn_report.specs.Text.{digest_text, report_text};
+ghost use Rattle.kpn_model.specs.Endings.{has_report};
 
-use crate::detail::{Detail, Report};
+use crate::account::Account;
+use crate::detail::has_report;
 use crate::lines::{end_line, push_channel, push_growths, push_processes, push_stream};
-use crate::streams::Stream;
-use kpn_model::{Kinds, Token};
+use crate::streams::stream_of;
+use crate::tally::{Tally, tally_of};
+use kpn_model::{End, Entry, Kinds, Place};
 use kpn_network::Net;
 use std::alloc::{AllocError, Global};
 use std::fmt::Write;
 
-/// The tokens of the stream of a channel.
-fn stream_at(streams: &[Stream], c: usize) -> &[Token]
-    ensures { result.now ≡ slice_index_or streams.now c [] }
-{
-    match streams.get(c) {
-        Some(stream) => stream.as_slice(),
-        None => &[],
-    }
-}
-
-/// How many tokens were put on a channel: its stream without its start tokens.
-fn put_count<K: Kinds>(net: &Net<K>, detail: &Detail, c: usize) -> usize
-    requires { c < length net.now.channels }
-    ensures { result ≡ put_count net.now (digest_of detail.now) c }
-{
-    let stream = stream_at(detail.streams.as_slice(), c);
-    stream.len().saturating_sub(net.tokens(c).len())
-}
-
-fn push_channel_of<K: Kinds>(
+/// Appends the line of a channel, from what was counted of it.
+fn push_counted<K: Kinds>(
     out: &mut String,
     net: &Net<K>,
-    detail: &Detail,
+    accounts: &[Account],
     c: usize,
 ) -> Result<(), AllocError>
-    requires { c < length net.now.channels }
-    ensures { OnOk result (string_bytes out.new ≡ string_bytes out.old ++ digest_line net.now (digest_of detail.now) c) }
+    requires channel { c < length net.now.channels }
+    requires all { length accounts.now ≡ length net.now.channels }
+    requires few { (account_at accounts.now c).put < 2 ^ 63 }
+    ensures { OnOk result (string_bytes out.new ≡ string_bytes out.old ++ counted_line net.now accounts.now c) }
 {
-    let put = put_count(net, detail, c);
-    let left = stream_at(detail.rests.as_slice(), c).len();
-    let capacity = detail.capacities.as_slice().get(c).copied().unwrap_or(0);
-    push_channel(out, net, put, left, capacity, c)
+    let account = accounts[c];
+    let left = (net.tokens(c).len() + account.put).saturating_sub(account.taken);
+    push_channel(out, net, account.put, left, account.capacity, c)
 }
 
+/// Appends the lines of the channels, from what was counted of them.
 fn push_channels<K: Kinds>(
     out: &mut String,
     net: &Net<K>,
-    detail: &Detail,
+    accounts: &[Account],
 ) -> Result<(), AllocError>
-    ensures { OnOk result (string_bytes out.new ≡ string_bytes out.old ++ lines_upto (digest_line net.now (digest_of detail.now)) (length net.now.channels)) }
+    requires few { (c : ℕ) → (account_at accounts.now c).put < 2 ^ 63 }
+    requires all { length accounts.now ≡ length net.now.channels }
+    ensures { OnOk result (string_bytes out.new ≡ string_bytes out.old ++ lines_upto (counted_line net.now accounts.now) (length net.now.channels)) }
 {
     for c in 0..net.channels() {
-        push_channel_of(out, net, detail, c)?;
+        push_counted(out, net, accounts, c)?;
     }
     Ok(())
 }
 
-fn push_detail<K: Kinds>(
+/// Appends the line of the channel to show, if there is one.
+fn push_shown<K: Kinds>(
+    alloc: Global,
     out: &mut String,
     net: &Net<K>,
-    detail: &Detail,
+    history: &[Entry],
     show: Option<usize>,
 ) -> Result<(), AllocError>
-    ensures { OnOk result (string_bytes out.new ≡ string_bytes out.old ++ digest_text net.now (digest_of detail.now) show) }
+    ensures { OnOk result (string_bytes out.new ≡ string_bytes out.old ++ shown_of net.now history.now show) }
 {
-    push_processes(out, net, detail.places.as_slice(), detail.steps.as_slice())?;
-    push_channels(out, net, detail)?;
-    push_growths(out, net, detail.growths.as_slice())?;
-    let entries = detail.entries;
-    write!(out, "entries {entries}\n")?;
     match show {
-        Some(c) => push_stream(out, net, stream_at(detail.streams.as_slice(), c), c),
+        Some(c) => {
+            let tokens = stream_of(alloc, net, history, c)?;
+            push_stream(out, net, tokens.as_slice(), c)
+        }
         None => Ok(()),
     }
 }
 
-/// Returns the text of a report, with the stream of channel `show` if it is given.
+/// Appends the lines of what was counted of a history with this number of entries.
+fn push_tally<K: Kinds>(
+    out: &mut String,
+    net: &Net<K>,
+    places: &[Place],
+    tally: &Tally,
+    entries: usize,
+) -> Result<(), AllocError>
+    requires few { (c : ℕ) → (account_at tally.now.accounts.items c).put < 2 ^ 63 }
+    requires all { length tally.now.accounts.items ≡ length net.now.channels }
+    ensures { OnOk result (string_bytes out.new ≡ string_bytes out.old ++ counted_text net.now places.now tally.now.steps.items tally.now.accounts.items tally.now.growths.items entries) }
+{
+    push_processes(out, net, places, tally.steps.as_slice())?;
+    push_channels(out, net, tally.accounts.as_slice())?;
+    push_growths(out, net, tally.growths.as_slice())?;
+    write!(out, "entries {entries}\n")
+}
+
+/// Appends the lines of a history after the first line.
+fn push_history<K: Kinds>(
+    alloc: Global,
+    out: &mut String,
+    net: &Net<K>,
+    history: &[Entry],
+    places: &[Place],
+    show: Option<usize>,
+) -> Result<(), AllocError>
+    ensures { OnOk result ((kinds : Family) (M : State) → places.now ≡ each_process net.now (λ p. place_of net.now p (wants kinds net.now M p)) → string_bytes out.new ≡ string_bytes out.old ++ digest_text net.now (digest kinds net.now Terminated history.now M) show) }
+{
+    let entries = history.len();
+    let tally = tally_of(alloc, net, history)?;
+    push_tally(out, net, places, &tally, entries)?;
+    push_shown(alloc, out, net, history, show)?;
+    Ok(())
+}
+
+/// Returns the text of the report of a history with this end, with the stream of channel `show` if it
+/// is given. If the end has a detail, `places` are the places where the history left the processes.
 ///
 /// Each line ends in a line feed, and numbers are decimal. The lines are `end` and the cause; for each
 /// process its name, its place and the number of its deeds; for each channel its name, how many tokens
 /// were put on it and are left, and its capacity; each growth; the number of entries; and the stream.
-/// If the budget was spent or memory was refused, there is only the first line. Errors: memory was
-/// refused.
-pub fn report_text<K: Kinds>(
+/// If the budget was spent or memory was refused, there is only the first line. The history is counted
+/// in one pass, and no stream is kept except that of the channel to show, which takes one pass more.
+/// Errors: memory was refused.
+pub fn text_of<K: Kinds>(
     alloc: Global,
     net: &Net<K>,
-    report: &Report,
+    history: &[Entry],
+    places: &[Place],
+    end: End,
     show: Option<usize>,
 ) -> Result<String, AllocError>
-    ensures { IfOk result (λ text. string_bytes text ≡ report_text net.now report.now.end report.now.detail show) }
+    ensures { IfOk result (λ t. (kinds : Family) (M : State) → (has_report end ≡ true → places.now ≡ each_process net.now (λ p. place_of net.now p (wants kinds net.now M p))) → string_bytes t ≡ report_text kinds net.now end history.now M show) }
 {
-    let mut out = end_line(alloc, report.end)?;
-    if let Some(detail) = &report.detail {
-        push_detail(&mut out, net, detail, show)?;
+    let mut out = end_line(alloc, end)?;
+    if !has_report(end) {
+        return Ok(out);
     }
+    push_history(alloc, &mut out, net, history, places, show)?;
     Ok(out)
 }

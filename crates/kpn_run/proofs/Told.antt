@@ -1,21 +1,19 @@
 -- The report of a run, and what it says of other runs.
-use Rattle.std.proofs.Common.{◌≡◌, ◌≢◌, ◌++◌, ◌∷◌, [], ◌<◌, ◌+◌, get_or, ℕ, true, List, Option, Some, length, take, refl, sym, ap, ◌∙◌, append_assoc, subst}
+use Rattle.std.proofs.Common.{◌≡◌, ◌≢◌, [], get_or, ℕ, true, List, Option, Some, length, refl, sym, ap, ◌∙◌, subst}
 use Rattle.std.proofs.Math.Path.{fun_ext}
-use Rattle.std.proofs.lemmas.List.{take_more}
 use Rattle.kpn_model.specs.declared.token.Token.{Token}
 use Rattle.kpn_model.specs.declared.kinds.Card.{Card}
 use Rattle.kpn_model.specs.declared.history.Entry.{Entry}
 use Rattle.kpn_model.specs.declared.history.End.{End}
 use Rattle.kpn_model.specs.declared.history.End.TheVariants.{Terminated, Deadlock, Ceiling, Budget, Memory}
 use Rattle.kpn_model.specs.declared.history.Place.{Place}
-use Rattle.kpn_model.specs.Network.{Family, Network, channel_of, resized}
+use Rattle.kpn_model.specs.Network.{Family, Network, resized}
 use Rattle.kpn_model.specs.Semantics.{State, wants}
 use Rattle.kpn_model.specs.Endings.{IsNatural, IsOver, MayEnd, has_report}
-use Rattle.kpn_model.specs.History.{Digest, each_process, each_channel, place_of, deeds, stream, put_on}
+use Rattle.kpn_model.specs.History.{Digest, each_process, each_channel, place_of, deeds, stream}
 use Rattle.kpn_model.specs.Determinacy.{IsFinal, OneDigest, OneOutcome}
 use Rattle.kpn_laws.specs.Alone.{BeginsWith}
 use Rattle.kpn_laws.specs.Equations.{listed, IsLeastSolution, DigestIsLeastSolution, DigestIsBelow}
-use Rattle.kpn_laws.proofs.Views.{put_on-append}
 use Rattle.kpn_state.specs.Standings.{standing, parked_answer}
 use Rattle.kpn_state.proofs.Placed.{idle_at}
 use Rattle.kpn_machine.specs.MachineView.{MachineView, IsFaithful}
@@ -98,14 +96,3 @@ over_of kinds net Memory E M has bound = cc
 
 pub final_of : (kinds : Family) (net : Network) (f : FinishedRun) → IsFinish kinds net f → has_report f.cause ≡ true → IsFinal kinds net f.machine.history f.machine.state f.cause
 final_of kinds net f finish has = record { run = finish.run; over = over_of kinds net f.cause f.machine.history f.machine.state has finish.bound }
-
--- one more entry
-pub stream_more : (net : Network) (E : List Entry) (e : Entry) (c : ℕ) → stream net (E ++ e ∷ []) c ≡ stream net E c ++ put_on (e ∷ []) c
-stream_more net E e c = ap (λ ts. (channel_of net c).tokens ++ ts) (put_on-append E (e ∷ []) c) ∙ sym (append_assoc (channel_of net c).tokens (put_on E c) (put_on (e ∷ []) c))
-
--- the next entry of a history
-pub stream_next :
-    (net : Network) (history : List Entry) (i : ℕ) (d : Entry) (c : ℕ) (old new : List Token) → i < length history → old ≡ stream net (take i history) c
-    → new ≡ old ++ put_on (get_or history i d ∷ []) c → new ≡ stream net (take (i + 1) history) c
-stream_next net history i d c old new within was is =
-    is ∙ ap (λ ts. ts ++ put_on (get_or history i d ∷ []) c) was ∙ sym (stream_more net (take i history) (get_or history i d) c) ∙ ap (λ E. stream net E c) (sym (take_more history i d within))

@@ -18,6 +18,6 @@ pub use executor::{RunFault, run};
 pub use finish::Finish;
 pub use hold::Hold;
 pub use kpn_model::Place;
-pub use kpn_report::{Detail, Growths, Places, Report, Sizes, Steps, Stream, Streams};
-pub use reporting::{report, stream_of};
+pub use kpn_report::{Detail, Growths, Places, Report, Sizes, Steps, Stream, Streams, stream_of};
+pub use reporting::report;
 pub use worker::{Gate, Open, Worked, work};

@@ -1,14 +1,12 @@
-//! The report of a run that is over, and the stream of a channel.
-ghost use Rattle.std.specs.Prelude.{◌≡◌, ◌<◌, ◌≤◌, ◌∷◌, ◌++◌, [], length, IfOk, MatchOption, OnOk};
+//! The report of a run that is over.
+ghost use Rattle.std.specs.Prelude.{◌≡◌, IfOk};
 ghost use Rattle.kpn_model.specs.Network.{family_of};
-ghost use Rattle.kpn_model.specs.History.{put_on, stream};
 ghost use Rattle.kpn_report.specs.Reported.{IsReport};
 ghost use Rattle.kpn_run.specs.Reports.{IsEveryRuns, IsOutcome, TellsLeastSolution};
 
 use crate::finish::Finish;
 use kpn_laws::{determinacy_of, least_solution_of};
-use kpn_model::{Deed, Entry, Kinds, Token};
-use kpn_network::Net;
+use kpn_model::Kinds;
 use kpn_report::{Report, places_of, report_of};
 use std::alloc::{AllocError, Global};
 
@@ -35,48 +33,4 @@ pub fn report<K: Kinds>(alloc: Global, finish: &Finish<K>) -> Result<Report, All
     let places = places_of(alloc, net, finish.standings())?;
     let report = report_of(alloc, net, finish.history(), places, end)?;
     Ok(report)
-}
-
-/// The token that an entry puts on this channel.
-fn token_put(entry: Entry, channel: usize) -> Option<Token>
-    ensures { MatchOption result (put_on (entry ∷ []) channel ≡ []) (λ t. put_on (entry ∷ []) channel ≡ t ∷ []) }
-{
-    match entry {
-        Entry::Did {
-            process: _,
-            deed: Deed::Put { channel: on, token },
-        } if on == channel => Some(token),
-        _ => None,
-    }
-}
-
-/// Appends what an entry puts on this channel.
-fn push_put(tokens: &mut Vec<Token>, entry: Entry, channel: usize) -> Result<(), AllocError>
-    ensures { OnOk result (tokens.new.items ≡ tokens.old.items ++ put_on (entry ∷ []) channel) }
-{
-    if let Some(token) = token_put(entry, channel) {
-        tokens.push(token)?;
-    }
-    Ok(())
-}
-
-/// Returns what went through a channel: its start tokens, and those that the entries put on it, in
-/// order; no tokens if the network has no such channel. Errors: memory was refused.
-pub fn stream_of<K: Kinds>(
-    alloc: Global,
-    net: &Net<K>,
-    history: &[Entry],
-    channel: usize,
-) -> Result<Vec<Token>, AllocError>
-    ensures tokens { channel < length net.now.channels → IfOk result (λ v. v.items ≡ stream net.now history.now channel) }
-    ensures none { length net.now.channels ≤ channel → IfOk result (λ v. v.items ≡ []) }
-{
-    if channel >= net.channels() {
-        return Ok(Vec::new(alloc));
-    }
-    let mut tokens = Vec::from_slice(alloc, net.tokens(channel))?;
-    for entry in history {
-        push_put(&mut tokens, *entry, channel)?;
-    }
-    Ok(tokens)
 }

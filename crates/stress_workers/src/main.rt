@@ -8,8 +8,8 @@
 use kpn_body::{Body, Standard, answer};
 use kpn_front::{Fallible, load};
 use kpn_net::{Answer, Card, Kinds, Local, Net, Token};
-use kpn_report::report_text;
-use kpn_run::{Hold, report, run};
+use kpn_report::{places_of, text_of};
+use kpn_run::{Hold, run};
 use std::alloc::{AllocError, Global};
 use std::env;
 use std::hint::spin_loop;
@@ -140,8 +140,10 @@ fn play<R: Threads + Wait + Clock + Sync + Input + Print>(
     let Ok(finish) = run(rt, alloc, net, bodies, asked.workers, &gate) else {
         return Err(AllocError);
     };
-    let report = report(alloc, &finish)?;
-    let text = report_text(alloc, finish.net(), &report, None)?;
+    let net = finish.net();
+    let places = places_of(alloc, net, finish.standings())?;
+    let history = finish.history();
+    let text = text_of(alloc, net, history, places.as_slice(), finish.end(), None)?;
     let _ = print!(rt; "{text}");
     Ok(())
 }

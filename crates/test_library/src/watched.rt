@@ -9,7 +9,7 @@ use kpn_net::{End, Net};
 use kpn_observe::{
     Observer, Phase, Progress, WatchedFault, WatchedRun, Wish, chronicle_report, run_watched,
 };
-use kpn_report::report_text;
+use kpn_report::text_of;
 use kpn_run::{Gate, Open, stream_of};
 use kpn_standard::Standard;
 use std::alloc::Global;
@@ -110,7 +110,12 @@ fn tells_counter<R: Abort>(rt: &R, alloc: Global, run: &WatchedRun<Standard>) {
     let Some(report) = report else {
         return same(rt, "report", false, true);
     };
-    let text = report_text(alloc, run.net(), &report, Some(0)).expect(rt, "memory");
+    let Some(detail) = &report.detail else {
+        return same(rt, "detail", false, true);
+    };
+    let places = detail.places.as_slice();
+    let text = text_of(alloc, run.net(), run.history(), places, report.end, Some(0));
+    let text = text.expect(rt, "memory");
     same(rt, "text", text.as_str(), COUNTED);
 }
 

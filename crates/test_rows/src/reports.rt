@@ -3,7 +3,7 @@ use crate::checks::same;
 use crate::texts::COUNTER;
 use kpn_front::load;
 use kpn_net::{Deed, End, Entry, Net, Place, Token};
-use kpn_report::{Detail, Report, report_of, report_text, text_of};
+use kpn_report::{Detail, Report, report_of, text_of};
 use kpn_standard::Standard;
 use std::alloc::Global;
 use std::process::Abort;
@@ -72,31 +72,18 @@ fn network<R: Abort>(rt: &R, alloc: Global) -> Net<Standard> {
     load(alloc, &mut source).expect(rt, "no network")
 }
 
-/// Compares the text of the history that is made at once.
+/// Compares the text of the history.
 fn assert_text<R: Abort>(rt: &R, alloc: Global, net: &Net<Standard>, end: End, lines: &str) {
     let text = text_of(alloc, net, &HISTORY, &PLACES, end, Some(0)).expect(rt, "no text");
-    same(rt, &text.as_str(), &lines, "text at once");
+    same(rt, &text.as_str(), &lines, "text");
 }
 
-/// Compares the text of a report.
-fn assert_report_text<R: Abort>(
-    rt: &R,
-    alloc: Global,
-    net: &Net<Standard>,
-    report: &Report,
-    lines: &str,
-) {
-    let text = report_text(alloc, net, report, Some(0)).expect(rt, "no text");
-    same(rt, &text.as_str(), &lines, "text of the report");
-}
-
-/// The report of the history, with this end; its text and the text that is made at once are compared.
+/// The report of the history, with this end; its text is compared.
 fn report<R: Abort>(rt: &R, alloc: Global, end: End, lines: &str) -> Report {
     let net = network(rt, alloc);
     assert_text(rt, alloc, &net, end, lines);
     let places = Vec::from_slice(alloc, &PLACES).expect(rt, "no memory");
     let report = report_of(alloc, &net, &HISTORY, places, end).expect(rt, "no report");
-    assert_report_text(rt, alloc, &net, &report, lines);
     same(rt, &report.end, &end, "end");
     report
 }

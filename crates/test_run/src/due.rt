@@ -5,8 +5,8 @@ use crate::checks::same;
 use kpn_machine::Standing;
 use kpn_net::Token::Word;
 use kpn_net::{End, Kinds, Token};
-use kpn_report::report_text;
-use kpn_run::{Finish, report, stream_of};
+use kpn_report::{places_of, text_of};
+use kpn_run::{Finish, stream_of};
 use std::alloc::{AllocError, Global};
 use std::process::Abort;
 
@@ -166,7 +166,7 @@ pub(crate) fn compare<K: Kinds, R: Abort>(
     due: &Due,
 ) -> Result<(), AllocError> {
     compare_numbers(rt, finish, due);
-    let text = text_of(alloc, finish, Some(due.show))?;
+    let text = text_of_run(alloc, finish, Some(due.show))?;
     same(rt, "text", text.as_str(), due.text);
     compare_stream(rt, alloc, finish, due.show, due.stream)
 }
@@ -193,13 +193,15 @@ fn stopped_in(standings: &[Standing]) -> usize {
 }
 
 /// The text of a run's report, with the stream of a channel if one is given.
-pub(crate) fn text_of<K: Kinds>(
+pub(crate) fn text_of_run<K: Kinds>(
     alloc: Global,
     finish: &Finish<K>,
     show: Option<usize>,
 ) -> Result<String, AllocError> {
-    let report = report(alloc, finish)?;
-    report_text(alloc, finish.net(), &report, show)
+    let net = finish.net();
+    let places = places_of(alloc, net, finish.standings())?;
+    let history = finish.history();
+    text_of(alloc, net, history, places.as_slice(), finish.end(), show)
 }
 
 /// Compares the stream of a channel with the expected tokens.

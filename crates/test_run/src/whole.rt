@@ -2,7 +2,7 @@
 ghost use Rattle.std.specs.Prelude.{◌<◌, length};
 
 use crate::checks::same;
-use crate::due::{compare_stream, text_of};
+use crate::due::{compare_stream, text_of_run};
 use crate::runs::finish_text;
 use kpn_net::Token::Word;
 use kpn_net::{Deed, End, Entry, Kinds, Token};
@@ -48,7 +48,7 @@ fn compare_whole<K: Kinds, R: Abort>(
         finish.receipts(),
         finish.history().len() as u64,
     );
-    let text = text_of(alloc, finish, None)?;
+    let text = text_of_run(alloc, finish, None)?;
     same(rt, "text", text.as_str(), due.text);
     for (channel, tokens) in due.streams {
         compare_stream(rt, alloc, finish, *channel, tokens)?;

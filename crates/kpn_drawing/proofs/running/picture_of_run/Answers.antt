@@ -3,7 +3,7 @@ use Rattle.std.proofs.Common.{refl, sym, ◌∙◌}
 use Rattle.kpn_standard.specs.Standard.{standard}
 use Rattle.kpn_standard.specs.Admitted.{Admitted}
 use Rattle.kpn_run.proofs.Told.{own_report, every_runs, over_of}
-use Rattle.kpn_execute.proofs.Telling.{bound_by}
+use Rattle.kpn_execute.proofs.Telling.{justified_by}
 use Rattle.kpn_drawing.proofs.Pictures.{own_picture, every_picture}
 use Rattle.kpn_drawing.proofs.running.picture_of_run.Goals as goal
 
@@ -18,15 +18,15 @@ returns c =
     own_report standard Admitted s cause c.in_ok-places.places.items detail faithful ended
     (rw (c.net-net.ensures, c.standings.ensures) at c.in_ok-places.ensures)
     (rw (c.net-net.ensures, c.history.ensures) at (c.in_ok-report.ensures.detail standard s.state)) in
-    let bound = bound_by standard Admitted s cause faithful ended in
-    let every = every_runs standard s.network s.history s.state cause detail own (λ has. record { run = faithful.run; over = over_of standard s.network cause s.history s.state has bound }) c.determinacy_of.ensures.one_digest in
+    let justified = justified_by standard Admitted s cause faithful ended in
+    let every = every_runs standard s.network s.history s.state cause detail own (λ has. record { run = faithful.run; over = over_of standard s.network cause s.history s.state has justified }) c.determinacy_of.ensures.one_digest in
     let drawn = rw (c.net-net.ensures, c.in_ok-report.ensures.end) at c.in_ok-picture.ensures in
     record {
       history = s.history;
       state = s.state;
       cause = cause;
       run = faithful.run;
-      bound = bound;
+      justified = justified;
       status_is = refl;
       text_is = drawn ∙ own_picture s.network cause s.history s.state detail own;
       settled = λ has F N b final. drawn ∙ every_picture s.network cause detail every has F N b final;

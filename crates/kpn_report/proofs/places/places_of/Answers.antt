@@ -1,5 +1,5 @@
 -- One more place.
-use Rattle.std.proofs.Common.{◌++◌, ◌∷◌, [], sym, ap, ◌∙◌, arith}
+use Rattle.std.proofs.Common.{arith}
 use Rattle.std.proofs.lemmas.List.FromFn.{map-range_with_len_more}
 use Rattle.kpn_model.specs.History.{place_of}
 use Rattle.kpn_state.specs.Standings.{standing, parked_answer}
@@ -7,7 +7,10 @@ use Rattle.kpn_report.proofs.places.places_of.Goals as goal
 
 pub loop-process-preserved : goal.loop-process-preserved
 loop-process-preserved g c =
-    c.in_ok-push.ensures.items
-    ∙ (ap (λ xs. xs ++ c.place.result ∷ []) c.loop-process.invariant
-    ∙ rw (c.place.ensures, c.parked-wanted.ensures.is)
-    (sym (map-range_with_len_more (λ p. place_of c.args.net.now p (parked_answer (standing c.args.standings.now p))) 0 c.loop-process.process c.loop-process.process (omega arith))))
+    rw (
+      c.in_ok-push.ensures.items,
+      c.loop-process.invariant,
+      c.place.ensures,
+      c.parked-wanted.ensures.is,
+      map-range_with_len_more (λ p. place_of c.args.net.now p (parked_answer (standing c.args.standings.now p))) 0 c.loop-process.process c.loop-process.process (omega arith),
+    )
