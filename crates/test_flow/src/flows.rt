@@ -70,6 +70,17 @@ pub(crate) fn drain<R: Abort>(rt: &R, flow: &mut CardFlow, channel: usize) -> Op
     flow.drain(channel)
 }
 
+/// Drains an output into a buffer, and returns how many tokens came.
+pub(crate) fn drain_buffer<R: Abort>(
+    rt: &R,
+    flow: &mut CardFlow,
+    channel: usize,
+    buffer: &mut [Token],
+) -> usize {
+    assert!(rt; flow.is_output(channel));
+    flow.drain_into(channel, buffer)
+}
+
 /// Drains an output, which holds these words and no more.
 pub(crate) fn drain_words<R: Abort>(rt: &R, flow: &mut CardFlow, channel: usize, words: &[u64]) {
     for word in words {

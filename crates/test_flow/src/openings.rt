@@ -63,6 +63,6 @@ fn bodies_are_checked_first(rt: HostRuntime) {
     few.bodies.pop();
     refuse(&rt, rt.alloc(), few, &[2], &[], FlowFault::Bodies);
     let mut turned = fresh(&rt, rt.alloc());
-    turned.bodies.as_mut_slice().swap(0, 1);
+    turned.bodies.reverse();
     refuse(&rt, rt.alloc(), turned, &[2], &[], FlowFault::Card);
 }

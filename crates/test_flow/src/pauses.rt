@@ -1,6 +1,6 @@
 //! Flows that are fed and drained, and why each comes back.
 use crate::checks::same;
-use crate::flows::{CardFlow, drain_words, feed, feed_batch, feed_words, flow_of};
+use crate::flows::{CardFlow, drain_buffer, drain_words, feed, feed_batch, feed_words, flow_of};
 use crate::networks::{OUTPUT_AND_GROWTH, RUNNING_SUM, SCALE, SINK_OF_TWO};
 use kpn_flow::Pause;
 use kpn_net::{End, Token};
@@ -75,6 +75,21 @@ fn sums_come_of_two_inputs_and_go_back(rt: HostRuntime) {
     feed_words(&rt, &mut flow, 0, &[0]);
     advance(&rt, &mut flow, 1000, Pause::Starved);
     drain_words(&rt, &mut flow, 5, &[67]);
+}
+
+#[test]
+fn an_output_is_drained_into_a_buffer(rt: HostRuntime) {
+    let mut flow = flow_of(&rt, rt.alloc(), RUNNING_SUM, &[0, 1], &[5]);
+    feed_words(&rt, &mut flow, 0, &[1, 2, 3]);
+    feed_words(&rt, &mut flow, 1, &[10, 20, 30]);
+    advance(&rt, &mut flow, 1000, Pause::Starved);
+    let mut buffer = [Token::Word(0), Token::Word(0)];
+    same(&rt, "two", drain_buffer(&rt, &mut flow, 5, &mut buffer), 2);
+    let both = [Token::Word(11), Token::Word(33)];
+    same(&rt, "sums", buffer.as_slice(), both.as_slice());
+    same(&rt, "one", drain_buffer(&rt, &mut flow, 5, &mut buffer), 1);
+    let one = [Token::Word(66), Token::Word(33)];
+    same(&rt, "the rest stays", buffer.as_slice(), one.as_slice());
 }
 
 #[test]
