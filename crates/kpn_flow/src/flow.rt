@@ -1,14 +1,14 @@
 //! The flow.
-ghost use Rattle.std.specs.Prelude.{◌≡◌, ◌↔◌, ℕ, ◌<◌, ◌≤◌, length, map, take, replicate, IfOk, IfErr, OnOk, IfSome, IfNone, IsTrue, true, false, []};
-ghost use Rattle.kpn_model.specs.Network.{family_of};
-ghost use Rattle.kpn_model.specs.Semantics.{start, tokens, capacity};
+ghost use Rattle.std.specs.Prelude.{◌≡◌, ◌↔◌, ℕ, ◌<◌, ◌≤◌, length, map, take, drop, replicate, IfOk, IfErr, OnOk, IfSome, IfNone, IsTrue, true, false, []};
+ghost use Rattle.kpn_model.specs.Network.{channel_of, family_of};
+ghost use Rattle.kpn_model.specs.Semantics.{start, tokens, capacity, IsBlocked};
 ghost use Rattle.kpn_model.specs.Valid.{IsOfSort};
 ghost use Rattle.kpn_state.specs.declared.standing.Standing.TheVariants.{Ready};
 ghost use Rattle.kpn_machine.specs.Opening.{cards_of};
 ghost use Rattle.kpn_flow.specs.Ends.{IsFlowFault};
 ghost use Rattle.kpn_flow.specs.Events.{Happens, Fed, Drained, Flows};
 ghost use Rattle.kpn_flow.specs.Flows.{flow_view, is_among, AreEnds, IsReached, IsSameFlow, MayFeed, MayFeedAll};
-ghost use Rattle.kpn_flow.specs.Pauses.{Advances};
+ghost use Rattle.kpn_flow.specs.Pauses.{Advances, IsStarving};
 ghost use Rattle.kpn_flow.specs.Pieces.{IsOneRunInPieces};
 ghost use Rattle.kpn_flow.specs.Waits.{starves, holds_up};
 
@@ -142,18 +142,20 @@ impl<B: Body> Flow<B> {
         is_among(self.outputs.as_slice(), channel)
     }
 
-    /// Returns whether the reader of a channel is parked with a read from it: after `Pause::Starved` it
-    /// is so for an input.
+    /// Returns whether the reader of a channel is parked with a read from it: it wants to read from it, and
+    /// the channel is empty. After `Pause::Starved` this tells which input to feed.
     pub fn is_starved(&self, channel: usize) -> bool
-        ensures { result ≡ starves self.now.network self.now.standings channel }
+        ensures parked { result ≡ starves self.now.network self.now.standings channel }
+        ensures starving { IsTrue result → IsStarving (family_of B.Kinds.start B.Kinds.answer_of) self.now.network self.now.state (channel_of self.now.network channel).reader channel }
     {
         starves(&self.net, self.standings.as_slice(), channel)
     }
 
-    /// Returns whether the writer of a channel is parked with a write to it: after `Pause::Blocked` it
-    /// is so for an output.
+    /// Returns whether the writer of a channel is parked with a write to it: it wants to write to it, and
+    /// the channel is full. After `Pause::Blocked` this tells which output to drain.
     pub fn is_held_up(&self, channel: usize) -> bool
-        ensures { result ≡ holds_up self.now.network self.now.standings channel }
+        ensures parked { result ≡ holds_up self.now.network self.now.standings channel }
+        ensures blocked { IsTrue result → IsBlocked (family_of B.Kinds.start B.Kinds.answer_of) self.now.network self.now.state (channel_of self.now.network channel).writer channel }
     {
         holds_up(&self.net, self.standings.as_slice(), channel)
     }
@@ -310,5 +312,27 @@ impl<B: Body> Flow<B> {
             fed += 1;
         }
         fed
+    }
+
+    /// Moves the first tokens of an output to the front of a buffer, in order, as many as there are and as
+    /// the buffer is long, and returns how many.
+    pub fn drain_into(&mut self, channel: usize, buffer: &mut [Token]) -> usize
+        requires { is_among self.old.outputs channel ≡ true }
+        ensures same { IsSameFlow self.old self.new }
+        ensures few { result ≤ length buffer.old }
+        ensures length { length buffer.new ≡ length buffer.old }
+        ensures drained { Flows (family_of B.Kinds.start B.Kinds.answer_of) self.old.network self.old.state (map (Drained channel) (take result buffer.new)) self.new.state }
+        ensures rest { drop result buffer.new ≡ drop result buffer.old }
+        ensures empty { result < length buffer.old → tokens self.new.state channel ≡ [] }
+    {
+        let mut drained = 0;
+        while drained < buffer.len() {
+            let Some(token) = self.drain(channel) else {
+                return drained;
+            };
+            buffer[drained] = token;
+            drained += 1;
+        }
+        drained
     }
 }
