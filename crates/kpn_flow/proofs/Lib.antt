@@ -8,4 +8,5 @@ pub mod Ahead
 pub mod Feeding
 pub mod Kept
 pub mod Mute
+pub mod Untaken
 pub mod Batches

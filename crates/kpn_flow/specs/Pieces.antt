@@ -1,12 +1,21 @@
 -- A flow that is fed and drained in pieces.
-use Rattle.std.specs.Prelude.{◌≡◌, ℕ, ◌+◌, ◌<◌, ◌≤◌, false, List, [], length}
+use Rattle.std.specs.Prelude.{◌≡◌, ℕ, ◌+◌, ◌<◌, ◌≤◌, true, false, List, [], ◌++◌, length}
 use Rattle.kpn_model.specs.declared.token.Token.{Token}
-use Rattle.kpn_model.specs.Network.{Family, channel_of}
-use Rattle.kpn_model.specs.Semantics.{start}
-use Rattle.kpn_model.specs.History.{put_on}
-use Rattle.kpn_flow.specs.Events.{Event, Flows, entries_of}
-use Rattle.kpn_flow.specs.Preloaded.{IsAtEnds, all_fed, IsOneRun}
+use Rattle.kpn_model.specs.Network.{Family, Network, channel_of}
+use Rattle.kpn_model.specs.Semantics.{State, tokens, start}
+use Rattle.kpn_model.specs.History.{put_on, stream}
+use Rattle.kpn_laws.specs.StreamsOfRun.{ApproachLeastSolution}
+use Rattle.kpn_flow.specs.Events.{Event, Flows, entries_of, drained}
+use Rattle.kpn_flow.specs.Preloaded.{IsAtEnds, preloaded, without_growths, all_fed, IsOneRun}
 use Rattle.kpn_flow.specs.Flows.{FlowView, is_among}
+
+-- the deeds are a run of the network that held all the tokens from the start. Its stream on each output is what went out of it, then
+-- what is there, then what is still to come; and its streams approach the least solution of that network's equations (Kahn 1974):
+-- those of every solution begin with them
+pub record IsOneRunWithStreams (kinds : Family) (net : Network) (outputs : List ℕ) (xs : List Event) (M : State) (later : ℕ → List Token) (sizes : ℕ → ℕ) : Type 0 where
+  pub one : IsOneRun kinds net xs M later sizes
+  pub outputs_are : (c : ℕ) → is_among outputs c ≡ true → stream (preloaded net (all_fed xs later) sizes) (without_growths (entries_of xs)) c ≡ (drained xs c ++ tokens M c) ++ later c
+  pub approach : ApproachLeastSolution kinds (preloaded net (all_fed xs later) sizes) (without_growths (entries_of xs)) one.state
 
 -- by whatever events at its ends the flow came to its state, and whatever is still to come into its inputs: what was done is a run of
 -- the network that held all those tokens from the start, from capacities with room for all
@@ -16,4 +25,4 @@ IsOneRunInPieces kinds s =
     → Flows kinds s.network (start kinds s.network) xs s.state → IsAtEnds (is_among s.inputs) (is_among s.outputs) xs
     → ((c : ℕ) → is_among s.inputs c ≡ false → later c ≡ [])
     → ((c : ℕ) → c < length s.network.channels → length (channel_of s.network c).tokens + length (all_fed xs later c) + length (put_on (entries_of xs) c) ≤ sizes c)
-    → IsOneRun kinds s.network xs s.state later sizes
+    → IsOneRunWithStreams kinds s.network s.outputs xs s.state later sizes

@@ -14,7 +14,6 @@ ghost use Rattle.kpn_flow.specs.Waits.{starves, holds_up};
 
 use crate::ends::{FlowFault, fault_of, is_among};
 use crate::going::go_on;
-use crate::law::preloading;
 use crate::opening::{Start, prepare};
 use crate::pause::Pause;
 use crate::waits::{holds_up, starves};
@@ -161,15 +160,16 @@ impl<B: Body> Flow<B> {
     }
 
     /// Does nothing: a caller knows from here on what holds of each flow at each time. It was led to its
-    /// state by events, and only tokens of inputs came in and only tokens of outputs went out. By
-    /// whatever such events that was, and whatever will still come into the inputs, what was done is a
-    /// run of the network that held all those tokens from the start; growths are left out of it.
+    /// state by events, of which tokens came only into inputs and went only out of outputs. By whatever
+    /// such events that was, and whatever will still come into the inputs, what was done is a run of the
+    /// network that held all those tokens from the start; growths are left out of it. What that run wrote
+    /// to an output is what was drained, and then what is there; and every solution of that network's
+    /// equations begins with it (Kahn 1974).
     pub fn assure_one_run(&self)
         ensures ends { AreEnds (family_of B.Kinds.start B.Kinds.answer_of) self.now.network self.now.inputs self.now.outputs }
         ensures reached { IsReached (family_of B.Kinds.start B.Kinds.answer_of) self.now.network self.now.inputs self.now.outputs self.now.state }
         ensures one_run { IsOneRunInPieces (family_of B.Kinds.start B.Kinds.answer_of) self.now }
     {
-        preloading();
         let _ = &self.net;
     }
 }
