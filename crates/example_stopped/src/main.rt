@@ -1,0 +1,101 @@
+//! A network that would count for a long time is run by two workers, and stopped when a deadline has
+//! passed; then the first words that came out are printed.
+#![tactic(auto)]
+
+use kpn_builder::{Builder, NewChannel};
+use kpn_compute::bodies_of;
+use kpn_net::{Net, Token};
+use kpn_observe::{Observer, Progress, WatchedRun, Wish, run_watched};
+use kpn_run::{Gate, stream_of};
+use kpn_standard::Standard;
+use std::alloc::{AllocError, Global};
+use std::io;
+use std::process::ExitCode;
+use std::rt::Clock;
+use std::sync::Wait;
+use std::thread::{Threads, sleep};
+use std::time::{Duration, Instant};
+
+/// Stops once the deadline has passed and the history has a hundred entries.
+#[derive(Drop)]
+struct Deadline<'a, R> {
+    rt: &'a R,
+    start: Instant,
+}
+
+impl<'a, R: Clock + Sync> Observer for Deadline<'a, R> {
+    fn see(&self, progress: Progress) -> Wish {
+        match self.start.elapsed(self.rt) {
+            Ok(past) if past < Duration::from_millis(20) || progress.entries < 100 => Wish::GoOn,
+            _ => Wish::Stop,
+        }
+    }
+}
+
+/// Has each answer wait for a while, so that the budget lasts.
+#[derive(Drop)]
+struct Slowly<'a, R> {
+    rt: &'a R,
+}
+
+impl<'a, R: Wait + Clock + Sync> Gate for Slowly<'a, R> {
+    fn before_commit(&self, _process: usize) {
+        sleep(self.rt, Duration::from_micros(50));
+    }
+}
+
+fn make(made: &mut Builder) -> Result<(), AllocError> {
+    made.set_budget(2_000_000);
+    made.process("src", "count", &[1, 1_000_000])?;
+    made.process("snk", "sink", &[1_000_000])?;
+    made.channel(NewChannel::new("words", "src", "snk").capacity(16))
+}
+
+fn print_words<R: Print>(
+    rt: &R,
+    alloc: Global,
+    run: &WatchedRun<Standard>,
+) -> Result<(), AllocError> {
+    if run.end().is_none() {
+        let _ = println!(rt; "stopped before its end");
+    }
+    for token in stream_of(alloc, run.net(), run.history(), 0)?
+        .iter()
+        .take(5)
+    {
+        if let Token::Word(word) = token {
+            let _ = println!(rt; "{word}");
+        }
+    }
+    Ok(())
+}
+
+fn play<R: Threads + Wait + Clock + Print + Sync>(
+    rt: &R,
+    alloc: Global,
+    net: Net<Standard>,
+    start: Instant,
+) -> Result<(), AllocError> {
+    let bodies = bodies_of(alloc, &net)?;
+    let (gate, deadline) = (Slowly { rt }, Deadline { rt, start });
+    let period = Duration::from_millis(5);
+    match run_watched(rt, alloc, net, bodies, 2, &gate, period, &deadline) {
+        Ok(run) => print_words(rt, alloc, &run),
+        Err(_) => Err(AllocError),
+    }
+}
+
+fn main(rt: HostRuntime) -> io::Result<ExitCode> {
+    let alloc = rt.alloc();
+    let mut made = Builder::new(alloc);
+    if make(&mut made).is_err() {
+        return Ok(ExitCode::from(4));
+    }
+    let (Ok(net), Ok(start)) = (made.check(), Instant::now(&rt)) else {
+        return Ok(ExitCode::from(4));
+    };
+    match play(&rt, alloc, net, start) {
+        Ok(()) => Ok(ExitCode::from(0)),
+        Err(_) => Ok(ExitCode::from(4)),
+    }
+}
