@@ -1,5 +1,5 @@
 -- A value that is put into a table, and values one after another.
-use Rattle.std.proofs.Common.{◌≡◌, ◌∙◌, ℕ, List, [], ◌∷◌, Ordering, Less, Equal, Greater, String, Global, string_bytes, refl}
+use Rattle.std.proofs.Common.{◌≡◌, ◌∙◌, List, [], ◌∷◌, Ordering, Less, Equal, Greater, String, Global, string_bytes, refl}
 use Rattle.std.specs.String.{string_cmp}
 use Rattle.std.specs.Ordering.{match_ordering}
 use Rattle.std.specs.BTreeMap.{insert_entry}

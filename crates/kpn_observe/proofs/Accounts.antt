@@ -1,5 +1,5 @@
 -- What the account of a run says.
-use Rattle.std.proofs.Common.{◌≡◌, ℕ, true, List, Option, Some, length, refl, subst}
+use Rattle.std.proofs.Common.{◌≡◌, ℕ, true, List, Option, Some, subst}
 use Rattle.kpn_model.specs.declared.token.Token.{Token}
 use Rattle.kpn_model.specs.declared.kinds.Card.{Card}
 use Rattle.kpn_model.specs.declared.history.End.{End}
