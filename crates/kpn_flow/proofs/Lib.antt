@@ -9,4 +9,5 @@ pub mod Feeding
 pub mod Kept
 pub mod Mute
 pub mod Untaken
+pub mod Compared
 pub mod Batches

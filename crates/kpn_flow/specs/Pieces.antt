@@ -4,10 +4,11 @@ use Rattle.kpn_model.specs.declared.token.Token.{Token}
 use Rattle.kpn_model.specs.Network.{Family, Network, channel_of}
 use Rattle.kpn_model.specs.Semantics.{State, tokens, start}
 use Rattle.kpn_model.specs.History.{put_on, stream}
+use Rattle.kpn_model.specs.Determinacy.{ArePrefixComparable}
 use Rattle.kpn_laws.specs.StreamsOfRun.{ApproachLeastSolution}
 use Rattle.kpn_flow.specs.Events.{Event, Flows, entries_of, drained}
 use Rattle.kpn_flow.specs.Preloaded.{IsAtEnds, preloaded, without_growths, all_fed, IsOneRun}
-use Rattle.kpn_flow.specs.Flows.{FlowView, is_among}
+use Rattle.kpn_flow.specs.Flows.{FlowView, is_among, AreEnds}
 
 -- the deeds are a run of the network that held all the tokens from the start. Its stream on each output is what went out of it, then
 -- what is there, then what is still to come; and its streams approach the least solution of that network's equations (Kahn 1974):
@@ -26,3 +27,17 @@ IsOneRunInPieces kinds s =
     → ((c : ℕ) → is_among s.inputs c ≡ false → later c ≡ [])
     → ((c : ℕ) → c < length s.network.channels → length (channel_of s.network c).tokens + length (all_fed xs later c) + length (put_on (entries_of xs) c) ≤ sizes c)
     → IsOneRunWithStreams kinds s.network s.outputs xs s.state later sizes
+
+-- a way that a flow has come: events at its ends that lead to M, and what is still to come into its inputs
+pub record IsWay (kinds : Family) (net : Network) (inputs outputs : List ℕ) (xs : List Event) (M : State) (later : ℕ → List Token) : Type 0 where
+  pub flows : Flows kinds net (start kinds net) xs M
+  pub at_ends : IsAtEnds (is_among inputs) (is_among outputs) xs
+  pub later_inputs : (c : ℕ) → is_among inputs c ≡ false → later c ≡ []
+
+-- two ways of a network into whose inputs the same comes in the end, in whatever pieces and whenever: what came out of an output, and is
+-- in it, begins in the one with what it is in the other, or the other way round
+abbrev pub PiecesAreComparable : Family → Type 0
+PiecesAreComparable kinds =
+    (net : Network) (inputs outputs : List ℕ) → AreEnds kinds net inputs outputs → (xs ys : List Event) (M N : State) (later last : ℕ → List Token)
+    → IsWay kinds net inputs outputs xs M later → IsWay kinds net inputs outputs ys N last → ((c : ℕ) → all_fed xs later c ≡ all_fed ys last c)
+    → (c : ℕ) → is_among outputs c ≡ true → is_among inputs c ≡ false → ArePrefixComparable (drained xs c ++ tokens M c) (drained ys c ++ tokens N c)

@@ -1,5 +1,6 @@
 //! Feeding in pieces is having had all from the start.
 ghost use Rattle.kpn_model.specs.Network.{Family};
+ghost use Rattle.kpn_flow.specs.Pieces.{PiecesAreComparable};
 ghost use Rattle.kpn_flow.specs.Preloaded.{FeedingIsPreloading};
 
 /// Does nothing: what it ensures is that a run that is fed and drained in pieces does what a run of the
@@ -8,4 +9,12 @@ ghost use Rattle.kpn_flow.specs.Preloaded.{FeedingIsPreloading};
 /// and every network, if only the outside writes to inputs and reads from outputs.
 pub fn preloading()
     ensures { (kinds : Family) → FeedingIsPreloading kinds }
+{}
+
+/// Does nothing: what it ensures is that neither the pieces nor the times in which a network is fed change
+/// what comes out. Of two flows of one network into whose inputs the same comes in the end, what came out
+/// of an output, and is in it, begins in the one with what it is in the other, or the other way round
+/// (Kahn 1974). This holds for every family of kinds and every network.
+pub fn comparable()
+    ensures { (kinds : Family) → PiecesAreComparable kinds }
 {}

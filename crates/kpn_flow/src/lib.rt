@@ -13,5 +13,5 @@ mod waits;
 
 pub use ends::FlowFault;
 pub use flow::{Flow, FlowRefused};
-pub use law::preloading;
+pub use law::{comparable, preloading};
 pub use pause::Pause;
