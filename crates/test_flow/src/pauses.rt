@@ -112,3 +112,13 @@ fn a_channel_grows_where_the_outside_can_not_help(rt: HostRuntime) {
     same(&rt, "within", flow.is_held_up(1), false);
     drain_words(&rt, &mut flow, 0, &[8]);
 }
+
+#[test]
+fn a_flow_tells_of_its_network(rt: HostRuntime) {
+    let flow = flow_of(&rt, rt.alloc(), SCALE, &[0], &[1]);
+    flow.assure_one_run();
+    same(&rt, "channels", flow.net().channels(), 2);
+    same(&rt, "standings", flow.standings().len(), 3);
+    same(&rt, "input", flow.is_input(0), true);
+    same(&rt, "no input", flow.is_input(1), false);
+}
