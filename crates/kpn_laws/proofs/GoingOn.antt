@@ -1,51 +1,73 @@
 -- In every state some entry can follow, or it is over, or its chosen channel is above the ceiling.
-use Rattle.std.proofs.Common.{◌≡◌, ◌≤◌, ◌<◌, ◌⊎◌, inl, inr, ⊎_elim, ℕ, ◌+◌, zero, suc, length, Bool, true, false, Option, Some, None, refl, sym, ap, ◌∙◌, arith, subst, min}
+use Rattle.std.proofs.Common.{◌≡◌, ◌≢◌, ◌≤◌, ◌<◌, ◌⊎◌, inl, inr, ⊎_elim, ℕ, ◌+◌, length, List, [], ◌∷◌, Option, Some, None, refl, sym, ◌∙◌, arith, subst, min}
 use Rattle.std.proofs.lemmas.Bool.{cases_lt, cases_eq}
+use Rattle.std.proofs.lemmas.List.{get_or_past}
 use Rattle.std.proofs.lemmas.Option.{same_Some}
+use Rattle.kpn_model.specs.declared.token.Token.{Token}
+use Rattle.kpn_model.specs.declared.kinds.Act.{Act}
+use Rattle.kpn_model.specs.declared.kinds.Act.TheVariants.{Read, Write, Stop}
 use Rattle.kpn_model.specs.declared.kinds.Answer.{Answer}
 use Rattle.kpn_model.specs.declared.history.Deed.{Deed}
+use Rattle.kpn_model.specs.declared.history.Deed.TheVariants.{Took, Put, Stopped}
 use Rattle.kpn_model.specs.declared.history.Entry.TheVariants.{Did, Grew}
 use Rattle.kpn_model.specs.declared.history.End.{End}
 use Rattle.kpn_model.specs.declared.history.End.TheVariants.{Terminated, Deadlock, Ceiling}
-use Rattle.kpn_model.specs.Network.{Network, Family}
-use Rattle.kpn_model.specs.Semantics.{State, tokens, capacity, wants, with_channel, after_deed, IsBlocked, IsQuiet, IsArtificial, IsChosen}
+use Rattle.kpn_model.specs.declared.history.Status.{Status}
+use Rattle.kpn_model.specs.declared.history.Status.TheVariants.{Live, Done}
+use Rattle.kpn_model.specs.Network.{Network, Family, in_of, out_of}
+use Rattle.kpn_model.specs.Semantics.{State, status, tokens, capacity, wants, with_channel, after_deed, IsDeed, IsPossible, IsEnabled, IsBlocked, IsQuiet, IsArtificial, IsChosen}
 use Rattle.kpn_model.specs.Endings.{IsOver}
 use Rattle.kpn_laws.specs.Completion.{CanGoOn, IsAbove, CanAlwaysGoOn}
 use Rattle.kpn_laws.proofs.Steps.{live_within}
-use Rattle.kpn_laws.proofs.Schedule.{answer_deed, deed_of, full_of, all_done}
-use Rattle.kpn_laws.proofs.Replay.{deed_sound, still_answer, full_sound, full_complete, done_all, live_some}
+use Rattle.kpn_laws.proofs.Search.{search_below, IsLeast, least_below}
 
 module _ (kinds : Family) (net : Network) (M : State) where
-  -- the deed that is computed for an answer can follow
-  answer_goes : (p : ℕ) (o : Option Answer) (d : Deed) → wants kinds net M p ≡ o → answer_deed kinds net M p o ≡ Some d → CanGoOn kinds net M
-  answer_goes p None d w h = cc
-  answer_goes p (Some a) d w h = (Did p d, (after_deed kinds net M p a.next d, record { answer = a; wanted = w; is_deed = deed_sound kinds net M p a.act d h; leaves = refl }))
+  -- what the act comes to now, or it can't be done
+  abbrev Now : ℕ → Act → Type 0
+  Now p a = ((d : Deed) × IsDeed kinds net M p a d) ⊎ (IsPossible kinds net M p a → ⊥)
 
-  -- one of the processes below n can go on, or no deed is computed for any of them
-  find_deed : (n : ℕ) → CanGoOn kinds net M ⊎ ((p : ℕ) → p < n → deed_of kinds net M p ≡ None)
-  find_deed zero = inr (λ p l. absurd (omega arith))
-  find_deed (suc n) = here (deed_of kinds net M n) refl (find_deed n)
-    where
-      here :
-          (o : Option Deed) → deed_of kinds net M n ≡ o → CanGoOn kinds net M ⊎ ((p : ℕ) → p < n → deed_of kinds net M p ≡ None)
-          → CanGoOn kinds net M ⊎ ((p : ℕ) → p < suc n → deed_of kinds net M p ≡ None)
-      here (Some d) e found = inl (answer_goes n (wants kinds net M n) d refl e)
-      here None e (inl x) = inl x
-      here None e (inr below) = inr (λ p l. ⊎_elim (λ (s : p ≡ n). ap (λ x. deed_of kinds net M x) s ∙ e) (λ ne. below p (omega arith)) (cases_eq p n))
+  empty_no : (p k c : ℕ) → in_of net p k ≡ Some c → tokens M c ≡ [] → IsPossible kinds net M p (Read k) → ⊥
+  empty_no p k c e empty (b, at, some) = let s : b ≡ c = cc in some (rw s empty)
 
-  -- if no deed is computed for any process, the state is quiet
-  none_quiet : ((p : ℕ) → p < length M.processes → deed_of kinds net M p ≡ None) → IsQuiet kinds net M
-  none_quiet h p x = still_answer kinds net M p (wants kinds net M p) x.answer (h p (live_within kinds net M p x.answer x.wanted)) x.wanted x.possible
+  full_no : (p k c : ℕ) (t : Token) → out_of net p k ≡ Some c → capacity M c ≤ length (tokens M c) → IsPossible kinds net M p (Write k t) → ⊥
+  full_no p k c t e full (b, at, room) = let s : b ≡ c = cc in let l : length (tokens M c) < capacity M c = rw s at room in omega arith
+
+  read_now : (p k c : ℕ) (ts : List Token) → in_of net p k ≡ Some c → tokens M c ≡ ts → Now p (Read k)
+  read_now p k c [] e f = inr (empty_no p k c e f)
+  read_now p k c (t ∷ ts) e f = inl (Took c t, (e, (ts, f)))
+
+  read_at : (p k : ℕ) (o : Option ℕ) → in_of net p k ≡ o → Now p (Read k)
+  read_at p k None e = inr (λ x. let y = sym e ∙ x.1 in cc)
+  read_at p k (Some c) e = read_now p k c (tokens M c) e refl
+
+  write_at : (p k : ℕ) (t : Token) (o : Option ℕ) → out_of net p k ≡ o → Now p (Write k t)
+  write_at p k t None e = inr (λ x. let y = sym e ∙ x.1 in cc)
+  write_at p k t (Some c) e = ⊎_elim (λ room. inl (Put c t, (e, refl, room))) (λ full. inr (full_no p k c t e full)) (cases_lt (length (tokens M c)) (capacity M c))
+
+  act_now : (p : ℕ) (a : Act) → Now p a
+  act_now p Stop = inl (Stopped, tt)
+  act_now p (Read k) = read_at p k (in_of net p k) refl
+  act_now p (Write k t) = write_at p k t (out_of net p k) refl
+
+  -- p can go on, or it can't
+  goes_or_rests : (p : ℕ) (o : Option Answer) → wants kinds net M p ≡ o → CanGoOn kinds net M ⊎ (IsEnabled kinds net M p → ⊥)
+  goes_or_rests p None w = inr (λ x. let y = sym w ∙ x.wanted in cc)
+  goes_or_rests p (Some a) w =
+      ⊎_elim
+      (λ (x : (d : Deed) × IsDeed kinds net M p a.act d). inl (Did p x.0, (after_deed kinds net M p a.next x.0, record { answer = a; wanted = w; is_deed = x.1; leaves = refl })))
+      (λ (stuck : IsPossible kinds net M p a.act → ⊥). inr (λ x. stuck (subst (λ (b : Answer). IsPossible kinds net M p b.act) (same_Some _ _ (sym x.wanted ∙ w)) x.possible)))
+      (act_now p a.act)
+
+  -- some entry can follow, or the state is quiet
+  goes_or_quiet : CanGoOn kinds net M ⊎ IsQuiet kinds net M
+  goes_or_quiet =
+      ⊎_elim (λ x. inl x.1)
+      (λ none. inr (λ p x. none p (live_within kinds net M p x.answer x.wanted) x))
+      (search_below (λ p. CanGoOn kinds net M) (λ p. IsEnabled kinds net M p → ⊥) (λ p. goes_or_rests p (wants kinds net M p) refl) (length M.processes))
 
   -- c has less capacity than d, or the same and no greater number
   abbrev IsBefore : ℕ → ℕ → Type 0
   IsBefore c d = (capacity M c < capacity M d) ⊎ ((capacity M c ≡ capacity M d) × (c ≤ d))
-
-  -- among the full channels to which the processes below n want to write, c is the first in that order
-  record IsFirst (n c : ℕ) : Type 0 where
-    writer : ℕ
-    blocked : IsBlocked kinds net M writer c
-    first : (q d : ℕ) → q < n → full_of kinds net M q ≡ Some d → IsBefore c d
 
   -- one of any two channels comes before the other
   which_before : (c d : ℕ) → IsBefore c d ⊎ IsBefore d c
@@ -66,92 +88,65 @@ module _ (kinds : Family) (net : Network) (M : State) where
   before_trans b c d (inr l) (inl m) = let e = l.0 in inl (omega arith)
   before_trans b c d (inr l) (inr m) = let x = l.1 in let y = m.1 in inr (l.0 ∙ m.0, omega arith)
 
-  -- the first of the channels on which the processes below n are blocked, or none of them is blocked
-  find_first : (n : ℕ) → ((c : ℕ) × IsFirst n c) ⊎ ((p : ℕ) → p < n → full_of kinds net M p ≡ None)
-  find_first zero = inr (λ p l. absurd (omega arith))
-  find_first (suc n) = here (full_of kinds net M n) refl (find_first n)
-    where
-      Found : Type 0
-      Found = ((c : ℕ) × IsFirst (suc n) c) ⊎ ((p : ℕ) → p < suc n → full_of kinds net M p ≡ None)
+  -- p is blocked at one channel, or at none
+  abbrev Blocked : ℕ → Type 0
+  Blocked p = ((c : ℕ) × IsBlocked kinds net M p c × ((d : ℕ) → IsBlocked kinds net M p d → IsBefore c d)) ⊎ ((c : ℕ) → IsBlocked kinds net M p c → ⊥)
 
-      same : (d b q : ℕ) → full_of kinds net M n ≡ Some d → q ≡ n → full_of kinds net M q ≡ Some b → d ≡ b
-      same d b q e s f = same_Some _ _ (sym e ∙ ap (λ x. full_of kinds net M x) (sym s) ∙ f)
+  at_one : (p c d : ℕ) → IsBlocked kinds net M p c → IsBlocked kinds net M p d → IsBefore c d
+  at_one p c d x y = let s : d ≡ c = cc in rw s (inr (refl, omega arith))
 
-      here : (o : Option ℕ) → full_of kinds net M n ≡ o → ((c : ℕ) × IsFirst n c) ⊎ ((p : ℕ) → p < n → full_of kinds net M p ≡ None) → Found
-      here None e (inr none) = inr (λ p l. ⊎_elim (λ (s : p ≡ n). ap (λ x. full_of kinds net M x) s ∙ e) (λ ne. none p (omega arith)) (cases_eq p n))
-      here None e (inl f) =
-          inl (
-            f.0,
-            record {
-              writer = f.1.writer;
-              blocked = f.1.blocked;
-              first = λ q d l h. ⊎_elim (λ (s : q ≡ n). absurd (let x = sym h ∙ ap (λ x. full_of kinds net M x) s ∙ e in cc)) (λ ne. f.1.first q d (omega arith) h) (cases_eq q n);
-            },
-          )
-      here (Some d) e (inr none) =
-          inl (
-            d,
-            record {
-              writer = n;
-              blocked = full_sound kinds net M n d e;
-              first = λ q b l h. ⊎_elim
-                  (λ (s : q ≡ n). inr (let x = same d b q e s h in (ap (λ y. capacity M y) x, omega arith)))
-                  (λ ne. absurd (let x = sym (none q (omega arith)) ∙ h in cc)) (cases_eq q n);
-            },
-          )
-      here (Some d) e (inl f) =
-          ⊎_elim
-          (λ (old : IsBefore f.0 d).
-          inl (
-            f.0,
-            record {
-              writer = f.1.writer;
-              blocked = f.1.blocked;
-              first = λ q b l h. ⊎_elim
-                  (λ (s : q ≡ n). subst (λ y. IsBefore f.0 y) (same d b q e s h) old)
-                  (λ ne. f.1.first q b (omega arith) h) (cases_eq q n);
-            },
-          ))
-          (λ (new : IsBefore d f.0).
-          inl (
-            d,
-            record {
-              writer = n;
-              blocked = full_sound kinds net M n d e;
-              first = λ q b l h. ⊎_elim
-                  (λ (s : q ≡ n). inr (let x = same d b q e s h in (ap (λ y. capacity M y) x, omega arith)))
-                  (λ ne. before_trans d f.0 b new (f.1.first q b (omega arith) h)) (cases_eq q n);
-            },
-          ))
-          (which_before f.0 d)
+  room_free : (p k c : ℕ) (t : Token) (a : Answer) → wants kinds net M p ≡ Some a → a.act ≡ Write k t → out_of net p k ≡ Some c → length (tokens M c) < capacity M c → (d : ℕ) → IsBlocked kinds net M p d → ⊥
+  room_free p k c t a w act e room d x = let s : d ≡ c = cc in let l : capacity M c ≤ length (tokens M c) = rw s at x.full in omega arith
+
+  blocked_at : (p k : ℕ) (t : Token) (a : Answer) (o : Option ℕ) → wants kinds net M p ≡ Some a → a.act ≡ Write k t → out_of net p k ≡ o → Blocked p
+  blocked_at p k t a None w act e = inr (λ c x. cc)
+  blocked_at p k t a (Some c) w act e =
+      ⊎_elim (λ room. inr (room_free p k c t a w act e room))
+      (λ (full : capacity M c ≤ length (tokens M c)).
+      let own : IsBlocked kinds net M p c = record { answer = a; wanted = w; port = k; token = t; act = act; at = e; full = full } in
+      inl (c, own, λ d x. at_one p c d own x))
+      (cases_lt (length (tokens M c)) (capacity M c))
+
+  blocked_by : (p : ℕ) (a : Answer) (x : Act) → wants kinds net M p ≡ Some a → a.act ≡ x → Blocked p
+  blocked_by p a Stop w act = inr (λ c x. cc)
+  blocked_by p a (Read k) w act = inr (λ c x. cc)
+  blocked_by p a (Write k t) w act = blocked_at p k t a (out_of net p k) w act refl
+
+  blocked_or_free : (p : ℕ) (o : Option Answer) → wants kinds net M p ≡ o → Blocked p
+  blocked_or_free p None w = inr (λ c x. let y = sym w ∙ x.wanted in cc)
+  blocked_or_free p (Some a) w = blocked_by p a a.act w refl
 
   -- the first of all of them is the chosen channel
-  first_chosen : (c : ℕ) → IsFirst (length M.processes) c → IsChosen kinds net M c
+  first_chosen : (c : ℕ) → IsLeast (IsBlocked kinds net M) IsBefore which_before before_trans (length M.processes) c → IsChosen kinds net M c
   first_chosen c f =
       record {
-        writer = f.writer;
-        blocked = f.blocked;
+        writer = f.at;
+        blocked = f.here;
         no_smaller = λ q d x. ⊎_elim (λ l. omega arith) (λ (l : (capacity M c ≡ capacity M d) × (c ≤ d)). let e = l.0 in omega arith) (before q d x);
         no_earlier = λ q d x e. ⊎_elim (λ (l : capacity M c < capacity M d). absurd (omega arith)) (λ (l : (capacity M c ≡ capacity M d) × (c ≤ d)). l.1) (before q d x);
       }
     where
       before : (q d : ℕ) → IsBlocked kinds net M q d → IsBefore c d
-      before q d x = f.first q d (live_within kinds net M q x.answer x.wanted) (full_complete kinds net M q d x)
+      before q d x = f.first q (live_within kinds net M q x.answer x.wanted) d x
 
   -- a channel is chosen, or no writer is blocked
   find_chosen : ((c : ℕ) × IsChosen kinds net M c) ⊎ ((p c : ℕ) → IsBlocked kinds net M p c → ⊥)
   find_chosen =
       ⊎_elim (λ f. inl (f.0, first_chosen f.0 f.1))
-      (λ none. inr (λ p c b. let x = sym (none p (live_within kinds net M p b.answer b.wanted)) ∙ full_complete kinds net M p c b in cc))
-      (find_first (length M.processes))
+      (λ none. inr (λ p c b. none p (live_within kinds net M p b.answer b.wanted) c b))
+      (least_below (IsBlocked kinds net M) IsBefore which_before before_trans (λ p. blocked_or_free p (wants kinds net M p) refl) (length M.processes))
+
+  live_or_done : (s : Status) → (s ≢ Done) ⊎ (s ≡ Done)
+  live_or_done Done = inr refl
+  live_or_done (Live local last) = inl (λ e. cc)
 
   -- a quiet state without a blocked writer is over
   free_over : IsQuiet kinds net M → ((p c : ℕ) → IsBlocked kinds net M p c → ⊥) → (a : End) × IsOver kinds net M a
-  free_over quiet free = test (all_done kinds net M.processes) refl
-    where
-      test : (b : Bool) → all_done kinds net M.processes ≡ b → (a : End) × IsOver kinds net M a
-      test true e = (Terminated, (quiet, done_all kinds net M.processes e))
-      test false e = (Deadlock, (quiet, live_some kinds net M.processes e, free))
+  free_over quiet free =
+      ⊎_elim (λ (live : (p : ℕ) × (status M p ≢ Done)). (Deadlock, (quiet, live, free)))
+      (λ (done : (p : ℕ) → p < length M.processes → status M p ≡ Done).
+      (Terminated, (quiet, λ p. ⊎_elim (done p) (λ past. get_or_past M.processes p Done past) (cases_lt p (length M.processes)))))
+      (search_below (λ p. status M p ≢ Done) (λ p. status M p ≡ Done) (λ p. live_or_done (status M p)) (length M.processes))
 
   -- in an artificial deadlock the chosen channel can grow, or is at the ceiling, or above it
   grows_or_over : (c : ℕ) → IsQuiet kinds net M → IsChosen kinds net M c → CanGoOn kinds net M ⊎ (((a : End) × IsOver kinds net M a) ⊎ IsAbove kinds net M)
@@ -169,10 +164,9 @@ module _ (kinds : Family) (net : Network) (M : State) where
   goes_on_here : CanGoOn kinds net M ⊎ (((a : End) × IsOver kinds net M a) ⊎ IsAbove kinds net M)
   goes_on_here =
       ⊎_elim inl
-      (λ none.
-      let quiet = none_quiet none in
+      (λ (quiet : IsQuiet kinds net M).
       ⊎_elim (λ (x : (c : ℕ) × IsChosen kinds net M c). grows_or_over x.0 quiet x.1) (λ free. inr (inl (free_over quiet free))) find_chosen)
-      (find_deed (length M.processes))
+      goes_or_quiet
 
 -- so it is for every state of every network
 pub goes_on : (kinds : Family) → CanAlwaysGoOn kinds

@@ -4,7 +4,7 @@ ghost use Rattle.kpn_laws.specs.Completion.{CanAlwaysGoOn, FewEntries, Completes
 
 use kpn_model::Kinds;
 
-/// Does nothing: what it ensures are the laws of completion. A network that can come to its end in
+/// Ghost lemma: the laws of completion. A network that can come to its end in
 /// bounded room does so, and one that can go on for ever does, whatever the schedule, for every family
 /// of kinds and every network.
 ///
@@ -22,7 +22,7 @@ pub fn completion()
     ensures never_ends { (kinds : Family) → NeverEnds kinds }
 {}
 
-/// Does nothing: the laws of [`completion`] for a family that is given as a type.
+/// Ghost lemma: the laws of [`completion`] for a family that is given as a type.
 pub fn completion_of<K: Kinds>()
     ensures goes_on { CanAlwaysGoOn (family_of K.start K.answer_of) }
     ensures few_entries { FewEntries (family_of K.start K.answer_of) }

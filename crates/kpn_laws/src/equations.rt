@@ -6,7 +6,7 @@ ghost use Rattle.kpn_laws.specs.StreamsOfRun.{EachApproachesLeastSolution};
 
 use kpn_model::Kinds;
 
-/// Does nothing: what it ensures is that the streams of a network are the least solution of its
+/// Ghost lemma: the streams of a network are the least solution of its
 /// equations (Kahn 1974), for every family of kinds and every network.
 ///
 /// A process alone does, for given streams of its inputs, what it wants to: a read takes the next token
@@ -41,7 +41,7 @@ pub fn least_solution()
     ensures each_run { (kinds : Family) → EachApproachesLeastSolution kinds }
 {}
 
-/// Does nothing: the laws of [`least_solution`] for a family that is given as a type.
+/// Ghost lemma: the laws of [`least_solution`] for a family that is given as a type.
 pub fn least_solution_of<K: Kinds>()
     ensures function { IsFunction (family_of K.start K.answer_of) }
     ensures continuous { IsContinuous (family_of K.start K.answer_of) }

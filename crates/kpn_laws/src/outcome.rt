@@ -6,7 +6,7 @@ ghost use Rattle.kpn_model.specs.Moments.{OneState, PrefixesAreRuns, AlwaysWithi
 use crate::run::moments;
 use kpn_model::Kinds;
 
-/// Does nothing: what it ensures are the laws of determinacy, for every family of kinds and every
+/// Ghost lemma: the laws of determinacy, for every family of kinds and every
 /// network (Kahn 1974, for finite runs).
 ///
 /// `one_digest`: two runs that are over have one digest, so one cause, one place of each process, the
@@ -22,7 +22,7 @@ pub fn determinacy()
     ensures all_comparable { (kinds : Family) → AllPrefixComparable kinds }
 {}
 
-/// Does nothing: the laws of [`determinacy`] and of `moments` for a family that
+/// Ghost lemma: the laws of [`determinacy`] and of `moments` for a family that
 /// is given as a type.
 pub fn determinacy_of<K: Kinds>()
     ensures one_digest { OneDigest (family_of K.start K.answer_of) }

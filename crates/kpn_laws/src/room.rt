@@ -6,7 +6,7 @@ ghost use Rattle.kpn_laws.specs.RoomOfRun.{EachTakesLeastRoom};
 
 use kpn_model::Kinds;
 
-/// Does nothing: what it ensures are the laws of the least room. Growth of the smallest full channel
+/// Ghost lemma: the laws of the least room. Growth of the smallest full channel
 /// (Parks 1995) takes, but for the step, no more room than any capacities that suffice, for every
 /// family of kinds and every network.
 ///
@@ -37,7 +37,7 @@ pub fn least_room()
     ensures each_run { (kinds : Family) → EachTakesLeastRoom kinds }
 {}
 
-/// Does nothing: the laws of [`least_room`] for a family that is given as a type.
+/// Ghost lemma: the laws of [`least_room`] for a family that is given as a type.
 pub fn least_room_of<K: Kinds>()
     ensures chosen_has_fewer { ChosenHasFewer (family_of K.start K.answer_of) }
     ensures grows_below { GrowsBelow (family_of K.start K.answer_of) }

@@ -9,7 +9,7 @@ ghost use Rattle.kpn_laws.specs.ValidRuns.{StartsWithin, StaysWithin};
 
 use kpn_model::Kinds;
 
-/// Does nothing: what it ensures are the laws of the moments of a run, for every family of kinds and
+/// Ghost lemma: the laws of the moments of a run, for every family of kinds and
 /// every network.
 ///
 /// `one_state`: a history leads from a state to one state. `prefixes`: a prefix of a history is a run
@@ -27,14 +27,14 @@ pub fn moments()
     ensures one_cause { (kinds : Family) → OneCause kinds }
 {}
 
-/// Does nothing: what it ensures is that a valid network begins with no channel above its capacity, and
+/// Ghost lemma: a valid network begins with no channel above its capacity, and
 /// that no run of it ever has one.
 pub fn valid_runs()
     ensures start { (signature : Card → Option Signature) (kinds : Family) → StartsWithin signature kinds }
     ensures within { (signature : Card → Option Signature) (kinds : Family) → StaysWithin signature kinds }
 {}
 
-/// Does nothing: what it ensures is that each run of a valid network is well-typed at each moment. Each
+/// Ghost lemma: each run of a valid network is well-typed at each moment. Each
 /// token in a channel fits and has the channel's sort, and each live process is in a state that its
 /// card admits. This follows from the laws of the family, which each implementation of `Kinds` proves.
 pub fn typed_runs<K: Kinds>()

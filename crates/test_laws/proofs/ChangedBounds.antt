@@ -14,9 +14,9 @@ use Rattle.test_laws.specs.Growing.{growth_step}
 use Rattle.test_laws.specs.WorkedRoom.{longer_parks_case}
 use Rattle.test_laws.specs.ChangedRules.{RunBy, EarlyGrowth}
 use Rattle.test_laws.specs.ChangedBounds.{GrowsBelowBy, GreatestGrows, EachBelowItsOwn, StaysUpTo}
-use Rattle.kpn_laws.proofs.Schedule.{Turn, Go, Grow}
+use Rattle.test_laws.proofs.Schedule.{Turn, Go, Grow}
 use Rattle.test_laws.proofs.Led.{led}
-use Rattle.kpn_laws.proofs.Replay.{played_sound, full_sound, chosen_sound, still_sound}
+use Rattle.test_laws.proofs.Replay.{played_sound, full_sound, chosen_sound, still_sound}
 use Rattle.test_laws.proofs.WorkedRoom.{bounded_sound, ends_by, ends_in_two}
 
 module _ (rule : State → Entry → State → Type 0) (net : Network) (allows : (M : State) (p : ℕ) (d : Deed) (N : State) → Does standard net M p d N → rule M (Did p d) N) where

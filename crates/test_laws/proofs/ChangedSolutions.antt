@@ -21,8 +21,8 @@ use Rattle.kpn_laws.proofs.Sequences.{begins_shorter}
 use Rattle.kpn_laws.proofs.Alone.{FollowsAlone, alone_follows, alone_took, alone_put, alone_stopped}
 use Rattle.kpn_laws.proofs.Solutions.{written_prefix}
 use Rattle.kpn_laws.proofs.Continuity.{is_function}
-use Rattle.kpn_laws.proofs.Schedule.{Go}
-use Rattle.kpn_laws.proofs.Replay.{played_sound, over_sound}
+use Rattle.test_laws.proofs.Schedule.{Go}
+use Rattle.test_laws.proofs.Replay.{played_sound, over_sound}
 use Rattle.test_laws.specs.WorkedEnds.{dead_from_the_start, sink_stops_early}
 use Rattle.test_laws.specs.WorkedRoom.{ring}
 use Rattle.test_laws.specs.ChangedSolutions.{EndIsGreatest, TakenIsSolution, BelowWithoutStart}

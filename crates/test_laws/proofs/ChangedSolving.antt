@@ -9,7 +9,7 @@ use Rattle.kpn_model.specs.Semantics.{start}
 use Rattle.kpn_standard.specs.Standard.{standard}
 use Rattle.kpn_laws.specs.Equations.{streams_of}
 use Rattle.kpn_laws.proofs.Solutions.{end_is_least}
-use Rattle.kpn_laws.proofs.Replay.{over_sound}
+use Rattle.test_laws.proofs.Replay.{over_sound}
 use Rattle.kpn_streams.specs.Solving.{as_streams, HasEquation, Solves}
 use Rattle.kpn_streams.proofs.Copies.{copy_writes}
 use Rattle.kpn_streams.proofs.SolvingPorts.{equation_by_test}

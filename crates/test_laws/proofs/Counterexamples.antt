@@ -16,9 +16,9 @@ use Rattle.kpn_standard.specs.Standard.{standard}
 use Rattle.test_laws.specs.WorkedEnds.{counter_into_sink}
 use Rattle.test_laws.specs.Growing.{counter_outlives_sink, equal_capacities}
 use Rattle.test_laws.specs.ChangedRules.{RunBy, OneDigestBy, AlwaysWithinBy, EarlyGrowth, IsDeedAnyway, PutIntoFull, AnyOfEqual, TakenTells}
-use Rattle.kpn_laws.proofs.Schedule.{Go, Grow}
+use Rattle.test_laws.proofs.Schedule.{Go, Grow}
 use Rattle.test_laws.proofs.Led.{led}
-use Rattle.kpn_laws.proofs.Replay.{played_sound, full_sound, chosen_sound, still_sound, over_sound}
+use Rattle.test_laws.proofs.Replay.{played_sound, full_sound, chosen_sound, still_sound, over_sound}
 use Rattle.test_laws.proofs.WorkedNetworks.{has_counter_into_sink, has_counter_outlives_sink, has_equal_capacities}
 
 -- numbers that a test distinguishes are not equal

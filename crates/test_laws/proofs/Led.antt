@@ -4,7 +4,7 @@ use Rattle.kpn_model.specs.declared.history.Entry.{Entry}
 use Rattle.kpn_model.specs.Network.{Network}
 use Rattle.kpn_model.specs.Semantics.{State}
 use Rattle.kpn_standard.specs.Standard.{standard}
-use Rattle.kpn_laws.proofs.Schedule.{Turn, played}
+use Rattle.test_laws.proofs.Schedule.{Turn, played}
 
 -- the history and the state
 abbrev pub led : Network → State → List Turn → List Entry × State

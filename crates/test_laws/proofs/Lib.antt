@@ -1,3 +1,5 @@
+mod Schedule
+mod Replay
 mod Led
 mod WorkedNetworks
 mod Counterexamples

@@ -13,8 +13,8 @@ use Rattle.kpn_standard.specs.Signatures.{card, signature, named}
 use Rattle.kpn_standard.specs.Copies.{prefix_begins}
 use Rattle.kpn_standard.specs.Admitted.{Admitted}
 use Rattle.kpn_laws.specs.Digested.{HasDigest}
-use Rattle.kpn_laws.proofs.Schedule.{Turn, Go, Grow}
-use Rattle.kpn_laws.proofs.Replay.{digest_from_schedule}
+use Rattle.test_laws.proofs.Schedule.{Turn, Go, Grow}
+use Rattle.test_laws.proofs.Replay.{digest_from_schedule}
 use Rattle.test_laws.specs.Unbounded.{NamesPortsOfAnyCard}
 use Rattle.kpn_net.specs.Sketched.{process_in}
 use Rattle.test_laws.specs.Parks.{source, copier, weaver, sink, sketch, parks, parks_digest, roomy, roomy_digest}

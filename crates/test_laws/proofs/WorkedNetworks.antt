@@ -4,8 +4,8 @@ use Rattle.kpn_standard.specs.Standard.{standard}
 use Rattle.test_laws.specs.WorkedEnds.{counter_into_sink, counter_into_sink_digest, CounterIntoSink, sink_waits_for_one_more, sink_waits_for_one_more_digest, SinkWaitsForOneMore, sink_stops_early, sink_stops_early_digest, SinkStopsEarly, nothing_to_count, nothing_to_count_digest, NothingToCount, dead_from_the_start, dead_from_the_start_digest, DeadFromTheStart, start_tokens, start_tokens_digest, StartTokens}
 use Rattle.test_laws.specs.Growing.{counter_outlives_sink, counter_outlives_sink_digest, CounterOutlivesSink, equal_capacities, equal_capacities_digest, EqualCapacities, smallest_full_channel_grows, smallest_full_channel_grows_digest, SmallestFullChannelGrows, full_channel_of_stopped_writer, full_channel_of_stopped_writer_digest, FullChannelOfStoppedWriter, growth_step, growth_step_digest, GrowthStep, ceiling_reached, ceiling_reached_digest, CeilingReached, parks_case, parks_case_digest, ParksCase}
 use Rattle.test_laws.specs.Computing.{products_wrap, products_wrap_digest, ProductsWrap, switched_by_flags, switched_by_flags_digest, SwitchedByFlags, running_sums, running_sums_digest, RunningSums, merged_in_order, merged_in_order_digest, MergedInOrder}
-use Rattle.kpn_laws.proofs.Schedule.{Go, Grow}
-use Rattle.kpn_laws.proofs.Replay.{digest_from_schedule}
+use Rattle.test_laws.proofs.Schedule.{Go, Grow}
+use Rattle.test_laws.proofs.Replay.{digest_from_schedule}
 
 -- CounterIntoSink, by this schedule
 pub has_counter_into_sink : CounterIntoSink

@@ -1,5 +1,6 @@
 -- Networks for which a known capacity suffices, each shown by a schedule.
 use Rattle.std.proofs.Common.{◌≡◌, ◌≤◌, inl, ⊎_elim, ℕ, ◌+◌, zero, suc, List, [], ◌∷◌, ◌++◌, Bool, true, ◌&&◌, nat_le, Some, get_or, length, refl, subst, arith, leb-true}
+use Rattle.std.proofs.lemmas.Bool.{and_parts}
 use Rattle.kpn_model.specs.declared.history.Entry.{Entry}
 use Rattle.kpn_model.specs.declared.history.End.{End}
 use Rattle.kpn_model.specs.declared.history.End.TheVariants.{Deadlock}
@@ -10,9 +11,9 @@ use Rattle.kpn_model.specs.Endings.{IsNatural}
 use Rattle.kpn_standard.specs.Standard.{standard}
 use Rattle.kpn_laws.specs.Sufficient.{EndsWithin}
 use Rattle.test_laws.specs.WorkedRoom.{longer_parks_case, TwoPlacesSuffice, NeverThree, ring, RingLasts}
-use Rattle.kpn_laws.proofs.Schedule.{Turn, Go, played, is_over}
+use Rattle.test_laws.proofs.Schedule.{Turn, Go, played, is_over}
 use Rattle.test_laws.proofs.Led.{led}
-use Rattle.kpn_laws.proofs.Replay.{both_true, played_sound, over_sound}
+use Rattle.test_laws.proofs.Replay.{played_sound, over_sound}
 use Rattle.kpn_laws.proofs.LeastRoom.{stays_below}
 
 -- all of these channels have a capacity of at most b
@@ -23,8 +24,8 @@ all_bounded (h ∷ hs) b = nat_le h.capacity b && all_bounded hs b
 -- so no channel has more
 pub bounded_sound : (hs : List Held) (b : ℕ) → all_bounded hs b ≡ true → (c : ℕ) → (get_or hs c (record { tokens = []; capacity = 0 })).capacity ≤ b
 bounded_sound [] b e c = omega arith
-bounded_sound (h ∷ hs) b e zero = leb-true _ _ (both_true _ _ e).0
-bounded_sound (h ∷ hs) b e (suc c) = bounded_sound hs b (both_true _ _ e).1 c
+bounded_sound (h ∷ hs) b e zero = leb-true _ _ (and_parts _ _ e).0
+bounded_sound (h ∷ hs) b e (suc c) = bounded_sound hs b (and_parts _ _ e).1 c
 
 -- a schedule to such an end with capacities of at most b shows that b suffices
 unfoldable pub ends_by :

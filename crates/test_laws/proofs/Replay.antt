@@ -1,6 +1,6 @@
 -- What is computed from a schedule is a run.
-use Rattle.std.proofs.Common.{min, ◌≡◌, ◌≢◌, ◌<◌, ⊎_elim, ℕ, ◌+◌, suc, zero, ◌&&◌, ◌||◌, not, nat_lt, nat_le, if◌then◌else◌, Bool, true, false, List, [], ◌∷◌, Option, Some, None, is_none, length, get_or, refl, sym, ap, ◌∙◌, subst, arith, ltb-true, lt-ltb, leb-true, le-leb, eq-eqb, eqb-true}
-use Rattle.std.proofs.lemmas.Bool.{cases_eq}
+use Rattle.std.proofs.Common.{min, ◌≡◌, ◌≢◌, ◌<◌, ⊎_elim, ℕ, ◌+◌, suc, zero, ◌&&◌, ◌||◌, nat_lt, nat_le, if◌then◌else◌, Bool, true, false, List, [], ◌∷◌, Option, Some, None, is_none, length, get_or, refl, sym, ap, ◌∙◌, subst, arith, ltb-true, lt-ltb, leb-true, le-leb, eq-eqb, eqb-true}
+use Rattle.std.proofs.lemmas.Bool.{cases_eq, and_parts, not-true}
 use Rattle.std.proofs.lemmas.Option.{same_Some}
 use Rattle.kpn_model.specs.declared.token.Token.{Token}
 use Rattle.kpn_model.specs.declared.kinds.Act.{Act}
@@ -20,15 +20,9 @@ use Rattle.kpn_model.specs.Endings.{IsOver}
 use Rattle.kpn_model.specs.History.{Digest, digest}
 use Rattle.kpn_model.specs.Determinacy.{IsFinal}
 use Rattle.kpn_laws.specs.Digested.{HasDigest}
-use Rattle.kpn_laws.proofs.Schedule.{Turn, Go, Grow, first_taken, read_deed, write_deed, full_at, act_deed, answer_deed, act_full, answer_full, deed_of, full_of, all_still, comes_first, all_after, went, goes, grows_at, turned, entered, played_on, played, all_done, none_full, stuck_at, some_stuck, is_over, digested, digest_of}
+use Rattle.test_laws.proofs.Schedule.{Turn, Go, Grow, first_taken, read_deed, write_deed, full_at, act_deed, answer_deed, act_full, answer_full, deed_of, full_of, all_still, comes_first, all_after, went, goes, grows_at, turned, entered, played_on, played, all_done, none_full, stuck_at, some_stuck, is_over, digested, digest_of}
 use Rattle.kpn_laws.proofs.Steps.{live_within, done_wants_none}
 use Rattle.kpn_laws.proofs.Digests.{one_digest}
-
--- if a test of both holds, both do
-pub both_true : (a b : Bool) → (a && b) ≡ true → (a ≡ true) × (b ≡ true)
-both_true true true e = (refl, refl)
-both_true true false e = cc
-both_true false b e = cc
 
 module _ (kinds : Family) (net : Network) where
   -- the deed computed for a read is what the read comes to
@@ -85,7 +79,7 @@ module _ (kinds : Family) (net : Network) where
   still_below : (M : State) (n p : ℕ) → all_still kinds net M n ≡ true → p < n → deed_of kinds net M p ≡ None
   still_below M zero p h l = absurd (omega arith)
   still_below M (suc n) p h l =
-      let both = both_true _ _ h in
+      let both = and_parts _ _ h in
       ⊎_elim (λ (e : p ≡ n). ap (λ x. deed_of kinds net M x) e ∙ none_from_test _ both.0) (λ ne. still_below M n p both.1 (omega arith)) (cases_eq p n)
 
   -- a state in which no deed is computed is quiet
@@ -134,7 +128,7 @@ module _ (kinds : Family) (net : Network) where
       → comes_first kinds net M c (Some d) ≡ true
   first_of_all M c zero q d h l f = absurd (omega arith)
   first_of_all M c (suc n) q d h l f =
-      let both = both_true _ _ h in
+      let both = and_parts _ _ h in
       ⊎_elim
       (λ (e : n ≡ q). ap (λ o. comes_first kinds net M c o) (sym f) ∙ ap (λ x. comes_first kinds net M c (full_of kinds net M x)) (sym e) ∙ both.0)
       (λ ne. first_of_all M c n q d both.1 (omega arith) f) (cases_eq n q)
@@ -146,8 +140,8 @@ module _ (kinds : Family) (net : Network) where
       record {
         writer = p;
         blocked = b;
-        no_smaller = λ q d x. leb-true _ _ (both_true _ _ (first q d x)).0;
-        no_earlier = λ q d x e. leb-true _ _ (ap (λ y. if y then nat_le c d else true) (sym (eq-eqb (capacity M c) (capacity M d) e)) ∙ (both_true _ _ (first q d x)).1);
+        no_smaller = λ q d x. leb-true _ _ (and_parts _ _ (first q d x)).0;
+        no_earlier = λ q d x e. leb-true _ _ (ap (λ y. if y then nat_le c d else true) (sym (eq-eqb (capacity M c) (capacity M d) e)) ∙ (and_parts _ _ (first q d x)).1);
       }
 
   -- what is computed of a deed is a step
@@ -177,8 +171,8 @@ module _ (kinds : Family) (net : Network) where
       test false e h = cc
       test true e h =
           let x : (Grew c (min (capacity M c + net.step) net.ceiling), with_channel M c (tokens M c) (min (capacity M c + net.step) net.ceiling)) ≡ r = cc in
-          let one = both_true _ _ e in
-          let two = both_true _ _ one.1 in
+          let one = and_parts _ _ e in
+          let two = and_parts _ _ one.1 in
           let b = full_sound M p c f in
           subst (λ (y : Entry × State). Step kinds net M y.0 y.1) x
           (record {
@@ -234,7 +228,7 @@ module _ (kinds : Family) (net : Network) where
   full_below : (M : State) (n p : ℕ) → none_full kinds net M n ≡ true → p < n → full_of kinds net M p ≡ None
   full_below M zero p h l = absurd (omega arith)
   full_below M (suc n) p h l =
-      let both = both_true _ _ h in
+      let both = and_parts _ _ h in
       ⊎_elim (λ (e : p ≡ n). ap (λ x. full_of kinds net M x) e ∙ none_from_test _ both.0) (λ ne. full_below M n p both.1 (omega arith)) (cases_eq p n)
 
   -- and no writer is blocked
@@ -250,7 +244,7 @@ module _ (kinds : Family) (net : Network) where
       → (c : ℕ) × IsBlocked kinds net M p c × IsChosen kinds net M c × (capacity M c ≡ net.ceiling)
   stuck_sound M p None f h = cc
   stuck_sound M p (Some c) f h =
-      let both = both_true _ _ h in
+      let both = and_parts _ _ h in
       let b = full_sound M p c f in
       (c, b, chosen_sound M p c b both.0, eqb-true _ _ both.1)
 
@@ -270,20 +264,15 @@ module _ (kinds : Family) (net : Network) where
   some_stuck_sound M zero h = cc
   some_stuck_sound M (suc n) h = either_stuck M n (stuck_at kinds net M (full_of kinds net M n)) (some_stuck kinds net M n) refl h (some_stuck_sound M n)
 
-  -- what is not true is false
-  not_true : (b : Bool) → not b ≡ true → b ≡ false
-  not_true true h = sym h
-  not_true false h = refl
-
   -- a run that the test finds over is over
   pub over_sound : (M : State) (a : End) → is_over kinds net M a ≡ true → IsOver kinds net M a
   over_sound M Terminated h = let d = done_all M.processes h in (done_quiet M d, d)
   over_sound M Deadlock h =
-      let one = both_true _ _ h in
-      let two = both_true _ _ one.1 in
-      (still_sound M two.0, live_some M.processes (not_true _ one.0), free_sound M two.1)
+      let one = and_parts _ _ h in
+      let two = and_parts _ _ one.1 in
+      (still_sound M two.0, live_some M.processes (not-true _ one.0), free_sound M two.1)
   over_sound M Ceiling h =
-      let one = both_true _ _ h in
+      let one = and_parts _ _ h in
       let s = some_stuck_sound M (length M.processes) one.1 in
       (record { quiet = still_sound M one.0; writer = s.0; channel = s.1.0; blocked = s.1.1 }, (s.1.0, s.1.2, s.1.3))
   over_sound M Budget h = cc
