@@ -2,6 +2,7 @@
 import re
 
 from networks import plain
+from reports import REPORTS
 
 COUNTER = """version = 1
 
@@ -22,12 +23,7 @@ to = "snk"
 capacity = 1
 """
 
-COUNTED = """end terminated
-process src stopped steps 4
-process snk stopped steps 4
-channel c0 put 3 left 0 capacity 1
-entries 8
-"""
+COUNTED = REPORTS["COUNTER_ALONE"]
 
 PARKS = """version = 1
 budget = 10000
@@ -118,40 +114,12 @@ def edit(text, *pairs):
 
 # Small networks.
 
-row("counter", run("c0"), COUNTER, COUNTED + "stream c0 1 2 3\n", 0)
+row("counter", run("c0"), COUNTER, REPORTS["COUNTER"], 0)
 row("counter without a stream", run(), COUNTER, COUNTED, 0)
-row("a sink that wants more", run(), edit(COUNTER, ("[3]", "[4]")), """end deadlock
-process src stopped steps 4
-process snk reads c0 steps 3
-channel c0 put 3 left 0 capacity 1
-entries 7
-""", 5)
-row("a sink that wants less", run(), edit(COUNTER, ("[3]", "[2]")), """end terminated
-process src stopped steps 4
-process snk stopped steps 3
-channel c0 put 3 left 1 capacity 1
-entries 7
-""", 0)
-row("a sink that wants one", run(), edit(COUNTER, ("[3]", "[1]")), """end terminated
-process src stopped steps 4
-process snk stopped steps 2
-channel c0 put 3 left 2 capacity 2
-grew c0 2
-entries 7
-""", 0)
-PARKS_ENDS = """end deadlock
-process src stopped steps 4
-process cp reads c0 steps 9
-process wv reads c1 steps 12
-process snk stopped steps 7
-channel c0 put 3 left 0 capacity 1
-channel c1 put 3 left 0 capacity 1
-channel c2 put 3 left 0 capacity 2
-channel c3 put 6 left 0 capacity 1
-grew c2 2
-entries 33
-stream c3 1 2 3 1 2 3
-"""
+row("a sink that wants more", run(), edit(COUNTER, ("[3]", "[4]")), REPORTS["SINK_OF_FOUR"], 5)
+row("a sink that wants less", run(), edit(COUNTER, ("[3]", "[2]")), REPORTS["SINK_OF_TWO"], 0)
+row("a sink that wants one", run(), edit(COUNTER, ("[3]", "[1]")), REPORTS["SINK_OF_ONE"], 0)
+PARKS_ENDS = REPORTS["WOVEN"]
 row("Parks's case", run("c3"), PARKS, PARKS_ENDS, 5)
 TWO = "a=count(1,%d) b=count(1,%d) x=sink(0) y=sink(0)"
 
@@ -167,22 +135,11 @@ def two_end(a, b, sizes, grown):
     return "".join(f"{it}\n" for it in lines)
 
 
-row("two channels grow in turn", run(), two(2, 2), two_end(2, 2, (2, 2), ["c0 2", "c1 2"]), 0)
-row("the smaller grows first", run(), two(3, 3, c0=2), two_end(3, 3, (3, 3), ["c1 2", "c0 3", "c1 3"]), 0)
-row("a full channel whose writer has stopped", run(), two(1, 3, c1=2), two_end(1, 3, (1, 3), ["c1 3"]), 0)
-row("nothing is counted", run("c0"), net("src=count(5,0) snk=sink(0)", "c0 src.0>snk.0"), """end terminated
-process src stopped steps 1
-process snk stopped steps 1
-channel c0 put 0 left 0 capacity 1
-entries 2
-stream c0
-""", 0)
-row("the ceiling", run(), net("src=count(1,65537) snk=sink(0)", "c0 src.0>snk.0 capacity=65535", budget=1000000), """end ceiling
-process src writes c0 steps 65535
-process snk stopped steps 1
-channel c0 put 65535 left 65535 capacity 65535
-entries 65536
-""", 6)
+row("two channels grow in turn", run(), two(2, 2), REPORTS["TWO_FULL"], 0)
+row("the smaller grows first", run(), two(3, 3, c0=2), REPORTS["SMALLER_FIRST"], 0)
+row("a full channel whose writer has stopped", run(), two(1, 3, c1=2), REPORTS["WRITER_STOPPED"], 0)
+row("nothing is counted", run("c0"), net("src=count(5,0) snk=sink(0)", "c0 src.0>snk.0"), REPORTS["NOTHING"], 0)
+row("the ceiling", run(), net("src=count(1,65537) snk=sink(0)", "c0 src.0>snk.0 capacity=65535", budget=1000000), REPORTS["CEILING"], 6)
 MANY, FIRST = 55_000, 9_000_000_000_000_000_000
 row("a report of more than a million bytes", run("c0"), net(f"src=count({FIRST},{MANY}) snk=sink({MANY})", "c0 src.0>snk.0", budget=1000000), f"""end terminated
 process src stopped steps {MANY + 1}
@@ -194,19 +151,7 @@ stream c0 {" ".join(str(FIRST + k) for k in range(MANY))}
 row("an endless loop", run(), net("p=prefix(1) cp=copy snk=sink(2)", "c0 p.0>cp.0; c1 cp.0>p.0; c2 cp.1>snk.0", budget=10), "end budget\n", 3)
 row("products and sums that wrap", run("c3"), net(
     "s=count(9223372036854775807,1) d=scale(2) t=count(2,1) ad=add snk=sink(1)",
-    "c0 s.0>d.0; c1 d.0>ad.0; c2 t.0>ad.1; c3 ad.0>snk.0"), """end deadlock
-process s stopped steps 2
-process d reads c0 steps 2
-process t stopped steps 2
-process ad reads c1 steps 3
-process snk stopped steps 2
-channel c0 put 1 left 0 capacity 1
-channel c1 put 1 left 0 capacity 1
-channel c2 put 1 left 0 capacity 1
-channel c3 put 1 left 0 capacity 1
-entries 11
-stream c3 0
-""", 5)
+    "c0 s.0>d.0; c1 d.0>ad.0; c2 t.0>ad.1; c3 ad.0>snk.0"), REPORTS["WRAPS"], 5)
 row("a word of 64 bits", run("c1"), net(
     "s=count(9223372036854775807,1) d=scale(2) snk=sink(1)", "c0 s.0>d.0; c1 d.0>snk.0"), """end deadlock
 process s stopped steps 2
@@ -220,32 +165,12 @@ stream c1 18446744073709551614
 FLAGS = net(
     "src=count(1,6) cp=copy dv=divides(2) sw=switch odd=sink(3) even=sink(3)",
     "c0 src.0>cp.0; c1 cp.0>dv.0; c2 cp.1>sw.0; c3 dv.0>sw.1 sort=flags; c4 sw.0>odd.0; c5 sw.1>even.0")
-FLAGS_END = """end deadlock
-process src stopped steps 7
-process cp reads c0 steps 18
-process dv reads c1 steps 12
-process sw reads c3 steps 18
-process odd stopped steps 4
-process even stopped steps 4
-channel c0 put 6 left 0 capacity 1
-channel c1 put 6 left 0 capacity 1
-channel c2 put 6 left 0 capacity 1
-channel c3 put 6 left 0 capacity 1
-channel c4 put 3 left 0 capacity 1
-channel c5 put 3 left 0 capacity 1
-entries 63
-"""
+FLAGS_END = REPORTS["FLAGS"].rpartition("stream")[0]
 for name, stream in (("c3", "false true false true false true"), ("c4", "1 3 5"), ("c5", "2 4 6")):
     row(f"flags, {name}", run(name), FLAGS, f"{FLAGS_END}stream {name} {stream}\n", 5)
 row("the budget suffices", run(), edit(COUNTER, ("version = 1", "version = 1\nbudget = 8")), COUNTED, 0)
 row("the budget is one short", run(), edit(COUNTER, ("version = 1", "version = 1\nbudget = 7")), "end budget\n", 3)
-row("a loop without tokens", run(), net("k=copy snk=sink(1)", "c0 k.0>k.0; c1 k.1>snk.0"), """end deadlock
-process k reads c0 steps 0
-process snk reads c1 steps 0
-channel c0 put 0 left 0 capacity 1
-channel c1 put 0 left 0 capacity 1
-entries 0
-""", 5)
+row("a loop without tokens", run(), net("k=copy snk=sink(1)", "c0 k.0>k.0; c1 k.1>snk.0"), REPORTS["DEAD"], 5)
 row("check", CHECK, COUNTER, "ok 2 processes 1 channels\n", 0)
 row("seventeen workers", ["run", "--workers", "17"], COUNTER, "", 1)
 row("no channel of the name", run("c9"), COUNTER, "no channel c9\n", 1)
@@ -382,48 +307,21 @@ for sizes, grown in GROWN.items():
 # Version 2: tokens at the start, a step for growths, a higher ceiling.
 
 ROUND = net("k=take(2)", "c0 k.0>k.0 tokens=[7]", version=2)
-row("a token goes round", run("c0"), ROUND, """end terminated
-process k stopped steps 5
-channel c0 put 2 left 1 capacity 1
-entries 5
-stream c0 7 7 7
-""", 0)
+row("a token goes round", run("c0"), ROUND, REPORTS["ROUND"], 0)
 SUMS = net("s=count(1,3) ad=add cp=copy snk=sink(3)", "c0 s.0>ad.0; c1 cp.0>ad.1 tokens=[0]; c2 ad.0>cp.0; c3 cp.1>snk.0", version=2)
-SUMS_END = """end deadlock
-process s stopped steps 4
-process ad reads c0 steps 9
-process cp reads c2 steps 9
-process snk stopped steps 4
-channel c0 put 3 left 0 capacity 1
-channel c1 put 3 left 1 capacity 1
-channel c2 put 3 left 0 capacity 1
-channel c3 put 3 left 0 capacity 1
-entries 26
-"""
-row("running sums, with their start", run("c1"), SUMS, SUMS_END + "stream c1 0 1 3 6\n", 5)
-row("running sums", run("c3"), SUMS, SUMS_END + "stream c3 1 3 6\n", 5)
+row("running sums, with their start", run("c1"), SUMS, REPORTS["SUMS_BACK"], 5)
+row("running sums", run("c3"), SUMS, REPORTS["SUMS_OUT"], 5)
 for tokens, number in (("[1, 2]", 16), ("[true]", 16), ("[-1]", 16), ("[1, true]", 16), ('["a"]', 2)):
     refused(f"tokens {tokens}", edit(ROUND, ("[7]", tokens)), number)
 refused("tokens in version 1", edit(ROUND, ("version = 2", "version = 1")), 2)
 refused("tokens in version 3", edit(ROUND, ("version = 2", "version = 3")), 2)
 refused("a token in a channel of no capacity", edit(ROUND, ("[7]", "[1]\ncapacity = 0")), 12)
-row("the counter in version 2", run("c0"), edit(COUNTER, ("version = 1", "version = 2")), COUNTED + "stream c0 1 2 3\n", 0)
-row("growths by four places", run(), two(3, 3, c0=2, version=2, step=4), two_end(3, 3, (6, 5), ["c1 5", "c0 6"]), 0)
-row("growths by one place", run(), two(3, 3, c0=2, version=2, step=1), two_end(3, 3, (3, 3), ["c1 2", "c0 3", "c1 3"]), 0)
+row("the counter in version 2", run("c0"), edit(COUNTER, ("version = 1", "version = 2")), REPORTS["COUNTER"], 0)
+row("growths by four places", run(), two(3, 3, c0=2, version=2, step=4), REPORTS["FOUR_PLACES"], 0)
+row("growths by one place", run(), two(3, 3, c0=2, version=2, step=1), REPORTS["SMALLER_FIRST"], 0)
 HIGH = {"version": 2, "budget": 2000000, "step": 1024}
-row("a growth up to the ceiling", run(), net("src=count(1,1000000) snk=sink(0)", "c0 src.0>snk.0 capacity=999990", **HIGH), """end terminated
-process src stopped steps 1000001
-process snk stopped steps 1
-channel c0 put 1000000 left 1000000 capacity 1000000
-grew c0 1000000
-entries 1000003
-""", 0)
-row("the higher ceiling", run(), net("src=count(1,1000001) snk=sink(0)", "c0 src.0>snk.0 capacity=1000000", **HIGH), """end ceiling
-process src writes c0 steps 1000000
-process snk stopped steps 1
-channel c0 put 1000000 left 1000000 capacity 1000000
-entries 1000001
-""", 6)
+row("a growth up to the ceiling", run(), net("src=count(1,1000000) snk=sink(0)", "c0 src.0>snk.0 capacity=999990", **HIGH), REPORTS["GREATEST_GROWTH"], 0)
+row("the higher ceiling", run(), net("src=count(1,1000001) snk=sink(0)", "c0 src.0>snk.0 capacity=1000000", **HIGH), REPORTS["HIGHER_CEILING"], 6)
 SECOND = edit(COUNTER, ("version = 1", "version = 2"))
 for step in (0, 1025):
     refused(f"step {step}", edit(SECOND, ("version = 2", f"version = 2\nstep = {step}")), 17)

@@ -19,6 +19,7 @@ use std::sync::atomic::{AtomicU64, Ordering};
 use std::sync::{Arc, Wait};
 use std::test::Fail;
 use std::thread::Threads;
+use test_texts::reports;
 
 /// A body of a standard card that adds one to a count each time it is called.
 #[derive(Drop)]
@@ -98,13 +99,7 @@ static SHOWN: [Shown; 2] = [
     Shown {
         name: "c0",
         status: 0,
-        lines: "end terminated
-process src stopped steps 4
-process snk stopped steps 4
-channel c0 put 3 left 0 capacity 1
-entries 8
-stream c0 1 2 3
-",
+        lines: reports::COUNTER,
         calls: 8,
     },
     Shown {

@@ -8,6 +8,7 @@ use std::process::Abort;
 use std::rt::Clock;
 use std::sync::Wait;
 use std::thread::Threads;
+use test_texts::reports;
 
 /// How many bytes a description may have.
 const LONGEST: usize = 1_048_576;
@@ -22,12 +23,7 @@ fn repeated<R: Abort>(rt: &R, alloc: Global, text: &str, times: usize) -> String
     text.repeat(alloc, times).expect(rt, "no memory")
 }
 
-const COUNTED: &str = "end terminated
-process src stopped steps 4
-process snk stopped steps 4
-channel c0 put 3 left 0 capacity 1
-entries 8
-";
+const COUNTED: &str = reports::COUNTER_ALONE;
 
 /// What is written of the longest text.
 const COUNTED_DUE: Due<'static> = Due {

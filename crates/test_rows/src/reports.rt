@@ -7,6 +7,7 @@ use kpn_report::{Detail, Report, report_of, text_of};
 use kpn_standard::Standard;
 use std::alloc::Global;
 use std::process::Abort;
+use test_texts::reports;
 
 /// A counter of three tokens, of which the first is taken; the sink stops, and the channel grows.
 static HISTORY: [Entry; 7] = [
@@ -57,14 +58,7 @@ const STREAM: &[Token] = &[Token::Word(1), Token::Word(2), Token::Word(3)];
 /// What is left in the channel.
 const REST: &[Token] = &[Token::Word(2), Token::Word(3)];
 
-const TEXT: &str = "end terminated
-process src stopped steps 4
-process snk stopped steps 2
-channel c0 put 3 left 2 capacity 2
-grew c0 2
-entries 7
-stream c0 1 2 3
-";
+const TEXT: &str = reports::SINK_OF_ONE_STREAM;
 
 /// The network of the history.
 fn network<R: Abort>(rt: &R, alloc: Global) -> Net<Standard> {

@@ -9,6 +9,7 @@ use std::process::Abort;
 use std::rt::Clock;
 use std::sync::Wait;
 use std::thread::Threads;
+use test_texts::reports;
 
 /// The networks as they stand.
 static RUNS: [Row; 12] = [
@@ -19,15 +20,7 @@ static RUNS: [Row; 12] = [
         show: Some("c0"),
         due: Due {
             status: 0,
-            lines: Lines::All(
-                "end terminated
-process src stopped steps 4
-process snk stopped steps 4
-channel c0 put 3 left 0 capacity 1
-entries 8
-stream c0 1 2 3
-",
-            ),
+            lines: Lines::All(reports::COUNTER),
         },
     },
     Row {
@@ -37,15 +30,7 @@ stream c0 1 2 3
         show: Some("c0"),
         due: Due {
             status: 0,
-            lines: Lines::All(
-                "end terminated
-process src stopped steps 1
-process snk stopped steps 1
-channel c0 put 0 left 0 capacity 1
-entries 2
-stream c0
-",
-            ),
+            lines: Lines::All(reports::NOTHING),
         },
     },
     Row {
@@ -55,21 +40,7 @@ stream c0
         show: Some("c3"),
         due: Due {
             status: 5,
-            lines: Lines::All(
-                "end deadlock
-process s stopped steps 2
-process d reads c0 steps 2
-process t stopped steps 2
-process ad reads c1 steps 3
-process snk stopped steps 2
-channel c0 put 1 left 0 capacity 1
-channel c1 put 1 left 0 capacity 1
-channel c2 put 1 left 0 capacity 1
-channel c3 put 1 left 0 capacity 1
-entries 11
-stream c3 0
-",
-            ),
+            lines: Lines::All(reports::WRAPS),
         },
     },
     Row {
@@ -79,15 +50,7 @@ stream c3 0
         show: None,
         due: Due {
             status: 5,
-            lines: Lines::All(
-                "end deadlock
-process k reads c0 steps 0
-process snk reads c1 steps 0
-channel c0 put 0 left 0 capacity 1
-channel c1 put 0 left 0 capacity 1
-entries 0
-",
-            ),
+            lines: Lines::All(reports::DEAD),
         },
     },
     Row {
@@ -97,24 +60,7 @@ entries 0
         show: Some("c3"),
         due: Due {
             status: 5,
-            lines: Lines::All(
-                "end deadlock
-process src stopped steps 7
-process cp reads c0 steps 18
-process dv reads c1 steps 12
-process sw reads c3 steps 18
-process odd stopped steps 4
-process even stopped steps 4
-channel c0 put 6 left 0 capacity 1
-channel c1 put 6 left 0 capacity 1
-channel c2 put 6 left 0 capacity 1
-channel c3 put 6 left 0 capacity 1
-channel c4 put 3 left 0 capacity 1
-channel c5 put 3 left 0 capacity 1
-entries 63
-stream c3 false true false true false true
-",
-            ),
+            lines: Lines::All(reports::FLAGS),
         },
     },
     Row {
@@ -124,21 +70,7 @@ stream c3 false true false true false true
         show: Some("c3"),
         due: Due {
             status: 5,
-            lines: Lines::All(
-                "end deadlock
-process src stopped steps 4
-process cp reads c0 steps 9
-process wv reads c1 steps 12
-process snk stopped steps 7
-channel c0 put 3 left 0 capacity 1
-channel c1 put 3 left 0 capacity 1
-channel c2 put 3 left 0 capacity 2
-channel c3 put 6 left 0 capacity 1
-grew c2 2
-entries 33
-stream c3 1 2 3 1 2 3
-",
-            ),
+            lines: Lines::All(reports::WOVEN),
         },
     },
     Row {
@@ -148,19 +80,7 @@ stream c3 1 2 3 1 2 3
         show: None,
         due: Due {
             status: 0,
-            lines: Lines::All(
-                "end terminated
-process a stopped steps 3
-process b stopped steps 3
-process x stopped steps 1
-process y stopped steps 1
-channel c0 put 2 left 2 capacity 2
-channel c1 put 2 left 2 capacity 2
-grew c0 2
-grew c1 2
-entries 10
-",
-            ),
+            lines: Lines::All(reports::TWO_FULL),
         },
     },
     Row {
@@ -170,14 +90,7 @@ entries 10
         show: None,
         due: Due {
             status: 6,
-            lines: Lines::All(
-                "end ceiling
-process src writes c0 steps 65535
-process snk stopped steps 1
-channel c0 put 65535 left 65535 capacity 65535
-entries 65536
-",
-            ),
+            lines: Lines::All(reports::CEILING),
         },
     },
     Row {
@@ -238,14 +151,7 @@ static EDITS: [Row; 9] = [
         show: None,
         due: Due {
             status: 5,
-            lines: Lines::All(
-                "end deadlock
-process src stopped steps 4
-process snk reads c0 steps 3
-channel c0 put 3 left 0 capacity 1
-entries 7
-",
-            ),
+            lines: Lines::All(reports::SINK_OF_FOUR),
         },
     },
     Row {
@@ -255,14 +161,7 @@ entries 7
         show: None,
         due: Due {
             status: 0,
-            lines: Lines::All(
-                "end terminated
-process src stopped steps 4
-process snk stopped steps 3
-channel c0 put 3 left 1 capacity 1
-entries 7
-",
-            ),
+            lines: Lines::All(reports::SINK_OF_TWO),
         },
     },
     Row {
@@ -272,15 +171,7 @@ entries 7
         show: None,
         due: Due {
             status: 0,
-            lines: Lines::All(
-                "end terminated
-process src stopped steps 4
-process snk stopped steps 2
-channel c0 put 3 left 2 capacity 2
-grew c0 2
-entries 7
-",
-            ),
+            lines: Lines::All(reports::SINK_OF_ONE),
         },
     },
     Row {
@@ -315,14 +206,7 @@ entries 13
         show: None,
         due: Due {
             status: 0,
-            lines: Lines::All(
-                "end terminated
-process src stopped steps 4
-process snk stopped steps 4
-channel c0 put 3 left 0 capacity 1
-entries 8
-",
-            ),
+            lines: Lines::All(reports::COUNTER_ALONE),
         },
     },
     Row {
@@ -355,20 +239,7 @@ entries 8
         show: None,
         due: Due {
             status: 0,
-            lines: Lines::All(
-                "end terminated
-process a stopped steps 4
-process b stopped steps 4
-process x stopped steps 1
-process y stopped steps 1
-channel c0 put 3 left 3 capacity 3
-channel c1 put 3 left 3 capacity 3
-grew c1 2
-grew c0 3
-grew c1 3
-entries 13
-",
-            ),
+            lines: Lines::All(reports::SMALLER_FIRST),
         },
     },
     Row {
@@ -385,18 +256,7 @@ entries 13
         show: None,
         due: Due {
             status: 0,
-            lines: Lines::All(
-                "end terminated
-process a stopped steps 2
-process b stopped steps 4
-process x stopped steps 1
-process y stopped steps 1
-channel c0 put 1 left 1 capacity 1
-channel c1 put 3 left 3 capacity 3
-grew c1 3
-entries 9
-",
-            ),
+            lines: Lines::All(reports::WRITER_STOPPED),
         },
     },
 ];

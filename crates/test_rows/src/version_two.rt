@@ -1,7 +1,7 @@
 //! Descriptions of version 2: start tokens, a step for growths, and a higher ceiling.
 use crate::rows::{Due, Edits, Lines, Row, tells};
 use crate::texts::{COUNTER, FLAGS, TWO_FULL};
-use test_texts::RUNNING_SUMS;
+use test_texts::{RUNNING_SUMS, reports};
 
 /// One process that takes two tokens from a channel to itself, which begins with a token.
 const LOOP: &str = "version = 2
@@ -53,14 +53,7 @@ static RUNS: [Row; 7] = [
         show: Some("c0"),
         due: Due {
             status: 0,
-            lines: Lines::All(
-                "end terminated
-process k stopped steps 5
-channel c0 put 2 left 1 capacity 1
-entries 5
-stream c0 7 7 7
-",
-            ),
+            lines: Lines::All(reports::ROUND),
         },
     },
     Row {
@@ -70,20 +63,7 @@ stream c0 7 7 7
         show: Some("c1"),
         due: Due {
             status: 5,
-            lines: Lines::All(
-                "end deadlock
-process s stopped steps 4
-process ad reads c0 steps 9
-process cp reads c2 steps 9
-process snk stopped steps 4
-channel c0 put 3 left 0 capacity 1
-channel c1 put 3 left 1 capacity 1
-channel c2 put 3 left 0 capacity 1
-channel c3 put 3 left 0 capacity 1
-entries 26
-stream c1 0 1 3 6
-",
-            ),
+            lines: Lines::All(reports::SUMS_BACK),
         },
     },
     Row {
@@ -93,20 +73,7 @@ stream c1 0 1 3 6
         show: Some("c3"),
         due: Due {
             status: 5,
-            lines: Lines::All(
-                "end deadlock
-process s stopped steps 4
-process ad reads c0 steps 9
-process cp reads c2 steps 9
-process snk stopped steps 4
-channel c0 put 3 left 0 capacity 1
-channel c1 put 3 left 1 capacity 1
-channel c2 put 3 left 0 capacity 1
-channel c3 put 3 left 0 capacity 1
-entries 26
-stream c3 1 3 6
-",
-            ),
+            lines: Lines::All(reports::SUMS_OUT),
         },
     },
     Row {
@@ -116,15 +83,7 @@ stream c3 1 3 6
         show: Some("c0"),
         due: Due {
             status: 0,
-            lines: Lines::All(
-                "end terminated
-process src stopped steps 4
-process snk stopped steps 4
-channel c0 put 3 left 0 capacity 1
-entries 8
-stream c0 1 2 3
-",
-            ),
+            lines: Lines::All(reports::COUNTER),
         },
     },
     Row {
@@ -138,19 +97,7 @@ stream c0 1 2 3
         show: None,
         due: Due {
             status: 0,
-            lines: Lines::All(
-                "end terminated
-process a stopped steps 4
-process b stopped steps 4
-process x stopped steps 1
-process y stopped steps 1
-channel c0 put 3 left 3 capacity 6
-channel c1 put 3 left 3 capacity 5
-grew c1 5
-grew c0 6
-entries 12
-",
-            ),
+            lines: Lines::All(reports::FOUR_PLACES),
         },
     },
     Row {
@@ -164,20 +111,7 @@ entries 12
         show: None,
         due: Due {
             status: 0,
-            lines: Lines::All(
-                "end terminated
-process a stopped steps 4
-process b stopped steps 4
-process x stopped steps 1
-process y stopped steps 1
-channel c0 put 3 left 3 capacity 3
-channel c1 put 3 left 3 capacity 3
-grew c1 2
-grew c0 3
-grew c1 3
-entries 13
-",
-            ),
+            lines: Lines::All(reports::SMALLER_FIRST),
         },
     },
     Row {
@@ -219,15 +153,7 @@ static LONG_RUNS: [Row; 2] = [
         show: None,
         due: Due {
             status: 0,
-            lines: Lines::All(
-                "end terminated
-process src stopped steps 1000001
-process snk stopped steps 1
-channel c0 put 1000000 left 1000000 capacity 1000000
-grew c0 1000000
-entries 1000003
-",
-            ),
+            lines: Lines::All(reports::GREATEST_GROWTH),
         },
     },
     Row {
@@ -240,14 +166,7 @@ entries 1000003
         show: None,
         due: Due {
             status: 6,
-            lines: Lines::All(
-                "end ceiling
-process src writes c0 steps 1000000
-process snk stopped steps 1
-channel c0 put 1000000 left 1000000 capacity 1000000
-entries 1000001
-",
-            ),
+            lines: Lines::All(reports::HIGHER_CEILING),
         },
     },
 ];

@@ -9,6 +9,7 @@ use kpn_report::{places_of, text_of};
 use kpn_run::{Finish, stream_of};
 use std::alloc::{AllocError, Global};
 use std::process::Abort;
+use test_texts::reports;
 
 /// The expected result of a run.
 #[derive(Clone, Copy)]
@@ -30,13 +31,7 @@ pub(crate) const COUNTER_ENDS: Due = Due {
     entries: 8,
     processes: 2,
     stopped: 2,
-    text: "end terminated
-process src stopped steps 4
-process snk stopped steps 4
-channel c0 put 3 left 0 capacity 1
-entries 8
-stream c0 1 2 3
-",
+    text: reports::COUNTER,
     show: 0,
     stream: &[Word(1), Word(2), Word(3)],
 };
@@ -47,19 +42,7 @@ pub(crate) const WOVEN_ENDS: Due = Due {
     entries: 33,
     processes: 4,
     stopped: 2,
-    text: "end deadlock
-process src stopped steps 4
-process cp reads c0 steps 9
-process wv reads c1 steps 12
-process snk stopped steps 7
-channel c0 put 3 left 0 capacity 1
-channel c1 put 3 left 0 capacity 1
-channel c2 put 3 left 0 capacity 2
-channel c3 put 6 left 0 capacity 1
-grew c2 2
-entries 33
-stream c3 1 2 3 1 2 3
-",
+    text: reports::WOVEN,
     show: 3,
     stream: &[Word(1), Word(2), Word(3), Word(1), Word(2), Word(3)],
 };
@@ -101,14 +84,7 @@ pub(crate) const SMALL_SINK_ENDS: Due = Due {
     entries: 7,
     processes: 2,
     stopped: 2,
-    text: "end terminated
-process src stopped steps 4
-process snk stopped steps 2
-channel c0 put 3 left 2 capacity 2
-grew c0 2
-entries 7
-stream c0 1 2 3
-",
+    text: reports::SINK_OF_ONE_STREAM,
     show: 0,
     stream: &[Word(1), Word(2), Word(3)],
 };
@@ -142,18 +118,7 @@ pub(crate) const RUNNING_SUMS_END: Due = Due {
     entries: 26,
     processes: 4,
     stopped: 2,
-    text: "end deadlock
-process s stopped steps 4
-process ad reads c0 steps 9
-process cp reads c2 steps 9
-process snk stopped steps 4
-channel c0 put 3 left 0 capacity 1
-channel c1 put 3 left 1 capacity 1
-channel c2 put 3 left 0 capacity 1
-channel c3 put 3 left 0 capacity 1
-entries 26
-stream c1 0 1 3 6
-",
+    text: reports::SUMS_BACK,
     show: 1,
     stream: &[Word(0), Word(1), Word(3), Word(6)],
 };
