@@ -7,7 +7,7 @@ use kpn_body::{Body, Standard, answer};
 use kpn_front::{Fallible, load};
 use kpn_machine::Machine;
 use kpn_net::{Answer, Card, Kinds, Local, Net, Token};
-use kpn_run::{Open, run};
+use kpn_run::{Prompt, run};
 use std::alloc::{AllocError, Global};
 use std::env;
 use std::hint::spin_loop;
@@ -158,7 +158,7 @@ fn entries_by_workers<R: Threads + Wait + Clock + Sync>(
     bodies: Vec<Burning>,
     workers: usize,
 ) -> Result<u64, AllocError> {
-    match run(rt, alloc, net, bodies, workers, &Open) {
+    match run(rt, alloc, net, bodies, workers, &Prompt) {
         Ok(finish) => Ok(finish.receipts()),
         Err(_) => Err(AllocError),
     }

@@ -3,10 +3,11 @@ ghost use Rattle.std.specs.Prelude.{◌≤◌, option_map};
 ghost use Rattle.kpn_model.specs.Network.{family_of};
 ghost use Rattle.kpn_execute.specs.Execution.{MakesAndExecutes};
 
-use crate::running::execute;
+use crate::running::execute_by;
 use kpn_compute::{Computes, bodies_of};
 use kpn_front::{Sink, say_refused};
 use kpn_net::{Net, NetFault};
+use kpn_run::Prompt;
 use std::alloc::Global;
 use std::rt::Clock;
 use std::sync::Wait;
@@ -28,7 +29,7 @@ pub fn execute_net<K: Computes, S: Sink, R: Wait + Clock + Threads + Sync>(
     ensures { MakesAndExecutes (family_of K.start K.answer_of) net workers (option_map (λ s. s.now) show.entry) (S.takes sink.old) (S.contents sink.old) (S.contents sink.new) result }
 {
     match bodies_of(alloc, &net) {
-        Ok(bodies) => execute(rt, alloc, net, bodies, workers, show, sink),
+        Ok(bodies) => execute_by(rt, alloc, net, bodies, workers, &Prompt, show, sink),
         Err(_) => say_refused(&NetFault::Memory, sink),
     }
 }

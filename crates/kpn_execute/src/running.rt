@@ -10,7 +10,7 @@ use kpn_laws::{determinacy_of, least_room_of, least_solution_of};
 use kpn_machine::{Chronicle, Machine};
 use kpn_net::{End, Kinds, Net, NetFault};
 use kpn_report::{places_of, text_of};
-use kpn_run::{Open, RunFault, run};
+use kpn_run::{Gate, Open, RunFault, run};
 use std::alloc::{AllocError, Global};
 use std::rt::Clock;
 use std::sync::Wait;
@@ -54,22 +54,41 @@ pub fn execute<B: Body, S: Sink, R: Wait + Clock + Threads + Sync>(
     requires workers { (1 ≤ workers) × (workers ≤ 16) }
     ensures { Executes (family_of B.Kinds.start B.Kinds.answer_of) net workers (option_map (λ s. s.now) show.entry) (S.takes sink.old) (S.contents sink.old) (S.contents sink.new) result }
 {
+    execute_by(rt, alloc, net, bodies, workers, &Open, show, sink)
+}
+
+/// As `execute`, where several workers pass this gate.
+pub(crate) fn execute_by<B: Body, S: Sink, R: Wait + Clock + Threads + Sync, G: Gate>(
+    rt: &R,
+    alloc: Global,
+    net: Net<B::Kinds>,
+    bodies: Vec<B>,
+    workers: usize,
+    gate: &G,
+    show: Option<&str>,
+    sink: &mut S,
+) -> u8
+    requires cards { map B.card bodies.items ≡ cards_of net.processes }
+    requires workers { (1 ≤ workers) × (workers ≤ 16) }
+    ensures { Executes (family_of B.Kinds.start B.Kinds.answer_of) net workers (option_map (λ s. s.now) show.entry) (S.takes sink.old) (S.contents sink.old) (S.contents sink.new) result }
+{
     match show {
-        None => tell(rt, alloc, net, bodies, workers, None, sink),
+        None => tell(rt, alloc, net, bodies, workers, gate, None, sink),
         Some(name) => match net.find_channel(name) {
-            Some(channel) => tell(rt, alloc, net, bodies, workers, Some(channel), sink),
+            Some(channel) => tell(rt, alloc, net, bodies, workers, gate, Some(channel), sink),
             None => say_no_channel(name, sink),
         },
     }
 }
 
 /// Runs a network and writes the outcome, with the stream of a channel if one is given.
-fn tell<B: Body, S: Sink, R: Wait + Clock + Threads + Sync>(
+fn tell<B: Body, S: Sink, R: Wait + Clock + Threads + Sync, G: Gate>(
     rt: &R,
     alloc: Global,
     net: Net<B::Kinds>,
     bodies: Vec<B>,
     workers: usize,
+    gate: &G,
     channel: Option<usize>,
     sink: &mut S,
 ) -> u8
@@ -80,7 +99,7 @@ fn tell<B: Body, S: Sink, R: Wait + Clock + Threads + Sync>(
     if workers == 1 {
         tell_alone(alloc, net, bodies, channel, sink)
     } else {
-        tell_by_workers(rt, alloc, net, bodies, workers, channel, sink)
+        tell_by_workers(rt, alloc, net, bodies, workers, gate, channel, sink)
     }
 }
 
@@ -104,12 +123,13 @@ fn tell_alone<B: Body, S: Sink>(
 
 /// The same, by several workers.
 #[inline(never)]
-fn tell_by_workers<B: Body, S: Sink, R: Wait + Clock + Threads + Sync>(
+fn tell_by_workers<B: Body, S: Sink, R: Wait + Clock + Threads + Sync, G: Gate>(
     rt: &R,
     alloc: Global,
     net: Net<B::Kinds>,
     bodies: Vec<B>,
     workers: usize,
+    gate: &G,
     channel: Option<usize>,
     sink: &mut S,
 ) -> u8
@@ -117,7 +137,7 @@ fn tell_by_workers<B: Body, S: Sink, R: Wait + Clock + Threads + Sync>(
     requires workers { (1 < workers) × (workers ≤ 16) }
     ensures { Writes (TellsKnown (family_of B.Kinds.start B.Kinds.answer_of) net workers channel) (S.takes sink.old) (S.contents sink.old) (S.contents sink.new) result }
 {
-    match run(rt, alloc, net, bodies, workers, &Open) {
+    match run(rt, alloc, net, bodies, workers, gate) {
         Ok(finish) => say_told(alloc, finish.chronicle(), channel, sink),
         Err(RunFault::Memory { .. }) => say_refused(&NetFault::Memory, sink),
         Err(RunFault::Lost { .. }) => say_lost(sink),

@@ -5,11 +5,12 @@ ghost use Rattle.kpn_body.specs.StandardKinds.{signature, Admitted};
 ghost use Rattle.kpn_machine.specs.Opening.{cards_of};
 ghost use Rattle.kpn_execute.specs.Execution.{Executes, MakesAndExecutes};
 
-use crate::running::execute;
+use crate::running::execute_by;
 use kpn_body::{Call, Standard, StandardBody, answer};
 use kpn_front::{Sink, say_refused};
 use kpn_machine::cards_of;
 use kpn_net::{Answer, Card, Local, Net, NetFault, Token};
+use kpn_run::Prompt;
 use std::alloc::{AllocError, Global};
 use std::rt::Clock;
 use std::sync::Wait;
@@ -72,7 +73,7 @@ fn make_and_execute<S: Sink, R: Wait + Clock + Threads + Sync>(
         bodies.push(StandardBody::new(card, call))?;
     }
     let Some(net) = net else { unreachable!() };
-    Ok(execute(rt, alloc, net, bodies, workers, show, sink))
+    Ok(execute_by(rt, alloc, net, bodies, workers, &Prompt, show, sink))
 }
 
 /// A card of a list of cards that have signatures.

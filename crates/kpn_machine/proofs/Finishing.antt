@@ -17,6 +17,7 @@ use Rattle.kpn_machine.specs.Commits.{Commits, Appends, ContinuesRun, number}
 use Rattle.kpn_state.proofs.Placed.{standing_set_other}
 use Rattle.kpn_state.proofs.Contradictions.{true_false}
 use Rattle.kpn_machine.proofs.Entries.{run_both}
+use Rattle.kpn_machine.proofs.Moves.{ready_not_out}
 
 -- 1 for a process that is out
 abbrev weight : Standing → ℕ
@@ -107,6 +108,22 @@ module _ (kinds : Family) where
         let standings = ap (λ (x : MachineView). x.standings) taken.after in
         ⊎_elim (λ (x : p ≡ i.process). back (ap (λ y. standing t.standings y) (sym x) ∙ e))
         (λ ne. none p (sym (standing_set_other s.standings i.process p Out ne) ∙ ap (λ (l : List Standing). standing l p) (sym standings) ∙ (others p ne).0 e)) (cases_eq p i.process)
+
+    -- and leaves out exactly those that were out
+    pub round_keeps_out :
+        standing t.standings i.process ≢ Out → ((p : ℕ) → p ≢ i.process → (standing t.standings p ≡ Out) ↔ (standing mid.standings p ≡ Out)) → (p : ℕ) → (standing t.standings p ≡ Out) ↔ (standing s.standings p ≡ Out)
+    round_keeps_out back others p =
+        let standings = ap (λ (x : MachineView). x.standings) taken.after in
+        ⊎_elim
+        (λ (x : p ≡ i.process). (
+          λ out. absurd (back (ap (λ y. standing t.standings y) (sym x) ∙ out)),
+          λ out. absurd (ready_not_out (sym taken.ready ∙ ap (λ y. standing s.standings y) (sym x) ∙ out)),
+        ))
+        (λ ne.
+        let same : standing mid.standings p ≡ standing s.standings p = ap (λ (l : List Standing). standing l p) standings ∙ standing_set_other s.standings i.process p Out ne in (
+          λ out. sym same ∙ (others p ne).0 out,
+          λ out. (others p ne).1 (same ∙ out),
+        )) (cases_eq p i.process)
 
     pub round_network : t.network ≡ s.network
     round_network = commits_network mid i o t commits ∙ ap (λ (x : MachineView). x.network) taken.after

@@ -1,5 +1,5 @@
 //! The machine.
-ghost use Rattle.std.specs.Prelude.{count_by, ◌≡◌, ◌≢◌, ℕ, ◌<◌, ◌+◌, ◌↔◌, [], replicate, length, get_or, set, map, option_map, Some, None, IfSome, IfNone, IfErr, IfOk, OnOk, IsTrue, IsSome};
+ghost use Rattle.std.specs.Prelude.{count_by, ◌≡◌, ◌≢◌, ℕ, ◌<◌, ◌≤◌, ◌+◌, ◌↔◌, [], replicate, length, get_or, set, map, option_map, Some, None, IfSome, IfNone, IfErr, IfOk, OnOk, IsTrue, IsSome};
 ghost use Rattle.kpn_model.specs.Network.{card_of, family_of};
 ghost use Rattle.kpn_model.specs.Semantics.{status, start};
 ghost use Rattle.kpn_machine.specs.Opening.{cards_of, IsOpenFault};
@@ -39,6 +39,7 @@ pub struct Machine<B: Body> {
     spare: Vec<B>,
     end: Option<End>,
     commits: u64,
+    again: Option<usize>,
 }
 
 impl<B: Body> Model for Machine<B> {
@@ -115,6 +116,7 @@ impl<B: Body> Machine<B> {
             spare: bodies,
             end: None,
             commits: 0,
+            again: None,
         })
     }
 
@@ -378,6 +380,7 @@ impl<B: Body> Machine<B> {
             mut spare,
             end: _,
             commits: _,
+            again: _,
         } = self;
         for p in 0..net.processes() {
             let Some(body) = bodies[p].take() else {
@@ -404,6 +407,7 @@ impl<B: Body> Machine<B> {
             spare: _,
             end,
             commits,
+            again: _,
         } = self;
         Chronicle::new(net, store, standings, end, commits)
     }
@@ -421,24 +425,33 @@ fn note_end(end: &mut Option<End>, found: Option<End>)
 }
 
 impl<B: Body> Machine<B> {
+    // Returns the process to be asked next: this one, or if none is given the one that has been ready the
+    // longest; `None` if no process is ready.
+    #[inline(always)]
+    fn turn(&mut self, again: Option<usize>) -> Option<usize>
+        requires { IfSome again (λ p. standing self.old.standings p ≡ Ready) }
+        ensures some { IfSome result (λ p. standing self.old.standings p ≡ Ready) }
+        ensures within { IfSome result (λ p. p < length self.old.standings) }
+        ensures none { IfNone result ((p : ℕ) → standing self.old.standings p ≢ Ready) }
+        ensures same { self.new ≡ self.old }
+    {
+        self.standings.turn(again)
+    }
+
     /// Asks a ready process, and takes its answer: what `take`, `Task::call` and `commit` do, but no body
-    /// leaves the machine, and the process is not sent out. It is the process that is given, or else the
-    /// one that has been ready the longest. The run must not have ended, and no process may be out.
+    /// leaves the machine, and the process is not sent out. The run must not have ended.
     ///
     /// Returns the process if it has read and is ready: it is asked again at once, since mostly it then
     /// writes, while one that has written has to wait for its reader.
     #[inline(always)]
-    fn go_on(&mut self, again: Option<usize>) -> Option<usize>
+    fn ask(&mut self, process: usize) -> Option<usize>
         requires on { self.old.end ≡ None }
-        requires none_out { count_by is_out self.old.standings ≡ 0 }
-        requires again { IfSome again (λ p. standing self.old.standings p ≡ Ready) }
+        requires ready { standing self.old.standings process ≡ Ready }
+        requires within { process < length self.old.standings }
         ensures round { GoesRound (family_of B.Kinds.start B.Kinds.answer_of) self.old self.new }
         ensures again { IfSome result (λ p. standing self.new.standings p ≡ Ready) }
     {
         self.net.assure_valid();
-        let Some(process) = self.standings.turn(again) else {
-            unreachable!()
-        };
         let Status::Live { local, last } = self.store.status(process) else {
             unreachable!()
         };
@@ -478,9 +491,47 @@ impl<B: Body> Machine<B> {
     {
         let mut again = None;
         while self.end().is_none() {
-            again = self.go_on(again);
+            let Some(process) = self.turn(again) else {
+                unreachable!()
+            };
+            again = self.ask(process);
         }
         least_room_of::<B::Kinds>();
         least_solution_of::<B::Kinds>();
+    }
+
+    // Returns the process that was to be asked again when bodies were last asked in place, if it is ready.
+    fn asked_last(&self) -> Option<usize>
+        ensures { IfSome result (λ p. standing self.now.standings p ≡ Ready) }
+    {
+        self.standings.if_ready(self.again?)
+    }
+
+    /// Asks ready processes where their bodies lie, one after the other, and takes their answers as
+    /// `commit` does, until `most` answers were taken, no process is ready or the run has ended. Returns
+    /// how many answers were taken. Processes that are out stay out. No contract says which ready process
+    /// is asked. Takes no memory except that of growths.
+    pub fn ask_in_place(&mut self, most: u64) -> u64
+        ensures goes { ContinuesRun (family_of B.Kinds.start B.Kinds.answer_of) self.old self.new }
+        ensures commits { self.new.commits ≡ self.old.commits + result }
+        ensures most { result ≤ most }
+        ensures fewer { result < most → self.new.end ≡ None → (p : ℕ) → standing self.new.standings p ≢ Ready }
+        ensures out { (p : ℕ) → (standing self.new.standings p ≡ Out) ↔ (standing self.old.standings p ≡ Out) }
+        ensures ended { self.old.end ≢ None → result ≡ 0 }
+        ensures none { result ≡ 0 → self.new ≡ self.old }
+        ensures faithful { IsFaithful (family_of B.Kinds.start B.Kinds.answer_of) B.Kinds.admits self.new }
+    {
+        let mut again = self.asked_last();
+        let mut taken = 0;
+        while taken < most && self.end().is_none() {
+            let Some(process) = self.turn(again) else {
+                break;
+            };
+            again = self.ask(process);
+            taken += 1;
+        }
+        self.again = again;
+        self.assure_faithful();
+        taken
     }
 }

@@ -3,7 +3,7 @@
 //! Whenever the lock is free, the history is a run of the network from its start; an end is justified
 //! and stays; the total of the book of entries is the length of the history; the run has ended if the
 //! book of overs is not empty; and what is published is the history with the phase of its end.
-ghost use Rattle.std.specs.Prelude.{◌≡◌, ◌≢◌, ◌+◌, ◌<◌, ◌≤◌, ◌↔◌, [], ◌∷◌, ◌++◌, true, false, length, Some, IfNone, Ok, IfSome, IfOk, IfErr, IsErr, OnOk, OnErr, IsSome, MatchOption, MatchResult};
+ghost use Rattle.std.specs.Prelude.{Bool, ℕ, ◌≡◌, ◌≢◌, ◌+◌, ◌<◌, ◌≤◌, ◌↔◌, [], ◌∷◌, ◌++◌, true, false, length, Some, IfNone, Ok, IfSome, IfOk, IfErr, IsErr, OnOk, OnErr, IsSome, MatchOption, MatchResult};
 ghost use Rattle.kpn_model.specs.Network.{family_of};
 ghost use Rattle.std.specs.List.{All, sum_by};
 ghost use Rattle.kpn_model.specs.declared.history.End.{End as EndV};
@@ -11,12 +11,12 @@ ghost use Rattle.kpn_model.specs.Semantics.{State};
 ghost use Rattle.kpn_model.specs.Determinacy.{IsRun};
 ghost use Rattle.kpn_watch.specs.declared.progress.Phase.TheVariants.{Running};
 ghost use Rattle.kpn_watch.specs.Phases.{phase_of};
-ghost use Rattle.kpn_monitor.specs.Kept.{IsShown, HasEnded, WasCommitted, WasTaken, FoundNothing};
+ghost use Rattle.kpn_monitor.specs.Kept.{IsShown, HasEnded, WasCommitted, WasTaken, WentOn, FoundNothing};
 ghost use Rattle.kpn_monitor.specs.Hands.{TakesOutAll, CommitsAll, WereCommitted};
 ghost use Rattle.kpn_body.specs.Input.{Input};
 ghost use Rattle.kpn_machine.specs.MachineView.{MachineView, IsFaithful, IsFresh, TakesOut};
 ghost use Rattle.kpn_model.specs.Endings.{MayStand};
-ghost use Rattle.kpn_machine.specs.Commits.{Commits, Appends, number};
+ghost use Rattle.kpn_machine.specs.Commits.{Commits, Appends, ContinuesRun, number};
 
 use crate::giving::{give_all, give_one};
 use crate::hand::{Hand, Sharing};
@@ -49,6 +49,17 @@ pub enum Next {
     Tasks,
     /// Nothing, since no process was ready, or no task was asked for.
     Nothing,
+    /// The run is over.
+    Over(End),
+}
+
+/// What came of asking processes in place.
+#[derive(Clone, Copy, Debug, PartialEq, Eq)]
+pub enum Went {
+    /// At least one answer was taken, after the lock was free at once, or after it was waited for.
+    On { waited: bool },
+    /// None was: no process was ready, or none was to be asked.
+    Nowhere,
     /// The run is over.
     Over(End),
 }
@@ -266,6 +277,43 @@ impl<B: Body, E: EntryLedger, O: Ledger> Guarded<B, E, O> {
             Some(finished) => Err(Stranger { finished }),
             None => Ok(self.deal(hand, seat, most)),
         }
+    }
+
+    /// Has the machine ask ready processes where their bodies lie, until `most` answers were taken, no
+    /// process is ready or the run has ended; then publishes and books what was appended. If no answer was
+    /// taken, meets the end of the run and notes it in the seat, if there is one.
+    pub(crate) fn ask_in_place(
+        &mut self,
+        board: &Board,
+        seat: &mut Seat<E, O>,
+        most: u64,
+        waited: bool,
+    ) -> Went
+        requires { board.now ≡ E.board }
+        ensures machine { ContinuesRun (family_of B.Kinds.start B.Kinds.answer_of) self.old.machine self.new.machine }
+        ensures went { (n : ℕ) × (seat.new.entries ≡ seat.old.entries + n) × WentOn (family_of B.Kinds.start B.Kinds.answer_of) B.Kinds.admits E.net n }
+        ensures parts { seat.new.parts ≡ seat.old.parts }
+        ensures on { (w : Bool) → result ≡ Went.On w → seat.new.overs ≡ seat.old.overs }
+        ensures nowhere { result ≡ Went.Nowhere → seat.new ≡ seat.old }
+        ensures found { result ≡ Went.Nowhere → 0 < most → FoundNothing (family_of B.Kinds.start B.Kinds.answer_of) B.Kinds.admits E.net }
+        ensures over { (e : EndV) → result ≡ Went.Over e → (seat.new ≡ record seat.old { overs = 1 }) × (self.new.machine.end ≡ Some e) }
+        ensures ended { (e : EndV) → result ≡ Went.Over e → HasEnded (family_of B.Kinds.start B.Kinds.answer_of) B.Kinds.admits E.net e }
+    {
+        self.machine.assure_faithful();
+        let before = self.machine.history().len();
+        if self.machine.ask_in_place(most) == 0 {
+            return match self.meet_end(seat) {
+                Next::Over(end) => Went::Over(end),
+                Next::Nothing | Next::Tasks => Went::Nowhere,
+            };
+        }
+        let ended = self.machine.end();
+        self.machine.net().assure_valid();
+        let after = self.machine.history();
+        self.publisher.publish(board, after, ended);
+        let more = (after.len() - before) as u64;
+        seat.add_entries(&mut self.entries, more);
+        Went::On { waited }
     }
 
     // Takes more tasks, until there are as many as are wanted or no process is ready.

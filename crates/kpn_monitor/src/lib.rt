@@ -17,7 +17,7 @@ mod resting;
 mod seat;
 
 pub use closed::{CloseFault, Closed, Unclosed};
-pub use guarded::{Next, Taken};
+pub use guarded::{Next, Taken, Went};
 pub use hand::Hand;
 pub use monitor::Monitor;
 pub use naming::EntryLedger;

@@ -1,5 +1,5 @@
 //! A machine under a lock.
-ghost use Rattle.std.specs.Prelude.{◌≡◌, ◌≢◌, ◌+◌, ◌<◌, ◌≤◌, ◌↔◌, ℕ, [], ◌∷◌, Some, Ok, IfOk, IfErr, OnOk, OnErr, IsSome, IsOk, IsTrue, MatchResult, length, slice_get};
+ghost use Rattle.std.specs.Prelude.{Bool, ◌≡◌, ◌≢◌, ◌+◌, ◌<◌, ◌≤◌, ◌↔◌, ℕ, [], ◌∷◌, Some, Ok, IfOk, IfErr, OnOk, OnErr, IsSome, IsOk, IsTrue, MatchResult, length, slice_get};
 ghost use Rattle.kpn_model.specs.Network.{family_of};
 ghost use Rattle.std.specs.List.{All, sum_by};
 ghost use Rattle.kpn_model.specs.declared.history.End.{End as EndV};
@@ -11,11 +11,11 @@ ghost use Rattle.kpn_watch.specs.Shown.{shows};
 ghost use Rattle.kpn_body.specs.Input.{Input};
 ghost use Rattle.kpn_machine.specs.Commits.{number};
 ghost use Rattle.kpn_monitor.specs.Names.{Shares};
-ghost use Rattle.kpn_monitor.specs.Kept.{FoundNothing, HasEnded, IsAccount, WasCommitted, WasTaken};
+ghost use Rattle.kpn_monitor.specs.Kept.{FoundNothing, HasEnded, IsAccount, WasCommitted, WasTaken, WentOn};
 ghost use Rattle.kpn_monitor.specs.Hands.{WereCommitted};
 
 use crate::closed::{Closed, Unclosed};
-use crate::guarded::{Guarded, Next, Taken, Wakes};
+use crate::guarded::{Guarded, Next, Taken, Wakes, Went};
 use crate::hand::Hand;
 use crate::naming::EntryLedger;
 use crate::opening::{Opening, Parts};
@@ -176,6 +176,38 @@ impl<B: Body, E: EntryLedger, O: Ledger> Monitor<B, E, O> {
             self.rouse(rt);
         }
         answer
+    }
+
+    /// Asks ready processes where their bodies lie, one after the other, and takes their answers as `commit`
+    /// does, until `most` answers were taken, no process is ready or the run is over; all in one holding of
+    /// the lock, in which the bodies are called. So it is for bodies that are quick, and that wait for
+    /// nobody: one that waited for another body could wait for ever.
+    ///
+    /// The seat's share of entries grows by the number of entries appended. If no answer was taken and the
+    /// run is over, the seat has met its end: its share of overs is 1.
+    pub fn ask_in_place<R: Wait>(&self, rt: &R, seat: &mut Seat<E, O>, most: u64) -> Went
+        ensures went { (n : ℕ) × (seat.new.entries ≡ seat.old.entries + n) × WentOn (family_of B.Kinds.start B.Kinds.answer_of) B.Kinds.admits E.net n }
+        ensures parts { seat.new.parts ≡ seat.old.parts }
+        ensures on { (w : Bool) → result ≡ Went.On w → seat.new.overs ≡ seat.old.overs }
+        ensures nowhere { result ≡ Went.Nowhere → seat.new ≡ seat.old }
+        ensures found { result ≡ Went.Nowhere → 0 < most → FoundNothing (family_of B.Kinds.start B.Kinds.answer_of) B.Kinds.admits E.net }
+        ensures over { (e : EndV) → result ≡ Went.Over e → seat.new ≡ record seat.old { overs = 1 } }
+        ensures ended { (e : EndV) → result ≡ Went.Over e → HasEnded (family_of B.Kinds.start B.Kinds.answer_of) B.Kinds.admits E.net e }
+    {
+        let free = self.state.try_lock();
+        let waited = free.is_none();
+        let mut guarded = match free {
+            Some(guarded) => guarded,
+            None => self.lock(rt),
+        };
+        let went = guarded.ask_in_place(&self.board, seat, most, waited);
+        let wakes = guarded.wakes();
+        drop(guarded);
+        self.wake(wakes);
+        if let Went::Over(_) = went {
+            self.rouse(rt);
+        }
+        went
     }
 
     /// Rests until the run is over, or until one more thread is of use, and returns whether it rested.

@@ -20,4 +20,4 @@ pub use hold::Hold;
 pub use kpn_model::Place;
 pub use kpn_report::{Detail, Growths, Places, Report, Sizes, Steps, Stream, Streams, stream_of};
 pub use reporting::report;
-pub use worker::{Gate, Open, Worked, work};
+pub use worker::{Gate, Open, Prompt, Worked, work};

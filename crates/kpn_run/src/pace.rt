@@ -20,6 +20,19 @@ const UNTIMED_ROUNDS: u32 = 7;
 const ALONE_ROUNDS: u32 = 31;
 /// A worker is spare after this many more rounds that weren't worth it than rounds that were.
 const PATIENCE: u32 = 8;
+/// A worker goes over to asking bodies in place if the calls of a round took less than `SHORT_CALL`, one with
+/// another. In the first holding of the lock it takes one answer, and in each up to twice as many as in the one
+/// before, and at most `MOST_IN_PLACE`. It leaves off if they take longer than `LONG_ANSWER` each, with all that
+/// the machine does for one, and `START` for all.
+const SHORT_CALL: u64 = 150;
+
+const MOST_IN_PLACE: u64 = 256;
+
+const LONG_ANSWER: u64 = 250;
+
+const START: u64 = 2_000;
+/// How much a worker is strained by having to wait for the lock to ask in place: another is at it.
+const WAITED: u32 = 2;
 /// A worker that finds nothing to do looks again for `LOOKS` times as long as its last calls took, and at
 /// most for `LONGEST_LOOK`, before it rests.
 const LOOKS: u64 = 4;
@@ -51,11 +64,14 @@ pub(crate) struct Pace {
     then: u64,
     /// How many rounds to come are not timed.
     untimed: u32,
+    /// Whether bodies may be asked in place; and how many are, in one holding of the lock, if any.
+    may_ask: bool,
+    in_place: u64,
 }
 
 impl Pace {
-    /// The pace of a worker that begins now.
-    pub(crate) fn new(now: u64) -> Pace {
+    /// The pace of a worker that begins now, and may ask bodies in place or not.
+    pub(crate) fn new(now: u64, may_ask: bool) -> Pace {
         Pace {
             most: 1,
             calling: 0,
@@ -64,7 +80,14 @@ impl Pace {
             strain: 0,
             then: now,
             untimed: 0,
+            may_ask,
+            in_place: u64::from(may_ask),
         }
+    }
+
+    /// How many bodies the worker asks in place in one holding of the lock; 0 if it takes tasks instead.
+    pub(crate) fn in_place(&self) -> u64 {
+        self.in_place
     }
 
     /// Whether the clock is looked at in this round.
@@ -89,26 +112,28 @@ impl Pace {
         self.then = now;
     }
 
-    /// All tasks of the round have been called, at time `now`. Returns how many tasks to take: none if
-    /// the worker is spare, since the exchanges have lately taken longer than the calls.
-    pub(crate) fn called(&mut self, some: bool, now: u64) -> usize {
+    /// All tasks of the round, so many, have been called, at time `now`. Returns how many tasks to take:
+    /// none if the worker goes on in place, or if it is spare, since the exchanges have lately taken longer
+    /// than the calls.
+    pub(crate) fn called(&mut self, calls: u64, now: u64) -> usize {
         let took = now.saturating_sub(self.then);
         self.then = now;
-        if some {
-            self.judge(took);
+        if calls > 0 {
+            self.judge(calls, took);
         } else {
             self.looking = self.looking.saturating_add(took);
         }
-        if self.strain >= PATIENCE {
+        if self.in_place > 0 || self.strain >= PATIENCE {
             0
         } else {
             self.most()
         }
     }
 
-    /// The calls of a round took this long.
-    fn judge(&mut self, took: u64) {
+    /// So many calls of a round took this long.
+    fn judge(&mut self, calls: u64, took: u64) {
         self.calling = took;
+        self.in_place = u64::from(self.may_ask && took < calls.saturating_mul(SHORT_CALL));
         if took < self.exchanging.saturating_mul(FEW_EXCHANGES) {
             self.most = self.most.saturating_mul(2).min(MOST);
         } else if took > self.exchanging.saturating_mul(MANY_EXCHANGES) {
@@ -125,6 +150,9 @@ impl Pace {
     pub(crate) fn exchanged(&mut self, next: Next, now: u64) -> Step {
         self.exchanging = now.saturating_sub(self.then);
         self.then = now;
+        if self.in_place > 0 {
+            return Step::Go;
+        }
         match next {
             Next::Tasks | Next::Over(_) => {
                 self.looking = 0;
@@ -146,6 +174,32 @@ impl Pace {
         } else {
             Step::Pause
         }
+    }
+
+    /// Bodies were asked in place until now, after the worker had to wait for the lock or not.
+    pub(crate) fn asked(&mut self, waited: bool, now: u64) {
+        let took = now.saturating_sub(self.then);
+        self.then = now;
+        self.looking = 0;
+        self.strain = if waited {
+            self.strain.saturating_add(WAITED)
+        } else {
+            self.strain.saturating_sub(1)
+        };
+        let longest = self
+            .in_place
+            .saturating_mul(LONG_ANSWER)
+            .saturating_add(START);
+        self.in_place = if took > longest || self.strain >= PATIENCE {
+            0
+        } else {
+            self.in_place.saturating_mul(2).min(MOST_IN_PLACE)
+        };
+    }
+
+    /// There was nobody to ask in place.
+    pub(crate) fn stop_asking(&mut self) {
+        self.in_place = 0;
     }
 
     /// The worker has rested, or was found to be needed, at time `now`. A spare worker that has rested

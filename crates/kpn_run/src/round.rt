@@ -1,11 +1,11 @@
 //! What a worker of a run does.
-ghost use Rattle.std.specs.Prelude.{◌≡◌, length, IfNone};
+ghost use Rattle.std.specs.Prelude.{◌≡◌, length, IfNone, IsTrue};
 
 use crate::pace::{Pace, Step};
 use crate::worker::Gate;
 use kpn_body::{Body, Finished};
 use kpn_machine::Stranger;
-use kpn_monitor::{EntryLedger, Hand, Monitor, Next, Rest, Seat};
+use kpn_monitor::{EntryLedger, Hand, Monitor, Next, Rest, Seat, Went};
 use std::hint::spin_loop;
 use std::rt::Clock;
 use std::sync::Wait;
@@ -49,8 +49,9 @@ impl Stopwatch {
 }
 
 /// Calls the tasks of a hand, asks the gate after each, and exchanges the answers for other tasks,
-/// again and again, until the run is over or an answer is refused. Returns the refused answer; if there
-/// is none, the seat has met an end. It may wait for other workers.
+/// again and again, until the run is over or an answer is refused; in between it has bodies asked in
+/// place, if the gate lets it and while that is quicker. Returns the refused answer; if there is none, the
+/// seat has met an end. It may wait for other workers.
 pub(crate) fn work_in_rounds<B: Body, E: EntryLedger, O: Ledger, R: Wait + Clock, G: Gate>(
     rt: &R,
     monitor: &Monitor<B, E, O>,
@@ -63,11 +64,14 @@ pub(crate) fn work_in_rounds<B: Body, E: EntryLedger, O: Ledger, R: Wait + Clock
 {
     monitor.rest(rt, hand, Rest::Spare, Duration::from_micros(FIRST_REST));
     let watch = Stopwatch::new(rt);
-    let mut pace = Pace::new(0);
+    let mut pace = Pace::new(watch.nanos(rt), gate.lets_ask_in_place());
     for _ in rt.forever() {
-        let some = call_all(hand, gate);
+        if pace.in_place() > 0 && ask_in_place(rt, monitor, seat, &watch, &mut pace) {
+            return None;
+        }
+        let calls = call_all(hand, gate);
         let most = if pace.is_timed() {
-            pace.called(some, watch.nanos(rt))
+            pace.called(calls, watch.nanos(rt))
         } else {
             pace.most()
         };
@@ -75,6 +79,31 @@ pub(crate) fn work_in_rounds<B: Body, E: EntryLedger, O: Ledger, R: Wait + Clock
             Ok(Next::Over(_)) => return None,
             Ok(next) => go_on(rt, monitor, hand, &watch, &mut pace, next),
             Err(Stranger { finished }) => return Some(finished),
+        }
+    }
+    unreachable!()
+}
+
+// Has bodies asked in place while that is quicker. Returns whether the run is over; the seat has then met
+// its end.
+fn ask_in_place<B: Body, E: EntryLedger, O: Ledger, R: Wait + Clock>(
+    rt: &R,
+    monitor: &Monitor<B, E, O>,
+    seat: &mut Seat<E, O>,
+    watch: &Stopwatch,
+    pace: &mut Pace,
+) -> bool
+    ensures parts { seat.new.parts ≡ seat.old.parts }
+    ensures over { IsTrue result → seat.new.overs ≡ 1 }
+{
+    for _ in rt.forever() {
+        match monitor.ask_in_place(rt, seat, pace.in_place()) {
+            Went::On { waited } => pace.asked(waited, watch.nanos(rt)),
+            Went::Nowhere => pace.stop_asking(),
+            Went::Over(_) => return true,
+        }
+        if pace.in_place() == 0 {
+            return false;
         }
     }
     unreachable!()
@@ -102,16 +131,16 @@ fn go_on<B: Body, E: EntryLedger, O: Ledger, R: Wait + Clock>(
     take_step(rt, monitor, hand, watch, pace, step);
 }
 
-// Calls all tasks of a hand, and asks the gate after each. Returns whether there were any.
-fn call_all<B: Body, G: Gate>(hand: &mut Hand<B>, gate: &G) -> bool
+// Calls all tasks of a hand, and asks the gate after each. Returns how many there were.
+fn call_all<B: Body, G: Gate>(hand: &mut Hand<B>, gate: &G) -> u64
     ensures { hand.new.called ≡ length hand.new.tasks }
 {
-    let mut some = false;
+    let mut calls: u64 = 0;
     while let Some(process) = hand.call() {
         gate.before_commit(process);
-        some = true;
+        calls = calls.saturating_add(1);
     }
-    some
+    calls
 }
 
 // Goes on, pauses or rests.

@@ -12,6 +12,12 @@ use std::sync::ledger::Ledger;
 pub trait Gate: Sync {
     /// Called with the number of the process whose answer is about to be committed.
     fn before_commit(&self, process: usize);
+
+    /// Whether workers may ask bodies under the lock, and then without this gate. That is for bodies that
+    /// wait for nobody: one that waited for another under the lock would wait for ever.
+    fn lets_ask_in_place(&self) -> bool {
+        false
+    }
 }
 
 /// The gate that does nothing.
@@ -19,6 +25,18 @@ pub struct Open;
 
 impl Gate for Open {
     fn before_commit(&self, _process: usize) {}
+}
+
+/// The gate that does nothing, for bodies that wait for nobody. While their calls are short, one worker
+/// asks them under the lock, which is as fast as no lock; while they are longer, all work as by `Open`.
+pub struct Prompt;
+
+impl Gate for Prompt {
+    fn before_commit(&self, _process: usize) {}
+
+    fn lets_ask_in_place(&self) -> bool {
+        true
+    }
 }
 
 /// What a worker hands back: its seat, and the answer that the monitor refused, if there is one.

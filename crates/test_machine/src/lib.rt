@@ -12,6 +12,8 @@ mod entries;
 #[cfg(test)]
 mod histories;
 #[cfg(test)]
+mod in_place;
+#[cfg(test)]
 mod machines;
 #[cfg(test)]
 mod networks;

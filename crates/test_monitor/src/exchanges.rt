@@ -6,7 +6,7 @@ use crate::monitors::{close_alone, ended_of, seen_by, watcher_of};
 use crate::scenes::COUNTER_ENDED;
 use kpn_body::Body;
 use kpn_machine::Outcome;
-use kpn_monitor::{EntryLedger, Hand, Monitor, Next, Rest, Seat};
+use kpn_monitor::{EntryLedger, Hand, Monitor, Next, Rest, Seat, Went};
 use kpn_net::End;
 use kpn_watch::{Phase, Progress};
 use std::alloc::Global;
@@ -119,6 +119,28 @@ pub(crate) fn exchanged<B: Body, E: EntryLedger, O: Ledger, R: Wait + Clock + Ab
 ) {
     let mut watcher = watcher_of(rt, &monitor);
     play_rounds(rt, alloc, &monitor, &mut seat);
+    same(rt, "shown", seen_by(&monitor, &mut watcher), SHOWN);
+    let closed = close_alone(rt, alloc, monitor, seat);
+    same(rt, "ended", ended_of(&closed), COUNTER_ENDED);
+}
+
+/// The bodies of a counter of three and a sink of three are asked in place to their end.
+pub(crate) fn asked_in_place<B: Body, E: EntryLedger, O: Ledger, R: Wait + Clock + Abort>(
+    rt: &R,
+    alloc: Global,
+    monitor: Monitor<B, E, O>,
+    mut seat: Seat<E, O>,
+) {
+    let mut watcher = watcher_of(rt, &monitor);
+    let due = [
+        (0, Went::Nowhere),
+        (3, Went::On { waited: false }),
+        (1000, Went::On { waited: false }),
+        (1000, Went::Over(End::Terminated)),
+    ];
+    for (most, went) in due {
+        same(rt, "went", monitor.ask_in_place(rt, &mut seat, most), went);
+    }
     same(rt, "shown", seen_by(&monitor, &mut watcher), SHOWN);
     let closed = close_alone(rt, alloc, monitor, seat);
     same(rt, "ended", ended_of(&closed), COUNTER_ENDED);

@@ -5,7 +5,7 @@
 ghost use Rattle.std.specs.Prelude.{◌≡◌, ◌<◌, ◌++◌, ◌∷◌, [], All, IfSome};
 
 use crate::checks::same;
-use crate::exchanges::exchanged;
+use crate::exchanges::{asked_in_place, exchanged};
 use crate::monitors::{
     Ended, close_alone, close_with, ended_of, list_of, next_task, opening_of, outcome_of, seen_by,
     shown_to, two_seats, watcher_of, work_alone, work_counted,
@@ -38,6 +38,8 @@ enum Scene {
     MostWatchers,
     /// One hand is exchanged until a counter of three has written into a sink of three.
     Exchanged,
+    /// One seat has the bodies of the same network asked in place.
+    InPlace,
 }
 
 const NOTHING: Progress = Progress {
@@ -97,6 +99,7 @@ fn play_opened<
         Scene::OneTask { dropped } => one_task(rt, alloc, monitor, seat, dropped),
         Scene::MostWatchers => most_watchers(rt, alloc, monitor, seat),
         Scene::Exchanged => exchanged(rt, alloc, monitor, seat),
+        Scene::InPlace => asked_in_place(rt, alloc, monitor, seat),
     }
 }
 
@@ -351,6 +354,7 @@ fn scenes_on_monitors(rt: HostRuntime) {
         (COUNTER_INTO_SINK, Scene::OneTask { dropped: true }),
         (COPIED_AND_WOVEN, Scene::MostWatchers),
         (COUNTER_INTO_SINK, Scene::Exchanged),
+        (COUNTER_INTO_SINK, Scene::InPlace),
     ] {
         let opening = opening_of(&rt, rt.alloc(), text);
         play(&rt, rt.alloc(), opening, scene);

@@ -3,6 +3,7 @@ use crate::texts::fill;
 use crate::whole::{Whole, shows_endless, shows_whole};
 use kpn_net::Token;
 use kpn_net::Token::Word;
+use kpn_run::Open;
 use std::alloc::Global;
 use std::process::Abort;
 use std::test::Fail;
@@ -77,7 +78,7 @@ fn parks_case_from_all_capacities(rt: HostRuntime) -> Result<(), Fail> {
                 text: lines.as_str(),
                 streams: &streams,
             };
-            shows_whole(&rt, alloc, described.as_str(), workers, due)?;
+            shows_whole(&rt, alloc, described.as_str(), workers, &Open, due)?;
         }
     }
     Ok(())
@@ -125,7 +126,7 @@ fn two_growing_channels_from_all_capacities(rt: HostRuntime) -> Result<(), Fail>
                     text: lines.as_str(),
                     streams: &[(0, COUNTED), (1, COUNTED)],
                 };
-                shows_whole(&rt, alloc, described.as_str(), workers, due)?;
+                shows_whole(&rt, alloc, described.as_str(), workers, &Open, due)?;
             }
         }
     }

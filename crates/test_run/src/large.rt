@@ -2,6 +2,7 @@
 use crate::texts::{Row, text_of_rows};
 use crate::whole::{Whole, shows_whole};
 use kpn_net::Token;
+use kpn_run::{Open, Prompt};
 use std::alloc::{AllocError, Global};
 use std::process::Abort;
 use std::rt::Clock;
@@ -62,8 +63,8 @@ const PAIR_LINES: &[Row] = &[
     },
 ];
 
-/// Runs the network of a text by one worker and by sixteen, and compares its report and the stream of a
-/// channel.
+/// Runs the network of a text by one worker and by sixteen, also with bodies that are asked in place, and
+/// compares its report and the stream of a channel.
 fn shows_large<R: Threads + Wait + Clock + Abort + Sync>(
     rt: &R,
     alloc: Global,
@@ -78,7 +79,8 @@ fn shows_large<R: Threads + Wait + Clock + Abort + Sync>(
             text: lines.as_str(),
             streams: &[stream],
         };
-        shows_whole(rt, alloc, text.as_str(), workers, due)?;
+        shows_whole(rt, alloc, text.as_str(), workers, &Open, due)?;
+        shows_whole(rt, alloc, text.as_str(), workers, &Prompt, due)?;
     }
     Ok(())
 }

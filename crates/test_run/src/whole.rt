@@ -6,7 +6,7 @@ use crate::due::{compare_stream, text_of_run};
 use crate::runs::finish_text;
 use kpn_net::Token::Word;
 use kpn_net::{Deed, End, Entry, Kinds, Token};
-use kpn_run::{Finish, Open, report, stream_of};
+use kpn_run::{Finish, Gate, Open, report, stream_of};
 use std::alloc::{AllocError, Global};
 use std::process::Abort;
 use std::rt::Clock;
@@ -24,14 +24,15 @@ pub(crate) struct Whole<'a> {
 }
 
 /// Runs the network of a text by `workers` workers, and compares its report and its streams.
-pub(crate) fn shows_whole<R: Threads + Wait + Clock + Abort + Sync>(
+pub(crate) fn shows_whole<R: Threads + Wait + Clock + Abort + Sync, G: Gate>(
     rt: &R,
     alloc: Global,
     text: &str,
     workers: usize,
+    gate: &G,
     due: Whole<'_>,
 ) -> Result<(), Fail> {
-    let finish = finish_text(rt, alloc, text, workers, &Open)?;
+    let finish = finish_text(rt, alloc, text, workers, gate)?;
     compare_whole(rt, alloc, &finish, due)?;
     Ok(())
 }

@@ -1,0 +1,20 @@
+use Rattle.std.proofs.Common.{◌≡◌, ◌≢◌, ◌↔◌, ◌+◌, ◌-◌, ◌≤◌, ℕ, None, IfSome}
+use Rattle.kpn_model.specs.Network.{family_of}
+use Rattle.kpn_state.specs.declared.standing.Standing.TheVariants.{Ready, Out}
+use Rattle.kpn_state.specs.Standings.{standing}
+use Rattle.kpn_machine.specs.Commits.{ContinuesRun}
+use Rattle.kpn_machine.proofs.machine.Machine.ask_in_place.Given as goal
+
+abbrev pub invariant-loop-taken : goal.invariant-loop-taken
+invariant-loop-taken g l = record {
+  again : IfSome l.again (λ p. standing l.self.standings p ≡ Ready);
+  goes : ContinuesRun (family_of g.B.Kinds.Kinds.start g.B.Kinds.Kinds.answer_of) l.initial.self l.self;
+  commits : l.self.commits ≡ l.initial.self.commits + l.taken;
+  few : l.taken ≤ l.most;
+  out : (p : ℕ) → (standing l.self.standings p ≡ Out) ↔ (standing l.initial.self.standings p ≡ Out);
+  ended : l.initial.self.end ≢ None → l.taken ≡ 0;
+  none : l.taken ≡ 0 → l.self ≡ l.initial.self;
+}
+
+abbrev pub decreases-loop-taken : goal.decreases-loop-taken
+decreases-loop-taken g l = l.most - l.taken
