@@ -27,6 +27,9 @@
 #ifndef MEET
 #define MEET 0          /* 1: two of the processes wait in each call for a call of the other */
 #endif
+#ifndef PROMPT
+#define PROMPT 0        /* 1: workers of a run may ask bodies in place, under the lock */
+#endif
 #ifdef COARSE           /* what a thread does under a lock is one step */
 #define HOLDING atomic
 #else                   /* so is each statement: a lock, what one call does under it, an unlock */
@@ -273,6 +276,23 @@ inline guarded_exchange() {
     atomic { give(); deal() }
 }
 
+/* Guarded::ask_in_place: one answer or two are taken, while a process is ready and the run goes on; if none
+   is, it meets an end. */
+inline guarded_ask_in_place() {
+    atomic {
+        if
+        :: has_ready && !ended ->
+            machine_take(); machine_commit();
+            if
+            :: has_ready && !ended -> machine_take(); machine_commit()
+            :: true
+            fi;
+            taken = TASKS
+        :: else -> guarded_meet_end()
+        fi
+    }
+}
+
 /* guarded.rt: Guarded::has_work */
 #define has_work (has_ready || ended)
 
@@ -397,6 +417,24 @@ inline monitor_exchange() {
     wake();
     if
     :: taken == OVER -> rouse()
+    :: else
+    fi
+}
+
+/* monitor.rt: Monitor::ask_in_place */
+inline monitor_ask_in_place() {
+    HOLDING {
+        if
+        :: try_lock(state)
+        :: true -> monitor_lock()
+        fi;
+        guarded_ask_in_place();
+        guarded_wakes();
+        unlock(state)
+    };
+    wake();
+    if
+    :: taken == OVER -> rouse()  /* of ask_in_place */
     :: else
     fi
 }
@@ -547,6 +585,20 @@ inline pace_called() {
     called = 0
 }
 
+/* round.rt: ask_in_place */
+inline ask_in_place() {
+    do
+    :: true ->
+        monitor_ask_in_place();
+        if
+        :: taken == TASKS -> taken = 0  /* while that is quicker */
+        :: taken == TASKS -> taken = 0; break
+        :: taken == NOTHING -> break
+        :: taken == OVER -> break
+        fi
+    od
+}
+
 /* round.rt: go_on */
 inline go_on() { take_step() }
 
@@ -572,6 +624,11 @@ proctype in_rounds(byte i) {
     rest();
     do
     :: true ->
+        if
+        :: PROMPT && hand == 0 -> ask_in_place()
+        :: true
+        fi;
+        if :: taken == OVER -> break :: else fi;
         call_all();
         pace_called();
         monitor_exchange();
