@@ -8,6 +8,8 @@ mod checks;
 #[cfg(test)]
 mod due;
 #[cfg(test)]
+mod histories;
+#[cfg(test)]
 mod large;
 #[cfg(test)]
 mod meeting;

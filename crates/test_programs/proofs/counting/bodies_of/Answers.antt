@@ -3,7 +3,7 @@ use Rattle.std.proofs.Common.{ap, Some, sym, ◌∙◌, ◌≤◌, length, arith
 use Rattle.std.proofs.lemmas.List.{length-map}
 use Rattle.kpn_machine.specs.Opening.{cards_of}
 use Rattle.kpn_body.proofs.Cards.{one_more, of_all}
-use Rattle.test_rows.proofs.counting.bodies_of.Goals as goal
+use Rattle.test_programs.proofs.counting.bodies_of.Goals as goal
 
 pub loop-process-preserved : goal.loop-process-preserved
 loop-process-preserved c =

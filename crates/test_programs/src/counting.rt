@@ -5,11 +5,8 @@ ghost use Rattle.kpn_machine.specs.Opening.{cards_of};
 ghost use Rattle.kpn_standard.specs.Signatures.{signature};
 
 use crate::checks::same;
-use crate::rows::room;
-use crate::texts::COUNTER;
 use kpn_body::{Body, Task, answer};
-use kpn_execute::execute;
-use kpn_front::load;
+use kpn_execute::{execute, load};
 use kpn_net::{Act, Answer, Card, Local, Net, NetFault, Token};
 use kpn_standard::Standard;
 use std::alloc::{AllocError, Global};
@@ -19,7 +16,7 @@ use std::sync::atomic::{AtomicU64, Ordering};
 use std::sync::{Arc, Wait};
 use std::test::Fail;
 use std::thread::Threads;
-use test_texts::reports;
+use test_texts::{COUNTER, reports};
 
 /// A body of a standard card that adds one to a count each time it is called.
 #[derive(Drop)]
@@ -136,11 +133,11 @@ fn tells_shown<R: Threads + Wait + Clock + Abort + Sync>(
     requires { (1 ≤ workers) × (workers ≤ 16) }
 {
     let count = Arc::new(alloc, AtomicU64::new(0)).expect(rt, "no memory");
-    let mut out = room(rt, alloc);
+    let mut out = Vec::new(alloc);
     let status = executed(rt, alloc, row, workers, &count, &mut out);
     let calls = count.load(Ordering::SeqCst);
-    same(rt, &(status, calls), &(row.status, row.calls), row.name);
-    same(rt, &out.as_slice(), &row.lines.as_bytes(), row.name);
+    same(rt, row.name, (status, calls), (row.status, row.calls));
+    same(rt, row.name, out.as_slice(), row.lines.as_bytes());
 }
 
 #[test]
@@ -154,16 +151,15 @@ fn nothing_is_run_for_an_unknown_channel(rt: HostRuntime) {
 
 #[test]
 fn a_task_calls_its_body_once(rt: HostRuntime) -> Result<(), Fail> {
-    let alloc = rt.alloc();
-    let count = Arc::new(alloc, AtomicU64::new(0))?;
+    let count = Arc::new(rt.alloc(), AtomicU64::new(0))?;
     let copy = Card {
         kind: 3,
         args: [0; 3],
     };
     let task = Task::new(0, counting(copy, &count)?, [0; 4], None);
-    assert_eq!(rt; count.load(Ordering::SeqCst), 0);
-    let finished = task.call();
-    assert_eq!(rt; finished.answer().act, Act::Read(0));
-    assert_eq!(rt; count.load(Ordering::SeqCst), 1);
+    let before = count.load(Ordering::SeqCst);
+    let answer = task.call().answer();
+    let found = (before, answer.act, count.load(Ordering::SeqCst));
+    same(&rt, "calls", found, (0, Act::Read(0), 1));
     Ok(())
 }

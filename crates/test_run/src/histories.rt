@@ -1,13 +1,12 @@
 //! The report of a history that was worked out by hand.
 use crate::checks::same;
-use crate::texts::COUNTER;
 use kpn_front::load;
 use kpn_net::{Deed, End, Entry, Net, Place, Token};
 use kpn_report::{Detail, Report, report_of, text_of};
 use kpn_standard::Standard;
 use std::alloc::Global;
 use std::process::Abort;
-use test_texts::reports;
+use test_texts::{COUNTER, reports};
 
 /// A counter of three tokens, of which the first is taken; the sink stops, and the channel grows.
 static HISTORY: [Entry; 7] = [
@@ -69,7 +68,7 @@ fn network<R: Abort>(rt: &R, alloc: Global) -> Net<Standard> {
 /// Compares the text of the history.
 fn assert_text<R: Abort>(rt: &R, alloc: Global, net: &Net<Standard>, end: End, lines: &str) {
     let text = text_of(alloc, net, &HISTORY, &PLACES, end, Some(0)).expect(rt, "no text");
-    same(rt, &text.as_str(), &lines, "text");
+    same(rt, "text", text.as_str(), lines);
 }
 
 /// The report of the history, with this end; its text is compared.
@@ -78,7 +77,7 @@ fn report<R: Abort>(rt: &R, alloc: Global, end: End, lines: &str) -> Report {
     assert_text(rt, alloc, &net, end, lines);
     let places = Vec::from_slice(alloc, &PLACES).expect(rt, "no memory");
     let report = report_of(alloc, &net, &HISTORY, places, end).expect(rt, "no report");
-    same(rt, &report.end, &end, "end");
+    same(rt, "end", report.end, end);
     report
 }
 
@@ -93,32 +92,24 @@ fn a_history_has_its_report(rt: HostRuntime) {
 /// Compares the stream of the channel, and what is left of it.
 fn compare_streams<R: Abort>(rt: &R, detail: &Detail) {
     let stream = detail.streams.as_slice().first().expect(rt, "no stream");
-    same(rt, &stream.as_slice(), &STREAM, "stream");
+    same(rt, "stream", stream.as_slice(), STREAM);
     let rest = detail.rests.as_slice().first().expect(rt, "no rest");
-    same(rt, &rest.as_slice(), &REST, "rest");
+    same(rt, "rest", rest.as_slice(), REST);
 }
 
 /// Compares the numbers and lists of a report.
 fn compare_detail<R: Abort>(rt: &R, detail: &Detail) {
-    same(rt, &detail.places.as_slice(), &PLACES.as_slice(), "places");
-    same(rt, &detail.steps.as_slice(), &[4, 2].as_slice(), "steps");
-    same(
-        rt,
-        &detail.capacities.as_slice(),
-        &[2].as_slice(),
-        "capacities",
-    );
-    same(
-        rt,
-        &detail.growths.as_slice(),
-        &[(0, 2)].as_slice(),
-        "growths",
-    );
-    same(rt, &detail.entries, &7, "entries");
+    same(rt, "places", detail.places.as_slice(), PLACES.as_slice());
+    same(rt, "steps", detail.steps.as_slice(), [4, 2].as_slice());
+    let capacities = detail.capacities.as_slice();
+    same(rt, "capacities", capacities, [2].as_slice());
+    let growths = detail.growths.as_slice();
+    same(rt, "growths", growths, [(0, 2)].as_slice());
+    same(rt, "entries", detail.entries, 7);
 }
 
 #[test]
 fn a_spent_budget_is_told_alone(rt: HostRuntime) {
     let report = report(&rt, rt.alloc(), End::Budget, "end budget\n");
-    assert!(rt; report.detail.is_none());
+    same(&rt, "detail", report.detail.is_none(), true);
 }
