@@ -18,6 +18,8 @@ mod networks;
 #[cfg(test)]
 mod refusals;
 #[cfg(test)]
+mod reporting;
+#[cfg(test)]
 mod runs;
 #[cfg(test)]
 mod schedules;

@@ -4,7 +4,6 @@ ghost use Rattle.std.specs.Prelude.{◌≡◌, []};
 use crate::checks::same;
 use kpn_machine::{Deed, Entry};
 use kpn_watch::{Board, Phase, Progress, Publisher, WatchFault, Watcher};
-use std::test::Fail;
 
 /// Before the first entry.
 const NOTHING: Progress = Progress {
@@ -37,14 +36,13 @@ fn looks(board: &Board, publisher: &mut Publisher, watcher: &mut Watcher) -> (Pr
 }
 
 #[test]
-fn a_watcher_sees_what_is_published(rt: HostRuntime) -> Result<(), Fail> {
-    let (board, mut publisher) = Board::new(rt.alloc())?;
-    let mut watcher = board.split(&mut publisher)?;
+fn a_watcher_sees_what_is_published(rt: HostRuntime) {
+    let (board, mut publisher) = Board::new(rt.alloc()).expect(&rt, "no memory");
+    let mut watcher = board.split(&mut publisher).expect(&rt, "no watcher");
     let seen = looks(&board, &mut publisher, &mut watcher);
     board.join(watcher, &mut publisher);
     same(&rt, "seen", seen, (NOTHING, ENDED));
     same(&rt, "full", WatchFault::Full.number(), 1);
-    Ok(())
 }
 
 /// Each phase of an end.
