@@ -172,8 +172,12 @@ row("the budget suffices", run(), edit(COUNTER, ("version = 1", "version = 1\nbu
 row("the budget is one short", run(), edit(COUNTER, ("version = 1", "version = 1\nbudget = 7")), "end budget\n", 3)
 row("a loop without tokens", run(), net("k=copy snk=sink(1)", "c0 k.0>k.0; c1 k.1>snk.0"), REPORTS["DEAD"], 5)
 row("check", CHECK, COUNTER, "ok 2 processes 1 channels\n", 0)
+row("check of nothing", CHECK, "", "refused 2\n", 2)
+row("another command", ["walk"], COUNTER, "", 1)
 row("seventeen workers", ["run", "--workers", "17"], COUNTER, "", 1)
 row("no channel of the name", run("c9"), COUNTER, "no channel c9\n", 1)
+row("no channel of the name in Parks's case", run("c9"), PARKS, "no channel c9\n", 1)
+row("the counter is a sink of another kind", run(), edit(COUNTER, ('"sink"', '"filter"')), "refused 6\n", 2)
 row("equal heads are merged into one", run("c2"), net(
     "a=count(1,2) b=count(2,2) m=merge snk=sink(3)", "c0 a.0>m.0; c1 b.0>m.1; c2 m.0>snk.0"), """end deadlock
 process a stopped steps 3
@@ -257,13 +261,32 @@ for budget in (0, 1000001):
     refused(f"budget {budget}", edit(COUNTER, ("version = 1", f"version = 1\nbudget = {budget}")), 13)
 refused("a byte too many", COUNTER + "\n" * (1048577 - len(COUNTER)), 15)
 
+# Long growths.
+
+
+def grown(tokens, capacity, budget=None):
+    """A counter into a sink of none, whose channel grows by one for each token for which it has no room."""
+    name = f"a channel grows from {capacity} to {tokens}"
+    text = net(f"src=count(1,{tokens}) snk=sink(0)", f"c0 src.0>snk.0 capacity={capacity}", **({"budget": budget} if budget else {}))
+    lines = f"end terminated\nprocess src stopped steps {tokens + 1}\nprocess snk stopped steps 1\nchannel c0 put {tokens} left {tokens} capacity {tokens}\n"
+    lines += "".join(f"grew c0 {it}\n" for it in range(capacity + 1, tokens + 1))
+    row(name, run(), text, f"{lines}entries {2 * tokens - capacity + 2}\n", 0)
+
+
+grown(6, 1)
+grown(100, 1, budget=1000000)
+grown(65534, 65000, budget=1000000)
+
 # Hostile texts.
 
 row("filled up with line feeds", run(), COUNTER + "\n" * (1048576 - len(COUNTER)), COUNTED, 0)
 for end in range(len(PARKS) - 1):
     row(f"the first {end} bytes of Parks's case", CHECK, PARKS[:end], None, 2)
 row("Parks's case without its last line feed", run("c3"), PARKS[:-1], PARKS_ENDS, 5)
+refused("no value", "version = ", 1)
 refused("a thousand brackets", "version = " + "[" * 1000, 1)
+refused("a thousand brackets in a whole line", "version = " + "[" * 1000 + "\n", 1)
+refused("arrays 100,000 deep", "version = " + "[" * 100000 + "]" * 100000 + "\n", 1)
 refused("arrays 80 deep", "version = " + "[" * 80 + "]" * 80 + "\n", 2)
 refused("arrays 81 deep", "version = " + "[" * 81 + "]" * 81 + "\n", 1)
 refused("arrays 500 deep", "version = " + "[" * 500 + "]" * 500 + "\n", 1)
@@ -276,17 +299,39 @@ refused("an unknown key at the top", "colour = 1\n" + COUNTER, 2)
 refused("a name that is a number", edit(COUNTER, ('name = "src"', "name = 7")), 2)
 refused("65 processes", net(" ".join(f"p{k}=count(0,0)" for k in range(65)), ""), 4)
 refused("257 channels", net("src=count(1,3) snk=sink(3)", ";".join(f"c{k} src.0>snk.0" for k in range(257))), 4)
+
+
+def crowd(processes, channels):
+    """Counters of nothing, and channels from the first to itself."""
+    return net(" ".join(f"p{k}=count(0,0)" for k in range(processes)), ";".join(f"c{k} p0.0>p0.0" for k in range(channels))).replace("channel = []\n", "")
+
+
+refused("65 processes without channels", crowd(65, 0), 4)
+refused("257 channels of one process", crowd(1, 257), 4)
+refused("256 channels of one process", crowd(1, 256), 8)
+refused("64 processes without channels", crowd(64, 0), 10)
 PAIRS = "".join(f"process a{k} stopped steps 2\nprocess b{k} stopped steps 2\n" for k in range(32))
 row("32 pairs", run(), net(
     " ".join(f"a{k}=count(1,1) b{k}=sink(1)" for k in range(32)), ";".join(f"c{k} a{k}.0>b{k}.0" for k in range(32))),
     "end terminated\n" + PAIRS + "".join(f"channel c{k} put 1 left 0 capacity 1\n" for k in range(32)) + "entries 128\n", 0)
+row("32 counters before their sinks", run(), net(
+    " ".join([*(f"a{k}=count(1,1)" for k in range(32)), *(f"b{k}=sink(1)" for k in range(32))]), ";".join(f"c{k} a{k}.0>b{k}.0" for k in range(32))),
+    "end terminated\n" + "".join(f"process {it}{k} stopped steps 2\n" for it in "ab" for k in range(32))
+    + "".join(f"channel c{k} put 1 left 0 capacity 1\n" for k in range(32)) + "entries 128\n", 0)
+# Each copy feeds both inputs of its adder, and each adder the next copy: 64 processes and 96 channels, and all wait.
+row("a ring of 32 copies and adders", run(), net(
+    " ".join(f"k{i}=copy a{i}=add" for i in range(32)),
+    ";".join(f"c{i}_0 k{i}.0>a{i}.0; c{i}_1 k{i}.1>a{i}.1; s{i} a{i}.0>k{(i + 1) % 32}.0" for i in range(32)), budget=1000000),
+    "end deadlock\n" + "".join(f"process k{i} reads s{(i + 31) % 32} steps 0\nprocess a{i} reads c{i}_0 steps 0\n" for i in range(32))
+    + "".join(f"channel {it} put 0 left 0 capacity 1\n" for i in range(32) for it in (f"c{i}_0", f"c{i}_1", f"s{i}")) + "entries 0\n", 5)
 LINKS = ["src", *(f"s{k}" for k in range(62)), "snk"]
-row("a chain of 64 processes", run("c62"), net(
+CHAIN = net(
     "src=count(1,100) " + " ".join(f"s{k}=scale(1)" for k in range(62)) + " snk=sink(100)",
-    ";".join(f"c{k} {LINKS[k]}.0>{LINKS[k + 1]}.0" for k in range(63)), budget=20000),
-    "end deadlock\nprocess src stopped steps 101\n" + "".join(f"process s{k} reads c{k} steps 200\n" for k in range(62))
-    + "process snk stopped steps 101\n" + "".join(f"channel c{k} put 100 left 0 capacity 1\n" for k in range(63))
-    + "entries 12602\nstream c62 " + " ".join(map(str, range(1, 101))) + "\n", 5)
+    ";".join(f"c{k} {LINKS[k]}.0>{LINKS[k + 1]}.0" for k in range(63)), budget=20000)
+CHAIN_END = ("end deadlock\nprocess src stopped steps 101\n" + "".join(f"process s{k} reads c{k} steps 200\n" for k in range(62))
+    + "process snk stopped steps 101\n" + "".join(f"channel c{k} put 100 left 0 capacity 1\n" for k in range(63)) + "entries 12602\n")
+row("a chain of 64 processes", run(), CHAIN, CHAIN_END, 5)
+row("a chain of 64 processes, its last stream", run("c62"), CHAIN, CHAIN_END + "stream c62 " + " ".join(map(str, range(1, 101))) + "\n", 5)
 
 # Other starting capacities.
 
@@ -317,6 +362,11 @@ refused("tokens in version 1", edit(ROUND, ("version = 2", "version = 1")), 2)
 refused("tokens in version 3", edit(ROUND, ("version = 2", "version = 3")), 2)
 refused("a token in a channel of no capacity", edit(ROUND, ("[7]", "[1]\ncapacity = 0")), 12)
 row("the counter in version 2", run("c0"), edit(COUNTER, ("version = 1", "version = 2")), REPORTS["COUNTER"], 0)
+FLAGGED = edit(FLAGS, ("version = 1", "version = 2"), ('sort = "flags"', 'sort = "flags"\ntokens = [true]'))
+row("a flag at the start, which the switch reads first", run("c3"), FLAGGED, edit(
+    FLAGS_END, ("process sw reads c3 steps 18", "process sw reads c2 steps 19"), ("entries 63", "entries 64"))
+    + "stream c3 true false true false true false true\n", 5)
+refused("a word at the start of a channel of flags", edit(FLAGGED, ("[true]", "[1]")), 16)
 row("growths by four places", run(), two(3, 3, c0=2, version=2, step=4), REPORTS["FOUR_PLACES"], 0)
 row("growths by one place", run(), two(3, 3, c0=2, version=2, step=1), REPORTS["SMALLER_FIRST"], 0)
 HIGH = {"version": 2, "budget": 2000000, "step": 1024}
@@ -325,6 +375,7 @@ row("the higher ceiling", run(), net("src=count(1,1000001) snk=sink(0)", "c0 src
 SECOND = edit(COUNTER, ("version = 1", "version = 2"))
 for step in (0, 1025):
     refused(f"step {step}", edit(SECOND, ("version = 2", f"version = 2\nstep = {step}")), 17)
+row("a run with capacity 65536 in version 2", run(), edit(SECOND, ("capacity = 1", "capacity = 65536")), COUNTED.replace("capacity 1", "capacity 65536"), 0)
 row("capacity 65536 in version 2", CHECK, edit(SECOND, ("capacity = 1", "capacity = 65536")), "ok 2 processes 1 channels\n", 0)
 refused("capacity 1000001 in version 2", edit(SECOND, ("capacity = 1", "capacity = 1000001")), 12)
 refused("budget 2000001 in version 2", edit(SECOND, ("version = 2", "version = 2\nbudget = 2000001")), 13)

@@ -1,3 +1,4 @@
 //! Tests of kpn_net.
 mod conditions;
+mod sketches;
 mod tests;

@@ -2,11 +2,11 @@
 use crate::checks::same;
 use crate::entries::{GREW, PUT_1};
 use crate::machines::{CardMachine, machine_of};
-use crate::networks::{SINK_OF_FOUR, SINK_OF_ONE};
+use crate::networks::{SINK_OF_FOUR, SINK_OF_ONE, SINK_OF_THREE};
 use kpn_body::Standard;
-use kpn_machine::{Chronicle, Standing};
+use kpn_machine::{Chronicle, End, Entry, Standing};
 use kpn_net::Act::Read;
-use kpn_net::{Answer, End, Entry, Place};
+use kpn_net::{Answer, Place};
 use kpn_report::places_of;
 use std::alloc::Global;
 use std::process::Abort;
@@ -18,6 +18,7 @@ struct EndOfRun {
     text: &'static str,
     end: End,
     commits: u64,
+    entries: usize,
     growths: usize,
     standings: [Standing; 2],
     places: [Place; 2],
@@ -29,7 +30,20 @@ const TERMINATED: EndOfRun = EndOfRun {
     text: SINK_OF_ONE,
     end: End::Terminated,
     commits: 6,
+    entries: 7,
     growths: 1,
+    standings: [Standing::Stopped, Standing::Stopped],
+    places: [Place::Stopped, Place::Stopped],
+};
+
+/// The sink reads all three tokens.
+const ALL_READ: EndOfRun = EndOfRun {
+    name: "all read",
+    text: SINK_OF_THREE,
+    end: End::Terminated,
+    commits: 8,
+    entries: 8,
+    growths: 0,
     standings: [Standing::Stopped, Standing::Stopped],
     places: [Place::Stopped, Place::Stopped],
 };
@@ -40,6 +54,7 @@ const DEADLOCK: EndOfRun = EndOfRun {
     text: SINK_OF_FOUR,
     end: End::Deadlock,
     commits: 8,
+    entries: 7,
     growths: 0,
     standings: [
         Standing::Stopped,
@@ -69,7 +84,7 @@ fn assert_places<R: Abort>(rt: &R, alloc: Global, machine: &CardMachine, due: &E
 fn assert_history<R: Abort>(rt: &R, history: &[Entry], due: &EndOfRun) {
     let growths = history.iter().filter(|entry| **entry == GREW).count();
     let found = (history.len(), history.first().copied(), growths);
-    same(rt, due.name, found, (7, Some(PUT_1), due.growths));
+    same(rt, due.name, found, (due.entries, Some(PUT_1), due.growths));
 }
 
 /// Compares a machine whose run is over.
@@ -101,5 +116,6 @@ fn run_alone<R: Abort>(rt: &R, alloc: Global, due: &EndOfRun) {
 #[test]
 fn a_run_alone_comes_to_its_end(rt: HostRuntime) {
     run_alone(&rt, rt.alloc(), &TERMINATED);
+    run_alone(&rt, rt.alloc(), &ALL_READ);
     run_alone(&rt, rt.alloc(), &DEADLOCK);
 }

@@ -1,7 +1,7 @@
 //! The entries that the histories have.
-use kpn_net::Deed::{Put, Stopped, Took};
-use kpn_net::Entry;
-use kpn_net::Entry::{Did, Grew};
+use kpn_machine::Deed::{Put, Stopped, Took};
+use kpn_machine::Entry;
+use kpn_machine::Entry::{Did, Grew};
 use kpn_net::Token::Word;
 
 /// The counter writes its first token.

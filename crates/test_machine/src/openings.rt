@@ -4,7 +4,7 @@ use crate::machines::{CardMachine, fresh_parts, machine_of, opened};
 use crate::networks::{COUNTER, Parts, SINK, SINK_OF_THREE};
 use kpn_body::{Body, Standard};
 use kpn_compute::CardBody;
-use kpn_machine::{Machine, OpenFault, OpenRefused, cards_of};
+use kpn_machine::{Machine, OpenFault, OpenRefused, Outcome, cards_of};
 use kpn_net::Card;
 use std::alloc::Global;
 use std::process::Abort;
@@ -101,4 +101,6 @@ fn open_with_turned<R: Abort>(rt: &R, alloc: Global) {
 fn bodies_that_do_not_fit_are_handed_back(rt: HostRuntime) {
     open_with_too_few(&rt, rt.alloc());
     open_with_turned(&rt, rt.alloc());
+    same(&rt, "no memory", OpenFault::Memory.number(), 3);
+    same(&rt, "equal", Outcome::Parked(0) == Outcome::LaidBack, false);
 }

@@ -19,6 +19,8 @@ mod refusals;
 mod scenes;
 #[cfg(test)]
 mod strangers;
+#[cfg(test)]
+mod watchers;
 
 use kpn_body::Body;
 use kpn_monitor::{EntryLedger, Monitor, Opening, Seat};

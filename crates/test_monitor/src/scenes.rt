@@ -5,14 +5,15 @@
 ghost use Rattle.std.specs.Prelude.{◌≡◌, ◌<◌, ◌++◌, ◌∷◌, [], All, IfSome};
 
 use crate::checks::same;
-use crate::exchanges::{asked_in_place, exchanged};
+use crate::exchanges::{SHOWN, asked_in_place, exchanged};
 use crate::monitors::{
     Ended, close_alone, close_with, ended_of, list_of, next_task, opening_of, outcome_of, seen_by,
     shown_to, two_seats, watcher_of, work_alone, work_counted,
 };
 use kpn_body::Body;
-use kpn_monitor::{CloseFault, Closed, EntryLedger, Monitor, Opening, Seat, Unclosed};
-use kpn_net::{End, Kinds};
+use kpn_machine::{End, Outcome};
+use kpn_monitor::{CloseFault, Closed, EntryLedger, Monitor, Opening, Seat, Taken, Unclosed};
+use kpn_net::Kinds;
 use kpn_watch::{Phase, Progress, Watcher};
 use std::alloc::Global;
 use std::marker::Brand;
@@ -27,10 +28,11 @@ use test_texts::{COPIED_AND_WOVEN, COUNTER_INTO_SINK};
 enum Scene {
     /// A watcher looks a thousand times while two threads work on Parks's case to its end.
     Watched,
-    /// One seat works to the end, with a gate that is asked once for each of eight answers, and the
-    /// monitor is first closed without the other, which is refused.
+    /// One seat commits one answer, the other works to the end, with a gate that is asked once for each
+    /// of the seven answers that are left, and the monitor is first closed without it, which is refused.
     MissingSeat,
-    /// One seat works to the end, and the monitor is closed without the other, whose shares are empty.
+    /// One seat works to the end, with a gate that is asked once for each of eight answers, and the
+    /// monitor is closed without the other, whose shares are empty.
     EmptySeat,
     /// One seat commits one answer, or drops its task, and the monitor is closed with no end.
     OneTask { dropped: bool },
@@ -44,6 +46,13 @@ enum Scene {
 
 const NOTHING: Progress = Progress {
     entries: 0,
+    growths: 0,
+    phase: Phase::Running,
+};
+
+/// After one entry.
+const ONE: Progress = Progress {
+    entries: 1,
     growths: 0,
     phase: Phase::Running,
 };
@@ -200,21 +209,66 @@ fn not_closed<B: Body, E: EntryLedger, O: Ledger, R: Abort>(
         .expect(rt, "closed without a seat")
 }
 
+/// Commits the counter's first answer.
+fn commits_one<B: Body, E: EntryLedger, O: Ledger, R: Wait + Abort>(
+    rt: &R,
+    monitor: &Monitor<B, E, O>,
+    seat: &mut Seat<E, O>,
+) {
+    let task = next_task(rt, monitor, seat);
+    let outcome = outcome_of(rt, monitor, task.call(), seat);
+    same(rt, "outcome", outcome, Outcome::Done(1));
+}
+
+/// The end that a seat meets.
+fn end_met<B: Body, E: EntryLedger, O: Ledger, R: Wait + Abort>(
+    rt: &R,
+    monitor: &Monitor<B, E, O>,
+    seat: &mut Seat<E, O>,
+) -> End {
+    let Taken::Over(end) = monitor.take(rt, seat) else {
+        panic!(rt; "not over");
+    };
+    end
+}
+
 fn missing_seat<B: Body, E: EntryLedger, O: Ledger, R: Wait + Abort>(
     rt: &R,
     alloc: Global,
     monitor: Monitor<B, E, O>,
     seat: Seat<E, O>,
 ) {
-    let (other, seat) = two_seats(rt, seat);
-    let seat = work_counted(rt, &monitor, seat, 8);
+    let (mut other, seat) = two_seats(rt, seat);
+    let mut watcher = watcher_of(rt, &monitor);
+    commits_one(rt, &monitor, &mut other);
+    same(rt, "one", seen_by(&monitor, &mut watcher), ONE);
+    let mut seat = work_counted(rt, &monitor, seat, 7);
+    same(
+        rt,
+        "over",
+        end_met(rt, &monitor, &mut seat),
+        End::Terminated,
+    );
+    same(rt, "shown", seen_by(&monitor, &mut watcher), SHOWN);
+    let mut closed = close_at_last(rt, alloc, monitor, seat, other);
+    same(rt, "ended", ended_of(&closed), COUNTER_ENDED);
+    same(rt, "settled", shown_to(&mut closed, watcher), SHOWN);
+}
+
+/// Closes a monitor with one of two seats, which is refused, and then with both.
+fn close_at_last<B: Body, E: EntryLedger, O: Ledger, R: Abort>(
+    rt: &R,
+    alloc: Global,
+    monitor: Monitor<B, E, O>,
+    seat: Seat<E, O>,
+    other: Seat<E, O>,
+) -> Closed<B::Kinds, E> {
     let unclosed = not_closed(rt, monitor, list_of(rt, alloc, [other]));
     same(rt, "fault", unclosed.fault(), CloseFault::SeatsMissing);
     same(rt, "number", unclosed.fault().number(), 1);
     let Unclosed { monitor, mut seats } = unclosed;
     same(rt, "pushed", seats.push(seat).is_ok(), true);
-    let closed = close_with(rt, monitor, seats);
-    same(rt, "ended", ended_of(&closed), COUNTER_ENDED);
+    close_with(rt, monitor, seats)
 }
 
 fn empty_seat<B: Body, E: EntryLedger, O: Ledger, R: Wait + Abort>(
@@ -224,7 +278,7 @@ fn empty_seat<B: Body, E: EntryLedger, O: Ledger, R: Wait + Abort>(
     seat: Seat<E, O>,
 ) {
     let (_other, seat) = two_seats(rt, seat);
-    let seat = work_alone(rt, &monitor, seat);
+    let seat = work_counted(rt, &monitor, seat, 8);
     let closed = close_alone(rt, alloc, monitor, seat);
     same(rt, "ended", ended_of(&closed), COUNTER_ENDED);
 }

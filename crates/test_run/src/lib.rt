@@ -8,6 +8,8 @@ mod checks;
 #[cfg(test)]
 mod due;
 #[cfg(test)]
+mod histories;
+#[cfg(test)]
 mod large;
 #[cfg(test)]
 mod meeting;
@@ -15,6 +17,8 @@ mod meeting;
 mod networks;
 #[cfg(test)]
 mod refusals;
+#[cfg(test)]
+mod reporting;
 #[cfg(test)]
 mod runs;
 #[cfg(test)]

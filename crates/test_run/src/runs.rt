@@ -94,20 +94,21 @@ pub(crate) fn shows<R: Threads + Wait + Clock + Abort + Sync, G: Gate>(
     Ok(())
 }
 
-/// A run is refused for this reason, and all is handed back.
+/// A run is refused for this reason, with its number, and all is handed back.
 fn refused<B: Body, R: Threads + Wait + Clock + Abort + Sync>(
     rt: &R,
     alloc: Global,
     net: Net<B::Kinds>,
     bodies: Vec<B>,
     workers: usize,
-    due: Refusal,
+    due: (Refusal, u8),
 ) -> (Net<B::Kinds>, Vec<B>) {
     let Err(fault) = run(rt, alloc, net, bodies, workers, &Open) else {
         panic!(rt; "not refused");
     };
+    let number = fault.number();
     let (net, bodies, refusal) = handed_back(rt, fault);
-    same(rt, "refusal", refusal, due);
+    same(rt, "refusal", (refusal, number), due);
     (net, bodies)
 }
 
@@ -141,10 +142,10 @@ pub(crate) fn run_bodies<B: Body, R: Threads + Wait + Clock + Abort + Sync>(
     workers: usize,
     due: &Due,
 ) -> Result<(), AllocError> {
-    let (net, bodies) = refused(rt, alloc, net, bodies, 0, Refusal::Workers);
-    let (net, mut bodies) = refused(rt, alloc, net, bodies, 17, Refusal::Workers);
+    let (net, bodies) = refused(rt, alloc, net, bodies, 0, (Refusal::Workers, 1));
+    let (net, mut bodies) = refused(rt, alloc, net, bodies, 17, (Refusal::Workers, 1));
     let last = bodies.pop().expect(rt, "no body");
-    let due_refusal = Refusal::Open(OpenFault::Bodies);
+    let due_refusal = (Refusal::Open(OpenFault::Bodies), 2);
     let (net, mut bodies) = refused(rt, alloc, net, bodies, workers, due_refusal);
     same(rt, "pushed", bodies.push(last).is_ok(), true);
     run_counted(rt, alloc, net, bodies, workers, due)

@@ -1,12 +1,12 @@
 //! Each line of each kind, with numbers of its own; the names, the arguments and the ports.
 use crate::checks::same;
+use kpn_body::{
+    add, copy, count, divides, merge, prefix, scale, select, sink, switch, take, weave,
+};
 use kpn_model::Act::{Read, Stop, Write};
 use kpn_model::Token::{Flag, Word};
 use kpn_model::{Act, Answer, Card, Kinds, Local, Signature, Sort};
-use kpn_standard::{
-    Kind, Standard, add, answer, copy, count, divides, merge, prefix, scale, select, sink, switch,
-    take, weave,
-};
+use kpn_standard::{Kind, Standard, answer};
 use std::process::Abort;
 
 fn agree(rt: &impl Abort, lines: &[(Answer, Local, Act)]) {
@@ -21,6 +21,11 @@ fn count_follows_its_lines(rt: HostRuntime) {
     agree(
         &rt,
         &[
+            (
+                count([1, 3, 0], [0, 0, 0, 0], None),
+                [1, 0, 0, 0],
+                Write(0, Word(1)),
+            ),
             (
                 count([5, 3, 0], [0, 0, 0, 0], None),
                 [1, 0, 0, 0],
@@ -93,6 +98,7 @@ fn take_follows_its_lines(rt: HostRuntime) {
     agree(
         &rt,
         &[
+            (take([3, 0, 0], [0, 0, 0, 0], None), [1, 0, 0, 0], Read(0)),
             (take([3, 0, 0], [0, 2, 0, 0], None), [1, 2, 0, 0], Read(0)),
             (
                 take([3, 0, 0], [1, 2, 0, 0], Some(Word(7))),
@@ -150,6 +156,11 @@ fn prefix_follows_its_lines(rt: HostRuntime) {
     agree(
         &rt,
         &[
+            (
+                prefix([7, 0, 0], [0, 0, 0, 0], None),
+                [1, 0, 0, 0],
+                Write(0, Word(7)),
+            ),
             (
                 prefix([4, 0, 0], [0, 0, 0, 0], None),
                 [1, 0, 0, 0],
@@ -216,6 +227,7 @@ fn scale_follows_its_lines(rt: HostRuntime) {
     agree(
         &rt,
         &[
+            (scale([2, 0, 0], [0, 0, 0, 0], None), [1, 0, 0, 0], Read(0)),
             (scale([3, 0, 0], [0, 0, 0, 0], None), [1, 0, 0, 0], Read(0)),
             (
                 scale([3, 0, 0], [1, 0, 0, 0], Some(Word(7))),
@@ -249,6 +261,7 @@ fn weave_follows_its_lines(rt: HostRuntime) {
     agree(
         &rt,
         &[
+            (weave([1, 1, 0], [0, 0, 0, 0], None), [1, 0, 0, 0], Read(0)),
             (weave([2, 3, 0], [0, 1, 0, 0], None), [1, 1, 0, 0], Read(0)),
             (
                 weave([2, 3, 0], [1, 0, 0, 0], Some(Word(7))),
@@ -343,6 +356,11 @@ fn divides_follows_its_lines(rt: HostRuntime) {
     agree(
         &rt,
         &[
+            (
+                divides([2, 0, 0], [0, 0, 0, 0], None),
+                [1, 0, 0, 0],
+                Read(0),
+            ),
             (
                 divides([3, 0, 0], [0, 0, 0, 0], None),
                 [1, 0, 0, 0],
@@ -460,6 +478,7 @@ fn names_have_numbers_and_counts(rt: HostRuntime) {
         ("divides", Some((9, 1))),
         ("switch", Some((10, 0))),
         ("select", Some((11, 0))),
+        ("filter", None),
         ("", None),
         ("Count", None),
         ("counts", None),
@@ -509,6 +528,7 @@ const F: Option<Sort> = Some(Sort::Flags);
 #[test]
 fn arguments_have_ports(rt: HostRuntime) {
     let ports_of = [
+        (0, [1, 3, 0], [None, None, None], [W, None, None]),
         (0, [5, 3, 0], [None, None, None], [W, None, None]),
         (0, [u64::MAX - 3, 3, 0], [None, None, None], [W, None, None]),
         (1, [0, 0, 0], [W, None, None], [None, None, None]),
@@ -566,9 +586,17 @@ fn start_of<K: Kinds>(card: Card) -> Option<Local> {
 
 #[test]
 fn starts_at_zero(rt: HostRuntime) {
-    for kind in [3, 5, 8, 10, 11] {
-        let card = Card { kind, args: [0; 3] };
-        let start = start_of::<Standard>(card);
+    let zeros = [0; 3];
+    let cards = [
+        (0, [1, 3, 0]),
+        (3, zeros),
+        (5, zeros),
+        (8, zeros),
+        (10, zeros),
+        (11, zeros),
+    ];
+    for (kind, args) in cards {
+        let start = start_of::<Standard>(Card { kind, args });
         same(&rt, "start", (kind, start), (kind, Some([0; 4])));
     }
 }

@@ -109,3 +109,27 @@ fn copy_writes_what_it_read(rt: HostRuntime) -> Result<(), Fail> {
     asked(&rt, made, [1, 0, 0, 0], Some(Word(7)), expected)?;
     Ok(())
 }
+
+/// The counter's body is asked for its first answer, by the laws of its family.
+fn asks_first<B: Body>(rt: &impl Abort, body: B, expected: Answer) -> Result<(), Fail> {
+    let card = body.card();
+    let start = B::Kinds::start(&card);
+    B::Kinds::starts(card);
+    let body = asked(rt, body, start, None, expected)?;
+    same(rt, "card", body.card(), card);
+    Ok(())
+}
+
+#[test]
+fn count_from_its_start_writes_one(rt: HostRuntime) -> Result<(), Fail> {
+    let card = Card {
+        kind: 0,
+        args: [1, 3, 0],
+    };
+    let body = body_of(rt.alloc(), card)?;
+    let expected = Answer {
+        next: [1, 0, 0, 0],
+        act: Write(0, Word(1)),
+    };
+    asks_first(&rt, body, expected)
+}

@@ -65,7 +65,7 @@ impl Kinds for CountAndSink {
 }
 
 /// A counter of three into a sink of three.
-const COUNTER: &str = "version = 1
+pub(crate) const COUNTER: &str = "version = 1
 
 [[process]]
 name = \"src\"
@@ -85,7 +85,7 @@ capacity = 1
 ";
 
 /// The cards of the counter and of the sink.
-const CARDS: [Card; 2] = [
+pub(crate) const CARDS: [Card; 2] = [
     Card {
         kind: 0,
         args: [1, 3, 0],
@@ -97,7 +97,7 @@ const CARDS: [Card; 2] = [
 ];
 
 /// The ends of the channel.
-const ENDS: Ends = Ends {
+pub(crate) const ENDS: Ends = Ends {
     writer: 0,
     out: 0,
     reader: 1,

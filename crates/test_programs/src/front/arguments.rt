@@ -1,7 +1,7 @@
 //! Command lines, and what they ask for.
 use crate::checks::same;
 use clap::error::ErrorKind;
-use kpn_args::{Choice, WordsFault, read_words};
+use kpn_execute::{Choice, WordsFault, read_words};
 use std::alloc::{AllocError, Global};
 use std::process::Abort;
 
@@ -23,7 +23,7 @@ fn refused_text(alloc: Global, fault: &WordsFault) -> Result<String, AllocError>
 
 /// Command lines, and what they ask for: a check; a run by a number of workers that shows a channel; or
 /// nothing, with the exit status and whether it is because of the number of workers.
-static WORDS: [(&str, &str); 23] = [
+static WORDS: [(&str, &str); 24] = [
     ("kpn check", "check"),
     ("kpn run", "1 -"),
     ("kpn run --workers 1", "1 -"),
@@ -32,6 +32,7 @@ static WORDS: [(&str, &str); 23] = [
     ("kpn run --show=c3 --workers=1", "1 c3"),
     ("kpn run --workers 17", "1 true"),
     ("kpn run --workers 2", "2 -"),
+    ("kpn run --workers 2 --show c0", "2 c0"),
     ("kpn run --workers 16 --show c3", "16 c3"),
     ("kpn run --workers 0", "1 true"),
     ("kpn run --workers ", "1 true"),

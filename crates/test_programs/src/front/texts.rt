@@ -3,9 +3,8 @@ ghost use Rattle.std.specs.Prelude.{◌≡◌, ◌<◌, ◌+◌, ◌^◌, ◌==�
 ghost use Rattle.std.specs.Str.{bytes_eq};
 
 use crate::checks::same;
-use kpn_front::{
-    Fallible, Refused, Source, Status, load, load_or_refuse, say_checked, say_lost, say_refused,
-};
+use kpn_execute::{load, say_checked, say_refused};
+use kpn_front::{Fallible, Refused, Source, Status, load_or_refuse, say_lost};
 use kpn_net::{Act, Answer, Card, Kinds, Local, Net, NetFault, Signature, Sort, Token};
 use std::alloc::Global;
 use std::fmt::Write as _;

@@ -1,0 +1,115 @@
+//! The report of a history that was worked out by hand.
+use crate::checks::same;
+use kpn_front::load;
+use kpn_net::{Deed, End, Entry, Net, Place, Token};
+use kpn_report::{Detail, Report, report_of, text_of};
+use kpn_standard::Standard;
+use std::alloc::Global;
+use std::process::Abort;
+use test_texts::{COUNTER, reports};
+
+/// A counter of three tokens, of which the first is taken; the sink stops, and the channel grows.
+static HISTORY: [Entry; 7] = [
+    Entry::Did {
+        process: 0,
+        deed: Deed::Put {
+            channel: 0,
+            token: Token::Word(1),
+        },
+    },
+    Entry::Did {
+        process: 1,
+        deed: Deed::Took {
+            channel: 0,
+            token: Token::Word(1),
+        },
+    },
+    Entry::Did {
+        process: 0,
+        deed: Deed::Put {
+            channel: 0,
+            token: Token::Word(2),
+        },
+    },
+    Entry::Did {
+        process: 1,
+        deed: Deed::Stopped,
+    },
+    Entry::Grew { channel: 0, to: 2 },
+    Entry::Did {
+        process: 0,
+        deed: Deed::Put {
+            channel: 0,
+            token: Token::Word(3),
+        },
+    },
+    Entry::Did {
+        process: 0,
+        deed: Deed::Stopped,
+    },
+];
+
+const PLACES: [Place; 2] = [Place::Stopped, Place::Stopped];
+
+/// The stream of the channel.
+const STREAM: &[Token] = &[Token::Word(1), Token::Word(2), Token::Word(3)];
+
+/// What is left in the channel.
+const REST: &[Token] = &[Token::Word(2), Token::Word(3)];
+
+const TEXT: &str = reports::SINK_OF_ONE_STREAM;
+
+/// The network of the history.
+fn network<R: Abort>(rt: &R, alloc: Global) -> Net<Standard> {
+    let mut source = COUNTER.as_bytes();
+    load(alloc, &mut source).expect(rt, "no network")
+}
+
+/// Compares the text of the history.
+fn assert_text<R: Abort>(rt: &R, alloc: Global, net: &Net<Standard>, end: End, lines: &str) {
+    let text = text_of(alloc, net, &HISTORY, &PLACES, end, Some(0)).expect(rt, "no text");
+    same(rt, "text", text.as_str(), lines);
+}
+
+/// The report of the history, with this end; its text is compared.
+fn report<R: Abort>(rt: &R, alloc: Global, end: End, lines: &str) -> Report {
+    let net = network(rt, alloc);
+    assert_text(rt, alloc, &net, end, lines);
+    let places = Vec::from_slice(alloc, &PLACES).expect(rt, "no memory");
+    let report = report_of(alloc, &net, &HISTORY, places, end).expect(rt, "no report");
+    same(rt, "end", report.end, end);
+    report
+}
+
+#[test]
+fn a_history_has_its_report(rt: HostRuntime) {
+    let report = report(&rt, rt.alloc(), End::Terminated, TEXT);
+    let detail = report.detail.expect(&rt, "no detail");
+    compare_detail(&rt, &detail);
+    compare_streams(&rt, &detail);
+}
+
+/// Compares the stream of the channel, and what is left of it.
+fn compare_streams<R: Abort>(rt: &R, detail: &Detail) {
+    let stream = detail.streams.as_slice().first().expect(rt, "no stream");
+    same(rt, "stream", stream.as_slice(), STREAM);
+    let rest = detail.rests.as_slice().first().expect(rt, "no rest");
+    same(rt, "rest", rest.as_slice(), REST);
+}
+
+/// Compares the numbers and lists of a report.
+fn compare_detail<R: Abort>(rt: &R, detail: &Detail) {
+    same(rt, "places", detail.places.as_slice(), PLACES.as_slice());
+    same(rt, "steps", detail.steps.as_slice(), [4, 2].as_slice());
+    let capacities = detail.capacities.as_slice();
+    same(rt, "capacities", capacities, [2].as_slice());
+    let growths = detail.growths.as_slice();
+    same(rt, "growths", growths, [(0, 2)].as_slice());
+    same(rt, "entries", detail.entries, 7);
+}
+
+#[test]
+fn a_spent_budget_is_told_alone(rt: HostRuntime) {
+    let report = report(&rt, rt.alloc(), End::Budget, "end budget\n");
+    same(&rt, "detail", report.detail.is_none(), true);
+}

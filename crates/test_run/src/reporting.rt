@@ -1,0 +1,73 @@
+//! What a run tells: its report, part by part, and its streams.
+use crate::checks::same;
+use crate::runs::finish_text;
+use kpn_machine::End;
+use kpn_net::{Kinds, Token};
+use kpn_run::{
+    Detail, Finish, Gate, Growths, Open, Place, Places, Report, Sizes, Steps, Stream, Streams,
+    report, stream_of,
+};
+use std::alloc::Global;
+use std::process::Abort;
+use std::test::Fail;
+use test_texts::COUNTER_INTO_SINK;
+
+/// What went through the channel.
+const TOKENS: [Token; 3] = [Token::Word(1), Token::Word(2), Token::Word(3)];
+
+/// Compares the tokens of a channel that the network doesn't have.
+fn compare_no_stream<K: Kinds, R: Abort>(rt: &R, alloc: Global, finish: &Finish<K>) {
+    let none = stream_of(alloc, finish.net(), finish.history(), 1).expect(rt, "no memory");
+    same(rt, "no stream", none.len(), 0);
+}
+
+/// Compares the lists of a detail.
+fn compare_lists<R: Abort>(
+    rt: &R,
+    places: &Places,
+    steps: &Steps,
+    capacities: &Sizes,
+    growths: &Growths,
+) {
+    let stopped = [Place::Stopped, Place::Stopped];
+    same(rt, "places", places.as_slice(), stopped.as_slice());
+    same(rt, "steps", steps.as_slice(), [4, 4].as_slice());
+    same(rt, "capacities", capacities.as_slice(), [1].as_slice());
+    same(rt, "growths", growths.as_slice().len(), 0);
+    same(rt, "others", Place::Reads(0) == Place::Writes(0), false);
+}
+
+/// The only one of some streams.
+fn only<'a, R: Abort>(rt: &R, streams: &'a Streams) -> &'a Stream {
+    match streams.as_slice() {
+        [stream] => stream,
+        _ => panic!(rt; "not one stream"),
+    }
+}
+
+/// Compares the report of a run.
+fn compare_report<K: Kinds, R: Abort>(rt: &R, alloc: Global, finish: &Finish<K>) {
+    let Report { end, detail } = report(alloc, finish).expect(rt, "no memory");
+    let Detail {
+        places,
+        steps,
+        capacities,
+        streams,
+        rests,
+        growths,
+        entries,
+    } = detail.expect(rt, "no detail");
+    same(rt, "end", (end, entries), (End::Terminated, 8));
+    compare_lists(rt, &places, &steps, &capacities, &growths);
+    same(rt, "put", only(rt, &streams).as_slice(), TOKENS.as_slice());
+    same(rt, "left", only(rt, &rests).as_slice().len(), 0);
+}
+
+#[test]
+fn a_run_by_two_workers_is_told(rt: HostRuntime) -> Result<(), Fail> {
+    Open.before_commit(0);
+    let finish = finish_text(&rt, rt.alloc(), COUNTER_INTO_SINK, 2, &Open)?;
+    compare_no_stream(&rt, rt.alloc(), &finish);
+    compare_report(&rt, rt.alloc(), &finish);
+    Ok(())
+}

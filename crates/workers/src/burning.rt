@@ -1,0 +1,118 @@
+//! Times one run, from the opening of its machine to its end.
+
+use crate::numbers::burn;
+use kpn_body::{Body, Standard, answer};
+use kpn_machine::Machine;
+use kpn_net::{Answer, Card, Kinds, Local, Net, Token};
+use kpn_run::{Prompt, run};
+use std::alloc::{AllocError, Global};
+use std::hint::spin_loop;
+use std::marker::Model;
+use std::rt::Clock;
+use std::sync::Wait;
+use std::thread::Threads;
+use std::time::Instant;
+
+/// A card that has a signature, for which the standard family answers after computing a number of
+/// random numbers.
+#[derive(Drop)]
+struct Burning {
+    card: Card,
+    numbers: u64,
+}
+
+impl Model for Burning {
+    ghost use Rattle.std.specs.Prelude.{IsSome};
+    ghost use Rattle.kpn_model.specs.declared.kinds.Card.{Card};
+    ghost use Rattle.kpn_body.specs.StandardKinds.{signature};
+
+    ghost Value = { Card };
+
+    ghost view = { λ b. b.card };
+
+    ghost invariant = { λ b. IsSome (signature b.card) };
+}
+
+impl Body for Burning {
+    type Kinds = Standard;
+
+    ghost card = { λ body. body };
+
+    fn card(&self) -> Card {
+        self.card
+    }
+
+    fn answer(&self, local: Local, last: Option<Token>) -> Answer {
+        if burn(self.numbers) == 0 {
+            spin_loop();
+        }
+        answer(self.card, local, last)
+    }
+}
+
+/// How many workers there are, and how many numbers a body computes before it answers.
+#[derive(Clone, Copy)]
+pub struct Timing {
+    pub workers: usize,
+    pub numbers: u64,
+}
+
+/// Runs a network, and prints how many entries there were and how many nanoseconds it took.
+pub fn run_timed<R: Threads + Wait + Clock + Sync + Print>(
+    rt: &R,
+    alloc: Global,
+    net: Net<Standard>,
+    asked: Timing,
+) -> Result<(), AllocError> {
+    let bodies = bodies_of(alloc, &net, asked.numbers)?;
+    let Ok(start) = Instant::now(rt) else {
+        return Err(AllocError);
+    };
+    let entries = if asked.workers == 0 {
+        entries_alone(alloc, net, bodies)?
+    } else {
+        entries_by_workers(rt, alloc, net, bodies, asked.workers)?
+    };
+    let Ok(took) = start.elapsed(rt) else {
+        return Err(AllocError);
+    };
+    let nanos = took.as_nanos();
+    let _ = println!(rt; "entries {entries} nanos {nanos}");
+    Ok(())
+}
+
+fn bodies_of(alloc: Global, net: &Net<Standard>, numbers: u64) -> Result<Vec<Burning>, AllocError> {
+    let mut bodies = Vec::new(alloc);
+    for process in 0..net.processes() {
+        let card = net.card(process);
+        if Standard::signature(&card).is_some() {
+            bodies.push(Burning { card, numbers })?;
+        }
+    }
+    Ok(bodies)
+}
+
+fn entries_by_workers<R: Threads + Wait + Clock + Sync>(
+    rt: &R,
+    alloc: Global,
+    net: Net<Standard>,
+    bodies: Vec<Burning>,
+    workers: usize,
+) -> Result<u64, AllocError> {
+    match run(rt, alloc, net, bodies, workers, &Prompt) {
+        Ok(finish) => Ok(finish.receipts()),
+        Err(_) => Err(AllocError),
+    }
+}
+
+fn entries_alone<B: Body>(
+    alloc: Global,
+    net: Net<B::Kinds>,
+    bodies: Vec<B>,
+) -> Result<u64, AllocError> {
+    let Ok(mut machine) = Machine::open(alloc, net, bodies) else {
+        return Err(AllocError);
+    };
+    machine.finish_alone();
+    Ok(machine.history().len() as u64)
+}

@@ -1,0 +1,91 @@
+//! Runs a network that is described on standard input by several workers. The words are
+//!
+//! - `time WORKERS NUMBERS`: times the run, whose bodies compute that many random numbers before each
+//!   answer (0 workers are the calling thread without a lock);
+//! - `stress WORKERS MOST SEED HELD OTHER`: bodies compute for random times, up to that many random
+//!   numbers (2^n - 1), one process is held up for another, and the report of the run is written.
+//!
+//! Any other words are refused with status 1; a network that can't be read, and a run that is refused,
+//! with status 4.
+#![tactic(auto)]
+
+mod burning;
+mod numbers;
+mod straying;
+
+use burning::{Timing, run_timed};
+use kpn_body::Standard;
+use kpn_front::{Fallible, load};
+use kpn_net::Net;
+use std::alloc::{AllocError, Global};
+use std::env;
+use std::process::ExitCode;
+use std::rt::{Clock, Env};
+use std::sync::Wait;
+use std::thread::Threads;
+use straying::{Stress, run_stressed};
+
+/// What the words ask for.
+#[derive(Clone, Copy)]
+enum Asked {
+    Time(Timing),
+    Stress(Stress),
+}
+
+fn main(rt: HostRuntime) -> ExitCode {
+    let Some(asked) = asked_of(&rt) else {
+        return ExitCode::from(1);
+    };
+    match play(&rt, rt.alloc(), asked) {
+        Ok(()) => ExitCode::from(0),
+        Err(_) => ExitCode::from(4),
+    }
+}
+
+fn asked_of<R: Env + AllocGlobal>(rt: &R) -> Option<Asked> {
+    let Ok(arguments) = env::args(rt) else {
+        return None;
+    };
+    let Ok(words): Result<Vec<String>, AllocError> = arguments.collect(rt.alloc()) else {
+        return None;
+    };
+    match words.get(1)?.as_str() {
+        "time" => Some(Asked::Time(Timing {
+            workers: size_of(&words, 2)?,
+            numbers: number_of(&words, 3)?,
+        })),
+        "stress" => Some(Asked::Stress(Stress {
+            workers: size_of(&words, 2)?,
+            most: number_of(&words, 3)?,
+            seed: number_of(&words, 4)?,
+            held: size_of(&words, 5)?,
+            other: size_of(&words, 6)?,
+        })),
+        _ => None,
+    }
+}
+
+fn size_of(words: &Vec<String>, place: usize) -> Option<usize> {
+    words.get(place)?.parse::<usize>().ok()
+}
+
+fn number_of(words: &Vec<String>, place: usize) -> Option<u64> {
+    words.get(place)?.parse::<u64>().ok()
+}
+
+/// Reads the network, and runs it as asked.
+fn play<R: Threads + Wait + Clock + Sync + Input + Print>(
+    rt: &R,
+    alloc: Global,
+    asked: Asked,
+) -> Result<(), AllocError> {
+    let mut source = Fallible::new(rt.reader());
+    let net: Net<Standard> = match load(alloc, &mut source) {
+        Ok(net) => net,
+        Err(_) => return Err(AllocError),
+    };
+    match asked {
+        Asked::Time(timing) => run_timed(rt, alloc, net, timing),
+        Asked::Stress(stress) => run_stressed(rt, alloc, net, stress),
+    }
+}
