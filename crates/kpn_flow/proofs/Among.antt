@@ -1,8 +1,8 @@
 -- Some channel of a list passes a test, or none does.
-use Rattle.std.proofs.Common.{◌≡◌, List, [], ◌∷◌, refl, ℕ, ◌==◌, Bool, true, false, ◌||◌, subst, eqb-true, eq-eqb}
+use Rattle.std.proofs.Common.{◌≡◌, List, [], ◌∷◌, refl, ℕ, ◌==◌, Bool, true, false, ◌||◌, not, if◌then◌else◌, subst, eqb-true, eq-eqb}
 use Rattle.std.proofs.lemmas.Bool.{or_parts, or_left, or_right}
-use Rattle.std.specs.List.{list_any}
-use Rattle.kpn_flow.specs.Flows.{is_among}
+use Rattle.std.specs.List.{list_any, filter}
+use Rattle.kpn_flow.specs.Flows.{is_among, without}
 
 -- a channel of the list that passes
 pub any_found : (test : ℕ → Bool) (xs : List ℕ) → list_any test xs ≡ true → (c : ℕ) × (is_among xs c ≡ true) × (test c ≡ true)
@@ -23,3 +23,16 @@ none_found test (x ∷ xs) c e h = by_test (x == c) refl h (λ g. none_found tes
     by_test : (b : Bool) → (x == c) ≡ b → (b || is_among xs c) ≡ true → (is_among xs c ≡ true → test c ≡ false) → test c ≡ false
     by_test true f g later = subst (λ y. test y ≡ false) (eqb-true x c f) (or_parts (test x) (list_any test xs) e).0
     by_test false f g later = later g
+
+-- what is left of a list was in it
+pub among_all : (xs : List ℕ) (c d : ℕ) → is_among (without xs c) d ≡ true → is_among xs d ≡ true
+among_all [] c d e = e
+among_all (x ∷ xs) c d e = by_test (not (x == c)) (among_all xs c d) e
+  where
+    by_test : (b : Bool) → (is_among (without xs c) d ≡ true → is_among xs d ≡ true) → list_any (λ y. y == d) (if b then x ∷ without xs c else without xs c) ≡ true → is_among (x ∷ xs) d ≡ true
+    by_test true later f = by_head (x == d) f
+      where
+        by_head : (b : Bool) → (b || is_among (without xs c) d) ≡ true → (b || is_among xs d) ≡ true
+        by_head true g = refl
+        by_head false g = later g
+    by_test false later f = or_right (x == d) (is_among xs d) (later f)

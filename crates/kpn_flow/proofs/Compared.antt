@@ -14,7 +14,7 @@ use Rattle.kpn_flow.specs.Pieces.{IsOneRunWithStreams, IsWay, PiecesAreComparabl
 use Rattle.kpn_flow.proofs.Untaken.{one_run}
 
 -- the same further tokens
-preload_same : (ls : List Channel) (more most : ℕ → List Token) (sizes : ℕ → ℕ) → ((c : ℕ) → more c ≡ most c) → preload ls more sizes ≡ preload ls most sizes
+pub preload_same : (ls : List Channel) (more most : ℕ → List Token) (sizes : ℕ → ℕ) → ((c : ℕ) → more c ≡ most c) → preload ls more sizes ≡ preload ls most sizes
 preload_same [] more most sizes e = refl
 preload_same (l ∷ ls) more most sizes e =
     ap (λ ts. record l { tokens = l.tokens ++ ts; capacity = sizes 0 } ∷ preload ls (λ c. more (c + 1)) (λ c. sizes (c + 1))) (e 0)

@@ -1,5 +1,5 @@
 -- What holds of each flow is kept.
-use Rattle.std.proofs.Common.{◌≡◌, ◌≢◌, ⊎_elim, List, [], ◌∷◌, length, replicate, refl, sym, ◌∙◌, ℕ, ◌<◌, None, Option}
+use Rattle.std.proofs.Common.{◌≡◌, ◌≢◌, ⊎_elim, List, [], ◌∷◌, length, replicate, refl, sym, ap, ◌∙◌, ℕ, ◌<◌, None, Option}
 use Rattle.std.proofs.lemmas.Bool.{cases_lt}
 use Rattle.kpn_model.specs.declared.token.Token.{Token}
 use Rattle.kpn_model.specs.declared.kinds.Card.{Card}
@@ -12,8 +12,9 @@ use Rattle.kpn_state.specs.declared.standing.Standing.{Standing}
 use Rattle.kpn_state.specs.declared.standing.Standing.TheVariants.{Ready, Out, Stopped}
 use Rattle.kpn_machine.specs.Opening.{cards_of}
 use Rattle.kpn_machine.proofs.Opened.{keeps_start, ready_at, ended_past}
-use Rattle.kpn_flow.specs.Events.{Event, Happens}
-use Rattle.kpn_flow.specs.Flows.{flow_view, is_among, AreEnds, IsFlowing, IsSettledIn}
+use Rattle.kpn_flow.specs.declared.counts.Counts.{Counts}
+use Rattle.kpn_flow.specs.Events.{Event, Happens, entries_of}
+use Rattle.kpn_flow.specs.Flows.{flow_view, is_among, counted, nothing_counted, AreEnds, IsFlowing, IsSettledIn}
 use Rattle.kpn_flow.specs.Pauses.{OpenRun}
 use Rattle.kpn_flow.specs.Preloaded.{IsAtEnds}
 use Rattle.kpn_flow.proofs.Stretches.{reached_on, reached_by}
@@ -24,30 +25,31 @@ ready_out e = cc
 ended_out : Stopped ≢ Out
 ended_out e = cc
 
-module _ (kinds : Family) (admits : Card → List ℕ → Option Token → Type 0) (net : Network) (inputs outputs : List ℕ) where
+module _ (kinds : Family) (admits : Card → List ℕ → Option Token → Type 0) (net : Network) (inputs unended outputs : List ℕ) where
   -- an event at an end leads on
   pub flowing_on :
-      (M N : State) (standings moved : List Standing) (cards : List Card) (room left : ℕ) (x : Event) → IsFlowing kinds admits (flow_view net M standings inputs outputs) cards room
-      → Happens kinds net M x N → IsAtEnds (is_among inputs) (is_among outputs) (x ∷ []) → IsSettledIn kinds admits net N moved → left ≡ room → IsFlowing kinds admits (flow_view net N moved inputs outputs) cards left
-  flowing_on M N standings moved cards room left x f h e s same =
-      record { ends = f.ends; reached = reached_by kinds net inputs outputs M N x f.reached h e; fits = s; bodies = f.bodies; room_is = same ∙ f.room_is }
+      (M N : State) (standings moved : List Standing) (cards : List Card) (room left : ℕ) (counts : Counts) (x : Event) → IsFlowing kinds admits (flow_view net M standings inputs unended outputs counts) cards room
+      → Happens kinds net M x N → IsAtEnds (is_among inputs) (is_among outputs) (x ∷ []) → entries_of (x ∷ []) ≡ [] → IsSettledIn kinds admits net N moved → left ≡ room → IsFlowing kinds admits (flow_view net N moved inputs unended outputs counts) cards left
+  flowing_on M N standings moved cards room left counts x f h e none s same =
+      record { ends = f.ends; unended = f.unended; reached = reached_by kinds net inputs outputs counts M N x f.reached h e none; fits = s; bodies = f.bodies; room_is = same ∙ f.room_is }
 
   -- and so do entries
   pub flowing_run :
-      (ins outs : List ℕ) (M N : State) (standings moved : List Standing) (cards : List Card) (room left : ℕ) (E : List Entry) → IsFlowing kinds admits (flow_view net M standings inputs outputs) cards room
-      → OpenRun kinds net ins outs M E N → IsSettledIn kinds admits net N moved → left ≡ room → IsFlowing kinds admits (flow_view net N moved inputs outputs) cards left
-  flowing_run ins outs M N standings moved cards room left E f h s same =
-      record { ends = f.ends; reached = reached_on kinds net inputs outputs ins outs M N E f.reached h; fits = s; bodies = f.bodies; room_is = same ∙ f.room_is }
+      (ins outs : List ℕ) (M N : State) (standings moved : List Standing) (cards : List Card) (room left : ℕ) (before after : Counts) (E : List Entry) → IsFlowing kinds admits (flow_view net M standings inputs unended outputs before) cards room
+      → OpenRun kinds net ins outs M E N → after ≡ counted before E → IsSettledIn kinds admits net N moved → left ≡ room → IsFlowing kinds admits (flow_view net N moved inputs unended outputs after) cards left
+  flowing_run ins outs M N standings moved cards room left before after E f h count s same =
+      record { ends = f.ends; unended = f.unended; reached = reached_on kinds net inputs outputs ins outs before after M N E f.reached h count; fits = s; bodies = f.bodies; room_is = same ∙ f.room_is }
 
   -- a flow that was just opened
   pub flowing_start :
       (signature : Card → Option Signature) (cards : List Card) → IsValid signature net → ((p : ℕ) → p < length net.processes → admits (card_of net p) (kinds.start (card_of net p)) None) → cards ≡ cards_of net.processes
-      → AreEnds kinds net inputs outputs → IsFlowing kinds admits (flow_view net (start kinds net) (replicate (length net.processes) Ready) inputs outputs) cards 2
-  flowing_start signature cards valid starts same ends =
+      → AreEnds kinds net inputs outputs → unended ≡ inputs → IsFlowing kinds admits (flow_view net (start kinds net) (replicate (length net.processes) Ready) inputs unended outputs nothing_counted) cards 2
+  flowing_start signature cards valid starts same ends all =
       let n = length net.processes in
       record {
         ends = ends;
-        reached = record { events = []; flows = refl; at_ends = tt };
+        unended = λ c e. ap (λ (l : List ℕ). is_among l c) (sym all) ∙ e;
+        reached = record { events = []; flows = refl; at_ends = tt; counts_are = refl };
         fits = record {
           keeps = keeps_start signature admits kinds net valid starts;
           none_out = λ p e. ⊎_elim (λ within. ready_out (sym (ready_at n p within) ∙ e)) (λ past. ended_out (sym (ended_past n p past) ∙ e)) (cases_lt p n);

@@ -11,3 +11,5 @@ pub mod Mute
 pub mod Untaken
 pub mod Compared
 pub mod Batches
+pub mod Counting
+pub mod Exhausted

@@ -21,7 +21,7 @@ use Rattle.kpn_flow.proofs.Ahead.{Respects}
 write_stop : (k : ℕ) (t : Token) → Write k t ≡ Stop → ⊥
 write_stop k t e = cc
 
-read_stop : (k : ℕ) → Read k ≡ Stop → ⊥
+pub read_stop : (k : ℕ) → Read k ≡ Stop → ⊥
 read_stop k e = cc
 
 some_answer : (a b : Answer) → Some a ≡ Some b → a ≡ b
@@ -29,10 +29,10 @@ some_answer a b e = cc
 
 module _ (kinds : Family) (net : Network) where
   -- it stands at its start or has stopped
-  abbrev IsStill : State → ℕ → Type 0
+  abbrev pub IsStill : State → ℕ → Type 0
   IsStill M p = (status M p ≡ Live (kinds.start (card_of net p)) None) ⊎ (status M p ≡ Done)
 
-  abbrev AreStill : State → Type 0
+  abbrev pub AreStill : State → Type 0
   AreStill M = (p : ℕ) → StopsAtOnce kinds net p → IsStill M p
 
   at_start : (ps : List Process) (p : ℕ) → (get_or (map (λ (x : Process). Live (kinds.start x.card) None) ps) p Done ≡ Live (kinds.start (get_or ps p no_process).card) None) ⊎ (get_or (map (λ (x : Process). Live (kinds.start x.card) None) ps) p Done ≡ Done)
@@ -44,7 +44,7 @@ module _ (kinds : Family) (net : Network) where
   still_start p stops = at_start net.processes p
 
   -- it wants nothing but to stop
-  still_wants : (M : State) (p : ℕ) (a : Answer) → StopsAtOnce kinds net p → IsStill M p → wants kinds net M p ≡ Some a → a.act ≡ Stop
+  pub still_wants : (M : State) (p : ℕ) (a : Answer) → StopsAtOnce kinds net p → IsStill M p → wants kinds net M p ≡ Some a → a.act ≡ Stop
   still_wants M p a stops still w =
       ⊎_elim
       (λ (e : status M p ≡ Live (kinds.start (card_of net p)) None). ap (λ (x : Answer). x.act) (sym (some_answer (kinds.answer (card_of net p) (kinds.start (card_of net p)) None) a (sym (ap (λ s. answered kinds net p s) e) ∙ w))) ∙ stops)
@@ -76,6 +76,14 @@ module _ (kinds : Family) (net : Network) where
   -- a state with the same processes
   still_same : (M N : State) → N.processes ≡ M.processes → AreStill M → AreStill N
   still_same M N e still p stops = ⊎_elim (λ x. inl (ap (λ ps. get_or ps p Done) e ∙ x)) (λ x. inr (ap (λ ps. get_or ps p Done) e ∙ x)) (still p stops)
+
+  -- events lead to no deed of its own but the stop
+  pub still_at_end : (xs : List Event) (M N : State) → Flows kinds net M xs N → AreStill M → AreStill N
+  still_at_end [] M N f still = subst (λ (x : State). AreStill x) (sym f) still
+  still_at_end (Went (Did p d) ∷ xs) M N f still = still_at_end xs f.0 N f.2 (still_after M p d f.0 f.1 still)
+  still_at_end (Went (Grew b to) ∷ xs) M N f still = still_at_end xs f.0 N f.2 (still_same M f.0 (ap (λ (x : State). x.processes) f.1.leaves) still)
+  still_at_end (Fed b t ∷ xs) M N f still = still_at_end xs f.0 N f.2 (still_same M f.0 (ap (λ (x : State). x.processes) f.1.2) still)
+  still_at_end (Drained b t ∷ xs) M N f still = still_at_end xs f.0 N f.2 (still_same M f.0 (ap (λ (x : State). x.processes) f.1.1) still)
 
   module _ (ins outs : ℕ → Bool) (writers : (c : ℕ) → ins c ≡ true → StopsAtOnce kinds net (channel_of net c).writer) (readers : (c : ℕ) → outs c ≡ true → StopsAtOnce kinds net (channel_of net c).reader) where
     no_put : (M : State) (p c : ℕ) (t : Token) (mid : State) → Does kinds net M p (Put c t) mid → AreStill M → ins c ≡ false

@@ -15,6 +15,7 @@ use Rattle.kpn_model.specs.declared.history.Entry.TheVariants.{Did, Grew}
 use Rattle.kpn_model.specs.declared.history.Status.{Status}
 use Rattle.kpn_model.specs.declared.history.Status.TheVariants.{Live}
 use Rattle.kpn_model.specs.Network.{Network, Family, no_process, card_of}
+use Rattle.kpn_model.specs.History.{growths}
 use Rattle.kpn_model.specs.Semantics.{State, status, answered, wants}
 use Rattle.kpn_state.specs.StateAndHistory.{StateAndHistory}
 use Rattle.kpn_state.specs.declared.standing.Standing.{Standing}
@@ -71,22 +72,23 @@ module _ (kinds : Family) (admits : Card → List ℕ → Option Token → Type 
 
 module _ (kinds : Family) (net : Network) (inputs outputs : List ℕ) where
   -- the history has the entries of a turn alone: at most two, which lead on; and the turn either does something or parks a process
-  pub record Turned (s t : StateAndHistory) (standings moved : List Standing) : Type 0 where
+  pub record Turned (s t : StateAndHistory) (standings moved : List Standing) (grown : ℕ) : Type 0 where
     pub run : OpenRun kinds net inputs outputs s.state t.history t.state
     pub few : length t.history ≤ 2
+    pub grows : length (growths t.history) ≡ grown
     pub goes : sum_by is_not_parked moved + 1 ≤ sum_by is_not_parked standings + 2 * length t.history
 
   module _ (s : StateAndHistory) (emptied : s.history ≡ []) where
     pub reacted_turned :
         (standings : List Standing) (p : ℕ) (a : Answer) (r : Reaction) (t : StateAndHistory) (moved : List Standing) → p < length standings → standing standings p ≡ Ready → Reacts kinds net s standings p a r t moved
-        → Turned s t standings moved
+        → Turned s t standings moved 0
     reacted_turned standings p a Waits t moved within ready h =
         let none : t.history ≡ [] = ap (λ (x : StateAndHistory). x.history) h.1 ∙ emptied in
         let count = ap (λ (l : List Entry). length l) none in
         let c = sum_by-set is_not_parked standings p (Parked a) Ended within in
         let one : is_not_parked (standing standings p) ≡ 1 = ap is_not_parked ready in
         let now = ap (λ (l : List Standing). sum_by is_not_parked l) h.2 in
-        record { run = subst (λ E. OpenRun kinds net inputs outputs s.state E t.state) (sym none) (ap (λ (x : StateAndHistory). x.state) h.1); few = omega arith; goes = omega arith }
+        record { run = subst (λ E. OpenRun kinds net inputs outputs s.state E t.state) (sym none) (ap (λ (x : StateAndHistory). x.state) h.1); few = omega arith; grows = ap (λ (l : List Entry). length (growths l)) none; goes = omega arith }
     reacted_turned standings p a Acts t moved within ready h =
         let e : Entry = Did p h.0 in
         let some : t.history ≡ e ∷ [] = ap (λ (x : StateAndHistory). x.history) h.1.entry ∙ ap (λ l. l ++ e ∷ []) emptied in
@@ -95,7 +97,7 @@ module _ (kinds : Family) (net : Network) (inputs outputs : List ℕ) where
         let one : is_not_parked (standing standings p) ≡ 1 = ap is_not_parked ready in
         let after = acted_counts h.0 in
         let now = ap (λ (l : List Standing). sum_by is_not_parked l) h.1.moves in
-        record { run = subst (λ E. OpenRun kinds net inputs outputs s.state E t.state) (sym some) (t.state, h.1.does, refl); few = omega arith; goes = omega arith }
+        record { run = subst (λ E. OpenRun kinds net inputs outputs s.state E t.state) (sym some) (t.state, h.1.does, refl); few = omega arith; grows = ap (λ (l : List Entry). length (growths l)) some; goes = omega arith }
     reacted_turned standings p a HandsOn t moved within ready h =
         let e : Entry = Did p h.deed in
         let f : Entry = Did h.other h.handed in
@@ -111,12 +113,12 @@ module _ (kinds : Family) (net : Network) (inputs outputs : List ℕ) where
         let last = acted_counts h.handed in
         let mid = ap (λ (l : List Standing). sum_by is_not_parked l) h.first.moves in
         let now = ap (λ (l : List Standing). sum_by is_not_parked l) h.second.moves in
-        record { run = subst (λ E. OpenRun kinds net inputs outputs s.state E t.state) (sym both) (h.between.state, h.first.does, (t.state, h.second.does, refl)); few = omega arith; goes = omega arith }
+        record { run = subst (λ E. OpenRun kinds net inputs outputs s.state E t.state) (sym both) (h.between.state, h.first.does, (t.state, h.second.does, refl)); few = omega arith; grows = ap (λ (l : List Entry). length (growths l)) both; goes = omega arith }
 
     -- a growth where the outside can't help, and the put that follows
     pub enlarged_turned :
         (standings : List Standing) (t : StateAndHistory) (moved : List Standing) → NoneCanHelp kinds net inputs outputs s.state → GrowsAndPuts kinds net s standings t moved
-        → Turned s t standings moved
+        → Turned s t standings moved 1
     enlarged_turned standings t moved alone h =
         let e : Entry = Grew h.channel h.to in
         let f : Entry = Did h.writer (Put h.channel h.token) in
@@ -126,7 +128,7 @@ module _ (kinds : Family) (net : Network) (inputs outputs : List ℕ) where
         let c = sum_by-set is_not_parked standings h.writer Ready Ended there in
         let none : is_not_parked (standing standings h.writer) ≡ 0 = ap is_not_parked h.parked in
         let now = ap (λ (l : List Standing). sum_by is_not_parked l) h.puts.moves in
-        record { run = subst (λ E. OpenRun kinds net inputs outputs s.state E t.state) (sym both) (h.grown, (h.grows, alone), (t.state, h.puts.does, refl)); few = omega arith; goes = omega arith }
+        record { run = subst (λ E. OpenRun kinds net inputs outputs s.state E t.state) (sym both) (h.grown, (h.grows, alone), (t.state, h.puts.does, refl)); few = omega arith; grows = ap (λ (l : List Entry). length (growths l)) both; goes = omega arith }
 
 -- if none is ready or out, none is busy
 pub none_busy : (standings : List Standing) → ((p : ℕ) → standing standings p ≢ Out) → ((p : ℕ) → standing standings p ≢ Ready) → list_any is_busy standings ≡ false

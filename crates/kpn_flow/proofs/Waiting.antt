@@ -1,23 +1,26 @@
 -- Where no process is ready, the parked ones tell whether the outside can help.
-use Rattle.std.proofs.Common.{◌≡◌, ◌≢◌, ⊎_elim, List, [], ◌∷◌, length, refl, sym, ap, ◌∙◌, ℕ, Bool, true, false, Some, None, Option, subst, nat_lt, eqb-true, eq-eqb, lt-ltb}
+use Rattle.std.proofs.Common.{◌≡◌, ◌≢◌, ⊎_elim, List, [], ◌∷◌, length, refl, sym, ap, ◌∙◌, ℕ, zero, suc, Bool, true, false, Some, None, Option, subst, nat_lt, eqb-true, eq-eqb, lt-ltb}
 use Rattle.std.proofs.lemmas.Bool.{and_parts, and_from, cases_lt}
-use Rattle.std.specs.List.{list_any}
+use Rattle.std.specs.List.{list_any, list_all}
 use Rattle.kpn_model.specs.declared.token.Token.{Token}
 use Rattle.kpn_model.specs.declared.kinds.Card.{Card}
 use Rattle.kpn_model.specs.declared.kinds.Act.{Act}
 use Rattle.kpn_model.specs.declared.kinds.Act.TheVariants.{Read, Write, Stop}
 use Rattle.kpn_model.specs.declared.kinds.Answer.{Answer}
 use Rattle.kpn_model.specs.Network.{Network, Family, channel_of, in_of, out_of}
-use Rattle.kpn_model.specs.Semantics.{State, tokens, capacity, IsPossible, IsBlocked}
+use Rattle.kpn_model.specs.Semantics.{State, tokens, capacity, answered, wants, IsEnabled, IsPossible, IsBlocked}
 use Rattle.kpn_laws.proofs.States.{in_of-reader, out_of-writer}
 use Rattle.kpn_state.specs.declared.standing.Standing.{Standing}
 use Rattle.kpn_state.specs.declared.standing.Standing.TheVariants.{Ready, Out, Parked, Stopped}
-use Rattle.kpn_state.specs.Standings.{standing, is_busy, StandingsFit}
+use Rattle.kpn_state.specs.Standings.{standing, is_busy, parked_answer, StandingsFit}
 use Rattle.kpn_state.proofs.Placed.{idle_at}
 use Rattle.kpn_state.proofs.Contradictions.{none_some, true_false}
 use Rattle.kpn_commit.proofs.Idle.{wants_parked}
-use Rattle.kpn_flow.specs.Pauses.{IsStarving, IsStarved, IsHeldUp, NoneCanHelp}
-use Rattle.kpn_flow.specs.Waits.{is_at, reads_from, writes_to, is_parked_with, starves, holds_up}
+use Rattle.kpn_flow.specs.declared.pause.Pause.{Pause}
+use Rattle.kpn_flow.specs.declared.pause.Pause.TheVariants.{Cut, Starved, Blocked, Over}
+use Rattle.kpn_flow.specs.Pauses.{IsStarving, IsStarved, IsHeldUp, NoneCanHelp, TellWants}
+use Rattle.kpn_flow.specs.Pieces.{IsExhausted}
+use Rattle.kpn_flow.specs.Waits.{is_at, is_read, reads_from, writes_to, is_parked_with, starves, holds_up, waits_to_read}
 use Rattle.kpn_flow.proofs.Among.{any_found, none_found}
 
 found_at : (c : ℕ) (d : Option ℕ) → is_at c d ≡ true → d ≡ Some c
@@ -42,6 +45,12 @@ write_act : (net : Network) (c p : ℕ) (x : Act) → writes_to net c p x ≡ tr
 write_act net c p (Read k) e = cc
 write_act net c p (Write k t) e = (k, t, refl, found_at c (out_of net p k) e)
 write_act net c p Stop e = cc
+
+-- all processes pass, and one that is not there has stopped
+all_at : (standings : List Standing) (p : ℕ) → list_all waits_to_read standings ≡ true → waits_to_read (standing standings p) ≡ true
+all_at [] p e = refl
+all_at (x ∷ xs) zero e = (and_parts (waits_to_read x) (list_all waits_to_read xs) e).0
+all_at (x ∷ xs) (suc p) e = all_at xs p (and_parts (waits_to_read x) (list_all waits_to_read xs) e).1
 
 some_token : (t : Token) (ts : List Token) → t ∷ ts ≢ []
 some_token t ts e = cc
@@ -124,3 +133,48 @@ module _ (kinds : Family) (admits : Card → List ℕ → Option Token → Type 
 
   pub some_held_up : (outputs : List ℕ) → list_any (holds_up net standings) outputs ≡ true → (c : ℕ) × IsHeldUp kinds net outputs M c
   some_held_up outputs e = let x = any_found (holds_up net standings) outputs e in (x.0, record { output = x.1; writer = (channel_of net x.0).writer; blocked = held_there x.0 x.2 })
+
+  -- a process that is neither ready nor out wants what it answered
+  wants_told : (p : ℕ) (x : Standing) → standing standings p ≡ x → is_busy x ≡ false → wants kinds net M p ≡ parked_answer x
+  wants_told p Ready e idle = cc
+  wants_told p Out e idle = cc
+  wants_told p (Parked a) e idle = k.wanted p a e
+  wants_told p Stopped e idle = ap (answered kinds net p) (k.stopped p e)
+
+  -- if no process is ready or out, the standings tell what each wants
+  pub told : (pause : Pause) → list_any is_busy standings ≡ false → TellWants kinds net M standings pause
+  told Cut idle = tt
+  told Starved idle = λ p. wants_told p (standing standings p) refl (idle_at standings p idle)
+  told Blocked idle = λ p. wants_told p (standing standings p) refl (idle_at standings p idle)
+  told (Over end) idle = λ p. wants_told p (standing standings p) refl (idle_at standings p idle)
+
+  -- if each process has stopped or waits for a token, none is busy, and none waits for room
+  module _ (all : list_all waits_to_read standings ≡ true) where
+    reads_or_stopped : (p : ℕ) → waits_to_read (standing standings p) ≡ true
+    reads_or_stopped p = all_at standings p all
+
+    not_busy : (x : Standing) → waits_to_read x ≡ true → is_busy x ≡ false
+    not_busy Ready e = cc
+    not_busy Out e = cc
+    not_busy (Parked a) e = refl
+    not_busy Stopped e = refl
+
+    -- so none can go on
+    can_not : (p : ℕ) → IsEnabled kinds net M p → ⊥
+    can_not p e =
+        let idle = not_busy (standing standings p) (reads_or_stopped p) in
+        k.blocked p e.answer (λ f. none_some p f) (wants_parked kinds admits net M standings k p e.answer idle e.wanted) e.possible
+
+    does_not_write : (a : Act) (port : ℕ) (t : Token) → is_read a ≡ true → a ≡ Write port t → ⊥
+    does_not_write (Read i) port t e f = cc
+    does_not_write (Write i u) port t e f = cc
+    does_not_write Stop port t e f = cc
+
+    waits_not : (p c : ℕ) → IsBlocked kinds net M p c → ⊥
+    waits_not p c b =
+        let idle = not_busy (standing standings p) (reads_or_stopped p) in
+        let parked = wants_parked kinds admits net M standings k p b.answer idle b.wanted in
+        does_not_write b.answer.act b.port b.token (subst (λ x. waits_to_read x ≡ true) parked (reads_or_stopped p)) b.act
+
+    pub exhausted : IsExhausted kinds net M
+    exhausted = record { quiet = can_not; none_blocked = waits_not }

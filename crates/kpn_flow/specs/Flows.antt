@@ -1,43 +1,67 @@
 -- What contracts see of a flow, and what holds of each at each time.
-use Rattle.std.specs.Prelude.{◌≡◌, ◌≢◌, ℕ, ◌<◌, ◌==◌, Bool, true, List, Option, None, length}
-use Rattle.std.specs.List.{list_any, All}
+use Rattle.std.specs.Prelude.{◌≡◌, ◌≢◌, ℕ, ◌<◌, ◌+◌, ◌==◌, Bool, true, not, List, Option, None, length}
+use Rattle.std.specs.List.{list_any, filter, All}
+use Rattle.std.specs.Io.Iter.{u64_saturate}
 use Rattle.kpn_model.specs.declared.token.Token.{Token}
 use Rattle.kpn_model.specs.declared.kinds.Card.{Card}
+use Rattle.kpn_model.specs.declared.history.Entry.{Entry}
 use Rattle.kpn_model.specs.Network.{Family, Network, channel_of}
 use Rattle.kpn_model.specs.Semantics.{State, start}
+use Rattle.kpn_model.specs.History.{growths}
 use Rattle.kpn_model.specs.Valid.{IsOfSort}
 use Rattle.kpn_state.specs.declared.standing.Standing.{Standing}
 use Rattle.kpn_state.specs.declared.standing.Standing.TheVariants.{Out}
 use Rattle.kpn_state.specs.Standings.{standing, StandingsFit}
 use Rattle.kpn_machine.specs.Opening.{cards_of}
-use Rattle.kpn_flow.specs.Events.{Event, Flows}
+use Rattle.kpn_flow.specs.declared.counts.Counts.{Counts}
+use Rattle.kpn_flow.specs.Events.{Event, Flows, entries_of}
 use Rattle.kpn_flow.specs.Preloaded.{StopsAtOnce, IsAtEnds}
 
--- the network, its state, the standing of each process, the channels that are fed and those that are drained
+-- the network, its state, the standing of each process; the channels that are fed, those of them that have not ended, and the channels
+-- that are drained; and what was counted since the flow was opened
 pub record FlowView : Type 0 where
   pub network : Network
   pub state : State
   pub standings : List Standing
   pub inputs : List ℕ
+  pub unended : List ℕ
   pub outputs : List ℕ
+  pub counts : Counts
 
-abbrev pub flow_view : Network → State → List Standing → List ℕ → List ℕ → FlowView
-flow_view net M standings inputs outputs = record { network = net; state = M; standings = standings; inputs = inputs; outputs = outputs }
+abbrev pub flow_view : Network → State → List Standing → List ℕ → List ℕ → List ℕ → Counts → FlowView
+flow_view net M standings inputs unended outputs counts = record { network = net; state = M; standings = standings; inputs = inputs; unended = unended; outputs = outputs; counts = counts }
+
+abbrev pub nothing_counted : Counts
+nothing_counted = record { entries = 0; growths = 0 }
+
+-- what is counted after these entries; each count stays at 2 ^ 64 - 1 once it is there
+abbrev pub counted : Counts → List Entry → Counts
+counted n E = record { entries = u64_saturate (n.entries + length E); growths = u64_saturate (n.growths + length (growths E)) }
 
 -- c is one of the channels
 abbrev pub is_among : List ℕ → ℕ → Bool
 is_among channels c = list_any (λ d. d == c) channels
+
+-- the channels without this one
+abbrev pub without : List ℕ → ℕ → List ℕ
+without channels c = filter (λ d. not (d == c)) channels
+
+-- the flow after this input has ended
+abbrev pub with_ended : FlowView → ℕ → FlowView
+with_ended s c = record s { unended = without s.unended c }
 
 -- the writer of each input and the reader of each output stop at once, so that only the outside writes to the one and reads from the other
 pub record AreEnds (kinds : Family) (net : Network) (inputs outputs : List ℕ) : Type 0 where
   pub only_fed : (c : ℕ) → is_among inputs c ≡ true → (c < length net.channels) × StopsAtOnce kinds net (channel_of net c).writer
   pub only_drained : (c : ℕ) → is_among outputs c ≡ true → (c < length net.channels) × StopsAtOnce kinds net (channel_of net c).reader
 
--- there are events that lead from the start to the state: tokens came into inputs alone, and went out of outputs alone
-pub record IsReached (kinds : Family) (net : Network) (inputs outputs : List ℕ) (M : State) : Type 0 where
+-- there are events that lead from the start to the state: tokens came into inputs alone, and went out of outputs alone; and the
+-- entries among them were counted
+pub record IsReached (kinds : Family) (net : Network) (inputs outputs : List ℕ) (counts : Counts) (M : State) : Type 0 where
   pub events : List Event
   pub flows : Flows kinds net (start kinds net) events M
   pub at_ends : IsAtEnds (is_among inputs) (is_among outputs) events
+  pub counts_are : counts ≡ counted nothing_counted (entries_of events)
 
 -- the standings fit the state, and no process is out
 pub record IsSettledIn (kinds : Family) (admits : Card → List ℕ → Option Token → Type 0) (net : Network) (M : State) (standings : List Standing) : Type 0 where
@@ -46,23 +70,25 @@ pub record IsSettledIn (kinds : Family) (admits : Card → List ℕ → Option T
 
 pub record IsFlowing (kinds : Family) (admits : Card → List ℕ → Option Token → Type 0) (s : FlowView) (cards : List Card) (room : ℕ) : Type 0 where
   pub ends : AreEnds kinds s.network s.inputs s.outputs
-  pub reached : IsReached kinds s.network s.inputs s.outputs s.state
+  pub unended : (c : ℕ) → is_among s.unended c ≡ true → is_among s.inputs c ≡ true
+  pub reached : IsReached kinds s.network s.inputs s.outputs s.counts s.state
   pub fits : IsSettledIn kinds admits s.network s.state s.standings
   pub bodies : cards ≡ cards_of s.network.processes
   pub room_is : room ≡ 2
 
--- the channel is an input, and the token has its sort
+-- the channel is an input that has not ended, and the token has its sort
 pub record MayFeed (s : FlowView) (c : ℕ) (t : Token) : Type 0 where
-  pub input : is_among s.inputs c ≡ true
+  pub input : is_among s.unended c ≡ true
   pub sort : IsOfSort (channel_of s.network c).sort t
 
--- the channel is an input, and all tokens have its sort
+-- the channel is an input that has not ended, and all tokens have its sort
 pub record MayFeedAll (s : FlowView) (c : ℕ) (ts : List Token) : Type 0 where
-  pub input : is_among s.inputs c ≡ true
+  pub input : is_among s.unended c ≡ true
   pub sorts : All (IsOfSort (channel_of s.network c).sort) ts
 
--- the flow is of the same network, with the same inputs and outputs
+-- the flow is of the same network, with the same inputs, of which the same have not ended, and the same outputs
 pub record IsSameFlow (s t : FlowView) : Type 0 where
   pub network : t.network ≡ s.network
   pub inputs : t.inputs ≡ s.inputs
+  pub unended : t.unended ≡ s.unended
   pub outputs : t.outputs ≡ s.outputs

@@ -7,9 +7,12 @@ use Rattle.kpn_model.specs.declared.history.Entry.TheVariants.{Did, Grew}
 use Rattle.kpn_model.specs.Network.{Family, Network, in_of}
 use Rattle.kpn_model.specs.Semantics.{State, tokens, wants, Does, Grows, IsQuiet, IsBlocked}
 use Rattle.kpn_model.specs.Endings.{HasStopped}
+use Rattle.kpn_state.specs.declared.standing.Standing.{Standing}
+use Rattle.kpn_state.specs.Standings.{standing, parked_answer}
+use Rattle.kpn_flow.specs.declared.counts.Counts.{Counts}
 use Rattle.kpn_flow.specs.declared.pause.Pause.{Pause}
 use Rattle.kpn_flow.specs.declared.pause.Pause.TheVariants.{Cut, Starved, Blocked, Over}
-use Rattle.kpn_flow.specs.Flows.{is_among}
+use Rattle.kpn_flow.specs.Flows.{is_among, counted}
 
 module _ (kinds : Family) (net : Network) where
   -- p wants to read from c, which is empty
@@ -64,9 +67,15 @@ module _ (kinds : Family) (net : Network) where
     IsPause most done M Blocked = IsRest M Blocked
     IsPause most done M (Over end) = IsRest M (Over end)
 
--- at most so many entries lead from M to N, and the flow came back for this reason
-pub record Advances (kinds : Family) (net : Network) (inputs outputs : List ℕ) (M N : State) (most : ℕ) (pause : Pause) : Type 0 where
+-- the standings tell what each process wants, unless the flow was cut
+abbrev pub TellWants : Family → Network → State → List Standing → Pause → Type 0
+TellWants kinds net M standings Cut = Unit {0}
+TellWants kinds net M standings pause = (p : ℕ) → wants kinds net M p ≡ parked_answer (standing standings p)
+
+-- at most so many entries lead from M to N, they were counted, and the flow came back for this reason
+pub record Advances (kinds : Family) (net : Network) (inputs outputs : List ℕ) (before after : Counts) (M N : State) (most : ℕ) (pause : Pause) : Type 0 where
   pub entries : List Entry
   pub run : OpenRun kinds net inputs outputs M entries N
   pub few : length entries ≤ most
+  pub counts : after ≡ counted before entries
   pub back : IsPause kinds net inputs outputs most (length entries) N pause

@@ -2,11 +2,11 @@
 use Rattle.std.specs.Prelude.{◌≡◌, ℕ, ◌+◌, ◌<◌, ◌≤◌, true, false, List, [], ◌++◌, length}
 use Rattle.kpn_model.specs.declared.token.Token.{Token}
 use Rattle.kpn_model.specs.Network.{Family, Network, channel_of}
-use Rattle.kpn_model.specs.Semantics.{State, tokens, start}
+use Rattle.kpn_model.specs.Semantics.{State, status, tokens, start, IsQuiet, IsBlocked}
 use Rattle.kpn_model.specs.History.{put_on, stream}
 use Rattle.kpn_model.specs.Determinacy.{ArePrefixComparable}
 use Rattle.kpn_laws.specs.StreamsOfRun.{ApproachLeastSolution}
-use Rattle.kpn_flow.specs.Events.{Event, Flows, entries_of, drained}
+use Rattle.kpn_flow.specs.Events.{Event, Flows, entries_of, fed, drained}
 use Rattle.kpn_flow.specs.Preloaded.{IsAtEnds, preloaded, without_growths, all_fed, IsOneRun}
 use Rattle.kpn_flow.specs.Flows.{FlowView, is_among, AreEnds}
 
@@ -41,3 +41,21 @@ PiecesAreComparable kinds =
     (net : Network) (inputs outputs : List ℕ) → AreEnds kinds net inputs outputs → (xs ys : List Event) (M N : State) (later last : ℕ → List Token)
     → IsWay kinds net inputs outputs xs M later → IsWay kinds net inputs outputs ys N last → ((c : ℕ) → all_fed xs later c ≡ all_fed ys last c)
     → (c : ℕ) → is_among outputs c ≡ true → is_among inputs c ≡ false → ArePrefixComparable (drained xs c ++ tokens M c) (drained ys c ++ tokens N c)
+
+-- no process can go on, and none waits for room: nothing more is done unless more is fed
+pub record IsExhausted (kinds : Family) (net : Network) (M : State) : Type 0 where
+  pub quiet : IsQuiet kinds net M
+  pub none_blocked : (p c : ℕ) → IsBlocked kinds net M p c → ⊥
+
+-- where two such ways led, the same came out of each output, and is in it, and each process stands at the same
+pub record HaveGivenTheSame (outputs : List ℕ) (xs ys : List Event) (M N : State) : Type 0 where
+  pub outputs_are : (c : ℕ) → is_among outputs c ≡ true → drained xs c ++ tokens M c ≡ drained ys c ++ tokens N c
+  pub statuses : (p : ℕ) → status M p ≡ status N p
+
+-- two ways of a network into whose inputs the same was fed, in whatever pieces and whenever, and which are exhausted
+abbrev pub ExhaustedAreTheSame : Family → Type 0
+ExhaustedAreTheSame kinds =
+    (net : Network) (inputs outputs : List ℕ) → AreEnds kinds net inputs outputs → (xs ys : List Event) (M N : State)
+    → Flows kinds net (start kinds net) xs M → IsAtEnds (is_among inputs) (is_among outputs) xs → IsExhausted kinds net M
+    → Flows kinds net (start kinds net) ys N → IsAtEnds (is_among inputs) (is_among outputs) ys → IsExhausted kinds net N
+    → ((c : ℕ) → fed xs c ≡ fed ys c) → HaveGivenTheSame outputs xs ys M N

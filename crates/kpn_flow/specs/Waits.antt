@@ -1,5 +1,5 @@
 -- Processes that wait at the ends of a flow, as their standings tell.
-use Rattle.std.specs.Prelude.{ℕ, ◌==◌, ◌&&◌, Bool, false, nat_lt, List, Option, Some, None, length}
+use Rattle.std.specs.Prelude.{ℕ, ◌==◌, ◌&&◌, Bool, true, false, nat_lt, List, Option, Some, None, length}
 use Rattle.kpn_model.specs.declared.kinds.Act.{Act}
 use Rattle.kpn_model.specs.declared.kinds.Act.TheVariants.{Read, Write, Stop}
 use Rattle.kpn_model.specs.Network.{Network, channel_of, in_of, out_of}
@@ -10,6 +10,11 @@ use Rattle.kpn_state.specs.Standings.{standing}
 abbrev pub is_at : ℕ → Option ℕ → Bool
 is_at c None = false
 is_at c (Some d) = d == c
+
+abbrev pub is_read : Act → Bool
+is_read (Read k) = true
+is_read (Write k t) = false
+is_read Stop = false
 
 -- p's act is a read from c
 abbrev pub reads_from : Network → ℕ → ℕ → Act → Bool
@@ -37,6 +42,13 @@ starves net standings c = nat_lt c (length net.channels) && is_parked_with (read
 -- the writer of c waits for room in it
 abbrev pub holds_up : Network → List Standing → ℕ → Bool
 holds_up net standings c = nat_lt c (length net.channels) && is_parked_with (writes_to net c (channel_of net c).writer) (standing standings (channel_of net c).writer)
+
+-- a process that has stopped or waits for a token
+abbrev pub waits_to_read : Standing → Bool
+waits_to_read Ready = false
+waits_to_read Out = false
+waits_to_read (Parked a) = is_read a.act
+waits_to_read Stopped = true
 
 -- 1 for a process that is ready or out, or has stopped
 abbrev pub is_not_parked : Standing → ℕ

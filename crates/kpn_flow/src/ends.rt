@@ -4,7 +4,7 @@ ghost use Rattle.std.specs.List.{list_any};
 ghost use Rattle.kpn_model.specs.Network.{family_of};
 ghost use Rattle.kpn_machine.specs.Opening.{cards_of};
 ghost use Rattle.kpn_flow.specs.Ends.{IsFlowFault, stops_at_once, has_live_writer, has_live_reader, is_no_channel, has_twice, end_fault};
-ghost use Rattle.kpn_flow.specs.Flows.{is_among};
+ghost use Rattle.kpn_flow.specs.Flows.{is_among, without};
 
 use kpn_body::Body;
 use kpn_machine::OpenFault;
@@ -32,6 +32,13 @@ pub(crate) fn is_among(channels: &[usize], channel: usize) -> bool
     ensures { result ≡ is_among channels.now channel }
 {
     channels.iter().any(|c| *c == channel)
+}
+
+/// Removes a channel from a list.
+pub(crate) fn remove(channels: &mut Vec<usize>, channel: usize)
+    ensures { channels.new.items ≡ without channels.old.items channel }
+{
+    channels.retain(|c| *c != channel);
 }
 
 /// Whether a channel stands in a list twice.

@@ -7,16 +7,17 @@ ghost use Rattle.kpn_state.specs.declared.standing.Standing.TheVariants.{Ready};
 ghost use Rattle.kpn_machine.specs.Opening.{cards_of};
 ghost use Rattle.kpn_flow.specs.Ends.{IsFlowFault};
 ghost use Rattle.kpn_flow.specs.Events.{Happens, Fed, Drained, Flows};
-ghost use Rattle.kpn_flow.specs.Flows.{flow_view, is_among, AreEnds, IsReached, IsSameFlow, MayFeed, MayFeedAll};
-ghost use Rattle.kpn_flow.specs.Pauses.{Advances, IsStarving};
-ghost use Rattle.kpn_flow.specs.Pieces.{IsOneRunInPieces};
+ghost use Rattle.kpn_flow.specs.Flows.{flow_view, is_among, nothing_counted, with_ended, AreEnds, IsReached, IsSameFlow, MayFeed, MayFeedAll};
+ghost use Rattle.kpn_flow.specs.Pauses.{Advances, IsStarving, TellWants};
+ghost use Rattle.kpn_flow.specs.Pieces.{IsOneRunInPieces, IsExhausted};
 ghost use Rattle.kpn_flow.specs.Waits.{starves, holds_up};
 
-use crate::ends::{FlowFault, fault_of, is_among};
+use crate::counts::Counts;
+use crate::ends::{FlowFault, fault_of, is_among, remove};
 use crate::going::go_on;
 use crate::opening::{Start, prepare};
 use crate::pause::Pause;
-use crate::waits::{holds_up, starves};
+use crate::waits::{all_wait_to_read, holds_up, starves};
 use kpn_body::Body;
 use kpn_commit::outside;
 use kpn_model::{Sort, Token};
@@ -39,7 +40,9 @@ pub struct Flow<B: Body> {
     waiting: Waiting,
     bodies: Vec<B>,
     inputs: Vec<usize>,
+    unended: Vec<usize>,
     outputs: Vec<usize>,
+    counts: Counts,
 }
 
 impl<B: Body> Model for Flow<B> {
@@ -50,9 +53,9 @@ impl<B: Body> Model for Flow<B> {
 
     ghost Value = { FlowView };
 
-    ghost view = { λ m. flow_view m.net m.store.state m.standings m.inputs.items m.outputs.items };
+    ghost view = { λ m. flow_view m.net m.store.state m.standings m.inputs.items m.unended.items m.outputs.items m.counts };
 
-    ghost invariant = { λ m. IsFlowing (family_of B.Kinds.start B.Kinds.answer_of) B.Kinds.admits (flow_view m.net m.store.state m.standings m.inputs.items m.outputs.items) (map B.card m.bodies.items) m.store.room × AreWaiting m.net m.store.state m.standings m.waiting };
+    ghost invariant = { λ m. IsFlowing (family_of B.Kinds.start B.Kinds.answer_of) B.Kinds.admits (flow_view m.net m.store.state m.standings m.inputs.items m.unended.items m.outputs.items m.counts) (map B.card m.bodies.items) m.store.room × AreWaiting m.net m.store.state m.standings m.waiting };
 }
 
 /// Why a flow was not opened, with the network and the bodies handed back.
@@ -77,7 +80,7 @@ impl<B: Body> Flow<B> {
         inputs: &[usize],
         outputs: &[usize],
     ) -> Result<Flow<B>, FlowRefused<B>>
-        ensures opened { IfOk result (λ m. m ≡ flow_view net (start (family_of B.Kinds.start B.Kinds.answer_of) net) (replicate (length net.processes) Ready) inputs.now outputs.now) }
+        ensures opened { IfOk result (λ m. m ≡ flow_view net (start (family_of B.Kinds.start B.Kinds.answer_of) net) (replicate (length net.processes) Ready) inputs.now inputs.now outputs.now nothing_counted) }
         ensures cards { OnOk result (map B.card bodies.items ≡ cards_of net.processes) }
         ensures ends { OnOk result (AreEnds (family_of B.Kinds.start B.Kinds.answer_of) net inputs.now outputs.now) }
         ensures net_back { IfErr result (λ refused. refused.net ≡ net) }
@@ -100,6 +103,7 @@ impl<B: Body> Flow<B> {
             standings,
             waiting,
             inputs,
+            unended,
             outputs,
         } = begun;
         Ok(Flow {
@@ -109,7 +113,12 @@ impl<B: Body> Flow<B> {
             waiting,
             bodies,
             inputs,
+            unended,
             outputs,
+            counts: Counts {
+                entries: 0,
+                growths: 0,
+            },
         })
     }
 
@@ -127,11 +136,26 @@ impl<B: Body> Flow<B> {
         self.standings.as_slice()
     }
 
-    /// Returns whether a channel is an input.
-    pub fn is_input(&self, channel: usize) -> bool
-        ensures { result ≡ is_among self.now.inputs channel }
+    /// Returns how many entries the flow has made since it was opened; `u64::MAX` if they are as many or
+    /// more.
+    pub fn entries(&self) -> u64
+        ensures { result ≡ self.now.counts.entries }
     {
-        is_among(self.inputs.as_slice(), channel)
+        self.counts.entries
+    }
+
+    /// Returns how many of the entries were growths; `u64::MAX` if they are as many or more.
+    pub fn growths(&self) -> u64
+        ensures { result ≡ self.now.counts.growths }
+    {
+        self.counts.growths
+    }
+
+    /// Returns whether a channel is an input that has not ended.
+    pub fn is_input(&self, channel: usize) -> bool
+        ensures { result ≡ is_among self.now.unended channel }
+    {
+        is_among(self.unended.as_slice(), channel)
     }
 
     /// Returns whether a channel is an output.
@@ -159,15 +183,24 @@ impl<B: Body> Flow<B> {
         holds_up(&self.net, self.standings.as_slice(), channel)
     }
 
+    /// Returns whether each process has stopped or waits for a token. Then nothing more is done, and
+    /// nothing more comes out, unless more is fed. Of two flows of one network into which the same was fed,
+    /// and of which this is `true`, the same came out of each output, and is in it (`comparable`).
+    pub fn is_exhausted(&self) -> bool
+        ensures { IsTrue result → IsExhausted (family_of B.Kinds.start B.Kinds.answer_of) self.now.network self.now.state }
+    {
+        all_wait_to_read(self.standings.as_slice())
+    }
+
     /// Does nothing: a caller knows from here on what holds of each flow at each time. It was led to its
     /// state by events, of which tokens came only into inputs and went only out of outputs. By whatever
     /// such events that was, and whatever will still come into the inputs, what was done is a run of the
     /// network that held all those tokens from the start; growths are left out of it. What that run wrote
     /// to an output is what was drained, and then what is there; and every solution of that network's
-    /// equations begins with it (Kahn 1974).
+    /// equations begins with it (Kahn 1974). The entries among such events were counted.
     pub fn assure_one_run(&self)
         ensures ends { AreEnds (family_of B.Kinds.start B.Kinds.answer_of) self.now.network self.now.inputs self.now.outputs }
-        ensures reached { IsReached (family_of B.Kinds.start B.Kinds.answer_of) self.now.network self.now.inputs self.now.outputs self.now.state }
+        ensures reached { IsReached (family_of B.Kinds.start B.Kinds.answer_of) self.now.network self.now.inputs self.now.outputs self.now.counts self.now.state }
         ensures one_run { IsOneRunInPieces (family_of B.Kinds.start B.Kinds.answer_of) self.now }
     {
         let _ = &self.net;
@@ -176,11 +209,13 @@ impl<B: Body> Flow<B> {
 
 impl<B: Body> Flow<B> {
     /// Goes on by at most `most` entries, until fewer than two of them are left or nothing goes on. It
-    /// takes no memory except that of growths, and keeps no entry. A channel grows only where neither
-    /// feeding nor draining lets a process go on (after Parks 1995).
+    /// takes no memory except that of growths, and keeps no entry, but counts them. A channel grows only
+    /// where neither feeding an input that has not ended nor draining lets a process go on (after Parks
+    /// 1995). Unless it is `Cut`, `standings` then tells what each process waits for.
     pub fn advance(&mut self, most: u64) -> Pause
         ensures same { IsSameFlow self.old self.new }
-        ensures advances { Advances (family_of B.Kinds.start B.Kinds.answer_of) self.old.network self.old.inputs self.old.outputs self.old.state self.new.state most result }
+        ensures advances { Advances (family_of B.Kinds.start B.Kinds.answer_of) self.old.network self.old.unended self.old.outputs self.old.counts self.new.counts self.old.state self.new.state most result }
+        ensures told { TellWants (family_of B.Kinds.start B.Kinds.answer_of) self.new.network self.new.state self.new.standings result }
     {
         go_on(
             &self.net,
@@ -188,28 +223,20 @@ impl<B: Body> Flow<B> {
             &mut self.standings,
             &mut self.waiting,
             self.bodies.as_slice(),
-            self.inputs.as_slice(),
+            self.unended.as_slice(),
             self.outputs.as_slice(),
+            &mut self.counts,
             most,
         )
     }
 
-    /// Goes on as `advance` does, where no input will be fed any more: a process that waits for a token
-    /// in an empty input waits for ever, so that the end of the run can be told.
-    pub fn finish(&mut self, most: u64) -> Pause
-        ensures same { IsSameFlow self.old self.new }
-        ensures advances { Advances (family_of B.Kinds.start B.Kinds.answer_of) self.old.network [] self.old.outputs self.old.state self.new.state most result }
+    /// Says that an input has ended: it will not be fed any more, and is an input no more. A process that
+    /// waits for a token in it, once it is empty, waits for ever, so that `advance` does not come back
+    /// `Starved` for it. Nothing changes if the channel is no input or has ended before.
+    pub fn end_input(&mut self, channel: usize)
+        ensures { self.new ≡ with_ended self.old channel }
     {
-        go_on(
-            &self.net,
-            &mut self.store,
-            &mut self.standings,
-            &mut self.waiting,
-            self.bodies.as_slice(),
-            &[],
-            self.outputs.as_slice(),
-            most,
-        )
+        remove(&mut self.unended, channel);
     }
 }
 
@@ -225,7 +252,7 @@ fn has_sort(token: Token, sort: Sort) -> bool
 }
 
 impl<B: Body> Flow<B> {
-    /// Returns whether a channel is an input and a token has its sort.
+    /// Returns whether a channel is an input that has not ended and a token has its sort.
     pub fn may_feed(&self, channel: usize, token: Token) -> bool
         ensures { IsTrue result ↔ MayFeed self.now channel token }
     {
@@ -239,6 +266,7 @@ impl<B: Body> Flow<B> {
     pub fn feed(&mut self, channel: usize, token: Token) -> bool
         requires { MayFeed self.old channel token }
         ensures same { IsSameFlow self.old self.new }
+        ensures counts { self.new.counts ≡ self.old.counts }
         ensures fed { IsTrue result → Happens (family_of B.Kinds.start B.Kinds.answer_of) self.old.network self.old.state (Fed channel token) self.new.state }
         ensures full { result ≡ false → (self.new ≡ self.old) × (capacity self.old.state channel ≤ length (tokens self.old.state channel)) }
     {
@@ -261,6 +289,7 @@ impl<B: Body> Flow<B> {
     pub fn drain(&mut self, channel: usize) -> Option<Token>
         requires { is_among self.old.outputs channel ≡ true }
         ensures same { IsSameFlow self.old self.new }
+        ensures counts { self.new.counts ≡ self.old.counts }
         ensures drained { IfSome result (λ token. Happens (family_of B.Kinds.start B.Kinds.answer_of) self.old.network self.old.state (Drained channel token) self.new.state) }
         ensures empty { IfNone result ((self.new ≡ self.old) × (tokens self.old.state channel ≡ [])) }
     {
@@ -280,7 +309,7 @@ impl<B: Body> Flow<B> {
 }
 
 impl<B: Body> Flow<B> {
-    /// Returns whether a channel is an input and all tokens have its sort.
+    /// Returns whether a channel is an input that has not ended and all tokens have its sort.
     pub fn may_feed_all(&self, channel: usize, batch: &[Token]) -> bool
         ensures may { IsTrue result → MayFeedAll self.now channel batch.now }
         ensures may_not { result ≡ false → MayFeedAll self.now channel batch.now → ⊥ }
@@ -300,6 +329,7 @@ impl<B: Body> Flow<B> {
     pub fn feed_all(&mut self, channel: usize, batch: &[Token]) -> usize
         requires { MayFeedAll self.old channel batch.now }
         ensures same { IsSameFlow self.old self.new }
+        ensures counts { self.new.counts ≡ self.old.counts }
         ensures few { result ≤ length batch.now }
         ensures fed { Flows (family_of B.Kinds.start B.Kinds.answer_of) self.old.network self.old.state (map (Fed channel) (take result batch.now)) self.new.state }
         ensures full { result < length batch.now → capacity self.new.state channel ≤ length (tokens self.new.state channel) }
@@ -319,6 +349,7 @@ impl<B: Body> Flow<B> {
     pub fn drain_into(&mut self, channel: usize, buffer: &mut [Token]) -> usize
         requires { is_among self.old.outputs channel ≡ true }
         ensures same { IsSameFlow self.old self.new }
+        ensures counts { self.new.counts ≡ self.old.counts }
         ensures few { result ≤ length buffer.old }
         ensures length { length buffer.new ≡ length buffer.old }
         ensures drained { Flows (family_of B.Kinds.start B.Kinds.answer_of) self.old.network self.old.state (map (Drained channel) (take result buffer.new)) self.new.state }

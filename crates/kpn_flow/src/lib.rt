@@ -2,6 +2,7 @@
 //! drained from its outputs between stretches of its run, and no history is kept.
 #![tactic(auto)]
 
+pub mod counts;
 pub mod ends;
 pub mod flow;
 mod going;
@@ -11,6 +12,7 @@ pub mod pause;
 mod turn;
 mod waits;
 
+pub use counts::Counts;
 pub use ends::FlowFault;
 pub use flow::{Flow, FlowRefused};
 pub use law::{comparable, preloading};

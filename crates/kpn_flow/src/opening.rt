@@ -14,13 +14,14 @@ use kpn_state::{Roster, Store, Waiting};
 use std::alloc::{AllocError, Global};
 
 /// What a flow begins with: the start of a network, with room for the two entries of one turn, the
-/// standings, nobody who waits, and the lists of its inputs and outputs.
+/// standings, nobody who waits, and the lists of its inputs, of which none has ended, and of its outputs.
 #[derive(Drop)]
 pub(crate) struct Start {
     pub(crate) store: Store,
     pub(crate) standings: Roster,
     pub(crate) waiting: Waiting,
     pub(crate) inputs: Vec<usize>,
+    pub(crate) unended: Vec<usize>,
     pub(crate) outputs: Vec<usize>,
 }
 
@@ -36,6 +37,7 @@ pub(crate) fn prepare<K: Kinds>(
     ensures candidates { IfOk result (λ r. r.waiting.candidates ≡ candidate_list [] (length net.now.processes)) }
     ensures marks { IfOk result (λ r. r.waiting.marks ≡ mark_lists (replicate (length net.now.channels) false) (replicate (length net.now.channels) false)) }
     ensures inputs { IfOk result (λ r. r.inputs.items ≡ inputs.now) }
+    ensures unended { IfOk result (λ r. r.unended.items ≡ inputs.now) }
     ensures outputs { IfOk result (λ r. r.outputs.items ≡ outputs.now) }
     ensures admitted { OnOk result ((p : ℕ) → p < length net.now.processes → K.admits (card_of net.now p) (K.start (card_of net.now p)) None) }
 {
@@ -47,6 +49,7 @@ pub(crate) fn prepare<K: Kinds>(
         standings: Roster::new(alloc, net.processes())?,
         waiting: Waiting::new(alloc, net.processes(), net.channels())?,
         inputs: Vec::from_slice(alloc, inputs)?,
+        unended: Vec::from_slice(alloc, inputs)?,
         outputs: Vec::from_slice(alloc, outputs)?,
     })
 }

@@ -1,12 +1,14 @@
 //! One answer, and what follows.
-ghost use Rattle.std.specs.Prelude.{◌≡◌, ◌≢◌, ℕ, ◌+◌, ◌*◌, ◌≤◌, [], length, map, sum_by, false, IfSome, IfNone};
+ghost use Rattle.std.specs.Prelude.{◌≡◌, ◌≢◌, ℕ, ◌+◌, ◌*◌, ◌^◌, ◌<◌, ◌≤◌, [], length, map, sum_by, false, IfSome, IfNone};
 ghost use Rattle.std.specs.List.{list_any};
 ghost use Rattle.kpn_model.specs.Network.{family_of};
-ghost use Rattle.kpn_state.specs.Standings.{is_busy};
+ghost use Rattle.kpn_model.specs.History.{growths};
+ghost use Rattle.kpn_state.specs.declared.standing.Standing.TheVariants.{Ready};
+ghost use Rattle.kpn_state.specs.Standings.{standing, is_busy};
 ghost use Rattle.kpn_commit.specs.Waiting.{AreWaiting};
 ghost use Rattle.kpn_machine.specs.Opening.{cards_of};
 ghost use Rattle.kpn_flow.specs.Flows.{IsSettledIn};
-ghost use Rattle.kpn_flow.specs.Pauses.{OpenRun, IsRest};
+ghost use Rattle.kpn_flow.specs.Pauses.{OpenRun, IsRest, TellWants};
 ghost use Rattle.kpn_flow.specs.Waits.{is_not_parked};
 
 use crate::pause::Pause;
@@ -14,7 +16,7 @@ use crate::waits::{any_holds_up, any_starves};
 use kpn_body::Body;
 use kpn_commit::react::react;
 use kpn_commit::settle::{Settled, settle};
-use kpn_model::{Kinds, Status};
+use kpn_model::{Act, Kinds, Status};
 use kpn_network::Net;
 use kpn_state::{Roster, Store, Waiting};
 
@@ -29,12 +31,14 @@ fn rest<K: Kinds>(
     waiting: &mut Waiting,
     inputs: &[usize],
     outputs: &[usize],
+    grown: &mut u64,
 ) -> Option<Pause>
     requires fits { IsSettledIn (family_of K.start K.answer_of) K.admits net.now store.old.state standings.old }
     requires idle { list_any is_busy standings.old ≡ false }
     requires waiting { AreWaiting net.now store.old.state standings.old waiting.old }
     requires room { 2 ≤ store.old.room }
     requires emptied { store.old.history ≡ [] }
+    requires counts { grown.old + 1 < 2 ^ 64 }
     ensures fits { IsSettledIn (family_of K.start K.answer_of) K.admits net.now store.new.state standings.new }
     ensures waiting { AreWaiting net.now store.new.state standings.new waiting.new }
     ensures room { store.new.room ≡ store.old.room }
@@ -42,7 +46,9 @@ fn rest<K: Kinds>(
     ensures few { length store.new.history ≤ 2 }
     ensures rests { IfSome result (IsRest (family_of K.start K.answer_of) net.now inputs.now outputs.now store.new.state) }
     ensures none { IfSome result (λ _. store.new.history ≡ []) }
+    ensures told { IfSome result (TellWants (family_of K.start K.answer_of) net.now store.new.state standings.new) }
     ensures goes { IfNone result (sum_by is_not_parked standings.new + 1 ≤ sum_by is_not_parked standings.old + 2 * length store.new.history) }
+    ensures grown { grown.new ≡ grown.old + length (growths store.new.history) }
 {
     if any_starves(net, standings.as_slice(), inputs) {
         return Some(Pause::Starved);
@@ -52,14 +58,31 @@ fn rest<K: Kinds>(
     }
     match settle(net, store, standings, waiting) {
         Settled::Ended(end) => Some(Pause::Over(end)),
-        Settled::Enlarged => None,
+        Settled::Enlarged => {
+            *grown += 1;
+            None
+        }
         Settled::Busy => unreachable!(),
     }
 }
 
-/// Takes the answer of the process that has been ready the longest, and does its deed or parks it; if
-/// none is ready, lets the chosen channel grow, or finds why nothing goes on, and returns that. The
-/// history has afterwards the entries of this turn alone.
+/// The process that was asked, if it has read and is ready: mostly it then writes, while one that has
+/// written has to wait for its reader.
+#[inline(always)]
+fn asked_again(standings: &Roster, process: usize, has_read: bool) -> Option<usize>
+    ensures { IfSome result (λ p. standing standings.now p ≡ Ready) }
+{
+    if has_read {
+        standings.if_ready(process)
+    } else {
+        None
+    }
+}
+
+/// Takes the answer of the process that is to be asked again, or else of the one that has been ready the
+/// longest, and does its deed or parks it; if none is ready, lets the chosen channel grow, or finds why
+/// nothing goes on, and returns that. The history has afterwards the entries of this turn alone.
+#[inline(always)]
 pub(crate) fn turn<B: Body>(
     net: &Net<B::Kinds>,
     store: &mut Store,
@@ -68,11 +91,15 @@ pub(crate) fn turn<B: Body>(
     bodies: &[B],
     inputs: &[usize],
     outputs: &[usize],
+    again: &mut Option<usize>,
+    grown: &mut u64,
 ) -> Option<Pause>
     requires fits { IsSettledIn (family_of B.Kinds.start B.Kinds.answer_of) B.Kinds.admits net.now store.old.state standings.old }
     requires cards { map B.card bodies.now ≡ cards_of net.now.processes }
     requires room { 2 ≤ store.old.room }
     requires waiting { AreWaiting net.now store.old.state standings.old waiting.old }
+    requires counts { grown.old + 1 < 2 ^ 64 }
+    requires again { IfSome again.old (λ p. standing standings.old p ≡ Ready) }
     ensures fits { IsSettledIn (family_of B.Kinds.start B.Kinds.answer_of) B.Kinds.admits net.now store.new.state standings.new }
     ensures waiting { AreWaiting net.now store.new.state standings.new waiting.new }
     ensures room { store.new.room ≡ store.old.room }
@@ -80,16 +107,22 @@ pub(crate) fn turn<B: Body>(
     ensures few { length store.new.history ≤ 2 }
     ensures rests { IfSome result (IsRest (family_of B.Kinds.start B.Kinds.answer_of) net.now inputs.now outputs.now store.new.state) }
     ensures none { IfSome result (λ _. store.new.history ≡ []) }
+    ensures told { IfSome result (TellWants (family_of B.Kinds.start B.Kinds.answer_of) net.now store.new.state standings.new) }
     ensures goes { IfNone result (sum_by is_not_parked standings.new + 1 ≤ sum_by is_not_parked standings.old + 2 * length store.new.history) }
+    ensures again { IfSome again.new (λ p. standing standings.new p ≡ Ready) }
+    ensures grown { grown.new ≡ grown.old + length (growths store.new.history) }
 {
     store.forget();
-    let Some(process) = standings.turn(None) else {
-        return rest(net, store, standings, waiting, inputs, outputs);
+    let Some(process) = standings.turn(*again) else {
+        *again = None;
+        return rest(net, store, standings, waiting, inputs, outputs, grown);
     };
     let Status::Live { local, last } = store.status(process) else {
         unreachable!()
     };
     let answer = bodies[process].answer(*local, *last);
+    let has_read = matches!(answer.act, Act::Read(_));
     let _ = react(net, store, standings, waiting, process, answer);
+    *again = asked_again(standings, process, has_read);
     None
 }

@@ -1,7 +1,7 @@
 //! Processes that wait at the ends of a flow.
 ghost use Rattle.std.specs.Prelude.{◌≡◌};
-ghost use Rattle.std.specs.List.{list_any};
-ghost use Rattle.kpn_flow.specs.Waits.{reads_from, writes_to, starves, holds_up};
+ghost use Rattle.std.specs.List.{list_any, list_all};
+ghost use Rattle.kpn_flow.specs.Waits.{reads_from, writes_to, starves, holds_up, waits_to_read};
 
 use kpn_model::{Act, Kinds};
 use kpn_network::Net;
@@ -82,4 +82,22 @@ pub(crate) fn any_holds_up<K: Kinds>(
     ensures { result ≡ list_any (holds_up net.now standings.now) channels.now }
 {
     channels.iter().any(|c| holds_up(net, standings, *c))
+}
+
+/// Whether a process has stopped or waits for a token.
+fn waits_to_read(standing: &Standing) -> bool
+    ensures { result ≡ waits_to_read standing.now }
+{
+    match standing {
+        Standing::Parked(answer) => matches!(answer.act, Act::Read(_)),
+        Standing::Stopped => true,
+        Standing::Ready | Standing::Out => false,
+    }
+}
+
+/// Whether each process has stopped or waits for a token.
+pub(crate) fn all_wait_to_read(standings: &[Standing]) -> bool
+    ensures { result ≡ list_all waits_to_read standings.now }
+{
+    standings.iter().all(|standing| waits_to_read(standing))
 }

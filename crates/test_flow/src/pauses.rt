@@ -3,7 +3,9 @@ use crate::checks::same;
 use crate::flows::{CardFlow, drain_buffer, drain_words, feed, feed_batch, feed_words, flow_of};
 use crate::networks::{OUTPUT_AND_GROWTH, RUNNING_SUM, SCALE, SINK_OF_TWO};
 use kpn_flow::Pause;
-use kpn_net::{End, Token};
+use kpn_net::{End, Place, Token};
+use kpn_report::places_of;
+use std::alloc::Global;
 use std::process::Abort;
 
 /// Goes on, and compares why the flow comes back.
@@ -27,7 +29,9 @@ fn words_are_scaled(rt: HostRuntime) {
     advance(&rt, &mut flow, 100, Pause::Starved);
     drain_words(&rt, &mut flow, 1, &[27]);
     advance(&rt, &mut flow, 100, Pause::Starved);
-    same(&rt, "finish", flow.finish(100), Pause::Over(End::Deadlock));
+    // Two stops, and for each of three words a read and a write by the one that scales; none grew.
+    same(&rt, "entries", flow.entries(), 8);
+    same(&rt, "growths", flow.growths(), 0);
 }
 
 #[test]
@@ -111,6 +115,52 @@ fn a_channel_grows_where_the_outside_can_not_help(rt: HostRuntime) {
     advance(&rt, &mut flow, 100, Pause::Over(End::Terminated));
     same(&rt, "within", flow.is_held_up(1), false);
     drain_words(&rt, &mut flow, 0, &[8]);
+    // Two writers and two sinks: four stops, four puts and one growth.
+    same(&rt, "entries", flow.entries(), 9);
+    same(&rt, "growths", flow.growths(), 1);
+}
+
+/// Compares the places of the processes.
+fn assert_places<R: Abort>(rt: &R, alloc: Global, flow: &CardFlow, due: &[Place]) {
+    let places = places_of(alloc, flow.net(), flow.standings()).expect(rt, "no memory");
+    same(rt, "places", places.as_slice(), due);
+}
+
+#[test]
+fn an_input_ends_and_another_goes_on(rt: HostRuntime) {
+    let mut flow = flow_of(&rt, rt.alloc(), RUNNING_SUM, &[0, 1], &[5]);
+    feed_words(&rt, &mut flow, 0, &[1, 2]);
+    feed_words(&rt, &mut flow, 1, &[10]);
+    flow.end_input(1);
+    same(&rt, "ended", flow.is_input(1), false);
+    same(&rt, "no more", flow.may_feed(1, Token::Word(0)), false);
+    same(&rt, "another", flow.may_feed(0, Token::Word(0)), true);
+    // The second word of the first input waits in vain for one of the second.
+    advance(&rt, &mut flow, 1000, Pause::Over(End::Deadlock));
+    same(&rt, "starved", flow.is_starved(1), true);
+    same(&rt, "exhausted", flow.is_exhausted(), true);
+    drain_words(&rt, &mut flow, 5, &[11]);
+    let due = [
+        Place::Stopped,
+        Place::Stopped,
+        Place::Reads(1),
+        Place::Reads(2),
+        Place::Reads(3),
+        Place::Stopped,
+    ];
+    assert_places(&rt, rt.alloc(), &flow, &due);
+}
+
+#[test]
+fn a_flow_that_is_held_up_is_not_exhausted(rt: HostRuntime) {
+    let mut flow = flow_of(&rt, rt.alloc(), SCALE, &[0], &[1]);
+    feed_words(&rt, &mut flow, 0, &[5, 7]);
+    flow.end_input(0);
+    advance(&rt, &mut flow, 100, Pause::Blocked);
+    same(&rt, "held up", flow.is_exhausted(), false);
+    drain_words(&rt, &mut flow, 1, &[15]);
+    advance(&rt, &mut flow, 100, Pause::Over(End::Deadlock));
+    same(&rt, "exhausted", flow.is_exhausted(), true);
 }
 
 #[test]

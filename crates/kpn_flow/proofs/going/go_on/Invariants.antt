@@ -1,6 +1,9 @@
 use Rattle.std.proofs.Common.{◌≡◌, ◌+◌, ◌-◌, ◌*◌, ◌≤◌}
+use Rattle.std.specs.Prelude.{IfSome}
 use Rattle.std.specs.List.{sum_by}
 use Rattle.kpn_model.specs.Network.{family_of}
+use Rattle.kpn_state.specs.declared.standing.Standing.TheVariants.{Ready}
+use Rattle.kpn_state.specs.Standings.{standing}
 use Rattle.kpn_commit.specs.Waiting.{AreWaiting}
 use Rattle.kpn_flow.specs.Flows.{IsSettledIn}
 use Rattle.kpn_flow.specs.Waits.{is_not_parked}
@@ -13,7 +16,10 @@ invariant-loop-done g l = record {
   waiting : AreWaiting l.net l.store.state l.standings l.waiting;
   room : l.store.room ≡ l.initial.store.room;
   few : l.done ≤ l.most;
-  ran : Ran (family_of g.B.Kinds.Kinds.start g.B.Kinds.Kinds.answer_of) l.net l.inputs l.outputs l.initial.store.state l.store.state l.done;
+  counts : l.counts ≡ l.initial.counts;
+  few_grown : l.grown ≤ l.done;
+  again : IfSome l.again (λ p. standing l.standings p ≡ Ready);
+  ran : Ran (family_of g.B.Kinds.Kinds.start g.B.Kinds.Kinds.answer_of) l.net l.inputs l.outputs l.initial.store.state l.store.state l.done l.grown;
 }
 
 abbrev pub decreases-loop-done : goal.decreases-loop-done

@@ -48,3 +48,10 @@ returns-clause-goes g c =
     let kinds = family_of g.B.Kinds.Kinds.start g.B.Kinds.Kinds.answer_of in
     (reacted_turned kinds c.args.net.now c.args.inputs.now c.args.outputs.now c.forget.new.self (ap (λ (x : StateAndHistory). x.history) c.forget.ensures) c.args.standings.now c.in-Some.process c.answer-answer.result c.react.result c.react.new.store c.react.new.standings c.in-Some.ensures.within c.in-Some.ensures.some
     (rw c.turn.ensures.same at c.react.ensures.reacts)).goes
+
+pub returns-clause-grown : goal.returns-clause-grown
+returns-clause-grown g c =
+    let kinds = family_of g.B.Kinds.Kinds.start g.B.Kinds.Kinds.answer_of in
+    let none = (reacted_turned kinds c.args.net.now c.args.inputs.now c.args.outputs.now c.forget.new.self (ap (λ (x : StateAndHistory). x.history) c.forget.ensures) c.args.standings.now c.in-Some.process c.answer-answer.result c.react.result c.react.new.store c.react.new.standings c.in-Some.ensures.within c.in-Some.ensures.some
+    (rw c.turn.ensures.same at c.react.ensures.reacts)).grows in
+    omega arith

@@ -14,8 +14,10 @@ loop-drained-preserved g c =
       same = record {
         network = c.drain.ensures.same.network ∙ before.same.network;
         inputs = c.drain.ensures.same.inputs ∙ before.same.inputs;
+        unended = c.drain.ensures.same.unended ∙ before.same.unended;
         outputs = c.drain.ensures.same.outputs ∙ before.same.outputs;
       };
+      counts = c.drain.ensures.counts ∙ before.counts;
       few = let l = length-set c.loop-drained.buffer c.loop-drained.drained c.in-Some.token in omega (arith, c.loop-drained-test.true);
       long = length-set c.loop-drained.buffer c.loop-drained.drained c.in-Some.token ∙ before.long;
       flows = one_more_set kinds s.network (λ t. Drained c.args.channel t) c.loop-drained.buffer c.loop-drained.drained c.in-Some.token s.state c.loop-drained.self.state c.drain.new.self.state c.loop-drained-test.true before.flows

@@ -1,5 +1,5 @@
 -- A token that comes in is an event.
-use Rattle.std.proofs.Common.{◌≡◌, ◌<◌, ◌++◌, ◌∷◌, [], length, map, ap, arith, true}
+use Rattle.std.proofs.Common.{◌≡◌, ◌<◌, ◌++◌, ◌∷◌, [], length, map, refl, ap, arith, true}
 use Rattle.kpn_model.specs.Network.{family_of}
 use Rattle.kpn_model.specs.Semantics.{tokens, capacity, with_channel}
 use Rattle.kpn_state.specs.StateAndHistory.{StateAndHistory}
@@ -14,13 +14,15 @@ invariant_of-self g c =
     let net = c.self.inside.net in
     let M = c.self.inside.store.state in
     let inputs = c.self.inside.inputs.items in
+    let unended = c.self.inside.unended.items in
     let flow = c.self.invariant.0 in
-    let input : is_among inputs c.args.channel ≡ true = rw (← c.self.view_is) at c.requires.input in
+    let going : is_among unended c.args.channel ≡ true = rw (← c.self.view_is) at c.requires.input in
+    let input : is_among inputs c.args.channel ≡ true = flow.unended c.args.channel going in
     let there = (flow.ends.only_fed c.args.channel input).0 in
     let within : c.args.channel < length M.channels = omega (arith, there, flow.fits.keeps.channels) in
     let leaves : c.feed.new.store.state ≡ with_channel M c.args.channel (tokens M c.args.channel ++ c.args.token ∷ []) (capacity M c.args.channel) = ap (λ (x : StateAndHistory). x.state) c.feed.ensures.fed in
     let space : length (tokens M c.args.channel) < capacity M c.args.channel = omega (arith, c.filling-held.ensures.tokens, c.filling-held.ensures.capacity, c.if-held-capacity.false) in (
-      flowing_on kinds g.B.Kinds.Kinds.admits net inputs c.self.inside.outputs.items M c.feed.new.store.state c.self.inside.standings c.feed.new.standings (map g.B.Body.card c.self.inside.bodies.items) c.self.inside.store.room c.feed.new.store.room (Fed c.args.channel c.args.token) flow
-          (within, space, leaves) (input, tt) (record { keeps = c.feed.ensures.keeps; none_out = λ q e. flow.fits.none_out q (c.feed.ensures.none_sent q e) }) (ap (λ (x : StateAndHistory). x.room) c.feed.ensures.fed),
+      flowing_on kinds g.B.Kinds.Kinds.admits net inputs unended c.self.inside.outputs.items M c.feed.new.store.state c.self.inside.standings c.feed.new.standings (map g.B.Body.card c.self.inside.bodies.items) c.self.inside.store.room c.feed.new.store.room c.self.inside.counts (Fed c.args.channel c.args.token) flow
+          (within, space, leaves) (input, tt) refl (record { keeps = c.feed.ensures.keeps; none_out = λ q e. flow.fits.none_out q (c.feed.ensures.none_sent q e) }) (ap (λ (x : StateAndHistory). x.room) c.feed.ensures.fed),
       c.feed.ensures.waiting,
     )

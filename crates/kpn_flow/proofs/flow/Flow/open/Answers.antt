@@ -1,5 +1,5 @@
 -- A flow that was just opened meets its invariant.
-use Rattle.std.proofs.Common.{◌≡◌, length, map}
+use Rattle.std.proofs.Common.{◌≡◌, length, map, refl}
 use Rattle.kpn_model.specs.Network.{family_of}
 use Rattle.kpn_model.specs.Semantics.{start}
 use Rattle.kpn_machine.specs.Opening.{cards_of}
@@ -14,8 +14,8 @@ invariant_of-result g c =
     let kinds = family_of g.B.Kinds.Kinds.start g.B.Kinds.Kinds.answer_of in
     let cards : map g.B.Body.card c.args.bodies.items ≡ cards_of c.args.net.processes = rw c.as_slice.ensures.value at c.in_default.ensures.cards in
     let ends : AreEnds kinds c.args.net c.args.inputs.now c.args.outputs.now = are_ends kinds c.args.net (map g.B.Body.card c.args.bodies.items) c.args.inputs.now c.args.outputs.now cards (rw c.as_slice.ensures.value at c.in_default.ensures.none) in (
-      rw (c.in-Ok.ensures.store, c.in-Ok.ensures.standings, c.in-Ok.ensures.inputs, c.in-Ok.ensures.outputs)
-          (flowing_start kinds g.B.Kinds.Kinds.admits c.args.net c.args.inputs.now c.args.outputs.now g.B.Kinds.Kinds.signature (map g.B.Body.card c.args.bodies.items) c.assure_valid.ensures.valid c.in-Ok.ensures.admitted cards ends),
+      rw (c.in-Ok.ensures.store, c.in-Ok.ensures.standings, c.in-Ok.ensures.inputs, c.in-Ok.ensures.unended, c.in-Ok.ensures.outputs)
+          (flowing_start kinds g.B.Kinds.Kinds.admits c.args.net c.args.inputs.now c.args.inputs.now c.args.outputs.now g.B.Kinds.Kinds.signature (map g.B.Body.card c.args.bodies.items) c.assure_valid.ensures.valid c.in-Ok.ensures.admitted cards ends refl),
       rw (c.in-Ok.ensures.store, c.in-Ok.ensures.standings) (waiting_none c.args.net (start kinds c.args.net) (length c.args.net.processes) _ c.in-Ok.ensures.candidates c.in-Ok.ensures.marks),
     )
 

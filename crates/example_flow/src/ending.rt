@@ -1,0 +1,49 @@
+//! What is told of a flow.
+use crate::piped::CardFlow;
+use anyhow::Result;
+use kpn_flow::Pause;
+use kpn_net::{End, Place};
+use kpn_report::places_of;
+use std::alloc::Global;
+use std::io::{self, Write};
+
+/// Why a flow came back, in a word.
+pub fn pause_text(pause: Pause) -> &'static str {
+    match pause {
+        Pause::Cut => "cut",
+        Pause::Starved => "starved",
+        Pause::Blocked => "blocked",
+        Pause::Over(End::Terminated) => "terminated",
+        Pause::Over(End::Deadlock) => "deadlock",
+        Pause::Over(End::Ceiling) => "ceiling",
+        Pause::Over(End::Budget) => "budget",
+        Pause::Over(End::Memory) => "memory",
+    }
+}
+
+/// Writes why the flow came back, and how many entries it has made.
+pub fn write_pause<W: Write>(flow: &CardFlow, pause: Pause, sink: &mut W) -> io::Result<()> {
+    let (text, entries, growths) = (pause_text(pause), flow.entries(), flow.growths());
+    writeln!(sink, "{text} entries {entries} growths {growths}")
+}
+
+/// Writes where each process is.
+pub fn write_places<W: Write>(alloc: Global, flow: &CardFlow, sink: &mut W) -> Result<()> {
+    let net = flow.net();
+    let places = places_of(alloc, net, flow.standings())?;
+    for (process, place) in places.iter().enumerate() {
+        if process < net.processes() {
+            write!(sink, "process {} ", net.process_name(process))?;
+        }
+        match place {
+            Place::Reads(channel) if *channel < net.channels() => {
+                writeln!(sink, "reads {}", net.channel_name(*channel))?;
+            }
+            Place::Writes(channel) if *channel < net.channels() => {
+                writeln!(sink, "writes {}", net.channel_name(*channel))?;
+            }
+            _ => writeln!(sink, "stopped")?,
+        }
+    }
+    Ok(())
+}

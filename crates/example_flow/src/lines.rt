@@ -1,0 +1,54 @@
+//! What a line says.
+use anyhow::{Result, bail};
+use kpn_net::Token;
+use std::alloc::Global;
+
+/// `Word`: a number, which is fed into the first input. `Feed`: `feed NAME TOKEN..`. `Drain`: `drain NAME
+/// MOST`. `Advance`: `advance MOST`. `End`: `end NAME`, whose input has ended.
+pub enum Line<'a> {
+    Word(u64),
+    Feed(&'a str),
+    Drain(&'a str, usize),
+    Advance(u64),
+    End(&'a str),
+}
+
+/// What the line says; `None` if nothing that is known.
+pub fn read_line(line: &str) -> Option<Line<'_>> {
+    if let Ok(word) = line.parse::<u64>() {
+        return Some(Line::Word(word));
+    }
+    let mut words = line.split_whitespace();
+    let (verb, first) = (words.next()?, words.next()?);
+    match verb {
+        "feed" => Some(Line::Feed(first)),
+        "drain" => Some(Line::Drain(first, words.next()?.parse().ok()?)),
+        "advance" => Some(Line::Advance(first.parse().ok()?)),
+        "end" => Some(Line::End(first)),
+        _ => None,
+    }
+}
+
+/// The tokens of a line after its first two words.
+pub fn read_tokens(alloc: Global, line: &str) -> Result<Vec<Token>> {
+    let mut tokens = Vec::new(alloc);
+    for word in line.split_whitespace().skip(2) {
+        let Some(token) = token_of(word) else {
+            bail!("{word} is no token");
+        };
+        tokens.push(token)?;
+    }
+    Ok(tokens)
+}
+
+/// The token of a word; `None` if it is none.
+fn token_of(word: &str) -> Option<Token> {
+    match word {
+        "true" => Some(Token::Flag(true)),
+        "false" => Some(Token::Flag(false)),
+        _ => match word.parse::<u64>() {
+            Ok(number) => Some(Token::Word(number)),
+            Err(_) => None,
+        },
+    }
+}

@@ -1,0 +1,200 @@
+//! A flow between two streams of lines.
+use crate::ending::{write_pause, write_places};
+use crate::lines::{Line, read_line, read_tokens};
+use anyhow::{Result, bail};
+use kpn_body::Standard;
+use kpn_compute::CardBody;
+use kpn_flow::{Flow, Pause};
+use kpn_net::Token;
+use std::alloc::Global;
+use std::io::{self, Write};
+
+pub type CardFlow = Flow<CardBody<Standard>>;
+
+/// How many entries are made at most before what came out is written.
+const STRETCH: u64 = 100_000;
+/// How many tokens are drained in one call at most.
+const BATCH: usize = 64;
+
+/// An input or an output, with its name.
+#[derive(Drop)]
+pub struct Port {
+    pub channel: usize,
+    pub name: String,
+}
+
+/// A flow, whose inputs and outputs have names.
+#[derive(Drop)]
+pub struct Piped {
+    flow: CardFlow,
+    inputs: Vec<Port>,
+    outputs: Vec<Port>,
+}
+
+impl Piped {
+    pub fn new(flow: CardFlow, inputs: Vec<Port>, outputs: Vec<Port>) -> Piped {
+        Piped {
+            flow,
+            inputs,
+            outputs,
+        }
+    }
+
+    /// Does what a line says, and writes what comes of it.
+    pub fn obey<W: Write>(&mut self, alloc: Global, line: &str, sink: &mut W) -> Result<()> {
+        match read_line(line) {
+            Some(Line::Word(word)) => self.pour(word, sink)?,
+            Some(Line::Feed(name)) => {
+                let fed = self.feed(alloc, name, line)?;
+                writeln!(sink, "fed {fed}")?;
+            }
+            Some(Line::Drain(name, most)) => {
+                let Some(port) = self.outputs.iter().find(|port| port.name.as_str() == name) else {
+                    bail!("no output {name}");
+                };
+                write_output(&mut self.flow, port, most, sink)?;
+            }
+            Some(Line::Advance(most)) => {
+                let pause = self.flow.advance(most);
+                write_pause(&self.flow, pause, sink)?;
+            }
+            Some(Line::End(name)) => {
+                let channel = self.input_named(name)?;
+                self.flow.end_input(channel);
+            }
+            None => bail!("a line that says nothing: {line}"),
+        }
+        Ok(())
+    }
+
+    fn input_named(&self, name: &str) -> Result<usize> {
+        match self.inputs.iter().find(|port| port.name.as_str() == name) {
+            Some(port) => Ok(port.channel),
+            None => bail!("no input {name}"),
+        }
+    }
+
+    /// Feeds the tokens that a line names after its first two words, and returns for how many there was room.
+    fn feed(&mut self, alloc: Global, name: &str, line: &str) -> Result<usize> {
+        let channel = self.input_named(name)?;
+        let batch = read_tokens(alloc, line)?;
+        if !self.flow.may_feed_all(channel, batch.as_slice()) {
+            bail!("{name} has ended, or a token is of another sort");
+        }
+        Ok(self.flow.feed_all(channel, batch.as_slice()))
+    }
+
+    /// Feeds a word into the first input. Where that is full, the flow goes on until there is room.
+    fn pour<W: Write>(&mut self, word: u64, sink: &mut W) -> Result<()> {
+        let Some(input) = self.inputs.first() else {
+            bail!("there is no input");
+        };
+        let (channel, token) = (input.channel, Token::Word(word));
+        for _ in 0..u64::MAX {
+            if offer(&mut self.flow, channel, token)? {
+                return Ok(());
+            }
+            let pause = self.flow.advance(STRETCH);
+            self.write_outputs(sink)?;
+            match pause {
+                Pause::Cut | Pause::Blocked => {}
+                Pause::Starved | Pause::Over(_) => {
+                    if offer(&mut self.flow, channel, token)? {
+                        return Ok(());
+                    }
+                    bail!("the network takes no more words");
+                }
+            }
+        }
+        Ok(())
+    }
+
+    /// Writes all that is in the outputs.
+    fn write_outputs<W: Write>(&mut self, sink: &mut W) -> io::Result<()> {
+        for port in self.outputs.iter() {
+            write_all_of(&mut self.flow, port, sink)?;
+        }
+        Ok(())
+    }
+
+    /// Says that all inputs have ended, goes on to the end, and tells it.
+    pub fn finish<W: Write>(&mut self, alloc: Global, sink: &mut W) -> Result<()> {
+        for port in self.inputs.iter() {
+            self.flow.end_input(port.channel);
+        }
+        for _ in 0..u64::MAX {
+            let pause = self.flow.advance(STRETCH);
+            self.write_outputs(sink)?;
+            match pause {
+                Pause::Cut | Pause::Blocked => {}
+                Pause::Starved | Pause::Over(_) => {
+                    write_pause(&self.flow, pause, sink)?;
+                    return write_places(alloc, &self.flow, sink);
+                }
+            }
+        }
+        Ok(())
+    }
+}
+
+/// Feeds a token, and returns whether there was room.
+fn offer(flow: &mut CardFlow, channel: usize, token: Token) -> Result<bool> {
+    if !flow.may_feed(channel, token) {
+        bail!("the input has ended, or has another sort");
+    }
+    Ok(flow.feed(channel, token))
+}
+
+/// Writes at most so many tokens of an output.
+fn write_output<W: Write>(
+    flow: &mut CardFlow,
+    port: &Port,
+    most: usize,
+    sink: &mut W,
+) -> io::Result<()> {
+    for _ in 0..most {
+        let Some(token) = take(flow, port.channel) else {
+            return Ok(());
+        };
+        write_token(port, token, sink)?;
+    }
+    Ok(())
+}
+
+/// Takes a token of an output.
+fn take(flow: &mut CardFlow, channel: usize) -> Option<Token> {
+    if !flow.is_output(channel) {
+        return None;
+    }
+    flow.drain(channel)
+}
+
+/// Writes all tokens of an output.
+fn write_all_of<W: Write>(flow: &mut CardFlow, port: &Port, sink: &mut W) -> io::Result<()> {
+    for _ in 0..u64::MAX {
+        let mut buffer = [Token::Word(0); BATCH];
+        let count = take_batch(flow, port.channel, &mut buffer);
+        for token in buffer.iter().take(count) {
+            write_token(port, *token, sink)?;
+        }
+        if count < BATCH {
+            return Ok(());
+        }
+    }
+    Ok(())
+}
+
+/// Takes the next tokens of an output, at most as many as the buffer is long, and returns how many.
+fn take_batch(flow: &mut CardFlow, channel: usize, buffer: &mut [Token]) -> usize {
+    if !flow.is_output(channel) {
+        return 0;
+    }
+    flow.drain_into(channel, buffer)
+}
+
+fn write_token<W: Write>(port: &Port, token: Token, sink: &mut W) -> io::Result<()> {
+    match token {
+        Token::Word(word) => writeln!(sink, "{} {word}", port.name),
+        Token::Flag(flag) => writeln!(sink, "{} {flag}", port.name),
+    }
+}
