@@ -1,5 +1,6 @@
-//! Callers of `kpn_watch`: what two looks show, and calls at one of two boards, which wrong bodies
-//! turn to the other.
+//! Callers that wrong bodies turn: what two looks show, calls at one of two boards, and the opening of
+//! one of two monitors. A monitor can be opened only under the names of its own opening, so no seat of
+//! another monitor has the type of its seats.
 #![tactic(auto)]
 
 ghost use Rattle.std.specs.Prelude.{◌≡◌, ◌≢◌, ◌<◌, ◌≤◌, ◌^◌, length, Some};
@@ -7,8 +8,11 @@ ghost use mathlib.Core.List.{IsPrefix};
 ghost use Rattle.kpn_watch.specs.Phases.{phase_of};
 ghost use Rattle.kpn_watch.specs.declared.progress.Phase.TheVariants.{Running};
 
+use kpn_body::Body;
 use kpn_model::{End, Entry};
+use kpn_monitor::{EntryLedger, Monitor, Opening, Seat};
 use kpn_watch::{Board, CountingPublisher, Progress, Publisher, WatchFault, Watcher};
+use std::sync::ledger::Ledger;
 
 /// What two looks of one watcher returned.
 pub struct TwoLooks {
@@ -62,4 +66,26 @@ pub fn publish_in_two(
 {
     publisher.publish(board, before, None);
     publisher.publish(board, all, Some(end));
+}
+
+/// A monitor and a seat of it.
+#[derive(Drop)]
+pub struct Opened<B: Body, E: EntryLedger, O: Ledger> {
+    pub monitor: Monitor<B, E, O>,
+    pub seat: Seat<E, O>,
+}
+
+/// Opens the first of two openings. The types name the network, the board and the ledgers of that one.
+pub fn open_first<B: Body, E: EntryLedger, O: Ledger>(
+    first: Opening<B>,
+    _second: Opening<B>,
+) -> Opened<B, E, O>
+    requires network { first.machine.network ≡ E.net }
+    requires board { first.board ≡ E.board }
+    requires entries { (first.entries.name ≡ E.name) × (first.entries.parts ≡ E.parts) }
+    requires overs { (first.overs.name ≡ O.name) × (first.overs.parts ≡ O.parts) }
+    ensures { result.seat.parts ≡ 65536 }
+{
+    let (monitor, seat) = Monitor::open(first);
+    Opened { monitor, seat }
 }

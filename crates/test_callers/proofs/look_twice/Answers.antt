@@ -1,8 +1,8 @@
 use Rattle.std.proofs.Common.{arith, ap, sym, ◌∙◌}
 use Rattle.kpn_watch.specs.Boards.{Watched}
 use Rattle.kpn_watch.specs.Shown.{shows}
-use Rattle.test_watch.proofs.Rises.{entries_rise, growths_rise}
-use Rattle.test_watch.proofs.look_twice.Goals as goal
+use Rattle.test_callers.proofs.Rises.{entries_rise, growths_rise}
+use Rattle.test_callers.proofs.look_twice.Goals as goal
 
 pub returns-clause-entries : goal.returns-clause-entries
 returns-clause-entries c =
