@@ -2,12 +2,65 @@
 //! called where it lies, a process is ready or parked, and entries are counted alone. It runs a chain of a
 //! counter, scales by three and a sink over channels of a capacity, and prints how many entries it made.
 //!
-//! Arguments: the number of scales, how many entries to make, and the capacity.
+//! Arguments: the number of scales, how many entries to make, the capacity, and whether bodies are `closures` on the
+//! heap or `cards`, which one function matches.
 use std::collections::VecDeque;
 
 include!("../peers/answers.rs");
 
-type Body = Box<dyn Fn(&Local, Option<Token>) -> Answer>;
+/// What a process does.
+trait Body {
+    fn answer(&self, local: &Local, last: Option<Token>) -> Answer;
+}
+
+type Closure = Box<dyn Fn(&Local, Option<Token>) -> Answer>;
+
+impl Body for Closure {
+    fn answer(&self, local: &Local, last: Option<Token>) -> Answer {
+        self(local, last)
+    }
+}
+
+enum Card {
+    Count(u64, u64),
+    Scale(u64),
+    Sink(u64),
+}
+
+impl Body for Card {
+    fn answer(&self, local: &Local, last: Option<Token>) -> Answer {
+        match *self {
+            Card::Count(from, number) => count_answer(from, number, local),
+            Card::Scale(factor) => scale_answer(factor, local, last),
+            Card::Sink(number) => sink_answer(number, local),
+        }
+    }
+}
+
+fn count_answer(from: u64, number: u64, local: &Local) -> Answer {
+    if local[0] == number {
+        return Answer { next: *local, act: Act::Stop };
+    }
+    let token = Token::Word(from + local[0]);
+    Answer { next: [local[0] + 1, 0, 0, 0], act: Act::Write(0, token) }
+}
+
+fn scale_answer(factor: u64, local: &Local, last: Option<Token>) -> Answer {
+    match (local[0], last) {
+        (1, Some(Token::Word(word))) => {
+            let token = Token::Word(word.wrapping_mul(factor));
+            Answer { next: [0; 4], act: Act::Write(0, token) }
+        }
+        _ => Answer { next: [1, 0, 0, 0], act: Act::Read(0) },
+    }
+}
+
+fn sink_answer(number: u64, local: &Local) -> Answer {
+    if local[0] == number {
+        return Answer { next: *local, act: Act::Stop };
+    }
+    Answer { next: [local[0] + 1, 0, 0, 0], act: Act::Read(0) }
+}
 
 #[derive(Debug, PartialEq)]
 enum End {
@@ -23,8 +76,8 @@ struct Channel {
     capacity: usize,
 }
 
-struct Process {
-    body: Body,
+struct Process<B> {
+    body: B,
     ins: [usize; 3],
     outs: [usize; 3],
     local: Local,
@@ -32,8 +85,8 @@ struct Process {
     parked: Option<Act>,
 }
 
-struct Machine {
-    processes: Vec<Process>,
+struct Machine<B> {
+    processes: Vec<Process<B>>,
     channels: Vec<Channel>,
     ready: VecDeque<usize>,
     stopped: usize,
@@ -41,10 +94,10 @@ struct Machine {
     growths: u64,
 }
 
-impl Machine {
-    fn new(bodies: Vec<Body>, ends: &[(usize, usize)], capacity: usize) -> Machine {
+impl<B: Body> Machine<B> {
+    fn new(bodies: Vec<B>, ends: &[(usize, usize)], capacity: usize) -> Machine<B> {
         let process = |body| Process { body, ins: [0; 3], outs: [0; 3], local: [0; 4], last: None, parked: None };
-        let mut processes: Vec<Process> = bodies.into_iter().map(process).collect();
+        let mut processes: Vec<Process<B>> = bodies.into_iter().map(process).collect();
         let mut channels = Vec::new();
         for (channel, &(writer, reader)) in ends.iter().enumerate() {
             processes[writer].outs[0] = channel;
@@ -129,7 +182,7 @@ impl Machine {
                 }
             };
             let process = &mut self.processes[number];
-            let answer = (process.body)(&process.local, process.last);
+            let answer = process.body.answer(&process.local, process.last);
             process.local = answer.next;
             self.act(number, answer.act);
         }
@@ -137,43 +190,34 @@ impl Machine {
     }
 }
 
-fn count(from: u64, number: u64) -> Body {
-    Box::new(move |local, _| {
-        if local[0] == number {
-            return Answer { next: *local, act: Act::Stop };
-        }
-        let token = Token::Word(from + local[0]);
-        Answer { next: [local[0] + 1, 0, 0, 0], act: Act::Write(0, token) }
-    })
-}
-
-fn scale(factor: u64) -> Body {
-    Box::new(move |local, last| match (local[0], last) {
-        (1, Some(Token::Word(word))) => {
-            let token = Token::Word(word.wrapping_mul(factor));
-            Answer { next: [0; 4], act: Act::Write(0, token) }
-        }
-        _ => Answer { next: [1, 0, 0, 0], act: Act::Read(0) },
-    })
-}
-
-fn sink(number: u64) -> Body {
-    Box::new(move |local, _| {
-        if local[0] == number {
-            return Answer { next: *local, act: Act::Stop };
-        }
-        Answer { next: [local[0] + 1, 0, 0, 0], act: Act::Read(0) }
-    })
-}
-
-fn main() {
-    let words: Vec<u64> = std::env::args().skip(1).map(|word| word.parse().unwrap()).collect();
-    let (scales, entries, capacity) = (words[0] as usize, words[1], words[2] as usize);
-    let mut bodies = vec![count(1, u64::MAX >> 2)];
-    bodies.extend((0..scales).map(|_| scale(3)));
-    bodies.push(sink(u64::MAX >> 2));
-    let ends: Vec<(usize, usize)> = (0..=scales).map(|channel| (channel, channel + 1)).collect();
+/// Runs a chain of these bodies.
+fn chain<B: Body>(bodies: Vec<B>, entries: u64, capacity: usize) {
+    let ends: Vec<(usize, usize)> = (0..bodies.len() - 1).map(|channel| (channel, channel + 1)).collect();
     let mut machine = Machine::new(bodies, &ends, capacity);
     assert_eq!(machine.run(entries), End::Cut);
     println!("entries {} growths {}", machine.entries, machine.growths);
+}
+
+fn closures(scales: usize, number: u64) -> Vec<Closure> {
+    let mut bodies: Vec<Closure> = vec![Box::new(move |local, _| count_answer(1, number, local))];
+    bodies.extend((0..scales).map(|_| Box::new(|local: &Local, last| scale_answer(3, local, last)) as Closure));
+    bodies.push(Box::new(move |local, _| sink_answer(number, local)));
+    bodies
+}
+
+fn cards(scales: usize, number: u64) -> Vec<Card> {
+    let mut bodies = vec![Card::Count(1, number)];
+    bodies.extend((0..scales).map(|_| Card::Scale(3)));
+    bodies.push(Card::Sink(number));
+    bodies
+}
+
+fn main() {
+    let words: Vec<String> = std::env::args().skip(1).collect();
+    let (scales, entries, capacity) = (words[0].parse().unwrap(), words[1].parse().unwrap(), words[2].parse().unwrap());
+    match words[3].as_str() {
+        "closures" => chain(closures(scales, u64::MAX >> 2), entries, capacity),
+        "cards" => chain(cards(scales, u64::MAX >> 2), entries, capacity),
+        other => panic!("no bodies {}", other),
+    }
 }

@@ -1,5 +1,6 @@
 //! The flow.
 ghost use Rattle.std.specs.Prelude.{◌≡◌, ◌↔◌, ℕ, ◌<◌, ◌≤◌, length, map, take, drop, replicate, IfOk, IfErr, OnOk, IfSome, IfNone, IsTrue, true, false, []};
+ghost use Rattle.std.specs.List.{list_all};
 ghost use Rattle.kpn_model.specs.Network.{channel_of, family_of};
 ghost use Rattle.kpn_model.specs.Semantics.{start, tokens, capacity, IsBlocked};
 ghost use Rattle.kpn_model.specs.Valid.{IsOfSort};
@@ -10,7 +11,7 @@ ghost use Rattle.kpn_flow.specs.Events.{Happens, Fed, Drained, Flows};
 ghost use Rattle.kpn_flow.specs.Flows.{flow_view, is_among, nothing_counted, with_ended, AreEnds, IsReached, IsSameFlow, MayFeed, MayFeedAll};
 ghost use Rattle.kpn_flow.specs.Pauses.{Advances, IsStarving, TellWants};
 ghost use Rattle.kpn_flow.specs.Pieces.{IsOneRunInPieces, IsExhausted};
-ghost use Rattle.kpn_flow.specs.Waits.{starves, holds_up};
+ghost use Rattle.kpn_flow.specs.Waits.{starves, holds_up, waits_to_read};
 
 use crate::counts::Counts;
 use crate::ends::{FlowFault, fault_of, is_among, remove};
@@ -187,7 +188,8 @@ impl<B: Body> Flow<B> {
     /// nothing more comes out, unless more is fed. Of two flows of one network into which the same was fed,
     /// and of which this is `true`, the same came out of each output, and is in it (`comparable`).
     pub fn is_exhausted(&self) -> bool
-        ensures { IsTrue result → IsExhausted (family_of B.Kinds.start B.Kinds.answer_of) self.now.network self.now.state }
+        ensures waits { result ≡ list_all waits_to_read self.now.standings }
+        ensures exhausted { IsTrue result → IsExhausted (family_of B.Kinds.start B.Kinds.answer_of) self.now.network self.now.state }
     {
         all_wait_to_read(self.standings.as_slice())
     }
@@ -197,9 +199,11 @@ impl<B: Body> Flow<B> {
     /// such events that was, and whatever will still come into the inputs, what was done is a run of the
     /// network that held all those tokens from the start; growths are left out of it. What that run wrote
     /// to an output is what was drained, and then what is there; and every solution of that network's
-    /// equations begins with it (Kahn 1974). The entries among such events were counted.
+    /// equations begins with it (Kahn 1974). The entries among such events were counted; and what has not
+    /// ended is an input.
     pub fn assure_one_run(&self)
         ensures ends { AreEnds (family_of B.Kinds.start B.Kinds.answer_of) self.now.network self.now.inputs self.now.outputs }
+        ensures unended { (c : ℕ) → is_among self.now.unended c ≡ true → is_among self.now.inputs c ≡ true }
         ensures reached { IsReached (family_of B.Kinds.start B.Kinds.answer_of) self.now.network self.now.inputs self.now.outputs self.now.counts self.now.state }
         ensures one_run { IsOneRunInPieces (family_of B.Kinds.start B.Kinds.answer_of) self.now }
     {
