@@ -264,7 +264,7 @@ refused("a byte too many", COUNTER + "\n" * (1048577 - len(COUNTER)), 15)
 # Long growths.
 
 
-def grown(tokens, capacity, budget=None):
+def long_growth(tokens, capacity, budget=None):
     """A counter into a sink of none, whose channel grows by one for each token for which it has no room."""
     name = f"a channel grows from {capacity} to {tokens}"
     text = net(f"src=count(1,{tokens}) snk=sink(0)", f"c0 src.0>snk.0 capacity={capacity}", **({"budget": budget} if budget else {}))
@@ -273,9 +273,9 @@ def grown(tokens, capacity, budget=None):
     row(name, run(), text, f"{lines}entries {2 * tokens - capacity + 2}\n", 0)
 
 
-grown(6, 1)
-grown(100, 1, budget=1000000)
-grown(65534, 65000, budget=1000000)
+long_growth(6, 1)
+long_growth(100, 1, budget=1000000)
+long_growth(65534, 65000, budget=1000000)
 
 # Hostile texts.
 
