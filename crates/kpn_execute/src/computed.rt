@@ -3,7 +3,7 @@ ghost use Rattle.std.specs.Prelude.{◌≤◌, option_map};
 ghost use Rattle.kpn_model.specs.Network.{family_of};
 ghost use Rattle.kpn_execute.specs.Execution.{MakesAndExecutes};
 
-use crate::running::execute_by;
+use crate::running::{RunRequest, execute_request};
 use kpn_compute::{Computes, bodies_of};
 use kpn_front::{Sink, say_refused};
 use kpn_net::{Net, NetFault};
@@ -29,7 +29,14 @@ pub fn execute_net<K: Computes, S: Sink, R: Wait + Clock + Threads + Sync>(
     ensures { MakesAndExecutes (family_of K.start K.answer_of) net workers (option_map (λ s. s.now) show.entry) (S.takes sink.old) (S.contents sink.old) (S.contents sink.new) result }
 {
     match bodies_of(alloc, &net) {
-        Ok(bodies) => execute_by(rt, alloc, net, bodies, workers, &Prompt, show, sink),
+        Ok(bodies) => {
+            let request = RunRequest {
+                net,
+                bodies,
+                workers,
+            };
+            execute_request(rt, alloc, request, &Prompt, show, sink)
+        }
         Err(_) => say_refused(&NetFault::Memory, sink),
     }
 }

@@ -23,6 +23,14 @@ struct Told {
     text: String,
 }
 
+/// A network to be run by 1 to 16 workers, with a body for each process.
+#[derive(Drop)]
+pub(crate) struct RunRequest<B: Body> {
+    pub(crate) net: Net<B::Kinds>,
+    pub(crate) bodies: Vec<B>,
+    pub(crate) workers: usize,
+}
+
 /// Runs a network by 1 to 16 workers, with a body for each process, and writes the outcome: the report
 /// of the run, with the stream of the channel that `show` names. A single worker is the calling thread,
 /// which then takes no lock.
@@ -54,28 +62,31 @@ pub fn execute<B: Body, S: Sink, R: Wait + Clock + Threads + Sync>(
     requires workers { (1 ≤ workers) × (workers ≤ 16) }
     ensures { Executes (family_of B.Kinds.start B.Kinds.answer_of) net workers (option_map (λ s. s.now) show.entry) (S.takes sink.old) (S.contents sink.old) (S.contents sink.new) result }
 {
-    execute_by(rt, alloc, net, bodies, workers, &Open, show, sink)
+    let request = RunRequest {
+        net,
+        bodies,
+        workers,
+    };
+    execute_request(rt, alloc, request, &Open, show, sink)
 }
 
 /// As `execute`, where several workers pass this gate.
-pub(crate) fn execute_by<B: Body, S: Sink, R: Wait + Clock + Threads + Sync, G: Gate>(
+pub(crate) fn execute_request<B: Body, S: Sink, R: Wait + Clock + Threads + Sync, G: Gate>(
     rt: &R,
     alloc: Global,
-    net: Net<B::Kinds>,
-    bodies: Vec<B>,
-    workers: usize,
+    request: RunRequest<B>,
     gate: &G,
     show: Option<&str>,
     sink: &mut S,
 ) -> u8
-    requires cards { map B.card bodies.items ≡ cards_of net.processes }
-    requires workers { (1 ≤ workers) × (workers ≤ 16) }
-    ensures { Executes (family_of B.Kinds.start B.Kinds.answer_of) net workers (option_map (λ s. s.now) show.entry) (S.takes sink.old) (S.contents sink.old) (S.contents sink.new) result }
+    requires cards { map B.card request.bodies.items ≡ cards_of request.net.processes }
+    requires workers { (1 ≤ request.workers) × (request.workers ≤ 16) }
+    ensures { Executes (family_of B.Kinds.start B.Kinds.answer_of) request.net request.workers (option_map (λ s. s.now) show.entry) (S.takes sink.old) (S.contents sink.old) (S.contents sink.new) result }
 {
     match show {
-        None => tell(rt, alloc, net, bodies, workers, gate, None, sink),
-        Some(name) => match net.find_channel(name) {
-            Some(channel) => tell(rt, alloc, net, bodies, workers, gate, Some(channel), sink),
+        None => tell(rt, alloc, request, gate, None, sink),
+        Some(name) => match request.net.find_channel(name) {
+            Some(channel) => tell(rt, alloc, request, gate, Some(channel), sink),
             None => say_no_channel(name, sink),
         },
     }
@@ -85,21 +96,19 @@ pub(crate) fn execute_by<B: Body, S: Sink, R: Wait + Clock + Threads + Sync, G: 
 fn tell<B: Body, S: Sink, R: Wait + Clock + Threads + Sync, G: Gate>(
     rt: &R,
     alloc: Global,
-    net: Net<B::Kinds>,
-    bodies: Vec<B>,
-    workers: usize,
+    request: RunRequest<B>,
     gate: &G,
     channel: Option<usize>,
     sink: &mut S,
 ) -> u8
-    requires cards { map B.card bodies.items ≡ cards_of net.processes }
-    requires workers { (1 ≤ workers) × (workers ≤ 16) }
-    ensures { Writes (TellsKnown (family_of B.Kinds.start B.Kinds.answer_of) net workers channel) (S.takes sink.old) (S.contents sink.old) (S.contents sink.new) result }
+    requires cards { map B.card request.bodies.items ≡ cards_of request.net.processes }
+    requires workers { (1 ≤ request.workers) × (request.workers ≤ 16) }
+    ensures { Writes (TellsKnown (family_of B.Kinds.start B.Kinds.answer_of) request.net request.workers channel) (S.takes sink.old) (S.contents sink.old) (S.contents sink.new) result }
 {
-    if workers == 1 {
-        tell_alone(alloc, net, bodies, channel, sink)
+    if request.workers == 1 {
+        tell_alone(alloc, request.net, request.bodies, channel, sink)
     } else {
-        tell_by_workers(rt, alloc, net, bodies, workers, gate, channel, sink)
+        tell_by_workers(rt, alloc, request, gate, channel, sink)
     }
 }
 
@@ -126,17 +135,20 @@ fn tell_alone<B: Body, S: Sink>(
 fn tell_by_workers<B: Body, S: Sink, R: Wait + Clock + Threads + Sync, G: Gate>(
     rt: &R,
     alloc: Global,
-    net: Net<B::Kinds>,
-    bodies: Vec<B>,
-    workers: usize,
+    request: RunRequest<B>,
     gate: &G,
     channel: Option<usize>,
     sink: &mut S,
 ) -> u8
-    requires cards { map B.card bodies.items ≡ cards_of net.processes }
-    requires workers { (1 < workers) × (workers ≤ 16) }
-    ensures { Writes (TellsKnown (family_of B.Kinds.start B.Kinds.answer_of) net workers channel) (S.takes sink.old) (S.contents sink.old) (S.contents sink.new) result }
+    requires cards { map B.card request.bodies.items ≡ cards_of request.net.processes }
+    requires workers { (1 < request.workers) × (request.workers ≤ 16) }
+    ensures { Writes (TellsKnown (family_of B.Kinds.start B.Kinds.answer_of) request.net request.workers channel) (S.takes sink.old) (S.contents sink.old) (S.contents sink.new) result }
 {
+    let RunRequest {
+        net,
+        bodies,
+        workers,
+    } = request;
     match run(rt, alloc, net, bodies, workers, gate) {
         Ok(finish) => say_told(alloc, finish.chronicle(), channel, sink),
         Err(RunFault::Memory { .. }) => say_refused(&NetFault::Memory, sink),

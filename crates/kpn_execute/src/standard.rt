@@ -5,7 +5,7 @@ ghost use Rattle.kpn_body.specs.StandardKinds.{signature, Admitted};
 ghost use Rattle.kpn_machine.specs.Opening.{cards_of};
 ghost use Rattle.kpn_execute.specs.Execution.{Executes, MakesAndExecutes};
 
-use crate::running::execute_by;
+use crate::running::{RunRequest, execute_request};
 use kpn_body::{Call, Standard, StandardBody, answer};
 use kpn_front::{Sink, say_refused};
 use kpn_machine::cards_of;
@@ -73,7 +73,12 @@ fn make_and_execute<S: Sink, R: Wait + Clock + Threads + Sync>(
         bodies.push(StandardBody::new(card, call))?;
     }
     let Some(net) = net else { unreachable!() };
-    Ok(execute_by(rt, alloc, net, bodies, workers, &Prompt, show, sink))
+    let request = RunRequest {
+        net,
+        bodies,
+        workers,
+    };
+    Ok(execute_request(rt, alloc, request, &Prompt, show, sink))
 }
 
 /// A card of a list of cards that have signatures.

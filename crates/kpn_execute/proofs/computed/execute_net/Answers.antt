@@ -7,7 +7,7 @@ use Rattle.kpn_execute.proofs.computed.execute_net.Goals as goal
 
 pub returns-in-Ok : goal.returns-in-Ok
 returns-in-Ok g c =
-    let t = c.execute_by.ensures in
+    let t = c.execute_request.ensures in
     record { status = t.status; text = t.text; told = inr t.told; written = t.written; room = t.room }
 
 pub returns-in-Err : goal.returns-in-Err

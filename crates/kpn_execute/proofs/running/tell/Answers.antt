@@ -2,7 +2,7 @@
 use Rattle.std.proofs.Common.{inr}
 use Rattle.kpn_execute.proofs.running.tell.Goals as goal
 
-pub returns-then-workers-eq1 : goal.returns-then-workers-eq1
-returns-then-workers-eq1 g c =
+pub returns-then-request-eq1 : goal.returns-then-request-eq1
+returns-then-request-eq1 g c =
     let t = c.tell_alone.ensures in
     record { status = t.status; text = t.text; told = inr t.told; written = t.written; room = t.room }

@@ -2,7 +2,7 @@
 use Rattle.std.proofs.Common.{Some, None, inl, inr, refl, sym}
 use Rattle.kpn_front.specs.declared.status.Status.TheVariants.{WrongArguments}
 use Rattle.kpn_front.specs.Lines.{no_channel_line}
-use Rattle.kpn_execute.proofs.running.execute_by.Goals as goal
+use Rattle.kpn_execute.proofs.running.execute_request.Goals as goal
 
 pub returns-in-None : goal.returns-in-None
 returns-in-None g c =
