@@ -6,6 +6,7 @@ import sys
 
 TOP = os.path.dirname(os.path.dirname(os.path.abspath(__file__)))
 PROGRAM = f"{TOP}/crates/kpn/out/kpn"
+DRAWER = f"{TOP}/crates/kpn_draw/out/kpn_draw"
 BRINGS = "`./kpn --help` (`./kpn-draw --help`), which brings it"
 SECONDS = 60  # that one run may take
 

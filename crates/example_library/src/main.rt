@@ -1,6 +1,9 @@
 //! A network that is made by code, checked, written as a description, and run by four workers beside a
-//! line of progress on standard error; then what went through two of its channels, as CSV.
+//! line of progress on standard error; then what went through two of its channels, as CSV. After it a
+//! network that is stopped.
 #![tactic(auto)]
+
+mod stopped;
 
 use kpn_builder::{Builder, NewChannel};
 use kpn_compute::bodies_of;
@@ -119,7 +122,8 @@ fn show<R: Threads + Wait + Clock + Print + Eprint + Sync>(
 fn main(rt: HostRuntime) -> io::Result<ExitCode> {
     let alloc = rt.alloc();
     let mut made = Builder::new(alloc);
-    if make(&mut made).is_err() || show(&rt, alloc, &made).is_err() {
+    let shown = make(&mut made).is_ok() && show(&rt, alloc, &made).is_ok();
+    if !shown || stopped::show(&rt, alloc).is_err() {
         return Ok(ExitCode::from(4));
     }
     Ok(ExitCode::from(0))

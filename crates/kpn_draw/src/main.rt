@@ -29,9 +29,7 @@ fn status_of<R: Env + Files + Input + Print + Eprint + AllocGlobal + Wait + Cloc
     match read_words(rt.alloc(), texts.as_slice()) {
         Ok(choice) => {
             let served = serve_choice(rt, &choice);
-            if let Some(fault) = served.fault {
-                let _ = eprintln!(rt; "kpn-draw: {fault}");
-            }
+            say_why(rt, &served);
             served.status
         }
         Err(fault) => say_words_refused(rt, &fault),
@@ -59,8 +57,18 @@ fn serve_choice<R: Files + Input + Print + AllocGlobal + Wait + Clock + Threads 
         Err(_) => Served {
             status: say_refused(&NetFault::Input, &mut sink),
             fault: Some(NetFault::Input),
+            message: None,
         },
     }
+}
+
+/// Says on standard error why a description was refused.
+fn say_why<R: Eprint>(rt: &R, served: &Served) {
+    let _ = match (&served.message, served.fault) {
+        (Some(message), _) => eprintln!(rt; "kpn-draw: {message}"),
+        (None, Some(fault)) => eprintln!(rt; "kpn-draw: {fault}"),
+        (None, None) => Ok(()),
+    };
 }
 
 /// Says that the arguments could not be collected, since memory was refused.

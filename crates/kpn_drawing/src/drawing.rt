@@ -1,12 +1,13 @@
 //! The program, from its input to what it draws.
-ghost use Rattle.std.specs.Prelude.{◌+◌, None};
+ghost use Rattle.std.specs.Prelude.{◌≡◌, ◌≢◌, ◌+◌, [], Some, None, IfSome, string_bytes};
 ghost use Rattle.kpn_execute.specs.Execution.{Writes};
 ghost use Rattle.kpn_front.specs.Loading.{ReadsAtMost, longest};
 ghost use Rattle.kpn_drawing.specs.DrawChoices.{HasFewIfRun};
 ghost use Rattle.kpn_drawing.specs.Drawing.{Draws, DrawsOf};
 
 use crate::running::draw_run;
-use kpn_front::{Sink, Source, Status, load, say, say_refused};
+use kpn_front::{Sink, Source, Status, load_or_refuse, say, say_refused};
+use kpn_message::message_of;
 use kpn_net::{Net, NetFault};
 use kpn_picture::{Left, picture_of};
 use kpn_standard::Standard;
@@ -15,11 +16,20 @@ use std::rt::Clock;
 use std::sync::Wait;
 use std::thread::Threads;
 
-/// The outcome of a description: the exit status, and its fault if it was refused.
+/// The names of the standard kinds, as a message lists them.
+const KINDS: &str =
+    "add, copy, count, divides, merge, prefix, scale, select, sink, switch, take and weave";
+
+/// The outcome of a description: the exit status, and if it was refused its fault, and what is wrong
+/// with it and where.
+///
+/// There is no message if the description was accepted, if the fault says all (`Memory` and `Input`),
+/// or if memory for the message was refused. No contract says what a message is, but that it isn't empty.
 #[derive(Drop)]
 pub struct Served {
     pub status: u8,
     pub fault: Option<NetFault>,
+    pub message: Option<String>,
 }
 
 /// Reads a description from the source, and writes the picture of its network to the sink: as
@@ -36,24 +46,48 @@ pub fn serve<I: Source, O: Sink, R: Wait + Clock + Threads + Sync>(
 ) -> Served
     requires { HasFewIfRun workers }
     ensures drawn { Draws workers (I.remaining source.old) (I.has_failed source.old) (I.has_failed source.new) (O.takes sink.old) (O.contents sink.old) (O.contents sink.new) result.status result.fault }
+    ensures accepted { result.fault ≡ None → result.message ≡ None }
+    ensures memory { result.fault ≡ Some NetFault.Memory → result.message ≡ None }
+    ensures input { result.fault ≡ Some NetFault.Input → result.message ≡ None }
+    ensures said { IfSome result.message (λ message. string_bytes message ≢ []) }
     ensures taken { ReadsAtMost (longest + 1) (I.remaining source.old) (I.remaining source.new) }
 {
-    let net: Net<Standard> = match load(alloc, source) {
+    let net: Net<Standard> = match load_or_refuse(alloc, source) {
         Ok(net) => net,
-        Err(fault) => {
+        Err(refused) => {
             return Served {
-                status: say_refused(&fault, sink),
-                fault: Some(fault),
+                status: say_refused(&refused.fault, sink),
+                fault: Some(refused.fault),
+                message: message_of::<Standard>(
+                    alloc,
+                    refused.text.as_slice(),
+                    refused.fault,
+                    KINDS,
+                ),
             };
         }
     };
-    let status = match workers {
+    Served {
+        status: draw(rt, alloc, net, workers, sink),
+        fault: None,
+        message: None,
+    }
+}
+
+/// Writes the picture of a network that was loaded: as described, or as a run left it.
+fn draw<S: Sink, R: Wait + Clock + Threads + Sync>(
+    rt: &R,
+    alloc: Global,
+    net: Net<Standard>,
+    workers: Option<usize>,
+    sink: &mut S,
+) -> u8
+    requires { HasFewIfRun workers }
+    ensures { Writes (DrawsOf workers net) (S.takes sink.old) (S.contents sink.old) (S.contents sink.new) result }
+{
+    match workers {
         Some(workers) => draw_run(rt, alloc, net, workers, sink),
         None => draw_net(alloc, &net, sink),
-    };
-    Served {
-        status,
-        fault: None,
     }
 }
 

@@ -11,7 +11,7 @@ use kpn_machine::{Chronicle, Machine};
 use kpn_net::{Net, NetFault};
 use kpn_picture::{Left, picture_of};
 use kpn_report::{Report, places_of, report_of};
-use kpn_run::{Open, RunFault, run};
+use kpn_run::{Prompt, RunFault, run};
 use kpn_standard::Standard;
 use std::alloc::{AllocError, Global};
 use std::rt::Clock;
@@ -88,7 +88,7 @@ fn draw_by_workers<S: Sink, R: Wait + Clock + Threads + Sync>(
     requires workers { (1 < workers) × (workers ≤ 16) }
     ensures { Writes (DrawsOf (Some workers) net) (S.takes sink.old) (S.contents sink.old) (S.contents sink.new) result }
 {
-    match run(rt, alloc, net, bodies, workers, &Open) {
+    match run(rt, alloc, net, bodies, workers, &Prompt) {
         Ok(finish) => draw_ended(alloc, finish.chronicle(), sink),
         Err(RunFault::Memory { .. }) => say_refused(&NetFault::Memory, sink),
         Err(RunFault::Lost { .. }) => say_lost(sink),

@@ -1,25 +1,25 @@
--- What is drawn of the network that was loaded is drawn of the description.
-use Rattle.std.proofs.Common.{Ok, refl}
+-- What is loaded is a network, of which the picture is drawn, or a fault.
+use Rattle.std.proofs.Common.{◌≡◌, Ok, Err, refl, inl, inr}
+use Rattle.kpn_sketch.specs.declared.fault.NetFault.TheVariants.{Memory, Input}
+use Rattle.kpn_front.specs.Lines.{refused_line, status_of_fault}
 use Rattle.kpn_drawing.proofs.drawing.serve.Goals as goal
 
-pub returns-in-Some-clause-drawn : goal.returns-in-Some-clause-drawn
-returns-in-Some-clause-drawn g c =
-    let t = c.draw_run-status.ensures in
-    rw c.in-Some.is (record {
-      loaded = Ok c.in-Ok.net;
-      loads = c.in-Ok.ensures.loads;
-      failed = c.in-Ok.ensures.failed;
-      fault_is = refl;
-      writes = record { status = t.status; text = t.text; told = t.told; written = t.written; room = t.room };
-    })
+pub returns-in-Err-clause-memory : goal.returns-in-Err-clause-memory
+returns-in-Err-clause-memory g c = λ e. let is : c.in-Err.refused.fault ≡ Memory = cc in c.message_of.ensures.plain (inl is)
 
-pub returns-in-None-clause-drawn : goal.returns-in-None-clause-drawn
-returns-in-None-clause-drawn g c =
-    let t = c.draw_net-status.ensures in
-    rw c.in-None.is (record {
-      loaded = Ok c.in-Ok.net;
-      loads = c.in-Ok.ensures.loads;
-      failed = c.in-Ok.ensures.failed;
+pub returns-in-Err-clause-input : goal.returns-in-Err-clause-input
+returns-in-Err-clause-input g c = λ e. let is : c.in-Err.refused.fault ≡ Input = cc in c.message_of.ensures.plain (inr is)
+
+pub returns-in-Err-clause-drawn : goal.returns-in-Err-clause-drawn
+returns-in-Err-clause-drawn g c =
+    let fault = c.in-Err.refused.fault in
+    record {
+      loaded = Err fault;
+      loads = c.in-Err.ensures.loads;
+      failed = c.in-Err.ensures.failed;
       fault_is = refl;
-      writes = record { status = t.status; text = t.text; told = t.told; written = t.written; room = t.room };
-    })
+      writes = record { status = status_of_fault fault; text = refused_line fault; told = (refl, refl); written = c.say_refused.ensures.said; room = c.say_refused.ensures.room };
+    }
+
+pub returns-clause-drawn : goal.returns-clause-drawn
+returns-clause-drawn g c = record { loaded = Ok c.in-Ok.net; loads = c.in-Ok.ensures.loads; failed = c.in-Ok.ensures.failed; fault_is = refl; writes = c.draw.ensures }

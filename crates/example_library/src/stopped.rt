@@ -1,16 +1,12 @@
 //! A network that would count for a long time is run by two workers, and stopped when a deadline has
-//! passed; then the first words that came out are printed.
-#![tactic(auto)]
-
+//! passed.
+use crate::words;
 use kpn_builder::{Builder, NewChannel};
 use kpn_compute::bodies_of;
-use kpn_net::{Net, Token};
 use kpn_observe::{Observer, Progress, WatchedRun, Wish, run_watched};
-use kpn_run::{Gate, stream_of};
+use kpn_run::Gate;
 use kpn_standard::Standard;
 use std::alloc::{AllocError, Global};
-use std::io;
-use std::process::ExitCode;
 use std::rt::Clock;
 use std::sync::Wait;
 use std::thread::{Threads, sleep};
@@ -51,7 +47,27 @@ fn make(made: &mut Builder) -> Result<(), AllocError> {
     made.channel(NewChannel::new("words", "src", "snk").capacity(16))
 }
 
-fn print_words<R: Print>(
+/// Runs the network until the deadline, and prints the first words that came out.
+pub(crate) fn show<R: Threads + Wait + Clock + Print + Sync>(
+    rt: &R,
+    alloc: Global,
+) -> Result<(), AllocError> {
+    let mut made = Builder::new(alloc);
+    make(&mut made)?;
+    let (Ok(net), Ok(start)) = (made.check(), Instant::now(rt)) else {
+        return Err(AllocError);
+    };
+    let bodies = bodies_of::<Standard>(alloc, &net)?;
+    let (gate, deadline) = (Slowly { rt }, Deadline { rt, start });
+    let period = Duration::from_millis(5);
+    match run_watched(rt, alloc, net, bodies, 2, &gate, period, &deadline) {
+        Ok(run) => print_first(rt, alloc, &run),
+        Err(_) => Err(AllocError),
+    }
+}
+
+/// Prints the first five words that went through the channel.
+fn print_first<R: Print>(
     rt: &R,
     alloc: Global,
     run: &WatchedRun<Standard>,
@@ -59,43 +75,8 @@ fn print_words<R: Print>(
     if run.end().is_none() {
         let _ = println!(rt; "stopped before its end");
     }
-    for token in stream_of(alloc, run.net(), run.history(), 0)?
-        .iter()
-        .take(5)
-    {
-        if let Token::Word(word) = token {
-            let _ = println!(rt; "{word}");
-        }
+    for word in words(alloc, run, "words")?.iter().take(5) {
+        let _ = println!(rt; "{word}");
     }
     Ok(())
-}
-
-fn play<R: Threads + Wait + Clock + Print + Sync>(
-    rt: &R,
-    alloc: Global,
-    net: Net<Standard>,
-    start: Instant,
-) -> Result<(), AllocError> {
-    let bodies = bodies_of(alloc, &net)?;
-    let (gate, deadline) = (Slowly { rt }, Deadline { rt, start });
-    let period = Duration::from_millis(5);
-    match run_watched(rt, alloc, net, bodies, 2, &gate, period, &deadline) {
-        Ok(run) => print_words(rt, alloc, &run),
-        Err(_) => Err(AllocError),
-    }
-}
-
-fn main(rt: HostRuntime) -> io::Result<ExitCode> {
-    let alloc = rt.alloc();
-    let mut made = Builder::new(alloc);
-    if make(&mut made).is_err() {
-        return Ok(ExitCode::from(4));
-    }
-    let (Ok(net), Ok(start)) = (made.check(), Instant::now(&rt)) else {
-        return Ok(ExitCode::from(4));
-    };
-    match play(&rt, alloc, net, start) {
-        Ok(()) => Ok(ExitCode::from(0)),
-        Err(_) => Ok(ExitCode::from(4)),
-    }
 }
