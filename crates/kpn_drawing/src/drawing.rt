@@ -6,6 +6,7 @@ ghost use Rattle.kpn_drawing.specs.DrawChoices.{HasFewIfRun};
 ghost use Rattle.kpn_drawing.specs.Drawing.{Draws, DrawsOf};
 
 use crate::running::draw_run;
+use kpn_execute::KINDS;
 use kpn_front::{Sink, Source, Status, load_or_refuse, say, say_refused};
 use kpn_message::message_of;
 use kpn_net::{Net, NetFault};
@@ -15,10 +16,6 @@ use std::alloc::Global;
 use std::rt::Clock;
 use std::sync::Wait;
 use std::thread::Threads;
-
-/// The names of the standard kinds, as a message lists them.
-const KINDS: &str =
-    "add, copy, count, divides, merge, prefix, scale, select, sink, switch, take and weave";
 
 /// The outcome of a description: the exit status, and if it was refused its fault, and what is wrong
 /// with it and where.

@@ -9,6 +9,6 @@ mod standard;
 pub use computed::execute_net;
 pub use kpn_args::{Choice, WordsFault, read_words};
 pub use kpn_front::{load, say_checked, say_refused};
-pub use program::{Served, serve};
+pub use program::{KINDS, Served, serve};
 pub use running::execute;
 pub use standard::execute_standard;

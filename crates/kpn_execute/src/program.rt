@@ -18,7 +18,7 @@ use std::sync::Wait;
 use std::thread::Threads;
 
 /// The names of the standard kinds, as a message lists them.
-const KINDS: &str =
+pub const KINDS: &str =
     "add, copy, count, divides, merge, prefix, scale, select, sink, switch, take and weave";
 
 /// The outcome of a choice: the exit status, and if the description was refused its fault, and what is
