@@ -1,0 +1,54 @@
+-- The family of the kinds for signals.
+use Rattle.std.specs.Prelude.{ℕ, List, Option}
+use Rattle.std.specs.Option.{option_map_or}
+use Rattle.kpn_model.specs.declared.token.Token.{Token}
+use Rattle.kpn_model.specs.declared.kinds.Answer.{Answer}
+use Rattle.kpn_model.specs.Network.{Family}
+use Rattle.kpn_standard.specs.Locals.{at, one, three, stays}
+use Rattle.kpn_signals.specs.declared.turns.TheConstants.{READS_FIRST}
+use Rattle.kpn_signals.specs.declared.signal.Signal.{Signal}
+use Rattle.kpn_signals.specs.declared.signal.Signal.TheVariants.{Input, InputFlags, Drain, DrainFlags, Constant, CountUp, Sub, Mul, Shift, Left, Less, Equal, Not, And, Or, Decimate, Repeat, Hold, Delay, LowPass, Clip}
+use Rattle.kpn_signals.specs.Shapes.{step_answer, join_answer}
+use Rattle.kpn_signals.specs.Ends.{input_answer, drain_answer, constant_answer, count_up_answer}
+use Rattle.kpn_signals.specs.Arithmetic.{sub_join, mul_join, shift_step, left_step}
+use Rattle.kpn_signals.specs.Logic.{less_join, equal_join, not_step, and_join, or_join}
+use Rattle.kpn_signals.specs.Rates.{decimate_answer, repeat_answer}
+use Rattle.kpn_signals.specs.Filters.{hold_join, delay_step, low_pass_step, clip_step}
+use Rattle.kpn_signals.specs.Table.{numbered}
+
+-- what a kind answers, by its arguments, its local state and the token of the read just done
+abbrev pub answer_of : Signal → List ℕ → List ℕ → Option Token → Answer
+answer_of Input args l last = input_answer l
+answer_of InputFlags args l last = input_answer l
+answer_of Drain args l last = drain_answer l
+answer_of DrainFlags args l last = drain_answer l
+answer_of Constant args l last = constant_answer (at args 0) l
+answer_of CountUp args l last = count_up_answer l
+answer_of Sub args l last = join_answer sub_join l last
+answer_of Mul args l last = join_answer mul_join l last
+answer_of Shift args l last = step_answer (shift_step (at args 0)) l last
+answer_of Left args l last = step_answer (left_step (at args 0)) l last
+answer_of Less args l last = join_answer less_join l last
+answer_of Equal args l last = join_answer equal_join l last
+answer_of Not args l last = step_answer not_step l last
+answer_of And args l last = join_answer and_join l last
+answer_of Or args l last = join_answer or_join l last
+answer_of Decimate args l last = decimate_answer (at args 0) l last
+answer_of Repeat args l last = repeat_answer (at args 0) l last
+answer_of Hold args l last = join_answer hold_join l last
+answer_of Delay args l last = step_answer (delay_step (at args 0)) l last
+answer_of LowPass args l last = step_answer (low_pass_step (at args 0)) l last
+answer_of Clip args l last = step_answer (clip_step (at args 0) (at args 1)) l last
+
+-- the local state in which a process of a kind begins: hold keeps its argument at first, all else is 0
+abbrev pub start_of : Signal → List ℕ → List ℕ
+start_of Hold args = three READS_FIRST 0 (at args 0)
+start_of _ args = one 0
+
+-- a card of no kind stops
+abbrev pub signals : Family
+signals =
+    record {
+      start = λ card. option_map_or (λ kind. start_of kind card.args) (numbered card.kind) (one 0);
+      answer = λ card local last. option_map_or (λ kind. answer_of kind card.args local last) (numbered card.kind) (stays local);
+    }

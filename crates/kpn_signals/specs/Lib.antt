@@ -1,0 +1,10 @@
+pub mod Words
+pub mod Shapes
+pub mod Ends
+pub mod Arithmetic
+pub mod Logic
+pub mod Rates
+pub mod Filters
+pub mod Table
+pub mod Signatures
+pub mod Family

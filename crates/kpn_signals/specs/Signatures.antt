@@ -1,0 +1,35 @@
+-- What the names and the cards of the kinds for signals mean.
+use Rattle.std.specs.Prelude.{ℕ, nat_lt, ◌&&◌, int_le, Bool, true, List, Option, option_map, option_and_then}
+use Rattle.kpn_model.specs.declared.kinds.Card.{Card}
+use Rattle.kpn_model.specs.declared.kinds.Signature.{Signature}
+use Rattle.kpn_standard.specs.Locals.{at}
+use Rattle.kpn_standard.specs.Signatures.{are_used, given}
+use Rattle.kpn_signals.specs.declared.signal.Signal.{Signal}
+use Rattle.kpn_signals.specs.declared.signal.Signal.TheVariants.{Shift, Left, LowPass, Decimate, Repeat, Delay, Clip}
+use Rattle.kpn_signals.specs.Words.{signed}
+use Rattle.kpn_signals.specs.Table.{row_of, numbered, called}
+
+-- the number of the kind with this name, and how many arguments it takes
+abbrev pub number_named : List ℕ → Option (ℕ × ℕ)
+number_named name = option_map (λ kind. ((row_of kind).number, (row_of kind).arguments)) (called name)
+
+-- what a kind asks of its arguments: a shift is by 0 to 63, a rate at least 1, a delay 1 to 4, and the least is no greater than the
+-- greatest
+abbrev pub suit : Signal → List ℕ → Bool
+suit Shift args = nat_lt (at args 0) 64
+suit Left args = nat_lt (at args 0) 64
+suit LowPass args = nat_lt (at args 0) 64
+suit Decimate args = nat_lt 0 (at args 0)
+suit Repeat args = nat_lt 0 (at args 0)
+suit Delay args = nat_lt 0 (at args 0) && nat_lt (at args 0) 5
+suit Clip args = int_le (signed (at args 0)) (signed (at args 1))
+suit _ args = true
+
+abbrev pub accepts : Signal → List ℕ → Bool
+accepts kind args = are_used (row_of kind).arguments args && suit kind args
+
+abbrev pub signature_of_kind : Signal → List ℕ → Option Signature
+signature_of_kind kind args = given (accepts kind args) (row_of kind).ins (row_of kind).outs
+
+abbrev pub ports : Card → Option Signature
+ports card = option_and_then (λ kind. signature_of_kind kind card.args) (numbered card.kind)

@@ -1,0 +1,47 @@
+-- The table of the kinds for signals.
+use Rattle.std.specs.Prelude.{ℕ, ◌==◌, List, [], ◌∷◌, Option, Some, None, codes}
+use Rattle.std.specs.List.{find}
+use Rattle.std.specs.Str.{bytes_eq}
+use Rattle.kpn_model.specs.declared.token.Sort.{Sort}
+use Rattle.kpn_model.specs.declared.token.Sort.TheVariants.{Flags}
+use Rattle.kpn_standard.specs.Table.{Row, tabled, no_port, one_word, two_words, one_flag, word_and_flag}
+use Rattle.kpn_signals.specs.declared.signal.Signal.{Signal}
+use Rattle.kpn_signals.specs.declared.signal.Signal.TheVariants.{Input, InputFlags, Drain, DrainFlags, Constant, CountUp, Sub, Mul, Shift, Left, Less, Equal, Not, And, Or, Decimate, Repeat, Hold, Delay, LowPass, Clip}
+
+abbrev pub two_flags : List (Option Sort)
+two_flags = Some Flags ∷ Some Flags ∷ None ∷ []
+
+-- the number of a kind in cards, its name, how many arguments it takes, its inputs and its outputs
+abbrev pub row_of : Signal → Row
+row_of Input = tabled 0 (codes "input") 0 no_port one_word
+row_of InputFlags = tabled 1 (codes "input_flags") 0 no_port one_flag
+row_of Drain = tabled 2 (codes "drain") 0 one_word no_port
+row_of DrainFlags = tabled 3 (codes "drain_flags") 0 one_flag no_port
+row_of Constant = tabled 4 (codes "constant") 1 no_port one_word
+row_of CountUp = tabled 5 (codes "count_up") 0 no_port one_word
+row_of Sub = tabled 6 (codes "sub") 0 two_words one_word
+row_of Mul = tabled 7 (codes "mul") 0 two_words one_word
+row_of Shift = tabled 8 (codes "shift") 1 one_word one_word
+row_of Left = tabled 9 (codes "left") 1 one_word one_word
+row_of Less = tabled 10 (codes "less") 0 two_words one_flag
+row_of Equal = tabled 11 (codes "equal") 0 two_words one_flag
+row_of Not = tabled 12 (codes "not") 0 one_flag one_flag
+row_of And = tabled 13 (codes "and") 0 two_flags one_flag
+row_of Or = tabled 14 (codes "or") 0 two_flags one_flag
+row_of Decimate = tabled 15 (codes "decimate") 1 one_word one_word
+row_of Repeat = tabled 16 (codes "repeat") 1 one_word one_word
+row_of Hold = tabled 17 (codes "hold") 1 word_and_flag one_word
+row_of Delay = tabled 18 (codes "delay") 1 one_word one_word
+row_of LowPass = tabled 19 (codes "low_pass") 1 one_word one_word
+row_of Clip = tabled 20 (codes "clip") 2 one_word one_word
+
+abbrev pub all_kinds : List Signal
+all_kinds = Input ∷ InputFlags ∷ Drain ∷ DrainFlags ∷ Constant ∷ CountUp ∷ Sub ∷ Mul ∷ Shift ∷ Left ∷ Less ∷ Equal ∷ Not ∷ And ∷ Or ∷ Decimate ∷ Repeat ∷ Hold ∷ Delay ∷ LowPass ∷ Clip ∷ []
+
+-- the kind with this number
+abbrev pub numbered : ℕ → Option Signal
+numbered number = find (λ kind. number == (row_of kind).number) all_kinds
+
+-- the kind with this name
+abbrev pub called : List ℕ → Option Signal
+called name = find (λ kind. bytes_eq name (row_of kind).name) all_kinds

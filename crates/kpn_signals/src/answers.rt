@@ -1,0 +1,44 @@
+//! The answer of any kind for signals.
+ghost use Rattle.std.specs.Prelude.{◌≡◌, true};
+ghost use Rattle.kpn_signals.specs.Family.{answer_of};
+ghost use Rattle.kpn_signals.specs.Signatures.{accepts};
+
+use crate::arithmetic::{left, mul, shift, sub};
+use crate::ends::{constant, count_up};
+use crate::filters::{clip, delay, hold, low_pass};
+use crate::logic::{and, equal, less, not, or};
+use crate::rates::{decimate, repeat};
+use crate::signal::Signal;
+use crate::turns::{reads, stops};
+use kpn_model::{Answer, Local, Token};
+
+/// Returns the answer of a process of a kind with these arguments, in this local state and after it has
+/// just read `last` (`None` if its last act was no read). The kind must accept the arguments.
+#[inline(always)]
+pub fn answer(kind: Signal, args: [u64; 3], local: Local, last: Option<Token>) -> Answer
+    requires { accepts kind args ≡ true }
+    ensures { result ≡ answer_of kind args local last }
+{
+    let [a, b, _] = args;
+    match kind {
+        Signal::Input | Signal::InputFlags => stops(local),
+        Signal::Drain | Signal::DrainFlags => reads(local),
+        Signal::Constant => constant(a, local),
+        Signal::CountUp => count_up(local),
+        Signal::Sub => sub(local, last),
+        Signal::Mul => mul(local, last),
+        Signal::Shift => shift(a, local, last),
+        Signal::Left => left(a, local, last),
+        Signal::Less => less(local, last),
+        Signal::Equal => equal(local, last),
+        Signal::Not => not(local, last),
+        Signal::And => and(local, last),
+        Signal::Or => or(local, last),
+        Signal::Decimate => decimate(a, local, last),
+        Signal::Repeat => repeat(a, local, last),
+        Signal::Hold => hold(local, last),
+        Signal::Delay => delay(a, local, last),
+        Signal::LowPass => low_pass(a, local, last),
+        Signal::Clip => clip(a, b, local, last),
+    }
+}

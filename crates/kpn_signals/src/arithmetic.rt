@@ -1,0 +1,55 @@
+//! The kinds that compute words: each function returns the next answer of its kind.
+ghost use Rattle.std.specs.Prelude.{◌≡◌, ◌<◌};
+ghost use Rattle.kpn_signals.specs.Shapes.{step_answer, join_answer};
+ghost use Rattle.kpn_signals.specs.Arithmetic.{sub_join, mul_join, right_shift, shift_step, left_step};
+
+use crate::turns::{joined, latest, reads, word, writes_word};
+use kpn_model::{Answer, Local, Token};
+
+/// Reads two words, and writes the first minus the second modulo 2^64, for ever.
+pub(crate) fn sub(local: Local, last: Option<Token>) -> Answer
+    ensures { result ≡ join_answer sub_join local last }
+{
+    let [_, first, kept, _] = local;
+    let difference = first.wrapping_sub(word(latest(last)));
+    joined(local, last, kept, Token::Word(difference))
+}
+
+/// Reads two words, and writes their product modulo 2^64, for ever.
+pub(crate) fn mul(local: Local, last: Option<Token>) -> Answer
+    ensures { result ≡ join_answer mul_join local last }
+{
+    let [_, first, kept, _] = local;
+    let product = first.wrapping_mul(word(latest(last)));
+    joined(local, last, kept, Token::Word(product))
+}
+
+/// Reads a word, and writes it shifted to the right by `bits` as a signed number, for ever.
+pub(crate) fn shift(bits: u64, local: Local, last: Option<Token>) -> Answer
+    requires { bits < 64 }
+    ensures { result ≡ step_answer (shift_step bits) local last }
+{
+    match last {
+        None => reads(local),
+        Some(token) => writes_word(local, right_shift(bits, word(token))),
+    }
+}
+
+/// Reads a word, and writes it shifted to the left by `bits`, for ever.
+pub(crate) fn left(bits: u64, local: Local, last: Option<Token>) -> Answer
+    requires { bits < 64 }
+    ensures { result ≡ step_answer (left_step bits) local last }
+{
+    match last {
+        None => reads(local),
+        Some(token) => writes_word(local, word(token) << bits),
+    }
+}
+
+/// A word shifted to the right as a signed number, which copies its sign.
+fn right_shift(bits: u64, word: u64) -> u64
+    requires { bits < 64 }
+    ensures { result ≡ right_shift bits word }
+{
+    (word.cast_signed() >> bits).cast_unsigned()
+}

@@ -1,0 +1,84 @@
+//! The kinds whose words depend on earlier ones, and the one that keeps words within bounds: each function
+//! returns the next answer of its kind.
+ghost use Rattle.std.specs.Prelude.{◌≡◌, ◌<◌, ◌≤◌, ◌≤ℤ◌};
+ghost use Rattle.kpn_signals.specs.Words.{signed};
+ghost use Rattle.kpn_signals.specs.Shapes.{step_answer, join_answer};
+ghost use Rattle.kpn_signals.specs.Filters.{hold_join, delay_step, next_level, low_pass_step, nearest, clip_step};
+
+use crate::turns::{flag, joined, latest, reads, word, writes_word};
+use kpn_model::{Answer, Local, Token};
+
+/// Reads a word and a flag, and writes the word if the flag is true, else the word that it wrote last, for
+/// ever.
+pub(crate) fn hold(local: Local, last: Option<Token>) -> Answer
+    ensures { result ≡ join_answer hold_join local last }
+{
+    let [_, first, kept, _] = local;
+    let choice = if flag(latest(last)) { first } else { kept };
+    joined(local, last, choice, Token::Word(choice))
+}
+
+/// Reads a word, and writes the word `n` before it (1 to 4), or 0 if there is none, for ever.
+pub(crate) fn delay(n: u64, local: Local, last: Option<Token>) -> Answer
+    requires least { 0 < n }
+    requires greatest { n ≤ 4 }
+    ensures { result ≡ step_answer (delay_step n) local last }
+{
+    let [first, second, third, _] = local;
+    match last {
+        None => reads(local),
+        Some(token) => {
+            let before = local[(n - 1) as usize];
+            writes_word([word(token), first, second, third], before)
+        }
+    }
+}
+
+/// Reads a word x, and writes y + (x - y) / 2^bits, rounded down, as signed numbers, where y is the word
+/// that it wrote last, 0 at first; for ever.
+pub(crate) fn low_pass(bits: u64, local: Local, last: Option<Token>) -> Answer
+    requires { bits < 64 }
+    ensures { result ≡ step_answer (low_pass_step bits) local last }
+{
+    match last {
+        None => reads(local),
+        Some(token) => {
+            let [level, _, _, _] = local;
+            let next = next_level(bits, level, word(token));
+            writes_word([next, 0, 0, 0], next)
+        }
+    }
+}
+
+/// The sum of `level` and of what `word` is more than it, divided by 2^bits and rounded down, as signed
+/// numbers.
+fn next_level(bits: u64, level: u64, word: u64) -> u64
+    requires { bits < 64 }
+    ensures { result ≡ next_level bits level word }
+{
+    let level = i128::from(level.cast_signed());
+    let word = i128::from(word.cast_signed());
+    let next = level + ((word - level) >> bits);
+    (next as i64).cast_unsigned()
+}
+
+/// Reads a word, and writes the nearest one from `least` to `greatest`, as signed numbers, for ever.
+pub(crate) fn clip(least: u64, greatest: u64, local: Local, last: Option<Token>) -> Answer
+    requires { signed least ≤ℤ signed greatest }
+    ensures { result ≡ step_answer (clip_step least greatest) local last }
+{
+    match last {
+        None => reads(local),
+        Some(token) => writes_word(local, nearest(least, greatest, word(token))),
+    }
+}
+
+/// The nearest word from `least` to `greatest`, as signed numbers.
+fn nearest(least: u64, greatest: u64, word: u64) -> u64
+    requires { signed least ≤ℤ signed greatest }
+    ensures { result ≡ nearest least greatest word }
+{
+    let word = word.cast_signed();
+    word.clamp(least.cast_signed(), greatest.cast_signed())
+        .cast_unsigned()
+}

@@ -1,0 +1,145 @@
+//! What a program's help says of the kinds for signals.
+
+/// What a program's help says of a kind: its name, the names of its arguments, the sorts of its inputs and
+/// of its outputs (w a word, f a flag), and what it does.
+#[derive(Clone, Copy, Debug)]
+pub struct Help {
+    pub name: &'static str,
+    pub arguments: &'static str,
+    pub ports: &'static str,
+    pub does: &'static str,
+}
+
+/// What "signed" means in the lines of help.
+pub const SIGNED: &str =
+    "signed: a word is a number in two's complement, from 2^63 on itself less 2^64";
+
+/// A line of help for each kind, in the order of their numbers.
+pub const HELP: [Help; 21] = [
+    Help {
+        name: "input",
+        arguments: "",
+        ports: "-> w",
+        does: "stops at once; its channel's words come from a file",
+    },
+    Help {
+        name: "input_flags",
+        arguments: "",
+        ports: "-> f",
+        does: "stops at once; its channel's flags come from a file",
+    },
+    Help {
+        name: "drain",
+        arguments: "",
+        ports: "w ->",
+        does: "reads for ever",
+    },
+    Help {
+        name: "drain_flags",
+        arguments: "",
+        ports: "f ->",
+        does: "reads for ever",
+    },
+    Help {
+        name: "constant",
+        arguments: "V",
+        ports: "-> w",
+        does: "writes V for ever",
+    },
+    Help {
+        name: "count_up",
+        arguments: "",
+        ports: "-> w",
+        does: "writes 0, 1, 2, .. modulo 2^64 for ever",
+    },
+    Help {
+        name: "sub",
+        arguments: "",
+        ports: "w w -> w",
+        does: "writes the words of input 0 minus those of input 1, modulo 2^64",
+    },
+    Help {
+        name: "mul",
+        arguments: "",
+        ports: "w w -> w",
+        does: "writes the products modulo 2^64",
+    },
+    Help {
+        name: "shift",
+        arguments: "K",
+        ports: "w -> w",
+        does: "writes each word / 2^K, rounded down, signed; K from 0 to 63",
+    },
+    Help {
+        name: "left",
+        arguments: "K",
+        ports: "w -> w",
+        does: "writes each word * 2^K, modulo 2^64; K from 0 to 63",
+    },
+    Help {
+        name: "less",
+        arguments: "",
+        ports: "w w -> f",
+        does: "writes whether the word of input 0 is less, signed",
+    },
+    Help {
+        name: "equal",
+        arguments: "",
+        ports: "w w -> f",
+        does: "writes whether the two words are equal",
+    },
+    Help {
+        name: "not",
+        arguments: "",
+        ports: "f -> f",
+        does: "writes the other flag",
+    },
+    Help {
+        name: "and",
+        arguments: "",
+        ports: "f f -> f",
+        does: "writes whether both flags are true",
+    },
+    Help {
+        name: "or",
+        arguments: "",
+        ports: "f f -> f",
+        does: "writes whether one of the flags is true",
+    },
+    Help {
+        name: "decimate",
+        arguments: "N",
+        ports: "w -> w",
+        does: "of each N words writes the first; N at least 1",
+    },
+    Help {
+        name: "repeat",
+        arguments: "N",
+        ports: "w -> w",
+        does: "writes each word N times; N at least 1",
+    },
+    Help {
+        name: "hold",
+        arguments: "V",
+        ports: "w f -> w",
+        does: "writes the word if the flag is true, else the one that it wrote last, V at first",
+    },
+    Help {
+        name: "delay",
+        arguments: "N",
+        ports: "w -> w",
+        does: "writes N zeros, then copies; N from 1 to 4",
+    },
+    Help {
+        name: "low_pass",
+        arguments: "K",
+        ports: "w -> w",
+        does: "y += (x - y) / 2^K, rounded down, signed, from y = 0: writes y; K from 0 to 63",
+    },
+    Help {
+        name: "clip",
+        arguments: "LO HI",
+        ports: "w -> w",
+        does: "writes the nearest word from LO to HI, signed",
+    },
+];

@@ -1,0 +1,22 @@
+//! Kinds of processes for signals, as a family: their names, arguments, ports and answers, and a line of
+//! help for each.
+//!
+//! Sums, differences and products are modulo 2^64. Where a kind is signed (`shift`, `less`, `low_pass`
+//! and `clip`), a word is a number in two's complement: from 2^63 on it stands for itself less 2^64.
+#![tactic(auto)]
+
+pub mod answers;
+mod arithmetic;
+mod ends;
+mod filters;
+pub mod help;
+mod logic;
+mod rates;
+pub mod signal;
+pub mod signals;
+pub mod turns;
+
+pub use answers::answer;
+pub use help::{HELP, Help, SIGNED};
+pub use signal::Signal;
+pub use signals::Signals;

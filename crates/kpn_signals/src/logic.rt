@@ -1,0 +1,58 @@
+//! The kinds that make flags: each function returns the next answer of its kind.
+ghost use Rattle.std.specs.Prelude.{◌≡◌};
+ghost use Rattle.kpn_signals.specs.Shapes.{step_answer, join_answer};
+ghost use Rattle.kpn_signals.specs.Logic.{less_join, equal_join, not_step, and_join, or_join};
+
+use crate::turns::{flag, joined, latest, reads, word, writes};
+use kpn_model::{Answer, Local, Token};
+
+/// How a flag that was read first is kept if it is true.
+const TRUE: u64 = 1;
+
+/// Reads two words, and writes whether the first is less than the second as signed numbers, for ever.
+pub(crate) fn less(local: Local, last: Option<Token>) -> Answer
+    ensures { result ≡ join_answer less_join local last }
+{
+    let [_, first, kept, _] = local;
+    let is_less = first.cast_signed() < word(latest(last)).cast_signed();
+    joined(local, last, kept, Token::Flag(is_less))
+}
+
+/// Reads two words, and writes whether they are equal, for ever.
+pub(crate) fn equal(local: Local, last: Option<Token>) -> Answer
+    ensures { result ≡ join_answer equal_join local last }
+{
+    let [_, first, kept, _] = local;
+    let is_equal = first == word(latest(last));
+    joined(local, last, kept, Token::Flag(is_equal))
+}
+
+/// Reads a flag, and writes the other one, for ever.
+pub(crate) fn not(local: Local, last: Option<Token>) -> Answer
+    ensures { result ≡ step_answer not_step local last }
+{
+    match last {
+        None => reads(local),
+        Some(token) => writes(local, Token::Flag(!flag(token))),
+    }
+}
+
+/// Reads two flags, and writes whether both are true, for ever.
+pub(crate) fn and(local: Local, last: Option<Token>) -> Answer
+    ensures { result ≡ join_answer and_join local last }
+{
+    let [_, first, kept, _] = local;
+    let second = flag(latest(last));
+    let are_both = first == TRUE && second;
+    joined(local, last, kept, Token::Flag(are_both))
+}
+
+/// Reads two flags, and writes whether one of them is true, for ever.
+pub(crate) fn or(local: Local, last: Option<Token>) -> Answer
+    ensures { result ≡ join_answer or_join local last }
+{
+    let [_, first, kept, _] = local;
+    let second = flag(latest(last));
+    let is_one = first == TRUE || second;
+    joined(local, last, kept, Token::Flag(is_one))
+}

@@ -1,0 +1,33 @@
+//! The kinds that write fewer words than they read, or more: each function returns the next answer of its
+//! kind.
+ghost use Rattle.std.specs.Prelude.{◌≡◌, ◌<◌};
+ghost use Rattle.kpn_signals.specs.Rates.{decimate_answer, repeat_answer};
+
+use crate::turns::{reads, word, writes_word};
+use kpn_model::{Answer, Local, Token};
+
+/// Of each `n` words writes the first, for ever.
+pub(crate) fn decimate(n: u64, local: Local, last: Option<Token>) -> Answer
+    requires { 0 < n }
+    ensures { result ≡ decimate_answer n local last }
+{
+    let [passes_over, _, _, _] = local;
+    match last {
+        None => reads([passes_over, 0, 0, 0]),
+        Some(token) if passes_over == 0 => writes_word([n - 1, 0, 0, 0], word(token)),
+        Some(_) => reads([passes_over - 1, 0, 0, 0]),
+    }
+}
+
+/// Writes each word `n` times, for ever.
+pub(crate) fn repeat(n: u64, local: Local, last: Option<Token>) -> Answer
+    requires { 0 < n }
+    ensures { result ≡ repeat_answer n local last }
+{
+    let [times, value, _, _] = local;
+    match last {
+        None if times == 0 => reads([0, value, 0, 0]),
+        None => writes_word([times - 1, value, 0, 0], value),
+        Some(token) => writes_word([n - 1, word(token), 0, 0], word(token)),
+    }
+}

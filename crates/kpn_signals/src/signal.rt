@@ -1,0 +1,227 @@
+//! The table of the kinds for signals.
+ghost use Rattle.std.specs.Prelude.{◌≡◌, Some, IfSome};
+ghost use Rattle.kpn_signals.specs.Table.{row_of, numbered, called};
+ghost use Rattle.kpn_signals.specs.Signatures.{accepts, number_named};
+ghost use Rattle.kpn_signals.specs.Family.{start_of};
+
+use crate::turns::READS_FIRST;
+use kpn_model::{Local, Sort};
+use kpn_standard::kind::Row;
+
+/// A kind for signals.
+#[derive(Clone, Copy, Debug, PartialEq, Eq)]
+pub enum Signal {
+    /// Stops at once; its channel holds words that come from outside.
+    Input,
+    /// The same with flags.
+    InputFlags,
+    /// Reads words for ever.
+    Drain,
+    /// Reads flags for ever.
+    DrainFlags,
+    /// A word: writes it for ever.
+    Constant,
+    /// Writes 0, 1, 2, .. modulo 2^64 for ever.
+    CountUp,
+    /// Writes the words of input 0 minus those of input 1, modulo 2^64.
+    Sub,
+    /// Writes the products modulo 2^64.
+    Mul,
+    /// How many bits, 0 to 63: writes each word shifted to the right as a signed number.
+    Shift,
+    /// How many bits, 0 to 63: writes each word shifted to the left.
+    Left,
+    /// Writes whether the word of input 0 is less than that of input 1, as signed numbers.
+    Less,
+    /// Writes whether the two words are equal.
+    Equal,
+    /// Writes the other flag.
+    Not,
+    /// Writes whether both flags are true.
+    And,
+    /// Writes whether one of the flags is true.
+    Or,
+    /// A number n, at least 1: of each n words writes the first.
+    Decimate,
+    /// A number n, at least 1: writes each word n times.
+    Repeat,
+    /// The word that is written at first: writes the word of input 0 if the flag of input 1 is true, else
+    /// the word that it wrote last.
+    Hold,
+    /// A number n, 1 to 4: writes n zeros, then what it reads.
+    Delay,
+    /// How many bits, 0 to 63: writes y + (x - y) / 2^bits for each word x, rounded down, as signed
+    /// numbers, where y is the word that it wrote last, 0 at first.
+    LowPass,
+    /// The least and the greatest word, as signed numbers: writes the nearest one within them.
+    Clip,
+}
+
+/// The longest delay: as many words as a process keeps.
+const MAX_DELAY: u64 = 4;
+
+const WORDS: Option<Sort> = Some(Sort::Words);
+
+const FLAGS: Option<Sort> = Some(Sort::Flags);
+
+const NO_PORT: [Option<Sort>; 3] = [None, None, None];
+
+const ONE_WORD: [Option<Sort>; 3] = [WORDS, None, None];
+
+const TWO_WORDS: [Option<Sort>; 3] = [WORDS, WORDS, None];
+
+const ONE_FLAG: [Option<Sort>; 3] = [FLAGS, None, None];
+
+const TWO_FLAGS: [Option<Sort>; 3] = [FLAGS, FLAGS, None];
+
+const WORD_AND_FLAG: [Option<Sort>; 3] = [WORDS, FLAGS, None];
+
+impl Signal {
+    /// Returns the row of the kind in the table. Its name means this kind.
+    pub fn row(self) -> Row
+        ensures number { result.number ≡ (row_of self).number }
+        ensures name { result.name.now ≡ (row_of self).name }
+        ensures arguments { result.arguments ≡ (row_of self).arguments }
+        ensures ins { result.ins ≡ (row_of self).ins }
+        ensures outs { result.outs ≡ (row_of self).outs }
+        ensures means { number_named result.name.now ≡ Some (result.number, result.arguments) }
+    {
+        match self {
+            Signal::Input => tabled(0, "input", 0, NO_PORT, ONE_WORD),
+            Signal::InputFlags => tabled(1, "input_flags", 0, NO_PORT, ONE_FLAG),
+            Signal::Drain => tabled(2, "drain", 0, ONE_WORD, NO_PORT),
+            Signal::DrainFlags => tabled(3, "drain_flags", 0, ONE_FLAG, NO_PORT),
+            Signal::Constant => tabled(4, "constant", 1, NO_PORT, ONE_WORD),
+            Signal::CountUp => tabled(5, "count_up", 0, NO_PORT, ONE_WORD),
+            Signal::Sub => tabled(6, "sub", 0, TWO_WORDS, ONE_WORD),
+            Signal::Mul => tabled(7, "mul", 0, TWO_WORDS, ONE_WORD),
+            Signal::Shift => tabled(8, "shift", 1, ONE_WORD, ONE_WORD),
+            Signal::Left => tabled(9, "left", 1, ONE_WORD, ONE_WORD),
+            Signal::Less => tabled(10, "less", 0, TWO_WORDS, ONE_FLAG),
+            Signal::Equal => tabled(11, "equal", 0, TWO_WORDS, ONE_FLAG),
+            Signal::Not => tabled(12, "not", 0, ONE_FLAG, ONE_FLAG),
+            Signal::And => tabled(13, "and", 0, TWO_FLAGS, ONE_FLAG),
+            Signal::Or => tabled(14, "or", 0, TWO_FLAGS, ONE_FLAG),
+            Signal::Decimate => tabled(15, "decimate", 1, ONE_WORD, ONE_WORD),
+            Signal::Repeat => tabled(16, "repeat", 1, ONE_WORD, ONE_WORD),
+            Signal::Hold => tabled(17, "hold", 1, WORD_AND_FLAG, ONE_WORD),
+            Signal::Delay => tabled(18, "delay", 1, ONE_WORD, ONE_WORD),
+            Signal::LowPass => tabled(19, "low_pass", 1, ONE_WORD, ONE_WORD),
+            Signal::Clip => tabled(20, "clip", 2, ONE_WORD, ONE_WORD),
+        }
+    }
+
+    /// Returns the kind with this number; `None` if there is none.
+    pub fn numbered(number: u16) -> Option<Signal>
+        ensures is { result ≡ numbered number }
+        ensures number { IfSome result (λ kind. (row_of kind).number ≡ number) }
+    {
+        match number {
+            0 => Some(Signal::Input),
+            1 => Some(Signal::InputFlags),
+            2 => Some(Signal::Drain),
+            3 => Some(Signal::DrainFlags),
+            4 => Some(Signal::Constant),
+            5 => Some(Signal::CountUp),
+            6 => Some(Signal::Sub),
+            7 => Some(Signal::Mul),
+            8 => Some(Signal::Shift),
+            9 => Some(Signal::Left),
+            10 => Some(Signal::Less),
+            11 => Some(Signal::Equal),
+            12 => Some(Signal::Not),
+            13 => Some(Signal::And),
+            14 => Some(Signal::Or),
+            15 => Some(Signal::Decimate),
+            16 => Some(Signal::Repeat),
+            17 => Some(Signal::Hold),
+            18 => Some(Signal::Delay),
+            19 => Some(Signal::LowPass),
+            20 => Some(Signal::Clip),
+            _ => None,
+        }
+    }
+
+    /// Returns the kind with this name; `None` if there is none.
+    pub fn called(name: &str) -> Option<Signal>
+        ensures { result ≡ called name.now }
+    {
+        match name {
+            "input" => Some(Signal::Input),
+            "input_flags" => Some(Signal::InputFlags),
+            "drain" => Some(Signal::Drain),
+            "drain_flags" => Some(Signal::DrainFlags),
+            "constant" => Some(Signal::Constant),
+            "count_up" => Some(Signal::CountUp),
+            "sub" => Some(Signal::Sub),
+            "mul" => Some(Signal::Mul),
+            "shift" => Some(Signal::Shift),
+            "left" => Some(Signal::Left),
+            "less" => Some(Signal::Less),
+            "equal" => Some(Signal::Equal),
+            "not" => Some(Signal::Not),
+            "and" => Some(Signal::And),
+            "or" => Some(Signal::Or),
+            "decimate" => Some(Signal::Decimate),
+            "repeat" => Some(Signal::Repeat),
+            "hold" => Some(Signal::Hold),
+            "delay" => Some(Signal::Delay),
+            "low_pass" => Some(Signal::LowPass),
+            "clip" => Some(Signal::Clip),
+            _ => None,
+        }
+    }
+
+    /// Returns whether a process of the kind can have these arguments.
+    pub fn accepts(self, args: [u64; 3]) -> bool
+        ensures { result ≡ accepts self args }
+    {
+        let [a, b, c] = args;
+        let two_used = c == 0;
+        let one_used = b == 0 && two_used;
+        let none_used = a == 0 && one_used;
+        match self {
+            Signal::Clip => two_used && a.cast_signed() <= b.cast_signed(),
+            Signal::Shift | Signal::Left | Signal::LowPass => one_used && a < 64,
+            Signal::Decimate | Signal::Repeat => one_used && a > 0,
+            Signal::Delay => one_used && a > 0 && a <= MAX_DELAY,
+            Signal::Constant | Signal::Hold => one_used,
+            Signal::Input | Signal::InputFlags | Signal::Drain | Signal::DrainFlags => none_used,
+            Signal::CountUp | Signal::Sub | Signal::Mul | Signal::Less => none_used,
+            Signal::Equal | Signal::Not | Signal::And | Signal::Or => none_used,
+        }
+    }
+
+    /// Returns the local state in which a process of the kind begins: `hold` keeps its argument at first.
+    pub fn start(self, args: [u64; 3]) -> Local
+        ensures { result ≡ start_of self args }
+    {
+        match self {
+            Signal::Hold => [READS_FIRST, 0, args[0], 0],
+            _ => [0; 4],
+        }
+    }
+}
+
+/// A row of the table.
+fn tabled(
+    number: u16,
+    name: &'static str,
+    arguments: usize,
+    ins: [Option<Sort>; 3],
+    outs: [Option<Sort>; 3],
+) -> Row
+    ensures number { result.number ≡ number }
+    ensures name { result.name.now ≡ name.now }
+    ensures arguments { result.arguments ≡ arguments }
+    ensures ins { result.ins ≡ ins }
+    ensures outs { result.outs ≡ outs }
+{
+    Row {
+        number,
+        name,
+        arguments,
+        ins,
+        outs,
+    }
+}
