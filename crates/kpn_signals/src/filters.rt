@@ -50,8 +50,7 @@ pub(crate) fn low_pass(bits: u64, local: Local, last: Option<Token>) -> Answer
     }
 }
 
-/// The sum of `level` and of what `word` is more than it, divided by 2^bits and rounded down, as signed
-/// numbers.
+/// `level` + (`word` - `level`) / 2^bits, rounded down, as signed numbers.
 fn next_level(bits: u64, level: u64, word: u64) -> u64
     requires { bits < 64 }
     ensures { result ≡ next_level bits level word }
