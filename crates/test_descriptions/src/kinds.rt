@@ -1,4 +1,5 @@
-//! Tests of kpn_standard, kpn_body and kpn_compute.
+//! Tests of kpn_standard, kpn_body, kpn_compute and kpn_signals.
 mod computed;
+mod signals;
 mod standard;
 mod tasks;

@@ -1,6 +1,6 @@
 //! Tests of descriptions, their messages, kinds and pictures: of kpn_net, kpn_message and kpn_picture, and
-//! in `kinds` of kpn_standard, kpn_body and kpn_compute. They have a crate of their own so that these are
-//! proved once, and one crate so that what it uses is loaded once.
+//! in `kinds` of kpn_standard, kpn_body, kpn_compute and kpn_signals. They have a crate of their own so
+//! that these are proved once, and one crate so that what it uses is loaded once.
 #![tactic(auto)]
 
 #[cfg(test)]
