@@ -4,7 +4,9 @@ description to what is written on standard output and the exit status. It is wri
 and docs/model.md and shares nothing with the engine: TOML is read by Python's tomllib (tests/toml_1_1.py), a process is
 a Python generator, and any process that can go on may be the next, as a seed decides.
 
-    tests/interpreter.py [--seed N] [--versions 1] run --show NAME < FILE
+    tests/interpreter.py [--seed N] [--versions 1] [--signals] run --show NAME < FILE
+
+With --signals descriptions may also use the kinds for signals.
 """
 import math
 import random
@@ -130,12 +132,138 @@ KINDS = {
 SORTS = {"w": "words", "f": "flags"}
 
 
+# Kinds for signals, which are no standard ones: `bring(SIGNALS)` adds them.
+
+def signed(word):
+    """The number that a word stands for in two's complement."""
+    return word - WORD if word >= WORD // 2 else word
+
+
+def nothing():
+    yield from ()
+
+
+def drain():
+    while True:
+        yield "reads", 0
+
+
+def constant(value):
+    while True:
+        yield "writes", 0, value
+
+
+def count_up():
+    count = 0
+    while True:
+        yield "writes", 0, count % WORD
+        count += 1
+
+
+def mapped(function):
+    """The kind that writes what a function makes of each token."""
+    def acts(*args):
+        while True:
+            token = yield "reads", 0
+            yield "writes", 0, function(token, *args)
+    return acts
+
+
+def joined(function):
+    """The kind that writes what a function makes of a token of input 0 and one of input 1."""
+    def acts():
+        while True:
+            left = yield "reads", 0
+            right = yield "reads", 1
+            yield "writes", 0, function(left, right)
+    return acts
+
+
+def decimate(n):
+    while True:
+        token = yield "reads", 0
+        yield "writes", 0, token
+        for _ in range(n - 1):
+            yield "reads", 0
+
+
+def repeat(n):
+    while True:
+        token = yield "reads", 0
+        for _ in range(n):
+            yield "writes", 0, token
+
+
+def hold(value):
+    while True:
+        token = yield "reads", 0
+        flag = yield "reads", 1
+        value = token if flag else value
+        yield "writes", 0, value
+
+
+def delay(n):
+    past = deque([0] * n)
+    while True:
+        token = yield "reads", 0
+        past.append(token)
+        yield "writes", 0, past.popleft()
+
+
+def low_pass(k):
+    level = 0
+    while True:
+        token = yield "reads", 0
+        level += (signed(token) - level) >> k
+        yield "writes", 0, level % WORD
+
+
+def clipped(word, least, greatest):
+    return sorted((least, word, greatest), key=signed)[1]
+
+
+SIGNALS = {
+    "input": (nothing, 0, "", "w"),
+    "input_flags": (nothing, 0, "", "f"),
+    "drain": (drain, 0, "w", ""),
+    "drain_flags": (drain, 0, "f", ""),
+    "constant": (constant, 1, "", "w"),
+    "count_up": (count_up, 0, "", "w"),
+    "sub": (joined(lambda left, right: (left - right) % WORD), 0, "ww", "w"),
+    "mul": (joined(lambda left, right: left * right % WORD), 0, "ww", "w"),
+    "shift": (mapped(lambda word, k: (signed(word) >> k) % WORD), 1, "w", "w"),
+    "left": (mapped(lambda word, k: (word << k) % WORD), 1, "w", "w"),
+    "less": (joined(lambda left, right: signed(left) < signed(right)), 0, "ww", "f"),
+    "equal": (joined(lambda left, right: left == right), 0, "ww", "f"),
+    "not": (mapped(lambda flag: not flag), 0, "f", "f"),
+    "and": (joined(lambda left, right: left and right), 0, "ff", "f"),
+    "or": (joined(lambda left, right: left or right), 0, "ff", "f"),
+    "decimate": (decimate, 1, "w", "w"),
+    "repeat": (repeat, 1, "w", "w"),
+    "hold": (hold, 1, "wf", "w"),
+    "delay": (delay, 1, "w", "w"),
+    "low_pass": (low_pass, 1, "w", "w"),
+    "clip": (mapped(clipped), 2, "w", "w"),
+}
+
+
+def bring(kinds):
+    """Adds kinds to those that descriptions may use."""
+    KINDS.update(kinds)
+
+
 def args_fit(kind, args):
     """Whether a kind accepts these arguments; their number is right."""
     if kind == "count":
         return sum(args) < WORD
-    if kind in ("weave", "divides"):
+    if kind in ("weave", "divides", "decimate", "repeat"):
         return 0 not in args
+    if kind in ("shift", "left", "low_pass"):
+        return args[0] < 64
+    if kind == "delay":
+        return 1 <= args[0] <= 4
+    if kind == "clip":
+        return signed(args[0]) <= signed(args[1])
     return True
 
 
@@ -525,12 +653,16 @@ def serve(words, text, seed=0, versions=(1, 2)):
 
 def main(words):
     seed, versions = 0, (1, 2)
-    while words[:1] and words[0] in ("--seed", "--versions"):
-        if words[0] == "--seed":
-            seed = int(words[1])
+    while words[:1] and words[0] in ("--seed", "--versions", "--signals"):
+        option, *words = words
+        if option == "--signals":
+            bring(SIGNALS)
+            continue
+        value, *words = words
+        if option == "--seed":
+            seed = int(value)
         else:
-            versions = tuple(map(int, words[1].split(",")))
-        words = words[2:]
+            versions = tuple(map(int, value.split(",")))
     written, status = serve(words, sys.stdin.buffer.read(LIMIT + 1), seed, versions)[0]
     sys.stdout.buffer.write(written)
     return status
