@@ -1,8 +1,9 @@
 //! What is wrong with the keys of a description, and with the forms of their values.
+use crate::lines::line_of_table;
 use crate::quoted::Quoted;
 use Presence::{Optional, Required};
 use kpn_net::version::is_two;
-use std::alloc::AllocError;
+use std::alloc::{AllocError, Global};
 use std::fmt::Write;
 use toml::{Table, Value};
 
@@ -81,8 +82,18 @@ const CHANNEL: [Key; 8] = [
     Key("tokens", Form::Tokens, Optional),
 ];
 
-/// What is first wrong with the keys of a document; nothing where they are as they should be.
-pub(crate) fn push_misfit(out: &mut String, table: &Table) -> Result<(), AllocError> {
+/// An array of tables: its key, the header of each of its tables, and the keys that each has.
+#[derive(Clone, Copy)]
+struct Tables<'a>(&'static str, &'static str, &'a [Key]);
+
+/// What is first wrong with the keys of a document, which was read of this text; nothing where they are as
+/// they should be.
+pub(crate) fn push_misfit(
+    alloc: Global,
+    out: &mut String,
+    text: &[u8],
+    table: &Table,
+) -> Result<(), AllocError> {
     if push_key(out, table, VERSION)? {
         return Ok(());
     }
@@ -95,51 +106,50 @@ pub(crate) fn push_misfit(out: &mut String, table: &Table) -> Result<(), AllocEr
     } else {
         (&TOP[..4], &CHANNEL[..7])
     };
-    if push_keys(out, table, top)? || push_items(out, table, "process", &PROCESS)? {
+    let processes = Tables("process", "[[process]]", &PROCESS);
+    let channels = Tables("channel", "[[channel]]", channel);
+    if push_keys(out, table, top)? || push_items(alloc, out, text, table, processes)? {
         return Ok(());
     }
-    push_items(out, table, "channel", channel)?;
+    push_items(alloc, out, text, table, channels)?;
     Ok(())
 }
 
-/// What is first wrong with the tables of an array at a key, and whether anything is.
+/// What is first wrong with the tables of an array, and whether anything is.
 fn push_items(
+    alloc: Global,
     out: &mut String,
+    text: &[u8],
     table: &Table,
-    key: &str,
-    keys: &[Key],
+    tables: Tables,
 ) -> Result<bool, AllocError> {
+    let Tables(key, header, keys) = tables;
     let Some(Value::Array(items)) = table.get(key) else {
         return Ok(false);
     };
     for (k, item) in items.iter().enumerate() {
-        if push_item(out, item, key, k, keys)? {
+        let mut fault = String::new(alloc);
+        if push_item(&mut fault, item, keys)? {
+            write!(out, "{key}[{k}]")?;
+            if let Some(line) = line_of_table(text, header.as_bytes(), items.len(), k) {
+                write!(out, " at line {line}")?;
+            }
+            write!(out, ": {fault}")?;
             return Ok(true);
         }
     }
     Ok(false)
 }
 
-/// What is wrong with item `k` of the array at a key. What is written of an item without a fault is
-/// taken back.
-fn push_item(
-    out: &mut String,
-    item: &Value,
-    key: &str,
-    k: usize,
-    keys: &[Key],
-) -> Result<bool, AllocError> {
-    out.clear();
-    write!(out, "{key}[{k}]: ")?;
-    let Some(table) = item.as_table() else {
-        write!(out, "it must be a table")?;
-        return Ok(true);
-    };
-    if push_keys(out, table, keys)? {
-        return Ok(true);
+/// What is wrong with an item of an array of tables, and whether anything is.
+fn push_item(out: &mut String, item: &Value, keys: &[Key]) -> Result<bool, AllocError> {
+    match item.as_table() {
+        Some(table) => push_keys(out, table, keys),
+        None => {
+            write!(out, "it must be a table")?;
+            Ok(true)
+        }
     }
-    out.clear();
-    Ok(false)
 }
 
 /// What is first wrong with a table that has to have these keys, and whether anything is: a key that

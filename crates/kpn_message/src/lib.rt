@@ -1,13 +1,21 @@
 //! Messages for people: what is wrong with a refused description, and where. Which fault it is,
 //! `kpn_net` says.
+//!
+//! ```text
+//! if let Some(message) = message_of::<Mixed>(rt.alloc(), text, refused.fault, KINDS) {
+//!     let _ = eprintln!(rt; "example_mixed: {message}");
+//! }
+//! ```
 #![tactic(auto)]
 
 mod channels;
 mod keys;
+mod lines;
 pub mod location;
 mod message;
 mod processes;
 mod quoted;
 
+pub use lines::line_of_table;
 pub use location::{Location, locate};
 pub use message::message_of;

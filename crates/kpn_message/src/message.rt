@@ -16,6 +16,12 @@ use std::fmt::Write;
 /// `fault` is the fault that the description was refused for, and `kinds` names the kinds that there
 /// are. There is no message where the fault says all (`Memory` and `Input`), or where memory is refused.
 /// Of a text that does not have the fault the message may say what isn't so, and there may be none.
+///
+/// ```text
+/// if let Some(message) = message_of::<Mixed>(rt.alloc(), text, refused.fault, KINDS) {
+///     let _ = eprintln!(rt; "example_mixed: {message}");
+/// }
+/// ```
 pub fn message_of<K: Kinds>(
     alloc: Global,
     text: &[u8],
@@ -31,7 +37,7 @@ pub fn message_of<K: Kinds>(
     let mut out = String::new(alloc);
     match fault {
         NetFault::NotToml | NetFault::Keys => match toml::table_from_slice(alloc, text) {
-            Ok(table) => push_misfit(&mut out, &table).ok()?,
+            Ok(table) => push_misfit(alloc, &mut out, text, &table).ok()?,
             Err(error) => push_syntax(&mut out, text, &error).ok()?,
         },
         _ => {

@@ -1,6 +1,6 @@
 //! Edits of a description, each with the number of its fault and its message.
 use crate::checks::same;
-use kpn_message::{Location, locate, message_of};
+use kpn_message::{Location, line_of_table, locate, message_of};
 use kpn_net::{Check, Net, NetFault, read_sketch};
 use kpn_standard::Standard;
 use std::alloc::Global;
@@ -76,7 +76,7 @@ static KEYS: [(&str, &str, u8, &str); 15] = [
         "version = 2",
         "version = 1",
         2,
-        "channel[2]: key \"tokens\" is unknown; the keys are name, from, to, out, in, sort, capacity",
+        "channel[2] at line 34: key \"tokens\" is unknown; the keys are name, from, to, out, in, sort, capacity",
     ),
     (
         "version = 2",
@@ -88,50 +88,55 @@ static KEYS: [(&str, &str, u8, &str); 15] = [
         "kind = \"copy\"",
         "knd = \"copy\"",
         2,
-        "process[1]: key \"knd\" is unknown; the keys are name, kind, args",
+        "process[1] at line 9: key \"knd\" is unknown; the keys are name, kind, args",
     ),
     (
         "kind = \"copy\"",
         "",
         2,
-        "process[1]: key \"kind\" is missing",
+        "process[1] at line 9: key \"kind\" is missing",
     ),
     (
         "kind = \"copy\"",
         "kind = 4",
         2,
-        "process[1]: key \"kind\" must be a text",
+        "process[1] at line 9: key \"kind\" must be a text",
     ),
     (
         "args = [1, 3]",
         "args = 3",
         2,
-        "process[0]: key \"args\" must be an array of integers",
+        "process[0] at line 4: key \"args\" must be an array of integers",
     ),
     (
         "args = [1, 3]",
         "args = [1, 3.5]",
         2,
-        "process[0]: key \"args\" must be an array of integers",
+        "process[0] at line 4: key \"args\" must be an array of integers",
     ),
     (
         "capacity = 7",
         "sort = \"bytes\"",
         2,
-        "channel[1]: key \"sort\" must be \"words\" or \"flags\"",
+        "channel[1] at line 28: key \"sort\" must be \"words\" or \"flags\"",
     ),
     (
         "tokens = []",
         "tokens = [\"1\"]",
         2,
-        "channel[2]: key \"tokens\" must be an array of integers and booleans",
+        "channel[2] at line 34: key \"tokens\" must be an array of integers and booleans",
     ),
-    ("to = \"two\"\n", "", 2, "channel[0]: key \"to\" is missing"),
+    (
+        "to = \"two\"\n",
+        "",
+        2,
+        "channel[0] at line 23: key \"to\" is missing",
+    ),
     (
         "version = 2",
         "version = 3",
         2,
-        "channel[2]: key \"tokens\" is unknown; the keys are name, from, to, out, in, sort, capacity",
+        "channel[2] at line 34: key \"tokens\" is unknown; the keys are name, from, to, out, in, sort, capacity",
     ),
 ];
 
@@ -306,7 +311,7 @@ static CHANNELS: [(&str, &str, u8, &str); 14] = [
 ];
 
 /// Whole texts of version 1, and of no network.
-static TEXTS: [(&str, u8, &str); 10] = [
+static TEXTS: [(&str, u8, &str); 14] = [
     (
         "version = 1\n[[process]\n",
         1,
@@ -323,6 +328,26 @@ static TEXTS: [(&str, u8, &str); 10] = [
         "version = 1\nprocess = [1]\n",
         2,
         "process[0]: it must be a table",
+    ),
+    (
+        "version = 1\n# [[process]]\n \t[[process]] # [[process]]\nname = \"a\"\n",
+        2,
+        "process[0] at line 3: key \"kind\" is missing",
+    ),
+    (
+        "version = 1\n[[\"process\"]]\nname = \"a\"\n[[process]]\nkind = \"b\"\n",
+        2,
+        "process[0]: key \"kind\" is missing",
+    ),
+    (
+        "version = 1\n[[process]]\nkind = \"\"\"copy\"\"\"\n",
+        2,
+        "process[0]: key \"name\" is missing",
+    ),
+    (
+        "version = 1\n[[process]]\nkind = '''copy'''\n",
+        2,
+        "process[0]: key \"name\" is missing",
     ),
     (
         "version = 0\nprocess = []\n",
@@ -418,6 +443,19 @@ fn each_text_has_its_message(rt: HostRuntime) {
     }
     let message = "line 1, column 1: invalid UTF-8";
     same(&rt, message, is_told(rt.alloc(), &[0xff], 1, message), true);
+}
+
+/// The line of table `k` of the text above, if it has so many processes.
+fn line_of(tables: usize, k: usize) -> Option<usize> {
+    line_of_table(TEXT.as_bytes(), b"[[process]]", tables, k)
+}
+
+#[test]
+fn the_line_of_a_table_is_that_of_its_header(rt: HostRuntime) {
+    same(&rt, "first", line_of(4, 0), Some(4));
+    same(&rt, "last", line_of(4, 3), Some(18));
+    same(&rt, "none", line_of(4, 4), None);
+    same(&rt, "one without a header", line_of(5, 0), None);
 }
 
 /// The faults that have no message, with the numbers and the lines of these.
