@@ -1,8 +1,9 @@
 //! A network that is made by code, checked, written as a description, and run by four workers beside a
 //! line of progress on standard error; then what went through two of its channels, as CSV. After it a
-//! network that is stopped.
+//! network that is stopped, and one that threads of the program's own run.
 #![tactic(auto)]
 
+mod own_threads;
 mod stopped;
 
 use kpn_builder::{Builder, NewChannel};
@@ -122,9 +123,9 @@ fn show<R: Threads + Wait + Clock + Print + Eprint + Sync>(
 fn main(rt: HostRuntime) -> io::Result<ExitCode> {
     let alloc = rt.alloc();
     let mut made = Builder::new(alloc);
-    let shown = make(&mut made).is_ok() && show(&rt, alloc, &made).is_ok();
-    if !shown || stopped::show(&rt, alloc).is_err() {
-        return Ok(ExitCode::from(4));
-    }
-    Ok(ExitCode::from(0))
+    let shown = make(&mut made).is_ok()
+        && show(&rt, alloc, &made).is_ok()
+        && stopped::show(&rt, alloc).is_ok()
+        && own_threads::show(&rt, alloc).is_ok();
+    Ok(ExitCode::from(if shown { 0 } else { 4 }))
 }

@@ -87,6 +87,13 @@ pub enum WatchedFault<B: Body> {
 /// called.
 ///
 /// Errors: see [`WatchedFault`].
+///
+/// ```text
+/// match run_watched(rt, alloc, net, bodies, 4, &Open, period, &Ticker { rt }) {
+///     Ok(run) => print_streams(rt, alloc, &run),
+///     Err(_) => Err(AllocError),
+/// }
+/// ```
 pub fn run_watched<B: Body, R: Wait + Clock + Threads + Sync, G: Gate, V: Observer>(
     rt: &R,
     alloc: Global,
@@ -191,7 +198,7 @@ fn run_machine<B: Body, R: Wait + Clock + Threads + Sync, G: Gate, V: Observer>(
 }
 
 /// Does nothing: a caller knows from here on what the laws say of a run, over or not.
-fn told_by_laws<K: Kinds>(ran: &WatchedRun<K>)
+pub(crate) fn told_by_laws<K: Kinds>(ran: &WatchedRun<K>)
     ensures within { StaysWithinCapacities (family_of K.start K.answer_of) ran.now.machine.network ran.now.machine.history }
     ensures budget { EndSparesBudget (family_of K.start K.answer_of) ran.now.machine.network ran.now.machine.end }
     ensures comparable { IsComparable (family_of K.start K.answer_of) ran.now.machine.network ran.now.machine.history }

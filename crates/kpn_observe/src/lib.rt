@@ -2,21 +2,27 @@
 //! `kpn_run` with an observer.
 //!
 //! ```text
-//! struct Ticker<'a, R> { rt: &'a R }
-//!
 //! impl<'a, R: Eprint + Sync> Observer for Ticker<'a, R> {
 //!     fn see(&self, progress: Progress) -> Wish {
-//!         let _ = eprintln!(self.rt; "{} entries", progress.entries);
+//!         let _ = eprintln!(self.rt;
+//!             "{} entries, {} growths",
+//!             progress.entries, progress.growths
+//!         );
 //!         Wish::GoOn
 //!     }
 //! }
 //!
-//! let half_a_second = Duration::from_millis(500);
-//! let ran = run_watched(rt, alloc, net, bodies, 4, &Open, half_a_second, &Ticker { rt });
+//! match run_watched(rt, alloc, net, bodies, 4, &Open, period, &Ticker { rt }) {
+//!     Ok(run) => print_streams(rt, alloc, &run),
+//!     Err(_) => Err(AllocError),
+//! }
 //! ```
+//!
+//! `run_by_crew` runs a network by threads of the caller's own.
 #![tactic(auto)]
 
 mod bell;
+mod crew;
 mod executor;
 mod observer;
 mod reporting;
@@ -24,7 +30,10 @@ mod slot;
 mod watched;
 mod worker;
 
+pub use crew::{Crew, CrewSeat, run_by_crew};
 pub use executor::{WatchedFault, run_watched};
+pub use kpn_machine::{OpenFault, OpenRefused};
+pub use kpn_monitor::{EntryLedger, Monitor, Taken};
 pub use kpn_watch::{Phase, Progress};
 pub use observer::{Observer, Wish};
 pub use reporting::chronicle_report;

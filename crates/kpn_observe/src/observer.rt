@@ -20,6 +20,17 @@ pub enum Wish {
 
 /// Who is shown how far a run has come while it goes on, and may stop it. It is called in a thread of its
 /// own, and may wait; the workers don't wait for it, but the run returns only after it.
+///
+/// ```text
+/// impl<'a, R: Clock + Sync> Observer for Deadline<'a, R> {
+///     fn see(&self, progress: Progress) -> Wish {
+///         match self.start.elapsed(self.rt) {
+///             Ok(past) if past < Duration::from_millis(20) || progress.entries < 100 => Wish::GoOn,
+///             _ => Wish::Stop,
+///         }
+///     }
+/// }
+/// ```
 pub trait Observer: Sync {
     /// Called with how many entries the history has, how many of them are growths, and whether the run
     /// has ended. If it wishes to stop, the workers finish what they hold and take nothing more.

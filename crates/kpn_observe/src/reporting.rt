@@ -21,6 +21,10 @@ use std::alloc::{AllocError, Global};
 /// run of the network that is over, whatever the schedule and the number of workers, and its streams
 /// are below every solution of the network's equations, and the least one if the run terminated or
 /// ended in a deadlock (Kahn 1974, Parks 1995). Errors: memory was refused.
+///
+/// ```text
+/// let report = chronicle_report(alloc, run.chronicle()).expect(rt, "memory");
+/// ```
 pub fn chronicle_report<K: Kinds>(
     alloc: Global,
     chronicle: &Chronicle<K>,

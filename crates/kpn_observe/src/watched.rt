@@ -43,6 +43,12 @@ impl<K: Kinds> WatchedRun<K> {
     }
 
     /// Returns the network.
+    ///
+    /// ```text
+    /// let Some(channel) = run.net().find_channel(channel) else {
+    ///     return Ok(words);
+    /// };
+    /// ```
     pub fn net(&self) -> &Net<K>
         ensures { result.now ≡ self.now.machine.network }
     {
@@ -50,6 +56,10 @@ impl<K: Kinds> WatchedRun<K> {
     }
 
     /// Returns what the machine left behind: network, history, standings and end.
+    ///
+    /// ```text
+    /// let report = chronicle_report(alloc, run.chronicle()).expect(rt, "memory");
+    /// ```
     pub fn chronicle(&self) -> &Chronicle<K>
         ensures { result.now ≡ self.now.machine }
     {
@@ -57,6 +67,14 @@ impl<K: Kinds> WatchedRun<K> {
     }
 
     /// Returns the entries, in order.
+    ///
+    /// ```text
+    /// for token in stream_of(alloc, run.net(), run.history(), channel)? {
+    ///     if let Token::Word(word) = token {
+    ///         words.push(word)?;
+    ///     }
+    /// }
+    /// ```
     pub fn history(&self) -> &[Entry]
         ensures { result.now ≡ self.now.machine.history }
     {
@@ -80,6 +98,12 @@ impl<K: Kinds> WatchedRun<K> {
 
     /// Returns how the run ended; `None` if it was stopped before its end. In both cases the history is a
     /// run from the start of the network, and an end is justified.
+    ///
+    /// ```text
+    /// if run.end().is_none() {
+    ///     let _ = println!(rt; "stopped before its end");
+    /// }
+    /// ```
     pub fn end(&self) -> Option<End>
         ensures end { result ≡ self.now.machine.end }
         ensures account { IsAccount (family_of K.start K.answer_of) K.admits self.now.machine.network self.now }

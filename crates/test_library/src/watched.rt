@@ -71,7 +71,7 @@ impl Observer for Witness {
 }
 
 /// A counter of so many numbers, and a sink for them.
-fn counter<R: Abort>(rt: &R, alloc: Global, numbers: i64) -> Net<Standard> {
+pub(crate) fn counter<R: Abort>(rt: &R, alloc: Global, numbers: i64) -> Net<Standard> {
     let mut made = Builder::new(alloc);
     made.set_budget(2_000_000);
     made.process("src", "count", &[1, numbers])
@@ -105,7 +105,7 @@ fn shows_counter<R: Wait + Clock + Threads + Sync + Abort>(rt: &R, alloc: Global
 }
 
 /// The report of a watched run is what docs/format.md says of this counter.
-fn tells_counter<R: Abort>(rt: &R, alloc: Global, run: &WatchedRun<Standard>) {
+pub(crate) fn tells_counter<R: Abort>(rt: &R, alloc: Global, run: &WatchedRun<Standard>) {
     let report = chronicle_report(alloc, run.chronicle()).expect(rt, "memory");
     let Some(report) = report else {
         return same(rt, "report", false, true);

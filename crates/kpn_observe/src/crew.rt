@@ -1,0 +1,382 @@
+//! Runs by threads of a caller's own.
+ghost use Rattle.std.specs.Prelude.{◌≡◌, ◌≢◌, ◌+◌, ◌<◌, ◌≤◌, [], length, map, vec_capacity, Ok, IfOk, IfErr, IfNone, MatchResult, OnOk};
+ghost use Rattle.std.specs.List.{sum_by};
+ghost use Rattle.kpn_model.specs.Network.{family_of};
+ghost use Rattle.kpn_model.specs.declared.history.End.{End as EndV};
+ghost use Rattle.kpn_body.specs.Input.{Input};
+ghost use Rattle.kpn_machine.specs.Commits.{number};
+ghost use Rattle.kpn_machine.specs.Opening.{cards_of, IsOpenFault};
+ghost use Rattle.kpn_machine.specs.MachineView.{IsFresh};
+ghost use Rattle.kpn_laws.specs.RoomOfRun.{TakesLeastRoom};
+ghost use Rattle.kpn_laws.specs.StreamsOfRun.{ApproachLeastSolution};
+ghost use Rattle.kpn_monitor.specs.Names.{Shares};
+ghost use Rattle.kpn_monitor.specs.Kept.{HasEnded, IsAccount, WasCommitted, WasTaken};
+ghost use Rattle.kpn_run.specs.Runs.{IsComparable, StaysWithinCapacities};
+ghost use Rattle.kpn_observe.specs.Accounts.{EndSparesBudget};
+
+use crate::executor::told_by_laws;
+use crate::watched::WatchedRun;
+use kpn_body::{Body, Finished};
+use kpn_machine::{Machine, OpenFault, OpenRefused, Outcome, Stranger};
+use kpn_monitor::{EntryLedger, Monitor, Opening, Seat, Taken};
+use kpn_network::Net;
+use kpn_run::Gate;
+use std::alloc::Global;
+use std::marker::{Brand, Model};
+use std::sync::Wait;
+use std::sync::ledger::Ledger;
+use std::thread::{Threads, for_each_mut};
+
+/// A seat of a run by a crew: one part of each ledger of its monitor. A crew can't lose it, since it is lent.
+#[derive(Drop)]
+pub struct CrewSeat<E: EntryLedger, O: Ledger> {
+    seat: Seat<E, O>,
+}
+
+impl<E: EntryLedger, O: Ledger> Model for CrewSeat<E, O> {
+    ghost use Rattle.std.specs.Prelude.{◌≡◌};
+    ghost use Rattle.kpn_monitor.specs.Names.{Shares};
+
+    ghost Value = { Shares };
+
+    ghost view = { λ c. c.seat };
+
+    ghost invariant = { λ c. c.seat.parts ≡ 1 };
+}
+
+impl<E: EntryLedger, O: Ledger> CrewSeat<E, O> {
+    fn new(seat: Seat<E, O>) -> CrewSeat<E, O>
+        requires { seat.parts ≡ 1 }
+        ensures { result ≡ seat }
+    {
+        CrewSeat { seat }
+    }
+
+    fn leave(self) -> Seat<E, O>
+        ensures { (result ≡ self) × (result.parts ≡ 1) }
+    {
+        let CrewSeat { seat } = self;
+        seat
+    }
+
+    /// Takes a process out as a task, or returns the end of the run (`Monitor::take`). Waits while no
+    /// process is ready and the run goes on. If a task is dropped, its process stays out for good.
+    ///
+    /// ```text
+    /// for _ in self.rt.forever() {
+    ///     let Taken::Task(task) = seat.take(self.rt, monitor) else {
+    ///         return;
+    ///     };
+    ///     let finished = task.call();
+    ///     if seat.commit(self.rt, monitor, finished).is_err() {
+    ///         return;
+    ///     }
+    /// }
+    /// ```
+    pub fn take<B: Body, R: Wait>(&mut self, rt: &R, monitor: &Monitor<B, E, O>) -> Taken<B>
+        ensures task { (t : Input) → result ≡ Taken.Task t → self.new ≡ self.old }
+        ensures over { (e : EndV) → result ≡ Taken.Over e → self.new ≡ record self.old { overs = 1 } }
+        ensures taken { (t : Input) → result ≡ Taken.Task t → WasTaken (family_of B.Kinds.start B.Kinds.answer_of) B.Kinds.admits E.net t }
+        ensures ended { (e : EndV) → result ≡ Taken.Over e → HasEnded (family_of B.Kinds.start B.Kinds.answer_of) B.Kinds.admits E.net e }
+    {
+        monitor.take(rt, &mut self.seat)
+    }
+
+    /// Gives an answer to the machine (`Monitor::commit`). The seat need not be the one that took the task.
+    ///
+    /// Errors: the machine did not ask for this answer. It is handed back, and nothing changes.
+    ///
+    /// ```text
+    /// if seat.commit(self.rt, monitor, finished).is_err() {
+    ///     return;
+    /// }
+    /// ```
+    pub fn commit<B: Body, R: Wait>(
+        &mut self,
+        rt: &R,
+        monitor: &Monitor<B, E, O>,
+        finished: Finished<B>,
+    ) -> Result<Outcome, Stranger<B>>
+        ensures seat { MatchResult result (λ o. self.new ≡ record self.old { entries = self.old.entries + number o }) (λ _. self.new ≡ self.old) }
+        ensures stranger { IfErr result (λ s. s.finished ≡ finished) }
+        ensures committed { IfOk result (λ o. WasCommitted (family_of B.Kinds.start B.Kinds.answer_of) B.Kinds.admits E.net finished o) }
+    {
+        monitor.commit(rt, finished, &mut self.seat)
+    }
+
+    /// Takes a task, calls it, asks the gate and commits the answer, again and again, until the run is over
+    /// or an answer is refused. Returns the refused answer; if there is none, the seat has met the end. It
+    /// may wait for other threads.
+    ///
+    /// ```text
+    /// let refused: Option<Finished<Standards>> = seat.work(self.rt, monitor, &Open);
+    /// ```
+    pub fn work<B: Body, R: Wait, G: Gate>(
+        &mut self,
+        rt: &R,
+        monitor: &Monitor<B, E, O>,
+        gate: &G,
+    ) -> Option<Finished<B>>
+        ensures over { IfNone result (self.new.overs ≡ 1) }
+    {
+        for _ in rt.forever() {
+            match self.take(rt, monitor) {
+                Taken::Over(_) => return None,
+                Taken::Task(task) => {
+                    let finished = task.call();
+                    gate.before_commit(finished.process());
+                    if let Err(Stranger { finished }) = self.commit(rt, monitor, finished) {
+                        return Some(finished);
+                    }
+                }
+            }
+        }
+        unreachable!()
+    }
+}
+
+/// What threads of a caller's own do at the run of a network. What they share is a monitor, whose type names
+/// the run (`E` and `O`): so it is a method for all names.
+///
+/// ```text
+/// impl<'a, R: Wait + Sync> Crew<CardBody<Standard>> for Counting<'a, R> {
+///     fn work<E: EntryLedger, O: Ledger>(
+///         &self,
+///         monitor: &Monitor<CardBody<Standard>, E, O>,
+///         seat: &mut CrewSeat<E, O>,
+///     ) {
+/// ```
+pub trait Crew<B: Body>: Sync {
+    /// Called once in each thread, with its seat. It returns at the end of the run, or whenever it likes.
+    fn work<E: EntryLedger, O: Ledger>(
+        &self,
+        monitor: &Monitor<B, E, O>,
+        seat: &mut CrewSeat<E, O>,
+    );
+}
+
+/// Runs a network from its start by threads that do what the caller's crew says, with a body for each process
+/// in order: each thread has the monitor of the run and one seat. The calling thread has one of the seats; if a
+/// thread can't be started, the calling thread does its work.
+///
+/// The crew may take tasks, ask bodies and commit answers as it likes, pause, and leave before the end. Whatever
+/// it does, all that is known of a watched run is known of its history (`run_watched`): it is a run of the
+/// sequential machine, an end, if there is one, is justified, after each prefix no channel holds more tokens
+/// than its capacity, and its streams and those of any run from any starting capacities are prefix-comparable
+/// (Kahn 1974). If capacity b suffices for the network, no channel of capacity b or more grows in it (Parks
+/// 1995); its streams are below every solution of the network's equations. If it has ended, it has not ended
+/// by `Budget` if some run that is over has fewer entries than the budget.
+///
+/// Errors: the bodies are not one for each process, with its card (`Bodies`, `Card`), and network and bodies
+/// are handed back unchanged; or memory was refused (`Memory`), and the network and bodies of the right cards
+/// are handed back. Nothing has run then.
+///
+/// ```text
+/// let Ok(run) = run_by_crew(rt, alloc, net, bodies, 3, &crew) else {
+///     return Err(AllocError);
+/// };
+/// ```
+pub fn run_by_crew<B: Body, R: Threads + Sync, C: Crew<B>>(
+    rt: &R,
+    alloc: Global,
+    net: Net<B::Kinds>,
+    bodies: Vec<B>,
+    seats: u16,
+    crew: &C,
+) -> Result<WatchedRun<B::Kinds>, OpenRefused<B>>
+    ensures account { IfOk result (IsAccount (family_of B.Kinds.start B.Kinds.answer_of) B.Kinds.admits net) }
+    ensures within { IfOk result (λ r. StaysWithinCapacities (family_of B.Kinds.start B.Kinds.answer_of) net r.machine.history) }
+    ensures budget { IfOk result (λ r. EndSparesBudget (family_of B.Kinds.start B.Kinds.answer_of) net r.machine.end) }
+    ensures comparable { IfOk result (λ r. IsComparable (family_of B.Kinds.start B.Kinds.answer_of) net r.machine.history) }
+    ensures room { IfOk result (λ r. TakesLeastRoom (family_of B.Kinds.start B.Kinds.answer_of) net r.machine.history r.machine.state) }
+    ensures streams { IfOk result (λ r. ApproachLeastSolution (family_of B.Kinds.start B.Kinds.answer_of) net r.machine.history r.machine.state) }
+    ensures cards { OnOk result (map B.card bodies.items ≡ cards_of net.processes) }
+    ensures net_back { IfErr result (λ refused. refused.net ≡ net) }
+    ensures cards_back { IfErr result (λ refused. map B.card refused.bodies.items ≡ map B.card bodies.items) }
+    ensures bodies_back { IfErr result (λ refused. refused.fault ≢ OpenFault.Memory → refused.bodies.items ≡ bodies.items) }
+    ensures fault { IfErr result (λ refused. IsOpenFault net.processes (map B.card bodies.items) refused.fault) }
+{
+    match Machine::open(alloc, net, bodies) {
+        Ok(machine) => match run_opened(rt, alloc, machine, seats, crew) {
+            Ok(ran) => Ok(ran),
+            Err(refused) => Err(refused),
+        },
+        Err(refused) => Err(refused),
+    }
+}
+
+/// The same, for a machine that is open.
+fn run_opened<B: Body, R: Threads + Sync, C: Crew<B>>(
+    rt: &R,
+    alloc: Global,
+    machine: Machine<B>,
+    seats: u16,
+    crew: &C,
+) -> Result<WatchedRun<B::Kinds>, OpenRefused<B>>
+    requires { IsFresh machine }
+    ensures account { IfOk result (IsAccount (family_of B.Kinds.start B.Kinds.answer_of) B.Kinds.admits machine.network) }
+    ensures within { IfOk result (λ r. StaysWithinCapacities (family_of B.Kinds.start B.Kinds.answer_of) machine.network r.machine.history) }
+    ensures budget { IfOk result (λ r. EndSparesBudget (family_of B.Kinds.start B.Kinds.answer_of) machine.network r.machine.end) }
+    ensures comparable { IfOk result (λ r. IsComparable (family_of B.Kinds.start B.Kinds.answer_of) machine.network r.machine.history) }
+    ensures room { IfOk result (λ r. TakesLeastRoom (family_of B.Kinds.start B.Kinds.answer_of) machine.network r.machine.history r.machine.state) }
+    ensures streams { IfOk result (λ r. ApproachLeastSolution (family_of B.Kinds.start B.Kinds.answer_of) machine.network r.machine.history r.machine.state) }
+    ensures net_back { IfErr result (λ refused. refused.net ≡ machine.network) }
+    ensures cards_back { IfErr result (λ refused. map B.card refused.bodies.items ≡ cards_of machine.network.processes) }
+    ensures fault { IfErr result (λ refused. refused.fault ≡ OpenFault.Memory) }
+{
+    match Opening::new(alloc, machine) {
+        Ok(opening) => match run_named::<B, Brand, Brand, R, C>(rt, alloc, opening, seats, crew) {
+            Ok(ran) => {
+                told_by_laws(&ran);
+                Ok(ran)
+            }
+            Err(refused) => Err(refused),
+        },
+        Err(machine) => Err(no_memory(machine)),
+    }
+}
+
+/// Memory was refused before anything has run.
+fn no_memory<B: Body>(machine: Machine<B>) -> OpenRefused<B>
+    requires { IsFresh machine }
+    ensures net_back { result.net ≡ machine.network }
+    ensures cards_back { map B.card result.bodies.items ≡ cards_of machine.network.processes }
+    ensures fault { result.fault ≡ OpenFault.Memory }
+{
+    let (net, bodies) = machine.into_parts();
+    OpenRefused {
+        net,
+        bodies,
+        fault: OpenFault::Memory,
+    }
+}
+
+/// The same, for ledgers that are named.
+fn run_named<
+    B: Body,
+    E: EntryLedger + Send + Sync,
+    O: Ledger + Send + Sync,
+    R: Threads + Sync,
+    C: Crew<B>,
+>(
+    rt: &R,
+    alloc: Global,
+    opening: Opening<B>,
+    seats: u16,
+    crew: &C,
+) -> Result<WatchedRun<B::Kinds>, OpenRefused<B>>
+    requires network { opening.machine.network ≡ E.net }
+    requires board { opening.board ≡ E.board }
+    requires entries { (opening.entries.name ≡ E.name) × (opening.entries.parts ≡ E.parts) }
+    requires overs { (opening.overs.name ≡ O.name) × (opening.overs.parts ≡ O.parts) }
+    ensures account { IfOk result (IsAccount (family_of B.Kinds.start B.Kinds.answer_of) B.Kinds.admits E.net) }
+    ensures net_back { IfErr result (λ refused. refused.net ≡ opening.machine.network) }
+    ensures cards_back { IfErr result (λ refused. map B.card refused.bodies.items ≡ cards_of opening.machine.network.processes) }
+    ensures fault { IfErr result (λ refused. refused.fault ≡ OpenFault.Memory) }
+{
+    let count = usize::from(seats);
+    let Ok(crewed) = Vec::with_capacity(alloc, count) else {
+        return Err(no_memory(opening.into_machine()));
+    };
+    let Ok(all) = Vec::with_capacity(alloc, count + 1) else {
+        return Err(no_memory(opening.into_machine()));
+    };
+    let (monitor, mut rest) = Monitor::<B, E, O>::open(opening);
+    let mut crewed = crewed;
+    split_all(&mut rest, count, &mut crewed);
+    Ok(run_seated(rt, monitor, rest, crewed, all, crew))
+}
+
+/// Splits seats of one part off a seat.
+fn split_all<E: EntryLedger, O: Ledger>(
+    rest: &mut Seat<E, O>,
+    count: usize,
+    seats: &mut Vec<CrewSeat<E, O>>,
+)
+    requires room { (seats.old.items ≡ []) × (count ≤ vec_capacity seats.old) }
+    ensures parts { length seats.new.items + rest.new.parts ≡ rest.old.parts }
+    ensures count { length seats.new.items ≤ count }
+{
+    for _i in 0..count {
+        split_one(rest, seats);
+    }
+}
+
+// Splits a seat of one part off a seat, unless this has only one part left.
+fn split_one<E: EntryLedger, O: Ledger>(rest: &mut Seat<E, O>, seats: &mut Vec<CrewSeat<E, O>>)
+    requires room { length seats.old.items < vec_capacity seats.old }
+    ensures parts { length seats.new.items + rest.new.parts ≡ length seats.old.items + rest.old.parts }
+    ensures count { length seats.new.items ≤ length seats.old.items + 1 }
+    ensures room { vec_capacity seats.new ≡ vec_capacity seats.old }
+{
+    if let Some(seat) = rest.split() {
+        seats.push_reserved(CrewSeat::new(seat));
+    }
+}
+
+/// Lets the crew work, and closes with all seats.
+fn run_seated<
+    B: Body,
+    E: EntryLedger + Send + Sync,
+    O: Ledger + Send + Sync,
+    R: Threads + Sync,
+    C: Crew<B>,
+>(
+    rt: &R,
+    monitor: Monitor<B, E, O>,
+    rest: Seat<E, O>,
+    crewed: Vec<CrewSeat<E, O>>,
+    mut seats: Vec<Seat<E, O>>,
+    crew: &C,
+) -> WatchedRun<B::Kinds>
+    requires parts { length crewed.items + rest.parts ≡ 65536 }
+    requires seats { (seats.items ≡ []) × (length crewed.items < vec_capacity seats) }
+    ensures { IsAccount (family_of B.Kinds.start B.Kinds.answer_of) B.Kinds.admits E.net result }
+{
+    let mut crewed = crewed;
+    work_all(rt, &monitor, &mut crewed, crew);
+    seats.push_reserved(rest);
+    leave_all(crewed, &mut seats);
+    match monitor.close(seats) {
+        Ok(closed) => WatchedRun::of(closed),
+        Err(_) => unreachable!(),
+    }
+}
+
+/// Has the crew work at each seat, in the calling thread and in others.
+fn work_all<
+    B: Body,
+    E: EntryLedger + Send + Sync,
+    O: Ledger + Send + Sync,
+    R: Threads + Sync,
+    C: Crew<B>,
+>(rt: &R, monitor: &Monitor<B, E, O>, crewed: &mut Vec<CrewSeat<E, O>>, crew: &C)
+    ensures { length crewed.new.items ≡ length crewed.old.items }
+{
+    work_each(rt, monitor, crewed.as_mut_slice(), crew);
+}
+
+// As `work_all`, of a slice.
+fn work_each<
+    B: Body,
+    E: EntryLedger + Send + Sync,
+    O: Ledger + Send + Sync,
+    R: Threads + Sync,
+    C: Crew<B>,
+>(rt: &R, monitor: &Monitor<B, E, O>, seats: &mut [CrewSeat<E, O>], crew: &C) {
+    let threads = seats.len().max(1);
+    for_each_mut(rt, seats, threads, &|_, seat| crew.work(monitor, seat));
+}
+
+/// Takes the seats back from the crew.
+fn leave_all<E: EntryLedger, O: Ledger>(
+    mut crewed: Vec<CrewSeat<E, O>>,
+    seats: &mut Vec<Seat<E, O>>,
+)
+    requires { length crewed.items + length seats.old.items ≤ vec_capacity seats.old }
+    ensures { sum_by (λ (s : Shares). s.parts) seats.new.items ≡ sum_by (λ (s : Shares). s.parts) seats.old.items + length crewed.items }
+{
+    while let Some(seat) = crewed.pop() {
+        seats.push_reserved(seat.leave());
+    }
+}

@@ -1,0 +1,112 @@
+//! Runs by threads of a caller's own.
+use crate::checks::same;
+use crate::watched::{counter, tells_counter};
+use kpn_body::Finished;
+use kpn_compute::{CardBody, bodies_of};
+use kpn_net::End;
+use kpn_observe::{
+    Crew, CrewSeat, EntryLedger, Monitor, OpenFault, OpenRefused, Taken, run_by_crew,
+};
+use kpn_run::Open;
+use kpn_standard::Standard;
+use std::alloc::Global;
+use std::process::Abort;
+use std::sync::Wait;
+use std::sync::atomic::{AtomicU64, Ordering};
+use std::sync::ledger::Ledger;
+use std::thread::Threads;
+
+type Standards = CardBody<Standard>;
+
+/// Works with each seat to the end, and counts the seats that met it.
+#[derive(Drop)]
+struct All<'a, R> {
+    rt: &'a R,
+    met: AtomicU64,
+}
+
+impl<'a, R: Wait + Sync> Crew<Standards> for All<'a, R> {
+    fn work<E: EntryLedger, O: Ledger>(
+        &self,
+        monitor: &Monitor<Standards, E, O>,
+        seat: &mut CrewSeat<E, O>,
+    ) {
+        let refused: Option<Finished<Standards>> = seat.work(self.rt, monitor, &Open);
+        if refused.is_none() {
+            self.met.fetch_add(1, Ordering::SeqCst);
+        }
+    }
+}
+
+/// Looks at one run of a counter to three by so many seats.
+fn shows_crew<R: Threads + Wait + Sync + Abort>(rt: &R, alloc: Global, seats: u16) {
+    let net = counter(rt, alloc, 3);
+    let bodies = bodies_of(alloc, &net).expect(rt, "memory");
+    let met = AtomicU64::new(0);
+    let crew = All { rt, met };
+    let Ok(run) = run_by_crew(rt, alloc, net, bodies, seats, &crew) else {
+        return same(rt, "ran", false, true);
+    };
+    let met = crew.met.load(Ordering::SeqCst);
+    same(rt, "met", met, u64::from(seats));
+    same(rt, "end", run.end(), Some(End::Terminated));
+    same(rt, "receipts", run.receipts(), 8);
+    tells_counter(rt, alloc, &run);
+}
+
+#[test]
+fn a_crew_comes_to_the_end(rt: HostRuntime) {
+    for seats in [1, 2, 5] {
+        shows_crew(&rt, rt.alloc(), seats);
+    }
+}
+
+/// Leaves after one commit.
+#[derive(Drop)]
+struct Leaving<'a, R> {
+    rt: &'a R,
+}
+
+impl<'a, R: Wait + Sync> Crew<Standards> for Leaving<'a, R> {
+    fn work<E: EntryLedger, O: Ledger>(
+        &self,
+        monitor: &Monitor<Standards, E, O>,
+        seat: &mut CrewSeat<E, O>,
+    ) {
+        if let Taken::Task(task) = seat.take(self.rt, monitor) {
+            let _ = seat.commit(self.rt, monitor, task.call());
+        }
+    }
+}
+
+/// A crew that leaves after the counter's first word leaves a history of one entry; one without a seat leaves
+/// an empty one.
+#[test]
+fn a_crew_leaves_before_the_end(rt: HostRuntime) {
+    let alloc = rt.alloc();
+    for seats in [0, 1] {
+        let net = counter(&rt, alloc, 3);
+        let bodies = bodies_of(alloc, &net).expect(&rt, "memory");
+        let Ok(run) = run_by_crew(&rt, alloc, net, bodies, seats, &Leaving { rt: &rt }) else {
+            return same(&rt, "ran", false, true);
+        };
+        same(&rt, "end", run.end(), None);
+        same(&rt, "entries", run.history().len(), usize::from(seats));
+    }
+}
+
+/// Bodies that don't fit come back, and no crew is asked.
+#[test]
+fn a_crew_without_bodies_is_refused(rt: HostRuntime) {
+    let alloc = rt.alloc();
+    let net = counter(&rt, alloc, 3);
+    let met = AtomicU64::new(0);
+    let crew = All { rt: &rt, met };
+    let ran = run_by_crew(&rt, alloc, net, Vec::new(alloc), 2, &crew);
+    let Err(OpenRefused { net, fault, .. }) = ran else {
+        return same(&rt, "refused", false, true);
+    };
+    same(&rt, "fault", fault, OpenFault::Bodies);
+    same(&rt, "processes", net.processes(), 2);
+    same(&rt, "met", crew.met.load(Ordering::SeqCst), 0);
+}
