@@ -1,141 +1,111 @@
 -- The growth of the chosen channel and its writer's put are steps of the definitions.
-use Rattle.std.proofs.Common.{◌≡◌, ◌≢◌, ◌↔◌, List, length, refl, sym, ap, ◌∙◌, arith, ℕ, ◌<◌, ◌≤◌, ◌+◌, min, false, Some, None, Option, set, subst}
-use Rattle.std.proofs.lemmas.Option.{same_Some}
+use Rattle.std.proofs.Common.{◌≡◌, ◌≢◌, ◌↔◌, ◌∙◌, List, [], length, refl, arith, ℕ, ◌<◌, ◌≤◌, ◌+◌, min, false, Some, None, Option, set}
+use Rattle.std.proofs.lemmas.Bool.{false_from_ne_true}
 use Rattle.std.specs.List.{list_any, Contains}
 use Rattle.kpn_model.specs.declared.token.Token.{Token}
 use Rattle.kpn_model.specs.declared.kinds.Card.{Card}
-use Rattle.kpn_model.specs.declared.kinds.Act.{Act}
-use Rattle.kpn_model.specs.declared.kinds.Act.TheVariants.{Read, Write, Stop}
+use Rattle.kpn_model.specs.declared.kinds.Act.TheVariants.{Write}
 use Rattle.kpn_model.specs.declared.kinds.Answer.{Answer}
 use Rattle.kpn_model.specs.declared.history.Deed.{Deed}
-use Rattle.kpn_model.specs.declared.history.Deed.TheVariants.{Put}
+use Rattle.kpn_model.specs.declared.history.Deed.TheVariants.{Took, Put, Stopped}
+use Rattle.kpn_model.specs.declared.history.Entry.{Entry}
 use Rattle.kpn_model.specs.declared.history.Entry.TheVariants.{Did, Grew}
-use Rattle.kpn_model.specs.Network.{Network, Family, channel_of}
+use Rattle.kpn_model.specs.Network.{Network, Family}
 use Rattle.kpn_model.specs.Semantics.{State, tokens, capacity, with_channel, IsPossible, IsDeed, after_deed, Grows}
-use Rattle.kpn_laws.proofs.States.{out_of-writer, capacity_set_other}
+use Rattle.kpn_laws.proofs.States.{tokens_set_same, capacity_set_same, capacity_set_other}
 use Rattle.kpn_laws.proofs.Steps.{capacity_after}
-use Rattle.kpn_state.specs.StateAndHistory.{StateAndHistory, more}
-use Rattle.kpn_state.specs.Candidates.{CandidateList}
-use Rattle.kpn_state.specs.Marks.{MarkLists, mark_lists}
+use Rattle.kpn_state.specs.StateAndHistory.{state_and_history, more}
 use Rattle.kpn_state.specs.declared.standing.Standing.{Standing}
 use Rattle.kpn_state.specs.declared.standing.Standing.TheVariants.{Parked}
+use Rattle.kpn_state.specs.declared.waiting.Waiting.{Waiting}
+use Rattle.kpn_state.specs.Candidates.{CandidateList}
+use Rattle.kpn_state.specs.Marks.{is_marked, mark_lists}
 use Rattle.kpn_state.specs.Standings.{standing, is_busy, standing_after, partner, StandingsFit}
-use Rattle.kpn_commit.specs.Choice.{written_by, awaited_by, awaited, IsSmallest, AreCandidates}
-use Rattle.kpn_commit.specs.Waiting.{AreMarks}
+use Rattle.kpn_state.proofs.Placed.{standing_within}
+use Rattle.kpn_commit.specs.Choice.{awaited, IsSmallest}
+use Rattle.kpn_commit.specs.Waiting.{AreWaiting, partner_marked}
 use Rattle.kpn_commit.specs.Settling.{GrowsAndPuts}
-use Rattle.kpn_state.proofs.Placed.{standing_within, parked_not_ended}
-use Rattle.kpn_commit.proofs.Candidates.{writing, served, acted_awaits, acted_not_counted}
-use Rattle.kpn_commit.proofs.Marks.{put_marks}
+use Rattle.kpn_commit.proofs.Keeping.{keeps_all, keeps_grown}
+use Rattle.kpn_commit.proofs.Waits.{WaitsToWrite, waiting_writer, waiting_reader, is_writer, acted_waits_not, waiting_with, done_writing}
+use Rattle.kpn_commit.proofs.Marks.{others_blocked}
 use Rattle.kpn_commit.proofs.Idle.{awaits_blocked, smallest_chosen, smallest_artificial}
-use Rattle.kpn_commit.proofs.Growing.{keeps_grown, keeps_put, grown_possible}
-use Rattle.kpn_commit.proofs.Reacting.{acted}
+use Rattle.kpn_commit.proofs.Working.{acted}
 
--- the deed of a writer is its put
-deed_put : (kinds : Family) (net : Network) (M : State) (p c : ℕ) (x : Act) (d : Deed) → written_by net p x ≡ Some c → IsDeed kinds net M p x d → (t : Token) × (d ≡ Put c t)
-deed_put kinds net M p c (Write k t) (Put b u) e is = (u, ap (λ y. Put y u) (same_Some b c (sym is.0 ∙ e)))
-deed_put kinds net M p c (Read k) d e is = cc
-deed_put kinds net M p c Stop d e is = cc
-deed_put kinds net M p c x d e is = absurd is
-
-module _ (kinds : Family) (admits : Card → List ℕ → Option Token → Type 0) (net : Network) (s : StateAndHistory) (standings : List Standing) (k : StandingsFit kinds admits net None s.state standings) (c w : ℕ) (a : Answer) (to : ℕ) (waits : awaited net standings w ≡ Some c) (parked : standing standings w ≡ Parked a) (within : c < length s.state.channels) where
+module _ {kinds : Family} {admits : Card → List ℕ → Option Token → Type 0} {net : Network} {M : State} {l : List Standing} (k : StandingsFit kinds admits net None M l) (c p to : ℕ) (waits : awaited net l p ≡ Some c) where
   -- the state after the growth
-  abbrev after_growth : State
-  after_growth = with_channel s.state c (tokens s.state c) to
+  abbrev grown : State
+  grown = with_channel M c (tokens M c) to
 
-  -- the writer's answer writes to the channel
-  writes : written_by net w a.act ≡ Some c
-  writes = ap (λ x. awaited_by net w x) (sym parked) ∙ waits
+  write : WaitsToWrite net p c (standing l p)
+  write = waiting_writer net p c (standing l p) waits
 
-  -- it is the channel's writer
-  is_writer : (channel_of net c).writer ≡ w
-  is_writer = let x = writing net w c a.act writes in (out_of-writer net w x.0 c x.3).1
-
-  -- the channel holds a token
-  holds : 1 ≤ length (tokens s.state c)
-  holds =
-      let full = (awaits_blocked kinds admits net s.state standings k w c waits).full in
-      let x = writing net w c a.act writes in
-      let some = k.smallest c (out_of-writer net w x.0 c x.3).0 in
-      omega arith
+  there : c < length M.channels
+  there = let many = k.channels in let within = (is_writer net p c (standing l p) waits).0 in omega arith
 
   -- after the growth no parked process but the writer can go on
-  pub keeps_enlarged : (s1 : StateAndHistory) → s1 ≡ more s after_growth (Grew c to) → capacity s.state c ≤ to → to ≤ net.ceiling → StandingsFit kinds admits net (Some w) s1.state standings
-  keeps_enlarged s1 first more few = subst (λ (x : StateAndHistory). StandingsFit kinds admits net (Some w) x.state standings) (sym first) (keeps_grown kinds admits net s.state c to within standings w k is_writer more few)
+  pub keeps_enlarged : capacity M c ≤ to → to ≤ net.ceiling → StandingsFit kinds admits net (Some p) grown l
+  keeps_enlarged more few = keeps_grown k c there p to (is_writer net p c (standing l p) waits).1 more few
 
-  -- and the writer can
-  pub put_possible : (s1 : StateAndHistory) → s1 ≡ more s after_growth (Grew c to) → length (tokens s.state c) < to → IsPossible kinds net s1.state w a.act
-  put_possible s1 first room =
-      let x = writing net w c a.act writes in
-      subst (λ (y : StateAndHistory). IsPossible kinds net y.state w a.act) (sym first)
-      (subst (λ y. IsPossible kinds net after_growth w y) (sym x.2) (grown_possible kinds admits net s.state c to within w x.0 x.1 x.3 room))
+  module _ (a : Answer) (parked : standing l p ≡ Parked a) where
+    act : a.act ≡ Write write.port write.token
+    act = let same = write.parked in let is = write.act in cc
 
-  -- after the put the channel has no mark of its writer
-  pub marks_after_put :
-      (s1 : StateAndHistory) (d : Deed) (moved : List Standing) (marks cleared : MarkLists) → AreMarks net standings marks → IsDeed kinds net s1.state w a.act d → moved ≡ set standings w (standing_after d) → cleared ≡ mark_lists marks.readers (set marks.writers c false)
-      → AreMarks net moved cleared
-  marks_after_put s1 d moved marks cleared are is moves e =
-      let put = deed_put kinds net s1.state w c a.act d writes is in
-      let here : w < length standings = standing_within standings w (λ f. parked_not_ended a (sym parked ∙ f)) in
-      let is_put : IsDeed kinds net s1.state w a.act (Put c put.0) = subst (λ (x : Deed). IsDeed kinds net s1.state w a.act x) put.1 is in
-      subst (λ (m : MarkLists). AreMarks net moved m) (sym e)
-      (subst (λ (l : List Standing). AreMarks net l (mark_lists marks.readers (set marks.writers c false))) (sym (moves ∙ ap (λ (x : Deed). set standings w (standing_after x)) put.1))
-      (put_marks kinds net s1.state standings marks are w a parked here c put.0 is_put))
+    within : p < length l
+    within = standing_within l p (λ e. cc)
 
-  -- after the put no parked process can go on
-  pub keeps_after_put :
-      (s1 : StateAndHistory) (d : Deed) (t : StateAndHistory) (moved : List Standing) → s1 ≡ more s after_growth (Grew c to) → IsDeed kinds net s1.state w a.act d → t ≡ more s1 (after_deed kinds net s1.state w a.next d) (Did w d) → moved ≡ set standings w (standing_after d)
-      → StandingsFit kinds admits net (partner net d) t.state moved → StandingsFit kinds admits net None t.state moved
-  keeps_after_put s1 d t moved first is entry moves kept =
-      let put = deed_put kinds net s1.state w c a.act d writes is in
-      let there : w < length standings = standing_within standings w (λ e. parked_not_ended a (sym parked ∙ e)) in
-      let now : t.state ≡ after_deed kinds net after_growth w a.next (Put c put.0) = ap (λ (x : StateAndHistory). x.state) entry ∙ ap (λ (x : StateAndHistory). after_deed kinds net x.state w a.next d) first ∙ ap (λ (x : Deed). after_deed kinds net after_growth w a.next x) put.1 in
-      let by_put : StandingsFit kinds admits net (partner net (Put c put.0)) (after_deed kinds net after_growth w a.next (Put c put.0)) moved = subst (λ (x : Deed). StandingsFit kinds admits net (partner net x) (after_deed kinds net after_growth w a.next (Put c put.0)) moved) put.1 (subst (λ (M : State). StandingsFit kinds admits net (partner net d) M moved) now kept) in
-      subst (λ (M : State). StandingsFit kinds admits net None M moved) (sym now)
-      (keeps_put kinds admits net s.state c to within standings w a.next put.0 moved k is_writer holds there (moves ∙ ap (λ (x : Deed). set standings w (standing_after x)) put.1) by_put)
+    -- and the writer can
+    pub put_possible : length (tokens M c) < to → IsPossible kinds net grown p a.act
+    put_possible room = rw act (c, write.at, rw (tokens_set_same M c (tokens M c) to there, capacity_set_same M c (tokens M c) to there) room)
 
-  -- after the growth and the put the channel is no candidate any more
-  pub candidates_after_put :
-      (s1 : StateAndHistory) (d : Deed) (t : StateAndHistory) (moved : List Standing) (candidates fewer : CandidateList)
-      → s1 ≡ more s after_growth (Grew c to) → t ≡ more s1 (after_deed kinds net s1.state w a.next d) (Did w d) → moved ≡ set standings w (standing_after d)
-      → AreCandidates net s.state standings candidates → ((y : ℕ × ℕ) → Contains fewer.pairs y ↔ ((y ≢ (capacity s.state c, c)) × Contains candidates.pairs y))
-      → (Contains candidates.pairs (capacity s.state c, c) → length fewer.pairs + 1 ≡ length candidates.pairs) → fewer.room ≡ candidates.room → AreCandidates net t.state moved fewer
-  candidates_after_put s1 d t moved candidates fewer first entry moves are taken many room =
-      let there = standing_within standings w (λ e. parked_not_ended a (sym parked ∙ e)) in
-      let now : t.state ≡ after_deed kinds net after_growth w a.next d = ap (λ (x : StateAndHistory). x.state) entry ∙ ap (λ (x : StateAndHistory). after_deed kinds net x.state w a.next d) first in
-      subst (λ (l : List Standing). AreCandidates net t.state l fewer) (sym moves)
-      (served net s.state standings candidates are w there c t.state (standing_after d) fewer waits (acted_awaits net w d) (acted_not_counted d)
-      (λ b ne. ap (λ (M : State). capacity M b) now ∙ capacity_after kinds net after_growth w b a.next d ∙ capacity_set_other s.state c b (tokens s.state c) to ne) taken many room)
+    -- its deed is the put
+    deed_put : (d : Deed) → IsDeed kinds net grown p a.act d → (t : Token) × (d ≡ Put c t)
+    deed_put d is = by_deed d (rw act at is)
+      where
+        by_deed : (d : Deed) → IsDeed kinds net grown p (Write write.port write.token) d → (t : Token) × (d ≡ Put c t)
+        by_deed (Put b t) h = (t, let at = write.at in let here = h.0 in cc)
+        by_deed (Took b t) h = absurd h
+        by_deed Stopped h = absurd h
 
-  module _ (idle : list_any is_busy standings ≡ false) (best : IsSmallest net s.state standings (Some (c, w))) (below : capacity s.state c < net.ceiling) (to_is : to ≡ min (capacity s.state c + net.step) net.ceiling) where
-    -- the growth is that of the definitions
-    pub growth : Grows kinds net s.state c to after_growth
-    growth =
-        record {
-          artificial = smallest_artificial kinds admits net s.state standings k idle c w best;
-          chosen = smallest_chosen kinds admits net s.state standings k idle c w best;
-          below = below;
-          to_is = to_is;
-          leaves = refl;
-        }
+    module _ {w : Waiting} (wait : AreWaiting net M l w) where
+      -- no process waits to read from the channel, which is full
+      no_reader : is_marked w.marks.readers c ≡ false
+      no_reader =
+          false_from_ne_true (is_marked w.marks.readers c)
+          (λ m.
+          let r = (wait.marks.readers c).0 m in
+          let read = waiting_reader net r.0 c (standing l r.0) r.1 in
+          let full = (awaits_blocked k p c waits).full in
+          let some = k.smallest c (is_writer net p c (standing l p) waits).0 in
+          k.blocked r.0 read.answer (λ f. cc) read.parked (rw read.act (c, read.at, λ (e : tokens M c ≡ []). let none : length (tokens M c) ≡ 0 = cc in absurd (omega arith))))
 
-    -- and so is the put
-    pub grows_and_puts :
-        (s1 : StateAndHistory) (d : Deed) (t : StateAndHistory) (moved : List Standing) → s1 ≡ more s after_growth (Grew c to) → IsDeed kinds net s1.state w a.act d → t ≡ more s1 (after_deed kinds net s1.state w a.next d) (Did w d) → moved ≡ set standings w (standing_after d)
-        → GrowsAndPuts kinds net s standings t moved
-    grows_and_puts s1 d t moved first is entry moves =
-        let put = deed_put kinds net s1.state w c a.act d writes is in
-        let s2 = more s after_growth (Grew c to) in
-        let is_put : IsDeed kinds net after_growth w a.act (Put c put.0) = subst (λ (x : Deed). IsDeed kinds net after_growth w a.act x) put.1 (subst (λ (x : StateAndHistory). IsDeed kinds net x.state w a.act d) first is) in
-        let entry_put : t ≡ more s2 (after_deed kinds net after_growth w a.next (Put c put.0)) (Did w (Put c put.0)) =
-        entry ∙ ap (λ (x : StateAndHistory). more x (after_deed kinds net x.state w a.next d) (Did w d)) first ∙ ap (λ (x : Deed). more s2 (after_deed kinds net after_growth w a.next x) (Did w x)) put.1 in
-        record {
-          channel = c;
-          to = to;
-          grown = after_growth;
-          grows = growth;
-          writer = w;
-          wanted = a;
-          parked = parked;
-          token = put.0;
-          puts = acted kinds net s2 standings w a (Put c put.0) t moved (k.wanted w a parked) is_put entry_put (moves ∙ ap (λ (x : Deed). set standings w (standing_after x)) put.1);
-        }
+      -- so after the put no parked process can go on
+      pub keeps_after_put :
+          (d : Deed) → capacity M c ≤ to → to ≤ net.ceiling → IsDeed kinds net grown p a.act d → StandingsFit kinds admits net (partner net d) (after_deed kinds net grown p a.next d) (set l p (standing_after d))
+          → StandingsFit kinds admits net None (after_deed kinds net grown p a.next d) (set l p (standing_after d))
+      keeps_after_put d more few is kept = keeps_all kept (λ q b _ at can. others_blocked wait.marks (keeps_enlarged more few) a d within is unmarked q b at can)
+        where
+          unmarked : partner_marked w.marks d ≡ false
+          unmarked = let put = deed_put d is in rw put.1 no_reader
+
+      -- and the channel is no candidate any more
+      pub waiting_after_put :
+          (d : Deed) (fewer : CandidateList) → ((y : ℕ × ℕ) → Contains fewer.pairs y ↔ ((y ≢ (capacity M c, c)) × Contains w.candidates.pairs y))
+          → (Contains w.candidates.pairs (capacity M c, c) → length fewer.pairs + 1 ≡ length w.candidates.pairs) → fewer.room ≡ w.candidates.room
+          → AreWaiting net (after_deed kinds net grown p a.next d) (set l p (standing_after d)) (waiting_with fewer (mark_lists w.marks.readers (set w.marks.writers c false)))
+      waiting_after_put d fewer taken many room =
+          done_writing wait p (standing_after d) within (acted_waits_not net p d) (after_deed kinds net grown p a.next d) c fewer (λ b other. capacity_after kinds net grown p b a.next d ∙ capacity_set_other M c b (tokens M c) to other) waits (rw (parked, act)) taken many room
+
+    module _ (idle : list_any is_busy l ≡ false) (best : IsSmallest net M l (Some (c, p))) (below : capacity M c < net.ceiling) (to_is : to ≡ min (capacity M c + net.step) net.ceiling) where
+      -- the growth is that of the definitions
+      pub growth : Grows kinds net M c to grown
+      growth = record { artificial = smallest_artificial k idle c p best; chosen = smallest_chosen k idle c p best; below = below; to_is = to_is; leaves = refl }
+
+      -- and so is the put
+      pub grows_and_puts :
+          (E : List Entry) (room : ℕ) (d : Deed) → IsDeed kinds net grown p a.act d
+          → GrowsAndPuts kinds net (state_and_history M E room) l (more (more (state_and_history M E room) grown (Grew c to)) (after_deed kinds net grown p a.next d) (Did p d)) (set l p (standing_after d))
+      grows_and_puts E room d is =
+          let put = deed_put d is in
+          let s = more (state_and_history M E room) grown (Grew c to) in
+          rw put.1
+          (record { channel = c; to = to; grown = grown; grows = growth; writer = p; wanted = a; parked = parked; token = put.0; puts = acted s l p a (Put c put.0) (k.wanted p a parked) (rw put.1 at is) refl refl })

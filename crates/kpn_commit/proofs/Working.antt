@@ -1,26 +1,28 @@
--- What the work of a commit appends and leaves.
-use Rattle.std.proofs.Common.{◌≡◌, ◌≢◌, List, [], ◌∷◌, length, length-append, refl, sym, ap, ◌∙◌, arith, ℕ, ◌+◌, ◌<◌, ◌≤◌, true, false, Some, subst}
+-- What the work of a commit does, appends and leaves.
+use Rattle.std.proofs.Common.{◌≡◌, ◌≢◌, ◌↔◌, List, [], ◌∷◌, length, length-append, refl, arith, ℕ, ◌+◌, ◌<◌, ◌≤◌, true, false, Some, set}
 use Rattle.std.specs.List.{list_any}
 use Rattle.kpn_model.specs.declared.kinds.Answer.{Answer}
 use Rattle.kpn_model.specs.declared.history.Deed.{Deed}
 use Rattle.kpn_model.specs.declared.history.Deed.TheVariants.{Took, Put, Stopped}
-use Rattle.kpn_model.specs.declared.history.Entry.{Entry}
 use Rattle.kpn_model.specs.declared.history.Entry.TheVariants.{Did}
+use Rattle.kpn_model.specs.declared.history.End.{End}
+use Rattle.kpn_model.specs.declared.history.End.TheVariants.{Terminated, Deadlock, Ceiling, Budget, Memory}
 use Rattle.kpn_model.specs.Network.{Network, Family}
-use Rattle.kpn_model.specs.Semantics.{State}
+use Rattle.kpn_model.specs.Semantics.{wants, IsDeed, after_deed}
+use Rattle.kpn_model.specs.Endings.{CanGrow, HasStopped}
+use Rattle.kpn_laws.proofs.Causes.{over_grows_not}
 use Rattle.kpn_state.specs.StateAndHistory.{StateAndHistory, more}
 use Rattle.kpn_state.specs.declared.standing.Standing.{Standing}
 use Rattle.kpn_state.specs.declared.standing.Standing.TheVariants.{Ready}
+use Rattle.kpn_state.specs.Standings.{standing, is_busy, standing_after, partner}
+use Rattle.kpn_state.proofs.Placed.{standing_set_same, standing_set_other, acted_not_parked, busy_at}
 use Rattle.kpn_commit.specs.declared.react.Reaction.{Reaction}
 use Rattle.kpn_commit.specs.declared.react.Reaction.TheVariants.{Waits, Acts, HandsOn}
-use Rattle.kpn_state.specs.Standings.{standing, is_busy, standing_after, partner}
-use Rattle.kpn_commit.specs.Reactions.{Handed, Reacts}
-use Rattle.kpn_state.proofs.Placed.{standing_set_same, standing_set_other, acted_not_parked, busy_at}
-use Rattle.kpn_state.proofs.Contradictions.{true_false}
-
--- one more entry makes the history longer by one
-pub longer : (s t : StateAndHistory) (M : State) (e : Entry) → t ≡ more s M e → (length t.history ≡ length s.history + 1) × (t.room ≡ s.room)
-longer s t M e is = (ap (λ (x : StateAndHistory). length x.history) is ∙ length-append s.history (e ∷ []), ap (λ (x : StateAndHistory). x.room) is)
+use Rattle.kpn_commit.specs.declared.settle.Settled.{Settled}
+use Rattle.kpn_commit.specs.declared.settle.Settled.TheVariants.{Busy, Ended, Enlarged}
+use Rattle.kpn_commit.specs.Reactions.{Acted, Handed, Reacts}
+use Rattle.kpn_commit.specs.Settling.{Settles}
+use Rattle.kpn_commit.specs.Works.{end_after}
 
 -- a process whose deed has a process at its other end is ready afterwards
 partner_ready : (net : Network) (d : Deed) (q : ℕ) → partner net d ≡ Some q → standing_after d ≡ Ready
@@ -28,19 +30,45 @@ partner_ready net (Took c t) q e = refl
 partner_ready net (Put c t) q e = refl
 partner_ready net Stopped q e = cc
 
-module _ (kinds : Family) (net : Network) where
-  -- the process that handed on is ready
-  pub handed_busy : (s : StateAndHistory) (standings : List Standing) (p : ℕ) (t : StateAndHistory) (moved : List Standing) → p < length standings → Handed kinds net s standings p t moved → list_any is_busy moved ≡ true
-  handed_busy s standings p t moved within h =
-      let here : standing h.standings_between p ≡ standing_after h.deed = ap (λ (l : List Standing). standing l p) h.first.moves ∙ standing_set_same standings p (standing_after h.deed) within in
-      let other : p ≢ h.other = λ e. acted_not_parked h.deed h.wanted (sym here ∙ ap (λ x. standing h.standings_between x) e ∙ h.parked) in
-      let still : standing moved p ≡ Ready = ap (λ (l : List Standing). standing l p) h.second.moves ∙ standing_set_other h.standings_between h.other p (standing_after h.handed) other ∙ here ∙ partner_ready net h.deed h.other h.at_other_end in
-      busy_at moved p (ap is_busy still)
+module _ {kinds : Family} {net : Network} where
+  -- a deed of what a process wants is a step of that process
+  pub acted :
+      (s : StateAndHistory) (l : List Standing) (p : ℕ) (a : Answer) (d : Deed) {t : StateAndHistory} {moved : List Standing} → wants kinds net s.state p ≡ Some a → IsDeed kinds net s.state p a.act d
+      → t ≡ more s (after_deed kinds net s.state p a.next d) (Did p d) → moved ≡ set l p (standing_after d) → Acted kinds net s l p d t moved
+  acted s l p a d w is entry moves = rw (entry, moves) (record { does = record { answer = a; wanted = w; is_deed = is; leaves = refl }; entry = refl; moves = refl })
 
+  -- the process that handed on is ready
+  pub handed_busy : {s : StateAndHistory} {l : List Standing} {p : ℕ} {t : StateAndHistory} {moved : List Standing} → p < length l → Handed kinds net s l p t moved → list_any is_busy moved ≡ true
+  handed_busy {l = l} {p = p} {moved = moved} within h =
+      let first = h.first.moves in
+      let second = h.second.moves in
+      let parked = h.parked in
+      let here = standing_set_same l p (standing_after h.deed) within in
+      let other : p ≢ h.other = λ e. acted_not_parked h.deed h.wanted (cc) in
+      let still = standing_set_other h.standings_between h.other p (standing_after h.handed) other in
+      let ready = partner_ready net h.deed h.other h.at_other_end in
+      let now : standing moved p ≡ Ready = cc in
+      busy_at moved p (cc)
+
+module _ (kinds : Family) (net : Network) (s : StateAndHistory) (l : List Standing) where
   -- if no process is ready or out after a reaction, the reaction appended at most one entry
   pub reaction_room :
-      (s : StateAndHistory) (standings : List Standing) (p : ℕ) (a : Answer) (r : Reaction) (t : StateAndHistory) (moved : List Standing)
-      → p < length standings → length s.history + 3 ≤ s.room → Reacts kinds net s standings p a r t moved → list_any is_busy moved ≡ false → length t.history + 2 ≤ t.room
-  reaction_room s standings p a Waits t moved within room h idle = subst (λ (x : StateAndHistory). length x.history + 2 ≤ x.room) (sym h.1) (omega arith)
-  reaction_room s standings p a Acts t moved within room h idle = let l = longer s t t.state (Did p h.0) h.1.entry in omega (arith, l.0, l.1)
-  reaction_room s standings p a HandsOn t moved within room h idle = absurd (true_false _ (handed_busy s standings p t moved within h) idle)
+      (p : ℕ) (a : Answer) (r : Reaction) (t : StateAndHistory) (moved : List Standing) → p < length l → length s.history + 3 ≤ s.room → Reacts kinds net s l p a r t moved → list_any is_busy moved ≡ false
+      → length t.history + 2 ≤ t.room
+  reaction_room p a Waits t moved within room h idle = rw h.1 (omega arith)
+  reaction_room p a Acts t moved within room h idle = let n = length-append s.history (Did p h.0 ∷ []) in rw h.1.entry (omega arith)
+  reaction_room p a HandsOn t moved within room h idle = let busy = handed_busy within h in cc
+
+  -- a growth follows exactly when it is due, unless its memory is refused
+  pub grows_exactly :
+      (x : Settled) (t : StateAndHistory) (moved : List Standing) (budget entries : ℕ) → Settles kinds net s l x t moved → end_after x budget entries ≢ Some Memory → (x ≡ Enlarged) ↔ ((list_any is_busy l ≡ false) × CanGrow kinds net s.state)
+  grows_exactly Busy t moved budget entries h not = (λ e. cc, λ due. let busy = h.0 in let idle = due.0 in cc)
+  grows_exactly (Ended end) t moved budget entries h not = (λ e. cc, λ due. over end h.3 not due.1)
+    where
+      over : (end : End) → HasStopped kinds net s.state end → Some end ≢ Some Memory → CanGrow kinds net s.state → Ended end ≡ Enlarged
+      over Budget h not can = absurd h
+      over Memory h not can = absurd (not refl)
+      over Terminated h not can = absurd (over_grows_not kinds net s.state Terminated can.channel can.to can.next h can.grows)
+      over Deadlock h not can = absurd (over_grows_not kinds net s.state Deadlock can.channel can.to can.next h can.grows)
+      over Ceiling h not can = absurd (over_grows_not kinds net s.state Ceiling can.channel can.to can.next h can.grows)
+  grows_exactly Enlarged t moved budget entries h not = (λ _. (h.0, record { channel = h.1.channel; to = h.1.to; next = h.1.grown; grows = h.1.grows }), λ _. refl)

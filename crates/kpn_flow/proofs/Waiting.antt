@@ -104,7 +104,7 @@ module _ (kinds : Family) (admits : Card → List ℕ → Option Token → Type 
     starves_there : (p c : ℕ) → IsStarving kinds net M p c → starves net standings c ≡ true
     starves_there p c s =
         let here = in_of-reader net p s.port c s.at in
-        let parked : standing standings p ≡ Parked s.answer = wants_parked kinds admits net M standings k p s.answer (idle_at standings p idle) s.wanted in
+        let parked : standing standings p ≡ Parked s.answer = wants_parked k p s.answer (idle_at standings p idle) s.wanted in
         let reads : reads_from net c p s.answer.act ≡ true = ap (λ x. reads_from net c p x) s.act ∙ at_found c (in_of net p s.port) s.at in
         let waits : is_parked_with (reads_from net c p) (standing standings p) ≡ true = ap (λ x. is_parked_with (reads_from net c p) x) parked ∙ reads in
         and_from (nat_lt c (length net.channels)) (is_parked_with (reads_from net c (channel_of net c).reader) (standing standings (channel_of net c).reader)) (lt-ltb c (length net.channels) here.0)
@@ -113,7 +113,7 @@ module _ (kinds : Family) (admits : Card → List ℕ → Option Token → Type 
     holds_there : (p c : ℕ) → IsBlocked kinds net M p c → holds_up net standings c ≡ true
     holds_there p c s =
         let here = out_of-writer net p s.port c s.at in
-        let parked : standing standings p ≡ Parked s.answer = wants_parked kinds admits net M standings k p s.answer (idle_at standings p idle) s.wanted in
+        let parked : standing standings p ≡ Parked s.answer = wants_parked k p s.answer (idle_at standings p idle) s.wanted in
         let writes : writes_to net c p s.answer.act ≡ true = ap (λ x. writes_to net c p x) s.act ∙ at_found c (out_of net p s.port) s.at in
         let waits : is_parked_with (writes_to net c p) (standing standings p) ≡ true = ap (λ x. is_parked_with (writes_to net c p) x) parked ∙ writes in
         and_from (nat_lt c (length net.channels)) (is_parked_with (writes_to net c (channel_of net c).writer) (standing standings (channel_of net c).writer)) (lt-ltb c (length net.channels) here.0)
@@ -163,7 +163,7 @@ module _ (kinds : Family) (admits : Card → List ℕ → Option Token → Type 
     can_not : (p : ℕ) → IsEnabled kinds net M p → ⊥
     can_not p e =
         let idle = not_busy (standing standings p) (reads_or_stopped p) in
-        k.blocked p e.answer (λ f. none_some p f) (wants_parked kinds admits net M standings k p e.answer idle e.wanted) e.possible
+        k.blocked p e.answer (λ f. none_some p f) (wants_parked k p e.answer idle e.wanted) e.possible
 
     does_not_write : (a : Act) (port : ℕ) (t : Token) → is_read a ≡ true → a ≡ Write port t → ⊥
     does_not_write (Read i) port t e f = cc
@@ -173,7 +173,7 @@ module _ (kinds : Family) (admits : Card → List ℕ → Option Token → Type 
     waits_not : (p c : ℕ) → IsBlocked kinds net M p c → ⊥
     waits_not p c b =
         let idle = not_busy (standing standings p) (reads_or_stopped p) in
-        let parked = wants_parked kinds admits net M standings k p b.answer idle b.wanted in
+        let parked = wants_parked k p b.answer idle b.wanted in
         does_not_write b.answer.act b.port b.token (subst (λ x. waits_to_read x ≡ true) parked (reads_or_stopped p)) b.act
 
     pub exhausted : IsExhausted kinds net M

@@ -1,128 +1,116 @@
 -- The end of a run is the one that the definitions give it.
-use Rattle.std.proofs.Common.{◌≡◌, ◌↔◌, List, length, refl, sym, ap, ◌∙◌, arith, ℕ, ◌<◌, ◌≤◌, Bool, true, false, nat_le, if◌then◌else◌, Some, None, subst}
+use Rattle.std.proofs.Common.{◌≡◌, ◌≢◌, ◌↔◌, List, length, refl, arith, ℕ, ◌+◌, ◌<◌, ◌≤◌, Bool, true, false, nat_le, if◌then◌else◌, Option, Some, None}
 use Rattle.std.proofs.lemmas.Grind.{common_steps}
 use Rattle.std.specs.List.{list_any}
+use Rattle.kpn_model.specs.declared.history.Entry.{Entry}
 use Rattle.kpn_model.specs.declared.history.End.{End}
 use Rattle.kpn_model.specs.declared.history.End.TheVariants.{Terminated, Deadlock, Ceiling, Budget, Memory}
 use Rattle.kpn_model.specs.Network.{Network, Family}
 use Rattle.kpn_model.specs.Semantics.{State}
-use Rattle.kpn_model.specs.Endings.{CanGrow, HasStopped, IsOver, has_report}
+use Rattle.kpn_model.specs.Endings.{HasStopped, IsOver, MayEnd, MayStand, has_report}
 use Rattle.kpn_laws.proofs.Causes.{cause_same, over_grows_not}
 use Rattle.kpn_body.specs.Input.{Input}
 use Rattle.kpn_state.specs.StateAndHistory.{StateAndHistory}
 use Rattle.kpn_state.specs.declared.standing.Standing.{Standing}
-use Rattle.kpn_state.specs.declared.standing.Standing.TheVariants.{Ready, Parked, Stopped}
+use Rattle.kpn_state.specs.declared.standing.Standing.TheVariants.{Ready}
+use Rattle.kpn_state.specs.Standings.{standing, is_busy}
+use Rattle.kpn_state.proofs.Placed.{standing_set_same, standing_within, busy_at}
 use Rattle.kpn_commit.specs.declared.settle.Settled.{Settled}
 use Rattle.kpn_commit.specs.declared.settle.Settled.TheVariants.{Busy, Ended, Enlarged}
 use Rattle.kpn_commit.specs.declared.outcome.Outcome.{Outcome}
-use Rattle.kpn_state.specs.Standings.{is_busy}
+use Rattle.kpn_commit.specs.declared.outcome.Outcome.TheVariants.{Done, Parked as Parks, LaidBack}
 use Rattle.kpn_commit.specs.Settling.{Settles, GrowsAndPuts}
 use Rattle.kpn_commit.specs.Works.{end_after}
 use Rattle.kpn_machine.specs.MachineView.{MachineView, state_and_history_of}
 use Rattle.kpn_machine.specs.Commits.{EndsAs, WorksOn, Commits}
-use Rattle.kpn_commit.specs.declared.outcome.Outcome.TheVariants.{Done, Parked as Parks, LaidBack}
-use Rattle.kpn_state.proofs.Placed.{standing_set_same, standing_within, busy_at}
-use Rattle.kpn_state.proofs.Contradictions.{true_false}
-use Rattle.kpn_state.specs.Standings.{standing}
 
--- an end by the budget is no cause
-budget_no_cause : (b : Bool) (cause : End) → has_report cause ≡ true → (if b then Some Budget else None) ≡ Some cause → ⊥
-budget_no_cause true Terminated h e = cc
-budget_no_cause true Deadlock h e = cc
-budget_no_cause true Ceiling h e = cc
-budget_no_cause true Budget h e = cc
-budget_no_cause true Memory h e = cc
-budget_no_cause false cause h e = cc
-
--- nor is it refused memory
-budget_no_memory : (b : Bool) → (if b then Some Budget else None) ≡ Some Memory → ⊥
-budget_no_memory true e = cc
-budget_no_memory false e = cc
-
-same_end : (a b : End) → Some a ≡ Some b → a ≡ b
-same_end a b e = cc
+-- how a commit leaves a run: it goes on, or its budget is spent, and some process is ready or out; or nothing goes on, and none is
+pub data Left (kinds : Family) (net : Network) (M : State) (entries : ℕ) (l : List Standing) (end : Option End) : Type 0 where
+  On : end ≡ None → entries < net.budget → list_any is_busy l ≡ true → Left kinds net M entries l end
+  Spent : end ≡ Some Budget → net.budget ≤ entries → list_any is_busy l ≡ true → Left kinds net M entries l end
+  Over : (cause : End) → end ≡ Some cause → HasStopped kinds net M cause → list_any is_busy l ≡ false → Left kinds net M entries l end
 
 module _ (kinds : Family) (net : Network) where
-  -- a cause that was found is that of the definitions
-  found_over : (M : State) (end : End) → has_report end ≡ true → HasStopped kinds net M end → IsOver kinds net M end
-  found_over M Terminated c h = h
-  found_over M Deadlock c h = h
-  found_over M Ceiling c h = h
-  found_over M Budget c h = absurd h
-  found_over M Memory c h = cc
-
-  -- and no other is
-  over_found : (M : State) (end cause : End) → has_report cause ≡ true → HasStopped kinds net M end → IsOver kinds net M cause → Some end ≡ Some cause
-  over_found M Terminated cause c h o = ap (λ (x : End). Some x) (cause_same kinds net M Terminated cause h o)
-  over_found M Deadlock cause c h o = ap (λ (x : End). Some x) (cause_same kinds net M Deadlock cause h o)
-  over_found M Ceiling cause c h o = ap (λ (x : End). Some x) (cause_same kinds net M Ceiling cause h o)
-  over_found M Budget cause c h o = absurd h
-  over_found M Memory cause c h o = absurd (over_grows_not kinds net M cause h.channel h.to h.next o h.grows)
-
-  found_memory : (M : State) (end : End) → end ≡ Memory → HasStopped kinds net M end → CanGrow kinds net M
-  found_memory M end e h = subst (λ x. HasStopped kinds net M x) e h
+  by_budget : (M : State) (entries : ℕ) (l : List Standing) (b : Bool) → nat_le net.budget entries ≡ b → list_any is_busy l ≡ true → Left kinds net M entries l (if b then Some Budget else None)
+  by_budget M entries l true e busy = Spent refl (grind (arith, common_steps)) busy
+  by_budget M entries l false e busy = On refl (grind (arith, common_steps)) busy
 
   -- after a growth its writer is ready
-  grown_busy : (s : StateAndHistory) (standings : List Standing) (t : StateAndHistory) (moved : List Standing) → GrowsAndPuts kinds net s standings t moved → list_any is_busy moved ≡ true
-  grown_busy s standings t moved g =
-      let within = standing_within standings g.writer (λ f. parked_ended (sym g.parked ∙ f)) in
-      busy_at moved g.writer (ap is_busy (ap (λ (l : List Standing). standing l g.writer) g.puts.moves ∙ standing_set_same standings g.writer Ready within))
+  grown_busy : {s t : StateAndHistory} {l m : List Standing} → GrowsAndPuts kinds net s l t m → list_any is_busy m ≡ true
+  grown_busy {l = l} {m = m} g =
+      let parked = g.parked in
+      let moves = g.puts.moves in
+      let now = standing_set_same l g.writer Ready (standing_within l g.writer (λ e. cc)) in
+      let ready : standing m g.writer ≡ Ready = cc in
+      busy_at m g.writer (cc)
+
+  pub left :
+      (s : StateAndHistory) (l : List Standing) (x : Settled) (t : StateAndHistory) (m : List Standing) (entries : ℕ) (end : Option End) → Settles kinds net s l x t m → end ≡ end_after x net.budget entries → Left kinds net t.state entries m end
+  left s l Busy t m entries end h e = rw e (by_budget t.state entries m _ refl (rw h.2 h.0))
+  left s l (Ended cause) t m entries end h e = Over cause e (rw h.1 h.3) (rw h.2 h.0)
+  left s l Enlarged t m entries end h e = rw e (by_budget t.state entries m _ refl (grown_busy h.1))
+
+  may_end : (M : State) (E : List Entry) (end : End) → HasStopped kinds net M end → MayEnd kinds net E M end
+  may_end M E Terminated h = h
+  may_end M E Deadlock h = h
+  may_end M E Ceiling h = h
+  may_end M E Budget h = absurd h
+  may_end M E Memory h = h
+
+  -- the end is justified
+  pub left_stands : (M : State) (E : List Entry) (l : List Standing) (end : Option End) → length E ≤ net.budget + 2 → Left kinds net M (length E) l end → MayStand kinds net E M end
+  left_stands M E l end few (On e less busy) = rw e less
+  left_stands M E l end few (Spent e most busy) = rw e (most, few)
+  left_stands M E l end few (Over cause e stopped idle) = rw e (may_end M E cause stopped)
+
+  pub left_busy : {M : State} {entries : ℕ} {l : List Standing} {end : Option End} → Left kinds net M entries l end → end ≡ None → list_any is_busy l ≡ true
+  left_busy (On e less busy) none = busy
+  left_busy (Spent e most busy) none = busy
+  left_busy (Over cause e stopped idle) none = cc
+
+  pub left_idle : {M : State} {entries : ℕ} {l : List Standing} {end : Option End} → Left kinds net M entries l end → (cause : End) → end ≡ Some cause → cause ≢ Budget → list_any is_busy l ≡ false
+  left_idle (On e less busy) cause some not = cc
+  left_idle (Spent e most busy) cause some not = absurd (not (cc))
+  left_idle (Over other e stopped idle) cause some not = idle
+
+  -- a cause that was found is that of the definitions, and no other is
+  found : (M : State) (end cause : End) → has_report cause ≡ true → HasStopped kinds net M end → (Some end ≡ Some cause) ↔ IsOver kinds net M cause
+  found M end cause c h = (λ e. is end cause c h (cc), λ o. other end cause c h o)
     where
-      parked_ended : Parked g.wanted ≡ Stopped → ⊥
-      parked_ended e = cc
+      is : (end cause : End) → has_report cause ≡ true → HasStopped kinds net M end → end ≡ cause → IsOver kinds net M cause
+      is end Terminated c h e = rw e at h
+      is end Deadlock c h e = rw e at h
+      is end Ceiling c h e = rw e at h
+      is end Budget c h e = cc
+      is end Memory c h e = cc
 
-  module _ (s : StateAndHistory) (standings : List Standing) (t : StateAndHistory) (moved : List Standing) (budget entries : ℕ) where
-    ends_over : (x : Settled) → Settles kinds net s standings x t moved → (cause : End) → has_report cause ≡ true → (end_after x budget entries ≡ Some cause) ↔ ((list_any is_busy moved ≡ false) × IsOver kinds net t.state cause)
-    ends_over Busy h cause c = (λ e. absurd (budget_no_cause _ cause c e), λ o. absurd (true_false _ h.0 (ap (list_any is_busy) (sym h.2) ∙ o.0)))
-    ends_over (Ended end) h cause c = (
-      λ e. let same = same_end end cause e in
-          (ap (list_any is_busy) h.2 ∙ h.0, subst (λ (y : StateAndHistory). IsOver kinds net y.state cause) (sym h.1) (found_over s.state cause c (subst (λ x. HasStopped kinds net s.state x) same h.3))),
-      λ o. over_found s.state end cause c h.3 (subst (λ (y : StateAndHistory). IsOver kinds net y.state cause) h.1 o.1),
-    )
-    ends_over Enlarged h cause c = (λ e. absurd (budget_no_cause _ cause c e), λ o. absurd (true_false _ (grown_busy s standings t moved h.1) o.0))
+      other : (end cause : End) → has_report cause ≡ true → HasStopped kinds net M end → IsOver kinds net M cause → Some end ≡ Some cause
+      other Terminated cause c h o = rw (cause_same kinds net M Terminated cause h o)
+      other Deadlock cause c h o = rw (cause_same kinds net M Deadlock cause h o)
+      other Ceiling cause c h o = rw (cause_same kinds net M Ceiling cause h o)
+      other Budget cause c h o = absurd h
+      other Memory cause c h o = absurd (over_grows_not kinds net M cause h.channel h.to h.next o h.grows)
 
-    ends_memory : (x : Settled) → Settles kinds net s standings x t moved → end_after x budget entries ≡ Some Memory → (list_any is_busy moved ≡ false) × CanGrow kinds net t.state
-    ends_memory Busy h e = absurd (budget_no_memory _ e)
-    ends_memory (Ended end) h e = (ap (list_any is_busy) h.2 ∙ h.0, subst (λ (y : StateAndHistory). CanGrow kinds net y.state) (sym h.1) (found_memory s.state end (same_end end Memory e) h.3))
-    ends_memory Enlarged h e = absurd (budget_no_memory _ e)
-
-    by_budget : (b : Bool) → nat_le budget entries ≡ b → (if b then Some Budget else None) ≡ Some Budget → budget ≤ entries
-    by_budget true h e = grind (arith, common_steps)
-    by_budget false h e = cc
-
-    by_none : (b : Bool) → nat_le budget entries ≡ b → (if b then Some Budget else None) ≡ None → entries < budget
-    by_none true h e = cc
-    by_none false h e = grind (arith, common_steps)
-
-    ends_budget : (x : Settled) → Settles kinds net s standings x t moved → end_after x budget entries ≡ Some Budget → budget ≤ entries
-    ends_budget Busy h e = by_budget _ refl e
-    ends_budget (Ended end) h e = absurd (subst (λ x. HasStopped kinds net s.state x) (same_end end Budget e) h.3)
-    ends_budget Enlarged h e = by_budget _ refl e
-
-    ends_none : (x : Settled) → end_after x budget entries ≡ None → entries < budget
-    ends_none Busy e = by_none _ refl e
-    ends_none (Ended end) e = cc
-    ends_none Enlarged e = by_none _ refl e
+  ends_as : (t : MachineView) → t.network ≡ net → Left kinds net t.state (length t.history) t.standings t.end → EndsAs kinds t
+  ends_as t n (On e less busy) = record { over = λ cause c. (λ some. cc, λ o. let idle = o.0 in cc); memory = λ some. cc; budget = λ some. cc; none = λ _. rw n less }
+  ends_as t n (Spent e most busy) = record { over = λ cause c. (λ some. let same : cause ≡ Budget = cc in cc, λ o. let idle = o.0 in cc); memory = λ some. cc; budget = λ _. rw n most; none = λ none. cc }
+  ends_as t n (Over end e stopped idle) =
+      record {
+        over = λ cause c. let f = found t.state end cause c stopped in rw (n, e) (λ some. (idle, f.0 some), λ o. f.1 o.1);
+        memory = λ some. let same : end ≡ Memory = cc in (idle, rw (same, ← n) at stopped);
+        budget = λ some. let same : end ≡ Budget = cc in absurd (rw same at stopped);
+        none = λ none. cc;
+      }
 
 module _ (kinds : Family) where
-  -- the end after a commit that was worked on
-  pub works_end : (s : MachineView) (i : Input) (o : Outcome) (t : MachineView) → WorksOn kinds s i o t → EndsAs kinds t
-  works_end s i o t h =
-      let w = h.works in
-      let n = s.network in
-      let is : t.end ≡ end_after w.settled n.budget (length t.history) = w.end_is in
-      subst (λ (net : Network). EndsAs kinds (record t { network = net })) (sym h.network)
-      (record {
-        over = λ cause c.
-            let e = ends_over kinds n w.between w.standings_between (state_and_history_of t) t.standings n.budget (length t.history) w.settled w.settles cause c in
-            (λ x. e.0 (sym is ∙ x), λ x. is ∙ e.1 x);
-        memory = λ x. ends_memory kinds n w.between w.standings_between (state_and_history_of t) t.standings n.budget (length t.history) w.settled w.settles (sym is ∙ x);
-        budget = λ x. ends_budget kinds n w.between w.standings_between (state_and_history_of t) t.standings n.budget (length t.history) w.settled w.settles (sym is ∙ x);
-        none = λ x. ends_none kinds n w.between w.standings_between (state_and_history_of t) t.standings n.budget (length t.history) w.settled (sym is ∙ x);
-      })
-
   -- if the run had not ended, a commit works on the answer
   pub commits_end : (s : MachineView) (i : Input) (o : Outcome) (t : MachineView) → Commits kinds s i o t → s.end ≡ None → EndsAs kinds t
-  commits_end s i (Done n) t h e = works_end s i (Done n) t h
-  commits_end s i (Parks n) t h e = works_end s i (Parks n) t h
-  commits_end s i LaidBack t h e = absurd (h.0 e)
+  commits_end s i o t h none = by_outcome o h
+    where
+      works : (o : Outcome) → WorksOn kinds s i o t → EndsAs kinds t
+      works o h = ends_as kinds s.network t h.network (left kinds s.network h.works.between h.works.standings_between h.works.settled (state_and_history_of t) t.standings (length t.history) t.end h.works.settles h.works.end_is)
+
+      by_outcome : (o : Outcome) → Commits kinds s i o t → EndsAs kinds t
+      by_outcome (Done n) h = works (Done n) h
+      by_outcome (Parks n) h = works (Parks n) h
+      by_outcome LaidBack h = absurd (h.0 none)

@@ -1,4 +1,3 @@
-pub mod Entries
 pub mod Moves
 pub mod Sound
 pub mod Seats

@@ -1,8 +1,5 @@
 -- The machine's invariant is kept while processes go out and come back.
-use Rattle.std.proofs.Common.{◌≡◌, ◌≢◌, ◌↔◌, ⊎_elim, inl, inr, List, length, length-append, refl, sym, ap, ◌∙◌, arith, ℕ, ◌+◌, ◌<◌, ◌≤◌, Bool, true, false, Some, None, Option, set, subst, get_or, length-set, get_or-set_same, get_or-set_other, nat_le, if◌then◌else◌}
-use Rattle.std.proofs.lemmas.Grind.{common_steps}
-use Rattle.std.proofs.lemmas.Bool.{cases_eq}
-use Rattle.std.specs.Bool.{IsTrue}
+use Rattle.std.proofs.Common.{◌≡◌, ◌≢◌, ◌⊎◌, ◌↔◌, ⊎_elim, inl, inr, List, length, length-append, refl, ap, ◌∙◌, arith, ℕ, ◌+◌, ◌<◌, ◌≤◌, true, false, Some, None, Option, set, length-set}
 use Rattle.std.specs.Option.{is_some}
 use Rattle.std.specs.List.{list_any}
 use Rattle.kpn_model.specs.declared.token.Token.{Token}
@@ -10,11 +7,9 @@ use Rattle.kpn_model.specs.declared.kinds.Card.{Card}
 use Rattle.kpn_model.specs.declared.kinds.Signature.{Signature}
 use Rattle.kpn_model.specs.declared.kinds.Answer.{Answer}
 use Rattle.kpn_model.specs.declared.history.Entry.{Entry}
-use Rattle.kpn_model.specs.declared.history.Status.TheVariants.{Done as Halted}
 use Rattle.kpn_model.specs.declared.history.End.{End}
-use Rattle.kpn_model.specs.declared.history.End.TheVariants.{Terminated, Deadlock, Ceiling, Budget, Memory}
 use Rattle.kpn_model.specs.Network.{Network, Family, card_of}
-use Rattle.kpn_model.specs.Semantics.{State, status, answered, wants, start}
+use Rattle.kpn_model.specs.Semantics.{State, wants, start}
 use Rattle.kpn_model.specs.Determinacy.{IsRun}
 use Rattle.kpn_model.specs.Moments.{IsWithin, AtEachMoment}
 use Rattle.kpn_model.specs.Valid.{IsValid, IsWellTyped, StaysWellTyped}
@@ -24,88 +19,41 @@ use Rattle.kpn_body.specs.Input.{Input, answer_to}
 use Rattle.kpn_state.specs.StateAndHistory.{StateAndHistory, state_and_history}
 use Rattle.kpn_state.specs.declared.standing.Standing.{Standing}
 use Rattle.kpn_state.specs.declared.standing.Standing.TheVariants.{Ready, Out, Parked, Stopped}
+use Rattle.kpn_state.specs.Standings.{standing, is_busy, parked_answer, StandingsFit}
+use Rattle.kpn_state.proofs.Placed.{standing_set_same, standing_set_other, standing_within, busy_at}
 use Rattle.kpn_commit.specs.declared.react.Reaction.{Reaction}
 use Rattle.kpn_commit.specs.declared.react.Reaction.TheVariants.{Waits, Acts, HandsOn}
 use Rattle.kpn_commit.specs.declared.settle.Settled.{Settled}
 use Rattle.kpn_commit.specs.declared.settle.Settled.TheVariants.{Busy, Ended, Enlarged}
 use Rattle.kpn_commit.specs.declared.outcome.Outcome.{Outcome}
 use Rattle.kpn_commit.specs.declared.outcome.Outcome.TheVariants.{Done, Parked as Parks, LaidBack}
-use Rattle.kpn_state.specs.Standings.{standing, is_busy, parked_answer, StandingsFit}
 use Rattle.kpn_commit.specs.Reactions.{Reacts}
 use Rattle.kpn_commit.specs.Settling.{Settles}
-use Rattle.kpn_model.specs.Endings.{HasStopped, MayEnd, MayStand}
-use Rattle.kpn_commit.specs.Works.{Works, acted_entries, settled_entries, outcome_of, end_after}
+use Rattle.kpn_commit.specs.Works.{Works, settled_entries, outcome_of}
+use Rattle.kpn_commit.proofs.Keeping.{each_set, keeps_busy}
+use Rattle.kpn_commit.proofs.Idle.{enabled_busy}
+use Rattle.kpn_commit.proofs.Working.{handed_busy, grows_exactly}
 use Rattle.kpn_machine.specs.MachineView.{MachineView, machine_view, IsOutAt, HasBodies, waits, stays_in, IsSound, IsFaithful}
 use Rattle.kpn_machine.specs.Commits.{number, Appends, WorksOn, Commits, TellsEnabled}
-use Rattle.kpn_state.proofs.Placed.{standing_set_same, standing_set_other, standing_within, busy_at, out_not_ended, ready_not_ended}
-use Rattle.kpn_state.proofs.Contradictions.{none_some, true_false}
-use Rattle.kpn_commit.proofs.Keeping.{keeps_moved}
-use Rattle.kpn_commit.proofs.Idle.{enabled_busy}
-use Rattle.kpn_commit.proofs.Working.{handed_busy}
-use Rattle.kpn_commit.proofs.Due.{grows_exactly}
-use Rattle.kpn_machine.proofs.Entries.{GoesOn, run_both, number_is, works_goes}
-use Rattle.kpn_machine.proofs.Moves.{waiting_in, in_within, waits_moved, in_moved, out_or_not, works_back, works_out, works_others, works_count}
-
--- an end by the budget alone is the end `Budget`
-spent : (b : Bool) (cause : End) → (if b then Some Budget else None) ≡ Some cause → cause ≡ Budget
-spent true cause e = cc
-spent false cause e = cc
-
-out_not_parked : (a : Answer) → Out ≡ Parked a → ⊥
-out_not_parked a e = cc
-
-ready_not_parked : (a : Answer) → Ready ≡ Parked a → ⊥
-ready_not_parked a e = cc
+use Rattle.kpn_machine.proofs.Ends.{left, left_stands, left_busy, left_idle}
+use Rattle.kpn_machine.proofs.Moves.{run_both, moved_count, waiting_in, in_within, out_or_not, works}
 
 module _ (kinds : Family) (net : Network) where
-  by_budget : (M : State) (E : List Entry) (b : Bool) → length E ≤ net.budget + 2 → nat_le net.budget (length E) ≡ b → MayStand kinds net E M (if b then Some Budget else None)
-  by_budget M E true few e = (grind (arith, common_steps), few)
-  by_budget M E false few e = grind (arith, common_steps)
-
-  by_cause : (M : State) (E : List Entry) (end : End) → HasStopped kinds net M end → MayEnd kinds net E M end
-  by_cause M E Terminated h = h
-  by_cause M E Deadlock h = h
-  by_cause M E Ceiling h = h
-  by_cause M E Budget h = absurd h
-  by_cause M E Memory h = h
-
-  -- the end that follows is justified
-  end_follows : (s : StateAndHistory) (standings : List Standing) (x : Settled) (t : StateAndHistory) (moved : List Standing) → length t.history ≤ net.budget + 2 → Settles kinds net s standings x t moved → MayStand kinds net t.history t.state (end_after x net.budget (length t.history))
-  end_follows s standings Busy t moved few h = by_budget t.state t.history _ few refl
-  end_follows s standings (Ended end) t moved few h = by_cause t.state t.history end (subst (λ (y : StateAndHistory). HasStopped kinds net y.state end) (sym h.1) h.3)
-  end_follows s standings Enlarged t moved few h = by_budget t.state t.history _ few refl
-
-  -- if there is none, some process is ready or out
-  busy_follows : (s : StateAndHistory) (standings : List Standing) (x : Settled) (t : StateAndHistory) (moved : List Standing) (budget entries : ℕ) → Settles kinds net s standings x t moved → end_after x budget entries ≡ None → list_any is_busy moved ≡ true
-  busy_follows s standings Busy t moved budget entries h e = ap (list_any is_busy) h.2 ∙ h.0
-  busy_follows s standings (Ended end) t moved budget entries h e = cc
-  busy_follows s standings Enlarged t moved budget entries h e =
-      let g = h.1 in
-      let within : g.writer < length standings = standing_within standings g.writer (λ f. parked_ended g.wanted (sym g.parked ∙ f)) in
-      busy_at moved g.writer (ap is_busy (ap (λ (l : List Standing). standing l g.writer) g.puts.moves ∙ standing_set_same standings g.writer Ready within))
-    where
-      parked_ended : (a : Answer) → Parked a ≡ Stopped → ⊥
-      parked_ended a f = cc
-
-  -- if there is one other than `Budget`, no process is
-  idle_follows : (s : StateAndHistory) (standings : List Standing) (x : Settled) (t : StateAndHistory) (moved : List Standing) (budget entries : ℕ) (cause : End) → Settles kinds net s standings x t moved → end_after x budget entries ≡ Some cause → cause ≢ Budget → list_any is_busy moved ≡ false
-  idle_follows s standings Busy t moved budget entries cause h e not = absurd (not (spent _ cause e))
-  idle_follows s standings (Ended end) t moved budget entries cause h e not = ap (list_any is_busy) h.2 ∙ h.0
-  idle_follows s standings Enlarged t moved budget entries cause h e not = absurd (not (spent _ cause e))
+  -- what follows a reaction appends no entry, or two if no process was ready or out
+  settled_few : (s : StateAndHistory) (l : List Standing) (x : Settled) (t : StateAndHistory) (m : List Standing) → Settles kinds net s l x t m → (settled_entries x ≡ 0) ⊎ ((settled_entries x ≡ 2) × (list_any is_busy l ≡ false))
+  settled_few s l Busy t m h = inl refl
+  settled_few s l (Ended end) t m h = inl refl
+  settled_few s l Enlarged t m h = inr (refl, h.0)
 
   -- done with 1 to 3 entries if the process could go on, parked with 0 or 2 if it couldn't
   tells :
-      (M : State) (E : List Entry) (room : ℕ) (standings : List Standing) (end : Option End) (commits : ℕ) (m : StateAndHistory) (mid : List Standing) (t : StateAndHistory) (moved : List Standing) (p : ℕ) (a : Answer) (r : Reaction) (x : Settled)
-      → p < length standings → Reacts kinds net (state_and_history M E room) standings p a r m mid → Settles kinds net m mid x t moved → TellsEnabled kinds (machine_view net M E standings end commits) p (outcome_of r x)
-  tells M E room standings end commits m mid t moved p a Waits Busy within h g = (h.0, inl refl)
-  tells M E room standings end commits m mid t moved p a Waits (Ended stop) within h g = (h.0, inl refl)
-  tells M E room standings end commits m mid t moved p a Waits Enlarged within h g = (h.0, inr refl)
-  tells M E room standings end commits m mid t moved p a Acts Busy within h g = ((enabled_can_do kinds net M p).1 (h.0, (m.state, h.1.does)), omega arith, omega arith)
-  tells M E room standings end commits m mid t moved p a Acts (Ended stop) within h g = ((enabled_can_do kinds net M p).1 (h.0, (m.state, h.1.does)), omega arith, omega arith)
-  tells M E room standings end commits m mid t moved p a Acts Enlarged within h g = ((enabled_can_do kinds net M p).1 (h.0, (m.state, h.1.does)), omega arith, omega arith)
-  tells M E room standings end commits m mid t moved p a HandsOn Busy within h g = ((enabled_can_do kinds net M p).1 (h.deed, (h.between.state, h.first.does)), omega arith, omega arith)
-  tells M E room standings end commits m mid t moved p a HandsOn (Ended stop) within h g = ((enabled_can_do kinds net M p).1 (h.deed, (h.between.state, h.first.does)), omega arith, omega arith)
-  tells M E room standings end commits m mid t moved p a HandsOn Enlarged within h g = absurd (true_false _ (handed_busy kinds net (state_and_history M E room) standings p m mid within h) g.0)
+      (v : MachineView) (s : StateAndHistory) (p : ℕ) (a : Answer) (r : Reaction) (x : Settled) (t : StateAndHistory) (m : List Standing) → v.network ≡ net → v.state ≡ s.state → p < length v.standings → Reacts kinds net s v.standings p a r t m
+      → (settled_entries x ≡ 0) ⊎ ((settled_entries x ≡ 2) × (list_any is_busy m ≡ false)) → TellsEnabled kinds v p (outcome_of r x)
+  tells v s p a Waits x t m n same within h few = rw (n, same) (h.0, ⊎_elim (λ e. inl e) (λ e. inr e.0) few)
+  tells v s p a Acts x t m n same within h few = rw (n, same) ((enabled_can_do kinds net s.state p).1 (h.0, (t.state, h.1.does)), omega arith, omega arith)
+  tells v s p a HandsOn x t m n same within h few =
+      rw (n, same)
+      ((enabled_can_do kinds net s.state p).1 (h.deed, (h.between.state, h.first.does)), omega arith, ⊎_elim (λ e. omega arith) (λ e. let busy = handed_busy within h in let idle = e.1 in cc) few)
 
 -- an outcome's number is at most 3
 few_entries : (kinds : Family) (s : MachineView) (p : ℕ) (o : Outcome) → TellsEnabled kinds s p o → number o ≤ 3
@@ -113,21 +61,31 @@ few_entries kinds s p (Done n) h = h.2
 few_entries kinds s p (Parks n) h = ⊎_elim (λ e. omega arith) (λ e. omega arith) h.1
 few_entries kinds s p LaidBack h = omega arith
 
-module _ (kinds : Family) (admits : Card → List ℕ → Option Token → Type 0) where
-  -- a live process that is neither ready nor out wants what it answered
-  idle_wants :
-      (net : Network) (M : State) (standings : List Standing) (p : ℕ) (x : Standing) → StandingsFit kinds admits net None M standings → standing standings p ≡ x → is_busy x ≡ false
-      → wants kinds net M p ≡ parked_answer x
-  idle_wants net M standings p Ready k e idle = cc
-  idle_wants net M standings p Out k e idle = cc
-  idle_wants net M standings p (Parked a) k e idle = k.wanted p a e
-  idle_wants net M standings p Stopped k e idle = ap (answered kinds net p) (k.stopped p e)
+-- in a run that had not ended a commit works on the answer
+commits_of : (kinds : Family) (s : MachineView) (i : Input) (o : Outcome) (t : MachineView) → s.end ≡ None → TellsEnabled kinds s i.process o → WorksOn kinds s i o t → Commits kinds s i o t
+commits_of kinds s i (Done n) t none told h = h
+commits_of kinds s i (Parks n) t none told h = h
+commits_of kinds s i LaidBack t none told h = absurd (told none)
 
-  -- what holds of every state that a run leads to holds at each moment of a run
-  at_each_moment : (net : Network) (E : List Entry) (M : State) (P : State → Type 0) → IsRun kinds net E M → ((F : List Entry) (N : State) → IsRun kinds net F N → P N) → AtEachMoment kinds net E P
-  at_each_moment net E M P run holds F G is =
-      let parts = prefixes kinds net (start kinds net) M F G (subst (λ H. IsRun kinds net H M) (sym is) run) in
-      (parts.0, parts.1, holds F parts.0 parts.1)
+-- what holds of every state that a run leads to holds at each moment of a run
+at_each_moment : (kinds : Family) (net : Network) (E : List Entry) (M : State) (P : State → Type 0) → IsRun kinds net E M → ((F : List Entry) (N : State) → IsRun kinds net F N → P N) → AtEachMoment kinds net E P
+at_each_moment kinds net E M P run holds F G is = let parts = prefixes kinds net (start kinds net) M F G (rw is run) in (parts.0, parts.1, holds F parts.0 parts.1)
+
+-- a body that comes back joins the others
+bodies_back :
+    (net : Network) (l m : List Standing) (bodies : List (Option Card)) (p : ℕ) (card : Card) → p < length bodies → card_of net p ≡ card → HasBodies net l bodies → ((q : ℕ) → q ≢ p → standing l q ≡ Out → standing m q ≡ Out)
+    → HasBodies net m (set bodies p (Some card))
+bodies_back net l m bodies p card within is has keeps =
+    each_set (λ q (b : Option Card). q < length net.processes → standing m q ≢ Out → b ≡ Some (card_of net q)) bodies p (Some card) None within (λ there n. cc)
+    (λ q o there n. ⊎_elim (λ e. absurd (n (keeps q o e))) (λ ne. has q there ne) (out_or_not (standing l q)))
+
+module _ {kinds : Family} {admits : Card → List ℕ → Option Token → Type 0} where
+  -- a live process that is neither ready nor out wants what it answered
+  idle_wants : {net : Network} {M : State} {l : List Standing} → StandingsFit kinds admits net None M l → (p : ℕ) (x : Standing) → standing l p ≡ x → is_busy x ≡ false → wants kinds net M p ≡ parked_answer x
+  idle_wants k p Ready e idle = cc
+  idle_wants k p Out e idle = cc
+  idle_wants k p (Parked a) e idle = k.wanted p a e
+  idle_wants k p Stopped e idle = rw (k.stopped p e)
 
   pub sound_faithful :
       (signature : Card → Option Signature) (s : MachineView) (room : ℕ) (bodies : List (Option Card)) → IsValid signature s.network → StaysWithin signature kinds → StaysWellTyped signature admits kinds
@@ -138,161 +96,124 @@ module _ (kinds : Family) (admits : Card → List ℕ → Option Token → Type 
       let laid = h.laid in
       record {
         run = h.run;
-        within = at_each_moment s.network s.history s.state IsWithin h.run (within s.network valid);
-        well_typed = at_each_moment s.network s.history s.state (IsWellTyped admits s.network) h.run (well_typed s.network valid);
+        within = at_each_moment kinds s.network s.history s.state IsWithin h.run (within s.network valid);
+        well_typed = at_each_moment kinds s.network s.history s.state (IsWellTyped admits s.network) h.run (well_typed s.network valid);
         bound = h.ends;
-        none_held_back = enabled_busy kinds admits s.network s.state s.standings h.keeps;
-        wanted = λ p idle. idle_wants s.network s.state s.standings p _ h.keeps refl idle;
+        none_held_back = enabled_busy h.keeps;
+        wanted = λ p idle. idle_wants h.keeps p (standing s.standings p) refl idle;
         some_busy = h.busy;
         none_busy = h.idle;
         few_entries = h.few;
         few_commits = omega arith;
       }
 
-  -- a body that comes back joins the others
-  bodies_back :
-      (net : Network) (standings moved : List Standing) (bodies : List (Option Card)) (p : ℕ) (card : Card) → p < length bodies → card_of net p ≡ card → HasBodies net standings bodies
-      → ((q : ℕ) → q ≢ p → standing standings q ≡ Out → standing moved q ≡ Out) → HasBodies net moved (set bodies p (Some card))
-  bodies_back net standings moved bodies p card within is has keeps q there n =
-      ⊎_elim
-      (λ (s : q ≡ p). ap (λ x. get_or (set bodies p (Some card)) x None) s ∙ get_or-set_same bodies p (Some card) None within ∙ ap (λ (x : Card). Some x) (sym is) ∙ ap (λ x. Some (card_of net x)) (sym s))
-      (λ o. get_or-set_other bodies p q (Some card) None o ∙ ⊎_elim (λ e. absurd (n (keeps q o e))) (λ ne. has q there ne) (out_or_not (standing standings q)))
-      (cases_eq q p)
+  module _ {net : Network} {M : State} {E : List Entry} {l : List Standing} {end : Option End} {answers room : ℕ} {bodies : List (Option Card)} (h : IsSound kinds admits (machine_view net M E l end answers) room bodies) where
+    -- there are at most as many commits as entries and processes
+    pub commits_fit : answers ≤ length E + length net.processes
+    commits_fit = let a = in_within l in let b = h.keeps.one_each in let c = h.laid in omega arith
 
-  module _ (net : Network) (M : State) (E : List Entry) (standings : List Standing) (end : Option End) (commits room : ℕ) (bodies : List (Option Card)) (h : IsSound kinds admits (machine_view net M E standings end commits) room bodies) where
-    -- a process that is ready or out is live
-    busy_live : (p : ℕ) (x : Standing) → standing standings p ≡ x → x ≢ Stopped → status M p ≢ Halted
-    busy_live p x e n f = n (sym e ∙ h.keeps.done p f)
+    -- a process that is ready or out is live, and goes out or is made ready
+    keeps_moved : (p : ℕ) (x : Standing) → is_busy (standing l p) ≡ true → is_busy x ≡ true → StandingsFit kinds admits net None M (set l p x)
+    keeps_moved p x before after = keeps_busy h.keeps p x (standing_within l p (λ e. cc)) (λ q o f. cc) after (λ e. let ended = h.keeps.done p e in cc)
 
-    pub sound_taken : (p : ℕ) → end ≡ None → standing standings p ≡ Ready → IsSound kinds admits (machine_view net M E (set standings p Out) end commits) room (set bodies p None)
+    pub sound_taken : (p : ℕ) → end ≡ None → standing l p ≡ Ready → IsSound kinds admits (machine_view net M E (set l p Out) end answers) room (set bodies p None)
     sound_taken p none ready =
-        let within : p < length standings = standing_within standings p (λ e. ready_not_ended (sym ready ∙ e)) in
-        let now : standing (set standings p Out) p ≡ Out = standing_set_same standings p Out within in
-        let count = waits_moved standings p Out within in
-        let was : waits (standing standings p) ≡ 0 = ap waits ready in
+        let within : p < length l = standing_within l p (λ e. cc) in
+        let now : standing (set l p Out) p ≡ Out = standing_set_same l p Out within in
+        let count = moved_count waits l p Out within in
+        let was : waits (standing l p) ≡ 0 = rw ready in
         let asked = h.asked none in
-        let most = waiting_in (set standings p Out) in
+        let most = waiting_in (set l p Out) in
+        let many = h.many_bodies in
+        let one = h.keeps.one_each in
         record {
           run = h.run;
-          keeps = keeps_moved kinds admits net M standings p Out h.keeps within out_not_ended (busy_live p Ready ready ready_not_ended) (λ a e. absurd (out_not_parked a e));
+          keeps = keeps_moved p Out (rw ready) refl;
           room_is = h.room_is;
           many_bodies = length-set bodies p None ∙ h.many_bodies;
-          has_bodies = λ q there n. ⊎_elim (λ (s : q ≡ p). absurd (n (ap (λ x. standing (set standings p Out) x) s ∙ now)))
-              (λ o. get_or-set_other bodies p q None None o ∙ h.has_bodies q there (λ e. n (standing_set_other standings p q Out o ∙ e)))
-              (cases_eq q p);
+          has_bodies = each_set (λ q (b : Option Card). q < length net.processes → standing (set l p Out) q ≢ Out → b ≡ Some (card_of net q)) bodies p None None (omega arith) (λ there n. absurd (n now))
+              (λ q o there n. h.has_bodies q there (λ e. n (standing_set_other l p q Out o ∙ e)));
           few = h.few;
           ends = h.ends;
-          busy = λ e. busy_at (set standings p Out) p (ap is_busy now);
-          idle = λ stop e not. absurd (none_some stop (sym none ∙ e));
+          busy = λ e. busy_at (set l p Out) p (rw now);
+          idle = λ stop e not. cc;
           asked = λ e. omega arith;
           laid = omega arith;
         }
 
-    -- there are at most as many commits as entries and processes
-    pub commits_fit : commits ≤ length E + length net.processes
-    commits_fit = let a = in_within standings in let b = h.keeps.one_each in let c = h.laid in omega arith
-
-    module _ (i : Input) (out : IsOutAt net M standings i) where
-      pub out_within : i.process < length standings
-      out_within = standing_within standings i.process (λ e. out_not_ended (sym out.out ∙ e))
+    module _ (i : Input) (out : IsOutAt net M l i) where
+      pub out_within : i.process < length l
+      out_within = let is = out.out in standing_within l i.process (λ e. cc)
 
       out_bodies : i.process < length bodies
       out_bodies = let a = out_within in let b = h.many_bodies in let c = h.keeps.one_each in omega arith
 
-      pub sound_back : end ≢ None → IsSound kinds admits (machine_view net M E (set standings i.process Ready) end (commits + 1)) room (set bodies i.process (Some i.card))
+      pub sound_back : end ≢ None → IsSound kinds admits (machine_view net M E (set l i.process Ready) end (answers + 1)) room (set bodies i.process (Some i.card))
       sound_back over =
-          let now : standing (set standings i.process Ready) i.process ≡ Ready = standing_set_same standings i.process Ready out_within in
-          let count = in_moved standings i.process Ready out_within in
-          let was : stays_in (standing standings i.process) ≡ 0 = ap stays_in out.out in
+          let count = moved_count stays_in l i.process Ready out_within in
+          let was : stays_in (standing l i.process) ≡ 0 = rw out.out in
           let laid = h.laid in
           record {
             run = h.run;
-            keeps = keeps_moved kinds admits net M standings i.process Ready h.keeps out_within ready_not_ended (busy_live i.process Out out.out out_not_ended) (λ a e. absurd (ready_not_parked a e));
+            keeps = keeps_moved i.process Ready (rw out.out) refl;
             room_is = h.room_is;
             many_bodies = length-set bodies i.process (Some i.card) ∙ h.many_bodies;
-            has_bodies = bodies_back net standings (set standings i.process Ready) bodies i.process i.card out_bodies out.card h.has_bodies (λ q o e. standing_set_other standings i.process q Ready o ∙ e);
+            has_bodies = bodies_back net l (set l i.process Ready) bodies i.process i.card out_bodies out.card h.has_bodies (λ q o e. standing_set_other l i.process q Ready o ∙ e);
             few = h.few;
             ends = h.ends;
-            busy = λ e. busy_at (set standings i.process Ready) i.process (ap is_busy now);
-            idle = λ stop e not. absurd (true_false _ (busy_at standings i.process (ap is_busy out.out)) (h.idle stop e not));
+            busy = λ e. absurd (over e);
+            idle = λ stop e not. let busy = busy_at l i.process (rw out.out) in let idle = h.idle stop e not in cc;
             asked = λ e. absurd (over e);
             laid = omega arith;
           }
 
-      -- a process that is out wants what it was asked for
-      pub out_wants : wants kinds net M i.process ≡ Some (answer_to kinds i)
-      out_wants = ap (λ s. answered kinds net i.process s) out.live ∙ ap (λ (c : Card). Some (kinds.answer c i.local i.last)) out.card
+      -- the answer is worked on
+      pub record Worked (o : Outcome) (t : MachineView) (left : ℕ) : Type 0 where
+        pub commits : Commits kinds (machine_view net M E l end answers) i o t
+        pub appends : Appends kinds (machine_view net M E l end answers) t (number o)
+        pub tells : TellsEnabled kinds (machine_view net M E l end answers) i.process o
+        pub back : standing t.standings i.process ≢ Out
+        pub others : (q : ℕ) → q ≢ i.process → (standing t.standings q ≡ Out) ↔ (standing l q ≡ Out)
+        pub sound : IsSound kinds admits t left (set bodies i.process (Some i.card))
 
-      module _ (none : end ≡ None) (o : Outcome) (N : State) (F : List Entry) (moved : List Standing) (stop : Option End) (left : ℕ) (w : Works kinds net (state_and_history M E room) standings i.process (answer_to kinds i) o (state_and_history N F left) moved stop) where
-        goes : GoesOn kinds net (state_and_history M E room) (state_and_history N F left) (number o)
-        goes = works_goes kinds net (state_and_history M E room) standings i.process (answer_to kinds i) o (state_and_history N F left) moved stop w
-
-        -- the machine before, and after
-        abbrev old : MachineView
-        old = machine_view net M E standings end commits
-
-        abbrev new : MachineView
-        new = machine_view net N F moved stop (commits + 1)
-
-        pub worked_appends : Appends kinds old new (number o)
-        worked_appends = record { entries = goes.entries; history = goes.history; run = goes.run; count = goes.count }
-
-        pub worked_tells : TellsEnabled kinds old i.process o
-        worked_tells =
-            subst (λ x. TellsEnabled kinds old i.process x) (sym w.outcome_is)
-            (tells kinds net M E room standings end commits w.between w.standings_between (state_and_history N F left) moved i.process (answer_to kinds i) w.reaction w.settled out_within w.reacts w.settles)
-
-        pub worked_back : standing moved i.process ≢ Out
-        worked_back = works_back kinds net (state_and_history M E room) standings i.process (answer_to kinds i) o (state_and_history N F left) moved stop w out_within
-
-        pub worked_others : (q : ℕ) → q ≢ i.process → (standing moved q ≡ Out) ↔ (standing standings q ≡ Out)
-        worked_others q ne = works_others kinds net (state_and_history M E room) standings i.process (answer_to kinds i) o (state_and_history N F left) moved stop w q out_within ne
-
-        works_on : Works kinds net (state_and_history M E (net.budget + 2)) standings i.process (answer_to kinds i) o (state_and_history N F (net.budget + 2)) moved stop → WorksOn kinds old i o new
-        works_on v = record {
-          before = none;
-          network = refl;
-          commits = refl;
-          works = v;
-          grows = λ not. grows_exactly kinds net v.between v.standings_between v.settled (state_and_history N F (net.budget + 2)) moved net.budget (length F) v.settles (λ e. not (v.end_is ∙ e));
-        }
-
-        pub worked_commits : Commits kinds old i o new
-        worked_commits = by_outcome o w.outcome_is (works_on (subst (λ r. Works kinds net (state_and_history M E (net.budget + 2)) standings i.process (answer_to kinds i) o (state_and_history N F r) moved stop) (goes.room ∙ h.room_is) (subst (λ r. Works kinds net (state_and_history M E r) standings i.process (answer_to kinds i) o (state_and_history N F left) moved stop) h.room_is w)))
-          where
-            not_laid : (r : Reaction) (x : Settled) → LaidBack ≡ outcome_of r x → ⊥
-            not_laid Waits x e = cc
-            not_laid Acts x e = cc
-            not_laid HandsOn x e = cc
-
-            by_outcome : (q : Outcome) → q ≡ outcome_of w.reaction w.settled → WorksOn kinds old i q new → Commits kinds old i q new
-            by_outcome (Done n) e x = x
-            by_outcome (Parks n) e x = x
-            by_outcome LaidBack e x = absurd (not_laid w.reaction w.settled e)
-
-        pub sound_worked : StandingsFit kinds admits net None N moved → IsSound kinds admits new left (set bodies i.process (Some i.card))
-        sound_worked k =
-            let before : length E < net.budget = subst (λ e. MayStand kinds net E M e) none h.ends in
-            let longer : length F ≡ length E + number o = ap length goes.history ∙ length-append E goes.entries ∙ ap (λ n. length E + n) goes.count in
-            let most = few_entries kinds old i.process o worked_tells in
-            let asked = h.asked none in
-            let count = works_count kinds net (state_and_history M E room) standings i.process (answer_to kinds i) o (state_and_history N F left) moved stop w out_within out.out in
-            let number : number o ≡ acted_entries w.reaction + settled_entries w.settled = ap number w.outcome_is ∙ sym (number_is kinds net w.reaction w.settled) in
-            let waiting = waiting_in moved in
-            let few : length F ≤ net.budget + 2 = omega arith in
-            record {
-              run = subst (λ l. IsRun kinds net l N) (sym goes.history) (run_both kinds net (start kinds net) M N E goes.entries h.run goes.run);
+      pub worked :
+          end ≡ None → (o : Outcome) (N : State) (F : List Entry) (m : List Standing) (stop : Option End) (rest : ℕ) → Works kinds net (state_and_history M E room) l i.process (answer_to kinds i) o (state_and_history N F rest) m stop
+          → StandingsFit kinds admits net None N m → Worked o (machine_view net N F m stop (answers + 1)) rest
+      worked none o N F m stop rest w k =
+          let goes = works out_within w in
+          let v = rw (goes.room, h.room_is) at w in
+          let told : TellsEnabled kinds (machine_view net M E l end answers) i.process o = rw w.outcome_is
+          (tells kinds net (machine_view net M E l end answers) (state_and_history M E room) i.process (answer_to kinds i) w.reaction w.settled w.between w.standings_between refl refl out_within w.reacts
+          (settled_few kinds net w.between w.standings_between w.settled (state_and_history N F rest) m w.settles)) in
+          let ended = left kinds net w.between w.standings_between w.settled (state_and_history N F rest) m (length F) stop w.settles w.end_is in
+          let longer : length F ≡ length E + length goes.entries = ap length goes.history ∙ length-append E goes.entries in
+          let before : length E < net.budget = rw none at h.ends in
+          let most = few_entries kinds (machine_view net M E l end answers) i.process o told in
+          let was : waits (standing l i.process) ≡ 0 = rw out.out in
+          let asked = h.asked none in
+          let waiting = waiting_in m in
+          let few : length F ≤ net.budget + 2 = omega arith in
+          record {
+            commits = commits_of kinds (machine_view net M E l end answers) i o (machine_view net N F m stop (answers + 1)) none told
+                (record { before = none; network = refl; commits = refl; works = v; grows = λ not. grows_exactly kinds net v.between v.standings_between v.settled (state_and_history N F (net.budget + 2)) m net.budget (length F) v.settles (λ e. not (v.end_is ∙ e)) });
+            appends = record { entries = goes.entries; history = goes.history; run = goes.run; count = goes.count };
+            tells = told;
+            back = λ e. (goes.sent i.process e).0 refl;
+            others = λ q ne. (λ e. (goes.sent q e).1, λ e. goes.stay q (λ f. ne (cc)) e);
+            sound = record {
+              run = rw goes.history (run_both kinds net (start kinds net) M N E goes.entries h.run goes.run);
               keeps = k;
               room_is = goes.room ∙ h.room_is;
               many_bodies = length-set bodies i.process (Some i.card) ∙ h.many_bodies;
-              has_bodies = bodies_back net standings moved bodies i.process i.card out_bodies out.card h.has_bodies (works_out kinds net (state_and_history M E room) standings i.process (answer_to kinds i) o (state_and_history N F left) moved stop w);
+              has_bodies = bodies_back net l m bodies i.process i.card out_bodies out.card h.has_bodies (λ q o e. goes.stay q (λ f. o (cc)) e);
               few = few;
-              ends = subst (λ e. MayStand kinds net F N e) (sym w.end_is) (end_follows kinds net w.between w.standings_between w.settled (state_and_history N F left) moved few w.settles);
-              busy = λ e. busy_follows kinds net w.between w.standings_between w.settled (state_and_history N F left) moved net.budget (length F) w.settles (sym w.end_is ∙ e);
-              idle = λ cause e not. idle_follows kinds net w.between w.standings_between w.settled (state_and_history N F left) moved net.budget (length F) cause w.settles (sym w.end_is ∙ e) not;
+              ends = left_stands kinds net N F m stop few ended;
+              busy = left_busy kinds net ended;
+              idle = left_idle kinds net ended;
               asked = λ e. omega arith;
               laid = omega arith;
-            }
+            };
+          }
 
 -- an option that is not `Some` is `None`
 pub none_of : (o : Option End) → is_some o ≡ false → o ≡ None
@@ -303,7 +224,3 @@ none_of (Some x) e = cc
 pub some_of : (o : Option End) → is_some o ≡ true → o ≢ None
 some_of None e f = cc
 some_of (Some x) e f = cc
-
--- a true test
-pub is_true : (b : Bool) → b ≡ true → IsTrue b
-is_true b e = e

@@ -1,9 +1,11 @@
 -- The mark of a process that is made ready goes, and so does its channel from the candidates.
-use Rattle.std.proofs.Common.{◌≡◌, ◌∙◌, sym, ap, arith, Some}
-use Rattle.kpn_model.specs.Network.{family_of}
-use Rattle.kpn_commit.specs.Choice.{is_write, written_by}
-use Rattle.kpn_commit.specs.Waiting.{read_by_act}
-use Rattle.kpn_commit.proofs.Touched.{can_read_at, can_write_at, woken_nowhere, woken_reading, woken_writing}
+use Rattle.std.proofs.Common.{◌≡◌, Some, None, false, refl, arith}
+use Rattle.kpn_state.specs.declared.standing.Standing.TheVariants.{Ready}
+use Rattle.kpn_state.specs.Standings.{standing}
+use Rattle.kpn_state.proofs.Contradictions.{none_some}
+use Rattle.kpn_commit.specs.Choice.{awaited_by, waits_to_write}
+use Rattle.kpn_commit.specs.Waiting.{expected_by}
+use Rattle.kpn_commit.proofs.Waits.{busy_waits_not, waits_nowhere, done_reading, done_writing}
 use Rattle.kpn_commit.proofs.choose.unpark.Goals as goal
 use Rattle.kpn_commit.proofs.choose.unpark.Goals.{in-Read+in-Some, in-Read+in_default, in-Write+in-Some-out_of, in-Write+in_default-out_of, in-Stop}
 
@@ -15,28 +17,30 @@ note_writer-requires g c = let l = c.requires.waiting.marks.each_writer in omega
 
 pub returns-clause-waiting : goal.returns-clause-waiting
 returns-clause-waiting g c =
-    let kinds = family_of g.K.Kinds.start g.K.Kinds.answer_of in
     let net = c.args.net.now in
     let p = c.args.process in
-    let act = c.args.answer.act in
-    let M = c.args.store.now.state in
     let k = c.requires.waiting in
+    let was = standing c.args.standings.now p in
     let parked = c.requires.parked in
+    let idle = busy_waits_not net p Ready refl in
     rw c.update.ensures
     (elim c.match-answer.branch [
       | in-Read+in-Some w ↦
-          let reads : read_by_act net p act ≡ Some w.in-Some.read = ap (read_by_act net p) w.in-Read.is ∙ (rw w.from.ensures at (sym w.in_of.ensures.is ∙ w.in-Some.is)) in
-          rw w.waiting-is
-          (woken_reading net M _ _ k p c.requires.process c.args.answer parked w.in-Some.read w.note_reader.new.self w.in-Some.ensures.within (ap (written_by net p) w.in-Read.is) (ap is_write w.in-Read.is) reads w.note_reader.ensures)
-      | in-Read+in_default w ↦
-          absurd (can_read_at kinds net M p act _ w.in-Read.is c.requires.possible (rw w.from.ensures at (sym w.in_of.ensures.is ∙ w.in_default.is)))
+          let read : expected_by net p was ≡ Some w.in-Some.read = rw (parked, w.in-Read.is, ← w.from.ensures, ← w.in_of.ensures.is) w.in-Some.is in
+          let no_write : awaited_by net p was ≡ None = rw (parked, w.in-Read.is) in
+          let not_counted : waits_to_write was ≡ false = rw (parked, w.in-Read.is) in
+          rw (w.waiting-is, w.note_reader.ensures) (done_reading k p Ready c.requires.process idle w.in-Some.read w.in-Some.ensures.within no_write not_counted read)
+      | in-Read+in_default w ↦ absurd (none_some _ (rw (← w.from.ensures, ← w.in_of.ensures.is, w.in_default.is) at (rw w.in-Read.is at c.requires.possible).1))
       | in-Write+in-Some-out_of w ↦
-          let writes : written_by net p act ≡ Some w.in-Some-out_of.written = ap (written_by net p) w.in-Write.is ∙ (rw w.from-in-Write.ensures at (sym w.out_of.ensures.is ∙ w.in-Some-out_of.is)) in
-          rw w.waiting-is
-          (woken_writing net M _ _ k p c.requires.process c.args.answer parked w.in-Some-out_of.written w.remove.new.self w.note_writer.new.self w.in-Some-out_of.ensures.within writes (ap (read_by_act net p) w.in-Write.is)
-          (rw w.filling-capacity.ensures.capacity at w.remove.ensures.pairs) (rw w.filling-capacity.ensures.capacity at w.remove.ensures.many) w.remove.ensures.room w.note_writer.ensures)
-      | in-Write+in_default-out_of w ↦
-          absurd (can_write_at kinds net M p act _ _ w.in-Write.is c.requires.possible (rw w.from-in-Write.ensures at (sym w.out_of.ensures.is ∙ w.in_default-out_of.is)))
+          let written : awaited_by net p was ≡ Some w.in-Some-out_of.written = rw (parked, w.in-Write.is, ← w.from-in-Write.ensures, ← w.out_of.ensures.is) w.in-Some-out_of.is in
+          let no_read : expected_by net p was ≡ None = rw (parked, w.in-Write.is) in
+          rw (w.waiting-is, w.note_writer.ensures)
+          (done_writing k p Ready c.requires.process idle _ w.in-Some-out_of.written w.remove.new.self (λ d _. refl) written no_read
+          (rw w.filling-capacity.ensures.capacity at w.remove.ensures.pairs) (rw w.filling-capacity.ensures.capacity at w.remove.ensures.many) w.remove.ensures.room)
+      | in-Write+in_default-out_of w ↦ absurd (none_some _ (rw (← w.from-in-Write.ensures, ← w.out_of.ensures.is, w.in_default-out_of.is) at (rw w.in-Write.is at c.requires.possible).1))
       | in-Stop w ↦
-          rw w.waiting-is (woken_nowhere net M _ _ k p c.requires.process c.args.answer parked (ap (written_by net p) w.in-Stop.is) (ap is_write w.in-Stop.is) (ap (read_by_act net p) w.in-Stop.is))
+          let no_write : awaited_by net p was ≡ None = rw (parked, w.in-Stop.is) in
+          let no_read : expected_by net p was ≡ None = rw (parked, w.in-Stop.is) in
+          let not_counted : waits_to_write was ≡ false = rw (parked, w.in-Stop.is) in
+          rw w.waiting-is (waits_nowhere k p Ready c.requires.process (record { no_write = no_write; no_read = no_read; not_counted = not_counted }) refl refl)
     ])

@@ -12,7 +12,7 @@ pub returns-then-any_starves-clause-rests : goal.returns-then-any_starves-clause
 returns-then-any_starves-clause-rests g c =
     let kinds = family_of g.K.Kinds.start g.K.Kinds.answer_of in
     let k = c.requires.fits.keeps in (
-      idle_quiet kinds g.K.Kinds.admits c.args.net.now c.args.store.now.state c.args.standings.now k c.requires.idle,
+      idle_quiet k c.requires.idle,
       some_starved kinds g.K.Kinds.admits c.args.net.now c.args.store.now.state c.args.standings.now k c.args.inputs.now (rw c.as_slice.ensures.value at (sym c.any_starves.ensures ∙ c.if-any_starves.true)),
     )
 
@@ -20,7 +20,7 @@ pub returns-then-any_holds_up-clause-rests : goal.returns-then-any_holds_up-clau
 returns-then-any_holds_up-clause-rests g c =
     let kinds = family_of g.K.Kinds.start g.K.Kinds.answer_of in
     let k = c.requires.fits.keeps in (
-      idle_quiet kinds g.K.Kinds.admits c.args.net.now c.args.store.now.state c.args.standings.now k c.requires.idle,
+      idle_quiet k c.requires.idle,
       not_starved kinds g.K.Kinds.admits c.args.net.now c.args.store.now.state c.args.standings.now k c.requires.idle c.args.inputs.now (rw c.as_slice.ensures.value at (sym c.any_starves.ensures ∙ c.if-any_starves.false)),
       some_held_up kinds g.K.Kinds.admits c.args.net.now c.args.store.now.state c.args.standings.now k c.args.outputs.now (rw c.as_slice-2.ensures.value at (sym c.any_holds_up.ensures ∙ c.if-any_holds_up.true)),
     )

@@ -1,9 +1,8 @@
 -- The bodies' cards, one by one.
 use Rattle.std.proofs.Common.{◌≡◌, sym, ap, ◌∙◌, arith, map, get_or, below_more}
-use Rattle.std.proofs.lemmas.List.{length-map}
 use Rattle.kpn_model.specs.Network.{no_process}
-use Rattle.kpn_machine.proofs.Seats.{at_map, card_at, same_lists}
-use Rattle.kpn_machine.proofs.Sound.{is_true}
+use Rattle.std.proofs.lemmas.List.{length-map, ext_get_or}
+use Rattle.kpn_machine.proofs.Seats.{at_map, card_at}
 use Rattle.kpn_machine.proofs.opening.misfit.Goals as goal
 
 pub returns-then-not-same_card-clause-some : goal.returns-then-not-same_card-clause-some
@@ -23,11 +22,11 @@ pub loop-p-preserved : goal.loop-p-preserved
 loop-p-preserved g c =
     let f = g.B.Body.card in
     let here : get_or (map f c.args.bodies.now) c.loop-p.p no_process.card ≡ c.card.result = at_map f c.args.bodies.now c.loop-p.p c.index-bodies-p.result (omega arith) c.index-bodies-p.is ∙ sym c.card.ensures.card in
-    below_more _ _ c.loop-p.invariant (here ∙ c.same_card.ensures.0 (is_true _ c.if-not-same_card.false) ∙ c.card-in-loop-p.ensures)
+    below_more _ _ c.loop-p.invariant (here ∙ c.same_card.ensures.0 c.if-not-same_card.false ∙ c.card-in-loop-p.ensures)
 
 pub returns-clause-none : goal.returns-clause-none
 returns-clause-none g c =
     let f = g.B.Body.card in
     let many = length-map c.args.bodies.now f in
     let all = length-map c.args.net.now.processes (λ p. p.card) in
-    same_lists _ _ (omega arith) (λ i l. c.loop-p.invariant i (omega arith) ∙ sym (card_at c.args.net.now.processes i))
+    ext_get_or no_process.card _ _ (omega arith) (λ i l. c.loop-p.invariant i (omega arith) ∙ sym (card_at c.args.net.now.processes i))

@@ -1,18 +1,16 @@
 -- A ready process is asked, and its answer taken, as if it had gone out and come back.
-use Rattle.std.proofs.Common.{◌≡◌, None, Some, arith, length, ◌<◌}
-use Rattle.kpn_model.specs.Network.{family_of}
-use Rattle.kpn_model.specs.Semantics.{wants}
-use Rattle.kpn_machine.proofs.Sound.{commits_fit}
+use Rattle.std.proofs.Common.{◌≡◌, None, arith, length, ◌<◌}
 use Rattle.kpn_state.specs.declared.standing.Standing.TheVariants.{Ready}
 use Rattle.kpn_state.specs.Standings.{standing}
-use Rattle.kpn_machine.proofs.Rounds.{sound_round, goes_round, body_wants}
+use Rattle.kpn_machine.proofs.Sound.{commits_fit}
+use Rattle.kpn_machine.proofs.Rounds.{goes_round, body_wants}
 use Rattle.kpn_machine.proofs.machine.Machine.ask.Goals as goal
 
 pub overflow_add-self : goal.overflow_add-self
 overflow_add-self g c =
     let valid = c.assure_valid.ensures.valid in
     let few = c.self.invariant.0.few in
-    let fit = commits_fit (family_of g.B.Kinds.Kinds.start g.B.Kinds.Kinds.answer_of) g.B.Kinds.Kinds.admits _ _ _ _ _ _ _ _ c.self.invariant.0 in
+    let fit = commits_fit c.self.invariant.0 in
     let some = valid.few_processes in
     let small = valid.small_budget in
     omega arith
@@ -22,9 +20,8 @@ invariant_of-self g c =
     let none : c.self.inside.end ≡ None = rw (← c.self.view_is) at c.requires.on in
     let ready : standing c.self.inside.standings c.args.process ≡ Ready = rw (← c.self.view_is) at c.requires.ready in
     let within : c.args.process < length c.self.inside.standings = rw (← c.self.view_is) at c.requires.within in
-    let wanted : wants (family_of g.B.Kinds.Kinds.start g.B.Kinds.Kinds.answer_of) c.self.inside.net c.self.inside.store.state c.args.process ≡ Some c.answer-answer.result =
-    body_wants (family_of g.B.Kinds.Kinds.start g.B.Kinds.Kinds.answer_of) g.B.Kinds.Kinds.admits g.B.Body.card _ _ _ _ _ _ _ c.self.inside.bodies.items c.self.invariant.0 c.args.process within ready c.index.result.now c.in-Some.body c.index.ensures c.in-Some.is c.status.result.now c.in-Live.local c.in-Live.last c.status.ensures c.in-Live.is c.answer-answer.result c.answer-answer.ensures in (
-      rw c.note_end.ensures (sound_round (family_of g.B.Kinds.Kinds.start g.B.Kinds.Kinds.answer_of) g.B.Kinds.Kinds.admits _ _ _ _ _ _ _ _ c.self.invariant.0 c.args.process c.answer-answer.result none ready wanted c.work-ended.result.0 c.work-ended.new.store.state c.work-ended.new.store.history c.work-ended.new.standings c.work-ended.result.1 c.work-ended.new.store.room c.work-ended.ensures.works c.work-ended.ensures.keeps),
+    let wanted = body_wants g.B.Body.card c.self.inside.bodies.items c.self.invariant.0 c.args.process within ready _ _ c.index.ensures c.in-Some.is _ _ _ c.status.ensures c.in-Live.is _ c.answer-answer.ensures in (
+      rw c.note_end.ensures (goes_round c.self.invariant.0 c.args.process c.answer-answer.result none ready wanted _ _ _ _ _ _ c.work-ended.ensures.works c.work-ended.ensures.keeps).sound,
       c.self.invariant.1,
       c.work-ended.ensures.waiting,
     )
@@ -34,7 +31,5 @@ returns-clause-round g c =
     let none : c.self.inside.end ≡ None = rw (← c.self.view_is) at c.requires.on in
     let ready : standing c.self.inside.standings c.args.process ≡ Ready = rw (← c.self.view_is) at c.requires.ready in
     let within : c.args.process < length c.self.inside.standings = rw (← c.self.view_is) at c.requires.within in
-    let wanted : wants (family_of g.B.Kinds.Kinds.start g.B.Kinds.Kinds.answer_of) c.self.inside.net c.self.inside.store.state c.args.process ≡ Some c.answer-answer.result =
-    body_wants (family_of g.B.Kinds.Kinds.start g.B.Kinds.Kinds.answer_of) g.B.Kinds.Kinds.admits g.B.Body.card _ _ _ _ _ _ _ c.self.inside.bodies.items c.self.invariant.0 c.args.process within ready c.index.result.now c.in-Some.body c.index.ensures c.in-Some.is c.status.result.now c.in-Live.local c.in-Live.last c.status.ensures c.in-Live.is c.answer-answer.result c.answer-answer.ensures in
-    rw (← c.self.view_is, c.note_end.ensures)
-    (goes_round (family_of g.B.Kinds.Kinds.start g.B.Kinds.Kinds.answer_of) g.B.Kinds.Kinds.admits _ _ _ _ _ _ _ _ c.self.invariant.0 c.args.process c.answer-answer.result none ready wanted c.work-ended.result.0 c.work-ended.new.store.state c.work-ended.new.store.history c.work-ended.new.standings c.work-ended.result.1 c.work-ended.new.store.room c.work-ended.ensures.works)
+    let wanted = body_wants g.B.Body.card c.self.inside.bodies.items c.self.invariant.0 c.args.process within ready _ _ c.index.ensures c.in-Some.is _ _ _ c.status.ensures c.in-Live.is _ c.answer-answer.ensures in
+    rw (← c.self.view_is, c.note_end.ensures) (goes_round c.self.invariant.0 c.args.process c.answer-answer.result none ready wanted _ _ _ _ _ _ c.work-ended.ensures.works c.work-ended.ensures.keeps).goes

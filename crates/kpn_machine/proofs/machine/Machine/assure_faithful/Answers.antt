@@ -6,4 +6,4 @@ use Rattle.kpn_machine.proofs.machine.Machine.assure_faithful.Goals as goal
 pub returns : goal.returns
 returns g c =
     let kinds = g.B.Kinds.Kinds in
-    record { faithful = rw (← c.self.view_is) (sound_faithful (family_of kinds.start kinds.answer_of) kinds.admits kinds.signature _ _ _ c.assure_valid.ensures.valid (c.valid_runs.ensures.within kinds.signature (family_of kinds.start kinds.answer_of)) c.typed_runs.ensures c.self.invariant.0) }
+    record { faithful = rw (← c.self.view_is) (sound_faithful kinds.signature _ _ _ c.assure_valid.ensures.valid (c.valid_runs.ensures.within kinds.signature (family_of kinds.start kinds.answer_of)) c.typed_runs.ensures c.self.invariant.0) }

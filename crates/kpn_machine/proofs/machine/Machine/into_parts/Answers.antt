@@ -1,7 +1,7 @@
 -- Each slot of a fresh machine has its body.
 use Rattle.std.proofs.Common.{◌≡◌, ◌<◌, ◌+◌, length, get_or, sym, ap, ◌∙◌, arith, length-set, length-append}
 use Rattle.std.specs.Option.{option_map}
-use Rattle.std.proofs.lemmas.List.{length-map}
+use Rattle.std.proofs.lemmas.List.{length-map, ext_get_or}
 use Rattle.std.proofs.lemmas.Option.{same_Some}
 use Rattle.kpn_model.specs.declared.parts.Process.{Process}
 use Rattle.kpn_model.specs.Network.{no_process}
@@ -12,7 +12,7 @@ use Rattle.std.specs.List.{list_all}
 use Rattle.kpn_model.specs.declared.kinds.Card.{Card}
 use Rattle.kpn_state.specs.Standings.{is_ready}
 use Rattle.kpn_state.proofs.Placed.{ready_not_out_at}
-use Rattle.kpn_machine.proofs.Seats.{card_at, slot_at, kept_later, back_more, same_lists}
+use Rattle.kpn_machine.proofs.Seats.{card_at, slot_at, kept_later, back_more}
 use Rattle.kpn_machine.proofs.machine.Machine.into_parts.Goals as goal
 
 pub loop-p-init : goal.loop-p-init
@@ -65,4 +65,4 @@ returns-clause-bodies g c =
     let all = length-map c.args.self.network.processes (λ (p : Process). p.card) in
     let long = i.many in
     let same : length c.self.inside.net.processes ≡ length c.args.self.network.processes = ap (λ (x : MachineView). length x.network.processes) c.self.view_is in
-    same_lists _ _ (omega (arith, c.loop-p-test.false, c.loop-p.auto.p-end, c.processes-p-end.ensures.count)) (λ q below. i.back q (omega arith))
+    ext_get_or no_process.card _ _ (omega (arith, c.loop-p-test.false, c.loop-p.auto.p-end, c.processes-p-end.ensures.count)) (λ q below. i.back q (omega arith))
