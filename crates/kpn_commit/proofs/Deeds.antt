@@ -1,5 +1,5 @@
 -- A deed enables at most the process at the other end of its channel.
-use Rattle.std.proofs.Common.{◌≡◌, ◌≢◌, ◌⊎◌, inl, inr, ⊎_elim, List, [], length, refl, ap, ◌∙◌, arith, ℕ, ◌<◌, Some, None, subst}
+use Rattle.std.proofs.Common.{◌≡◌, ◌≢◌, ◌⊎◌, inl, inr, ⊎_elim, List, length, refl, ap, ◌∙◌, arith, ℕ, ◌<◌, Some, subst, get_or-set_other}
 use Rattle.std.proofs.lemmas.Bool.{cases_eq}
 use Rattle.kpn_model.specs.declared.token.Token.{Token}
 use Rattle.kpn_model.specs.declared.kinds.Act.{Act}
@@ -7,10 +7,9 @@ use Rattle.kpn_model.specs.declared.kinds.Act.TheVariants.{Read, Write, Stop}
 use Rattle.kpn_model.specs.declared.kinds.Answer.{Answer}
 use Rattle.kpn_model.specs.declared.history.Deed.{Deed}
 use Rattle.kpn_model.specs.declared.history.Deed.TheVariants.{Took, Put, Stopped}
-use Rattle.kpn_model.specs.declared.history.Status.TheVariants.{Live}
 use Rattle.kpn_model.specs.Network.{Network, Family, in_of, out_of}
-use Rattle.kpn_model.specs.Semantics.{State, tokens, capacity, with_status, IsPossible, IsDeed, after_deed}
-use Rattle.kpn_laws.proofs.States.{in_of-reader, out_of-writer, tokens_set_other}
+use Rattle.kpn_model.specs.Semantics.{State, tokens, capacity, IsPossible, IsDeed, after_deed}
+use Rattle.kpn_laws.proofs.States.{in_of-reader, out_of-writer}
 use Rattle.kpn_laws.proofs.Steps.{capacity_after}
 use Rattle.kpn_state.specs.Standings.{partner}
 
@@ -32,16 +31,12 @@ IsOn net q (Write k t) c = out_of net q k ≡ Some c
 IsOn net q Stop c = ⊥
 
 is_on_one : (net : Network) (q : ℕ) (x : Act) (b c : ℕ) → IsOn net q x b → IsOn net q x c → b ≡ c
-is_on_one net q (Read k) b c e f = cc
-is_on_one net q (Write k t) b c e f = cc
-is_on_one net q Stop b c e f = absurd e
+is_on_one net q x b c e f = grind arith
 
 module _ (kinds : Family) (net : Network) where
   -- a channel that the deed is not on keeps its tokens
   untouched : (M : State) (p : ℕ) (next : List ℕ) (d : Deed) (c : ℕ) → (Touches d c → ⊥) → tokens (after_deed kinds net M p next d) c ≡ tokens M c
-  untouched M p next Stopped c h = refl
-  untouched M p next (Took b t) c h = tokens_set_other (with_status M p (Live next (Some t))) b c _ _ h
-  untouched M p next (Put b t) c h = tokens_set_other (with_status M p (Live next None)) b c _ _ h
+  untouched M p next d c h = grind (arith, get_or-set_other)
 
   -- an act on another channel than the deed's that is possible after the deed was possible before
   pub possible_off :
@@ -57,16 +52,10 @@ module _ (kinds : Family) (net : Network) where
 
   -- what comes to a deed is possible, and on its channel
   pub deed_possible : (M : State) (p : ℕ) (x : Act) (d : Deed) → IsDeed kinds net M p x d → IsPossible kinds net M p x
-  deed_possible M p Stop Stopped h = tt
-  deed_possible M p (Read k) (Took c t) h = (c, h.0, λ (e : tokens M c ≡ []). let g = h.1.1 in cc)
-  deed_possible M p (Write k u) (Put c t) h = (c, h.0, h.2)
-  deed_possible M p x d h = absurd h
+  deed_possible M p x d h = grind arith
 
   deed_on : (M : State) (p : ℕ) (x : Act) (d : Deed) (c : ℕ) → IsDeed kinds net M p x d → Touches d c → IsOn net p x c
-  deed_on M p Stop Stopped c h on = absurd on
-  deed_on M p (Read k) (Took b t) c h on = let at = h.0 in cc
-  deed_on M p (Write k u) (Put b t) c h on = let at = h.0 in cc
-  deed_on M p x d c h on = absurd h
+  deed_on M p x d c h on = grind arith
 
   -- a process whose act is on the deed's channel is that of the deed or its partner
   pub at_an_end : (M : State) (p : ℕ) (a : Act) (d : Deed) (q c : ℕ) (x : Act) → IsDeed kinds net M p a d → IsOn net q x c → Touches d c → (q ≡ p) ⊎ (partner net d ≡ Some q)

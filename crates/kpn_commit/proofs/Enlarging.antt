@@ -7,7 +7,7 @@ use Rattle.kpn_model.specs.declared.kinds.Card.{Card}
 use Rattle.kpn_model.specs.declared.kinds.Act.TheVariants.{Write}
 use Rattle.kpn_model.specs.declared.kinds.Answer.{Answer}
 use Rattle.kpn_model.specs.declared.history.Deed.{Deed}
-use Rattle.kpn_model.specs.declared.history.Deed.TheVariants.{Took, Put, Stopped}
+use Rattle.kpn_model.specs.declared.history.Deed.TheVariants.{Put}
 use Rattle.kpn_model.specs.declared.history.Entry.{Entry}
 use Rattle.kpn_model.specs.declared.history.Entry.TheVariants.{Did, Grew}
 use Rattle.kpn_model.specs.Network.{Network, Family}
@@ -26,8 +26,7 @@ use Rattle.kpn_commit.specs.Choice.{awaited, IsSmallest}
 use Rattle.kpn_commit.specs.Waiting.{AreWaiting, partner_marked}
 use Rattle.kpn_commit.specs.Settling.{GrowsAndPuts}
 use Rattle.kpn_commit.proofs.Keeping.{keeps_all, keeps_grown}
-use Rattle.kpn_commit.proofs.Waits.{WaitsToWrite, waiting_writer, waiting_reader, is_writer, acted_waits_not, waiting_with, done_writing}
-use Rattle.kpn_commit.proofs.Marks.{others_blocked}
+use Rattle.kpn_commit.proofs.Waits.{WaitsToWrite, waiting_writer, waiting_reader, is_writer, acted_waits_not, waiting_with, done_writing, others_blocked}
 use Rattle.kpn_commit.proofs.Idle.{awaits_blocked, smallest_chosen, smallest_artificial}
 use Rattle.kpn_commit.proofs.Working.{acted}
 
@@ -59,12 +58,7 @@ module _ {kinds : Family} {admits : Card → List ℕ → Option Token → Type 
 
     -- its deed is the put
     deed_put : (d : Deed) → IsDeed kinds net grown p a.act d → (t : Token) × (d ≡ Put c t)
-    deed_put d is = by_deed d (rw act at is)
-      where
-        by_deed : (d : Deed) → IsDeed kinds net grown p (Write write.port write.token) d → (t : Token) × (d ≡ Put c t)
-        by_deed (Put b t) h = (t, let at = write.at in let here = h.0 in cc)
-        by_deed (Took b t) h = absurd h
-        by_deed Stopped h = absurd h
+    deed_put d is = let on = act in let at = write.at in grind arith
 
     module _ {w : Waiting} (wait : AreWaiting net M l w) where
       -- no process waits to read from the channel, which is full

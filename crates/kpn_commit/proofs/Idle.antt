@@ -1,5 +1,5 @@
 -- If no process is ready or out, the parked ones decide how the run goes on.
-use Rattle.std.proofs.Common.{◌≡◌, ◌≢◌, ⊎_elim, List, length, refl, arith, ℕ, true, false, Some, None, Option}
+use Rattle.std.proofs.Common.{◌≡◌, ◌≢◌, ⊎_elim, List, length, arith, ℕ, true, false, Some, None, Option}
 use Rattle.std.proofs.lemmas.Bool.{cases_lt, true_from_ne_false}
 use Rattle.std.specs.List.{list_any, list_all}
 use Rattle.kpn_model.specs.declared.token.Token.{Token}
@@ -8,9 +8,8 @@ use Rattle.kpn_model.specs.declared.kinds.Answer.{Answer}
 use Rattle.kpn_model.specs.declared.history.Status.TheVariants.{Done}
 use Rattle.kpn_model.specs.Network.{Network, Family}
 use Rattle.kpn_model.specs.Semantics.{State, status, tokens, capacity, wants, IsEnabled, IsQuiet, IsBlocked, IsArtificial, IsChosen}
-use Rattle.kpn_laws.proofs.Steps.{done_wants_none}
 use Rattle.kpn_state.specs.declared.standing.Standing.{Standing}
-use Rattle.kpn_state.specs.declared.standing.Standing.TheVariants.{Ready, Out, Parked, Stopped}
+use Rattle.kpn_state.specs.declared.standing.Standing.TheVariants.{Parked}
 use Rattle.kpn_state.specs.Standings.{standing, is_busy, has_stopped, StandingsFit}
 use Rattle.kpn_commit.specs.Choice.{awaited, IsSmallest}
 use Rattle.kpn_commit.proofs.Waits.{waiting_writer}
@@ -19,13 +18,7 @@ use Rattle.kpn_state.proofs.Placed.{idle_at, stopped_at, one_live}
 module _ {kinds : Family} {admits : Card → List ℕ → Option Token → Type 0} {net : Network} {M : State} {l : List Standing} (k : StandingsFit kinds admits net None M l) where
   -- a process that wants something and is neither ready nor out is parked with it
   pub wants_parked : (p : ℕ) (a : Answer) → is_busy (standing l p) ≡ false → wants kinds net M p ≡ Some a → standing l p ≡ Parked a
-  wants_parked p a idle w = by_standing (standing l p) refl idle
-    where
-      by_standing : (x : Standing) → standing l p ≡ x → is_busy x ≡ false → standing l p ≡ Parked a
-      by_standing Ready e h = cc
-      by_standing Out e h = cc
-      by_standing (Parked b) e h = let wanted = k.wanted p b e in cc
-      by_standing Stopped e h = absurd (done_wants_none kinds net p (status M p) a (k.stopped p e) w)
+  wants_parked p a idle w = grind (arith, k.wanted p, k.stopped p)
 
   -- a process that can go on is ready or out
   pub enabled_busy : (p : ℕ) → IsEnabled kinds net M p → is_busy (standing l p) ≡ true

@@ -1,5 +1,5 @@
 -- The standings fit the state after each move of a process, and after each change of a channel.
-use Rattle.std.proofs.Common.{◌≡◌, ◌≢◌, ◌⊎◌, inl, inr, ⊎_elim, List, [], ◌∷◌, ◌++◌, length, length-append, refl, sym, ap, ◌∙◌, arith, ℕ, ◌<◌, ◌≤◌, true, Some, None, Option, set, get_or, drop, length-set, subst, get_or-set_same, get_or-set_other}
+use Rattle.std.proofs.Common.{◌≡◌, ◌≢◌, ◌⊎◌, ⊎_elim, List, [], ◌∷◌, ◌++◌, length, length-append, refl, sym, ap, ◌∙◌, arith, ℕ, ◌<◌, ◌≤◌, true, Some, None, Option, set, get_or, drop, length-set, subst, get_or-set_same, get_or-set_other}
 use Rattle.std.proofs.lemmas.Bool.{cases_eq}
 use Rattle.std.specs.List.{AllByRecursion}
 use Rattle.kpn_model.specs.declared.token.Token.{Token}
@@ -9,7 +9,6 @@ use Rattle.kpn_model.specs.declared.kinds.Act.{Act}
 use Rattle.kpn_model.specs.declared.kinds.Act.TheVariants.{Read, Write, Stop}
 use Rattle.kpn_model.specs.declared.kinds.Answer.{Answer}
 use Rattle.kpn_model.specs.declared.history.Deed.{Deed}
-use Rattle.kpn_model.specs.declared.history.Deed.TheVariants.{Took, Put, Stopped}
 use Rattle.kpn_model.specs.declared.history.Status.TheVariants.{Done}
 use Rattle.kpn_model.specs.Network.{Network, Family, card_of, channel_of, in_of, out_of}
 use Rattle.kpn_model.specs.Lawful.{read_by, NamesPort, LeadsOn}
@@ -42,13 +41,10 @@ none_sent standings p within = each_set (λ q (y : Standing). y ≡ Out → stan
 
 -- a process has stopped after its deed exactly when its standing says so
 ended_done : (a : Answer) (d : Deed) → (standing_after d ≡ Ended → after (Some a) d ≡ Done) × (after (Some a) d ≡ Done → standing_after d ≡ Ended)
-ended_done a (Took c t) = (λ e. cc, λ e. cc)
-ended_done a (Put c t) = (λ e. cc, λ e. cc)
-ended_done a Stopped = (λ e. refl, λ e. refl)
+ended_done a d = grind arith
 
 spared_or_not : (s : Option ℕ) (q : ℕ) → (s ≡ Some q) ⊎ (s ≢ Some q)
-spared_or_not None q = inr (λ e. cc)
-spared_or_not (Some p) q = ⊎_elim (λ e. inl (ap Some e)) (λ n. inr (λ e. n (cc))) (cases_eq p q)
+spared_or_not s q = grind arith
 
 -- a state of the network
 record IsOfNetwork (admits : Card → List ℕ → Option Token → Type 0) (net : Network) (M : State) : Type 0 where

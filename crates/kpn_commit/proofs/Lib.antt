@@ -2,7 +2,6 @@ pub mod Deeds
 pub mod Keeping
 pub mod Waits
 pub mod Candidates
-pub mod Marks
 pub mod Idle
 pub mod Enlarging
 pub mod Working

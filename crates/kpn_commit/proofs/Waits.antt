@@ -9,19 +9,21 @@ use Rattle.kpn_model.specs.declared.kinds.Answer.{Answer}
 use Rattle.kpn_model.specs.declared.history.Deed.{Deed}
 use Rattle.kpn_model.specs.declared.history.Deed.TheVariants.{Took, Put, Stopped as Halted}
 use Rattle.kpn_model.specs.Network.{Family, Network, channel_of, in_of, out_of}
-use Rattle.kpn_model.specs.Semantics.{State, capacity, IsDeed, after_deed}
+use Rattle.kpn_model.specs.Semantics.{State, capacity, IsDeed, after_deed, IsPossible}
 use Rattle.kpn_laws.proofs.States.{in_of-reader, out_of-writer}
 use Rattle.kpn_laws.proofs.Steps.{capacity_after, took_read, put_write, stopped_stop}
 use Rattle.kpn_state.specs.declared.standing.Standing.{Standing}
-use Rattle.kpn_state.specs.declared.standing.Standing.TheVariants.{Ready, Out, Parked, Stopped}
+use Rattle.kpn_state.specs.declared.standing.Standing.TheVariants.{Ready, Parked, Stopped}
 use Rattle.kpn_state.specs.declared.waiting.Waiting.{Waiting}
-use Rattle.kpn_state.specs.Standings.{standing, standing_after, is_busy}
+use Rattle.kpn_state.specs.Standings.{standing, standing_after, is_busy, HasChannel, StandingsFit}
 use Rattle.kpn_state.specs.Candidates.{CandidateList}
 use Rattle.kpn_state.specs.Marks.{MarkLists, mark_lists}
 use Rattle.kpn_state.proofs.Placed.{standing_set_same, standing_set_other}
-use Rattle.kpn_commit.specs.Choice.{written_by, awaited_by, is_write, waits_to_write, AreCandidates}
-use Rattle.kpn_commit.specs.Waiting.{read_by_act, expected_by, StandFor, AreMarks, AreWaiting}
-use Rattle.kpn_commit.proofs.Keeping.{each_set}
+use Rattle.kpn_commit.specs.Choice.{awaited_by, is_write, waits_to_write, AreCandidates, awaited}
+use Rattle.kpn_commit.specs.Waiting.{expected_by, StandFor, AreMarks, AreWaiting, expected, partner_marked, HasMark}
+use Rattle.kpn_commit.proofs.Keeping.{each_set, still_parked}
+use Rattle.kpn_model.specs.declared.kinds.Card.{Card}
+use Rattle.kpn_commit.proofs.Deeds.{Touches, IsOn, possible_off}
 
 -- a process that is parked with a write to the channel
 pub record WaitsToWrite (net : Network) (p c : ℕ) (x : Standing) : Type 0 where
@@ -33,15 +35,7 @@ pub record WaitsToWrite (net : Network) (p c : ℕ) (x : Standing) : Type 0 wher
   pub at : out_of net p port ≡ Some c
 
 pub waiting_writer : (net : Network) (p c : ℕ) (x : Standing) → awaited_by net p x ≡ Some c → WaitsToWrite net p c x
-waiting_writer net p c (Parked a) e = by_act a.act refl e
-  where
-    by_act : (y : Act) → a.act ≡ y → written_by net p y ≡ Some c → WaitsToWrite net p c (Parked a)
-    by_act (Write k t) is at = record { answer = a; parked = refl; port = k; token = t; act = is; at = at }
-    by_act (Read k) is at = cc
-    by_act Stop is at = cc
-waiting_writer net p c Ready e = cc
-waiting_writer net p c Out e = cc
-waiting_writer net p c Stopped e = cc
+waiting_writer net p c x e = grind arith
 
 -- who waits to write to a channel is its writer, and the channel exists
 pub is_writer : (net : Network) (p c : ℕ) (x : Standing) → awaited_by net p x ≡ Some c → (c < length net.channels) × ((channel_of net c).writer ≡ p)
@@ -56,15 +50,7 @@ pub record WaitsToRead (net : Network) (p c : ℕ) (x : Standing) : Type 0 where
   pub at : in_of net p port ≡ Some c
 
 pub waiting_reader : (net : Network) (p c : ℕ) (x : Standing) → expected_by net p x ≡ Some c → WaitsToRead net p c x
-waiting_reader net p c (Parked a) e = by_act a.act refl e
-  where
-    by_act : (y : Act) → a.act ≡ y → read_by_act net p y ≡ Some c → WaitsToRead net p c (Parked a)
-    by_act (Read k) is at = record { answer = a; parked = refl; port = k; act = is; at = at }
-    by_act (Write k t) is at = cc
-    by_act Stop is at = cc
-waiting_reader net p c Ready e = cc
-waiting_reader net p c Out e = cc
-waiting_reader net p c Stopped e = cc
+waiting_reader net p c x e = grind arith
 
 -- who waits to read from a channel is its reader
 pub is_reader : (net : Network) (p c : ℕ) (x : Standing) → expected_by net p x ≡ Some c → (c < length net.channels) × ((channel_of net c).reader ≡ p)
@@ -78,16 +64,11 @@ pub record WaitsNowhere (net : Network) (p : ℕ) (x : Standing) : Type 0 where
 
 -- so does one that is ready or out
 pub busy_waits_not : (net : Network) (p : ℕ) (x : Standing) → is_busy x ≡ true → WaitsNowhere net p x
-busy_waits_not net p Ready e = record { no_write = refl; no_read = refl; not_counted = refl }
-busy_waits_not net p Out e = record { no_write = refl; no_read = refl; not_counted = refl }
-busy_waits_not net p (Parked a) e = cc
-busy_waits_not net p Stopped e = cc
+busy_waits_not net p x e = grind arith
 
 -- and one that has done its deed
 pub acted_waits_not : (net : Network) (p : ℕ) (d : Deed) → WaitsNowhere net p (standing_after d)
-acted_waits_not net p (Took c t) = record { no_write = refl; no_read = refl; not_counted = refl }
-acted_waits_not net p (Put c t) = record { no_write = refl; no_read = refl; not_counted = refl }
-acted_waits_not net p Halted = record { no_write = refl; no_read = refl; not_counted = refl }
+acted_waits_not net p d = grind arith
 
 -- who waits at a channel after the move of one process, where `by` tells the channel at which a process so standing waits
 module _ (by : ℕ → Standing → Option ℕ) (l : List Standing) (p : ℕ) (x : Standing) (within : p < length l) where
@@ -321,3 +302,28 @@ module _ (kinds : Family) {net : Network} {M : State} {l : List Standing} {w : W
       let no_read : expected_by net p (standing l p) ≡ None = rw (parked, stop) in
       let not_counted : waits_to_write (standing l p) ≡ false = rw (parked, stop) in
       same_capacities (waits_nowhere k p Stopped within (record { no_write = no_write; no_read = no_read; not_counted = not_counted }) refl refl) (after_deed kinds net M p a.next Halted) (λ d. refl)
+
+module _ {net : Network} {l : List Standing} {marks : MarkLists} (k : AreMarks net l marks) where
+  -- a channel of the network may be marked
+  pub has_mark : (d : Deed) → HasChannel net d → HasMark marks d
+  has_mark (Took c t) h = omega arith
+  has_mark (Put c t) h = omega arith
+  has_mark Halted h = tt
+
+  -- where the deed's channel has no mark for the other end, no parked process can go on after the deed
+  pub others_blocked :
+      {kinds : Family} {admits : Card → List ℕ → Option Token → Type 0} {M : State} {p : ℕ} → StandingsFit kinds admits net (Some p) M l → (a : Answer) (d : Deed) → p < length l → IsDeed kinds net M p a.act d → partner_marked marks d ≡ false
+      → (q : ℕ) (b : Answer) → standing (set l p (standing_after d)) q ≡ Parked b → IsPossible kinds net (after_deed kinds net M p a.next d) q b.act → ⊥
+  others_blocked {kinds = kinds} {M = M} {p = p} fit a d within is none q b parked can =
+      fit.blocked q b (λ f. before.0 (cc)) before.1 (possible_off kinds net M p a.next d q b.act (λ c at on. apart b.act d c refl is none at on) can)
+    where
+      before : (q ≢ p) × (standing l q ≡ Parked b)
+      before = still_parked l p d b within q parked
+
+      apart : (x : Act) (d : Deed) (c : ℕ) → b.act ≡ x → IsDeed kinds net M p a.act d → partner_marked marks d ≡ false → IsOn net q x c → Touches d c → ⊥
+      apart (Read i) (Took e t) c act is none at on = let r = took_read kinds net M p e t a.act is in let f = in_of-reader net p r.0 e r.2 in let g = in_of-reader net q i c at in before.0 (cc)
+      apart (Write i u) (Put e t) c act is none at on = let r = put_write kinds net M p e t a.act is in let f = out_of-writer net p r.0 e r.2 in let g = out_of-writer net q i c at in before.0 (cc)
+      apart (Read i) (Put e t) c act is none at on = let here = before.1 in let waits : expected net l q ≡ Some c = cc in let mark = (k.readers c).1 (q, waits) in cc
+      apart (Write i u) (Took e t) c act is none at on = let here = before.1 in let waits : awaited net l q ≡ Some c = cc in let mark = (k.writers c).1 (q, waits) in cc
+      apart Stop d c act is none at on = absurd at
+      apart x Halted c act is none at on = absurd on

@@ -3,7 +3,6 @@ use Rattle.std.proofs.Common.{◌≡◌, ◌≢◌, ◌↔◌, List, [], ◌∷�
 use Rattle.std.specs.List.{list_any}
 use Rattle.kpn_model.specs.declared.kinds.Answer.{Answer}
 use Rattle.kpn_model.specs.declared.history.Deed.{Deed}
-use Rattle.kpn_model.specs.declared.history.Deed.TheVariants.{Took, Put, Stopped}
 use Rattle.kpn_model.specs.declared.history.Entry.TheVariants.{Did}
 use Rattle.kpn_model.specs.declared.history.End.{End}
 use Rattle.kpn_model.specs.declared.history.End.TheVariants.{Terminated, Deadlock, Ceiling, Budget, Memory}
@@ -26,9 +25,7 @@ use Rattle.kpn_commit.specs.Works.{end_after}
 
 -- a process whose deed has a process at its other end is ready afterwards
 partner_ready : (net : Network) (d : Deed) (q : ℕ) → partner net d ≡ Some q → standing_after d ≡ Ready
-partner_ready net (Took c t) q e = refl
-partner_ready net (Put c t) q e = refl
-partner_ready net Stopped q e = cc
+partner_ready net d q e = grind arith
 
 module _ {kinds : Family} {net : Network} where
   -- a deed of what a process wants is a step of that process

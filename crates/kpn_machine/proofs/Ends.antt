@@ -7,7 +7,7 @@ use Rattle.kpn_model.specs.declared.history.End.{End}
 use Rattle.kpn_model.specs.declared.history.End.TheVariants.{Terminated, Deadlock, Ceiling, Budget, Memory}
 use Rattle.kpn_model.specs.Network.{Network, Family}
 use Rattle.kpn_model.specs.Semantics.{State}
-use Rattle.kpn_model.specs.Endings.{HasStopped, IsOver, MayEnd, MayStand, has_report}
+use Rattle.kpn_model.specs.Endings.{HasStopped, IsOver, MayStand, has_report}
 use Rattle.kpn_laws.proofs.Causes.{cause_same, over_grows_not}
 use Rattle.kpn_body.specs.Input.{Input}
 use Rattle.kpn_state.specs.StateAndHistory.{StateAndHistory}
@@ -50,39 +50,22 @@ module _ (kinds : Family) (net : Network) where
   left s l (Ended cause) t m entries end h e = Over cause e (rw h.1 h.3) (rw h.2 h.0)
   left s l Enlarged t m entries end h e = rw e (by_budget t.state entries m _ refl (grown_busy h.1))
 
-  may_end : (M : State) (E : List Entry) (end : End) → HasStopped kinds net M end → MayEnd kinds net E M end
-  may_end M E Terminated h = h
-  may_end M E Deadlock h = h
-  may_end M E Ceiling h = h
-  may_end M E Budget h = absurd h
-  may_end M E Memory h = h
-
   -- the end is justified
   pub left_stands : (M : State) (E : List Entry) (l : List Standing) (end : Option End) → length E ≤ net.budget + 2 → Left kinds net M (length E) l end → MayStand kinds net E M end
-  left_stands M E l end few (On e less busy) = rw e less
-  left_stands M E l end few (Spent e most busy) = rw e (most, few)
-  left_stands M E l end few (Over cause e stopped idle) = rw e (may_end M E cause stopped)
+  left_stands M E l end few h = grind arith
 
   pub left_busy : {M : State} {entries : ℕ} {l : List Standing} {end : Option End} → Left kinds net M entries l end → end ≡ None → list_any is_busy l ≡ true
-  left_busy (On e less busy) none = busy
-  left_busy (Spent e most busy) none = busy
-  left_busy (Over cause e stopped idle) none = cc
+  left_busy h none = grind arith
 
   pub left_idle : {M : State} {entries : ℕ} {l : List Standing} {end : Option End} → Left kinds net M entries l end → (cause : End) → end ≡ Some cause → cause ≢ Budget → list_any is_busy l ≡ false
-  left_idle (On e less busy) cause some not = cc
-  left_idle (Spent e most busy) cause some not = absurd (not (cc))
-  left_idle (Over other e stopped idle) cause some not = idle
+  left_idle h cause some not = grind arith
 
   -- a cause that was found is that of the definitions, and no other is
   found : (M : State) (end cause : End) → has_report cause ≡ true → HasStopped kinds net M end → (Some end ≡ Some cause) ↔ IsOver kinds net M cause
-  found M end cause c h = (λ e. is end cause c h (cc), λ o. other end cause c h o)
+  found M end cause c h = (λ e. let same : end ≡ cause = cc in is cause c (rw same at h), λ o. other end cause c h o)
     where
-      is : (end cause : End) → has_report cause ≡ true → HasStopped kinds net M end → end ≡ cause → IsOver kinds net M cause
-      is end Terminated c h e = rw e at h
-      is end Deadlock c h e = rw e at h
-      is end Ceiling c h e = rw e at h
-      is end Budget c h e = cc
-      is end Memory c h e = cc
+      is : (cause : End) → has_report cause ≡ true → HasStopped kinds net M cause → IsOver kinds net M cause
+      is cause c h = grind arith
 
       other : (end cause : End) → has_report cause ≡ true → HasStopped kinds net M end → IsOver kinds net M cause → Some end ≡ Some cause
       other Terminated cause c h o = rw (cause_same kinds net M Terminated cause h o)

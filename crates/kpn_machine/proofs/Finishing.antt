@@ -7,11 +7,10 @@ use Rattle.std.proofs.lemmas.List.Sums.{get_or-le-sum_by, sum_by-le}
 use Rattle.kpn_model.specs.Network.{Family}
 use Rattle.kpn_body.specs.Input.{Input}
 use Rattle.kpn_state.specs.declared.standing.Standing.{Standing}
-use Rattle.kpn_state.specs.declared.standing.Standing.TheVariants.{Ready, Out, Parked, Stopped}
+use Rattle.kpn_state.specs.declared.standing.Standing.TheVariants.{Ready, Out, Stopped}
 use Rattle.kpn_state.specs.Standings.{standing, is_busy, is_out}
 use Rattle.kpn_state.proofs.Placed.{standing_set_other}
 use Rattle.kpn_commit.specs.declared.outcome.Outcome.{Outcome}
-use Rattle.kpn_commit.specs.declared.outcome.Outcome.TheVariants.{Done, Parked as Parks, LaidBack}
 use Rattle.kpn_machine.specs.MachineView.{MachineView}
 use Rattle.kpn_machine.specs.Commits.{Commits, ContinuesRun, GoesRound}
 use Rattle.kpn_machine.proofs.Moves.{run_both}
@@ -22,10 +21,7 @@ weight x = cond (is_out x) 1 0
 
 -- no other is counted
 others_count : (x : Standing) → x ≢ Out → weight x ≤ 0
-others_count Ready n = omega arith
-others_count Out n = absurd (n refl)
-others_count (Parked a) n = omega arith
-others_count Stopped n = omega arith
+others_count x n = grind arith
 
 -- if none is counted out, none is out
 pub none_is_out : (l : List Standing) → count_by is_out l ≡ 0 → (p : ℕ) → standing l p ≢ Out
@@ -38,10 +34,7 @@ pub none_counted : (l : List Standing) → ((p : ℕ) → standing l p ≢ Out) 
 none_counted l h = let all = sum_by-le weight 0 l (λ i d within. others_count _ (λ e. h i (get_or_default l i Stopped d within ∙ e))) in omega arith
 
 idle : (x : Standing) → x ≢ Ready → x ≢ Out → is_busy x ≡ false
-idle Ready r o = absurd (r refl)
-idle Out r o = absurd (o refl)
-idle (Parked a) r o = refl
-idle Stopped r o = refl
+idle x r o = grind arith
 
 all_idle : (l : List Standing) → ((p : ℕ) → is_busy (standing l p) ≡ false) → list_any is_busy l ≡ false
 all_idle [] h = refl
@@ -54,9 +47,7 @@ some_ready l busy out ready = let none = all_idle l (λ p. idle (standing l p) (
 module _ (kinds : Family) where
   -- a commit is in the same network, and the machine has taken one answer more
   commits_more : (s : MachineView) (i : Input) (o : Outcome) (t : MachineView) → Commits kinds s i o t → (t.network ≡ s.network) × (t.commits ≡ s.commits + 1)
-  commits_more s i (Done n) t h = (h.network, h.commits)
-  commits_more s i (Parks n) t h = (h.network, h.commits)
-  commits_more s i LaidBack t h = rw h.1 (refl, refl)
+  commits_more s i o t h = grind arith
 
 module _ {kinds : Family} {s t : MachineView} (r : GoesRound kinds s t) where
   -- one process taken and committed is one more commit

@@ -5,6 +5,3 @@ pub mod Opened
 pub mod Listed
 pub mod Finishing
 pub mod Ends
-pub mod NetworkCards
-pub mod Fresh
-pub mod Rounds

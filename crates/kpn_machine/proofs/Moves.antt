@@ -1,5 +1,5 @@
 -- A commit as small steps: one process after the other moves on.
-use Rattle.std.proofs.Common.{◌≡◌, ◌≢◌, ◌⊎◌, inl, inr, List, [], ◌∷◌, ◌++◌, append_assoc, append-nil, length, length-append, length-set, refl, ◌∙◌, arith, ℕ, ◌+◌, ◌<◌, ◌≤◌, Option, Some, None, set}
+use Rattle.std.proofs.Common.{◌≡◌, ◌≢◌, ◌⊎◌, List, [], ◌∷◌, ◌++◌, append_assoc, append-nil, length, length-append, length-set, refl, ◌∙◌, arith, ℕ, ◌+◌, ◌<◌, ◌≤◌, Option, Some, None, set}
 use Rattle.std.specs.List.{sum_by}
 use Rattle.std.proofs.lemmas.List.Sums.{sum_by-set, sum_by-le, sum_by-le-sum_by}
 use Rattle.kpn_model.specs.declared.kinds.Answer.{Answer}
@@ -29,10 +29,7 @@ use Rattle.kpn_machine.specs.Commits.{number}
 
 -- a process is out or it isn't
 pub out_or_not : (x : Standing) → (x ≡ Out) ⊎ (x ≢ Out)
-out_or_not Ready = inr (λ e. cc)
-out_or_not Out = inl refl
-out_or_not (Parked a) = inr (λ e. cc)
-out_or_not Ended = inr (λ e. cc)
+out_or_not x = grind arith
 
 -- how a move changes a count
 pub moved_count : (f : Standing → ℕ) (l : List Standing) (p : ℕ) (x : Standing) → p < length l → sum_by f (set l p x) + f (standing l p) ≡ sum_by f l + f x
@@ -40,10 +37,7 @@ moved_count f l p x within = sum_by-set f l p x Ended within
 
 -- at most those that are not out wait, and at most all processes are not out
 waits_within : (x : Standing) → (waits x ≤ stays_in x) × (stays_in x ≤ 1)
-waits_within Ready = omega arith
-waits_within Out = omega arith
-waits_within (Parked a) = omega arith
-waits_within Ended = omega arith
+waits_within x = grind arith
 
 pub waiting_in : (l : List Standing) → sum_by waits l ≤ sum_by stays_in l
 waiting_in l = sum_by-le-sum_by waits stays_in l (λ x. (waits_within x).0)
@@ -150,9 +144,7 @@ module _ (kinds : Family) (net : Network) where
 
 -- an outcome's number is that of both
 number_is : (r : Reaction) (x : Settled) → number (outcome_of r x) ≡ acted_entries r + settled_entries x
-number_is Waits x = omega arith
-number_is Acts x = omega arith
-number_is HandsOn x = omega arith
+number_is r x = grind arith
 
 -- a commit's steps
 pub works : {kinds : Family} {net : Network} {s : StateAndHistory} {l : List Standing} {p : ℕ} {a : Answer} {o : Outcome} {t : StateAndHistory} {m : List Standing} {end : Option End} → p < length l → Works kinds net s l p a o t m end → Steps kinds net s l (Some p) (number o) t m

@@ -1,11 +1,16 @@
--- Bodies in their slots.
-use Rattle.std.proofs.Common.{◌≡◌, ⊎_elim, List, [], ◌∷◌, ◌++◌, length, length-append, map, refl, ap, ◌∙◌, arith, ℕ, zero, suc, ◌+◌, ◌<◌, ◌≤◌, Some, None, Option, set, get_or, get_or-set_other}
-use Rattle.std.specs.Option.{option_map}
+-- Bodies in their slots, and the cards of a network.
+use Rattle.std.proofs.Common.{◌≡◌, ⊎_elim, List, [], ◌∷◌, ◌++◌, length, length-append, map, refl, ap, ◌∙◌, arith, ℕ, zero, suc, ◌+◌, ◌<◌, ◌≤◌, Some, None, Option, set, get_or, slice_get, add-one, get_or-set_other}
+use Rattle.std.specs.List.{All}
+use Rattle.std.specs.Option.{option_map, IsSome}
 use Rattle.std.proofs.lemmas.Bool.{cases_lt}
 use Rattle.std.proofs.lemmas.List.{map-set, map-append, length-map, get_or-map, get_or_append_left, get_or_push}
+use Rattle.std.proofs.lemmas.List.Elements.{All-from_get_or}
+use Rattle.std.proofs.lemmas.Option.{slice_get-get_or}
 use Rattle.kpn_model.specs.declared.kinds.Card.{Card}
+use Rattle.kpn_model.specs.declared.kinds.Signature.{Signature}
 use Rattle.kpn_model.specs.declared.parts.Process.{Process}
 use Rattle.kpn_model.specs.Network.{no_process}
+use Rattle.kpn_body.proofs.Cards.{AreFirst, take_one_more}
 use Rattle.kpn_commit.proofs.Keeping.{each_set}
 use Rattle.kpn_machine.specs.Opening.{cards_of}
 
@@ -63,3 +68,16 @@ module _ {X : Type 0} (f : X → Card) where
       rw (is, map-append f spare (b ∷ []))
       (⊎_elim (λ less. rw (get_or_append_left (map f spare) (f b ∷ []) no_process.card q (omega arith)) (back q less))
       (λ (past : p ≤ q). let same : q ≡ p = omega arith in rw (same, get_or_push (map f spare) (f b) no_process.card p (long ∙ many)) card) (cases_lt q p))
+
+-- one more card of a network, in order
+pub card_more : (xs zs : List Card) (ps : List Process) (p : ℕ) → AreFirst xs (cards_of ps) p → zs ≡ xs ++ (get_or ps p no_process).card ∷ [] → p < length ps → AreFirst zs (cards_of ps) (p + 1)
+card_more xs zs ps p first z within =
+    let all = length-map ps (λ (q : Process). q.card) in
+    let here : slice_get (cards_of ps) p ≡ Some ((get_or ps p no_process).card) = rw (slice_get-get_or (cards_of ps) p no_process.card (omega arith), card_at ps p) in
+    record { is = rw (add-one, z, first.is, take_one_more (cards_of ps) p (get_or ps p no_process).card here) }
+
+-- the cards of a valid network have signatures
+pub all_signed : (signature : Card → Option Signature) (cards : List Card) (ps : List Process) → cards ≡ cards_of ps → All (λ p. IsSome (signature p.card)) ps → All (λ card. IsSome (signature card)) cards
+all_signed signature cards ps same signed =
+    let all = length-map ps (λ (q : Process). q.card) in
+    rw same (All-from_get_or (λ x. IsSome (signature x)) (cards_of ps) no_process.card (λ i within. rw (card_at ps i) (signed i no_process (omega arith))))

@@ -1,6 +1,6 @@
--- The machine's invariant is kept while processes go out and come back.
-use Rattle.std.proofs.Common.{◌≡◌, ◌≢◌, ◌⊎◌, ◌↔◌, ⊎_elim, inl, inr, List, length, length-append, refl, ap, ◌∙◌, arith, ℕ, ◌+◌, ◌<◌, ◌≤◌, true, false, Some, None, Option, set, length-set}
-use Rattle.std.specs.Option.{is_some}
+-- The machine's invariant is kept while processes go out and come back, and while they are asked where they stand.
+use Rattle.std.proofs.Common.{◌≡◌, ◌≢◌, ◌⊎◌, ◌↔◌, ⊎_elim, inl, inr, List, length, length-append, refl, ap, ◌∙◌, arith, ℕ, ◌+◌, ◌<◌, ◌≤◌, true, false, Some, None, Option, set, length-set, map, get_or}
+use Rattle.std.specs.Option.{is_some, option_map}
 use Rattle.std.specs.List.{list_any}
 use Rattle.kpn_model.specs.declared.token.Token.{Token}
 use Rattle.kpn_model.specs.declared.kinds.Card.{Card}
@@ -9,41 +9,43 @@ use Rattle.kpn_model.specs.declared.kinds.Answer.{Answer}
 use Rattle.kpn_model.specs.declared.history.Entry.{Entry}
 use Rattle.kpn_model.specs.declared.history.End.{End}
 use Rattle.kpn_model.specs.Network.{Network, Family, card_of}
-use Rattle.kpn_model.specs.Semantics.{State, wants, start}
+use Rattle.kpn_model.specs.Semantics.{State, wants, start, status}
 use Rattle.kpn_model.specs.Determinacy.{IsRun}
 use Rattle.kpn_model.specs.Moments.{IsWithin, AtEachMoment}
 use Rattle.kpn_model.specs.Valid.{IsValid, IsWellTyped, StaysWellTyped}
 use Rattle.kpn_laws.specs.ValidRuns.{StaysWithin}
 use Rattle.kpn_laws.proofs.EachMoment.{enabled_can_do, prefixes}
-use Rattle.kpn_body.specs.Input.{Input, answer_to}
+use Rattle.kpn_body.specs.Input.{Input, answer_to, input}
 use Rattle.kpn_state.specs.StateAndHistory.{StateAndHistory, state_and_history}
 use Rattle.kpn_state.specs.declared.standing.Standing.{Standing}
-use Rattle.kpn_state.specs.declared.standing.Standing.TheVariants.{Ready, Out, Parked, Stopped}
+use Rattle.kpn_state.specs.declared.standing.Standing.TheVariants.{Ready, Out}
 use Rattle.kpn_state.specs.Standings.{standing, is_busy, parked_answer, StandingsFit}
 use Rattle.kpn_state.proofs.Placed.{standing_set_same, standing_set_other, standing_within, busy_at}
 use Rattle.kpn_commit.specs.declared.react.Reaction.{Reaction}
 use Rattle.kpn_commit.specs.declared.react.Reaction.TheVariants.{Waits, Acts, HandsOn}
 use Rattle.kpn_commit.specs.declared.settle.Settled.{Settled}
-use Rattle.kpn_commit.specs.declared.settle.Settled.TheVariants.{Busy, Ended, Enlarged}
 use Rattle.kpn_commit.specs.declared.outcome.Outcome.{Outcome}
-use Rattle.kpn_commit.specs.declared.outcome.Outcome.TheVariants.{Done, Parked as Parks, LaidBack}
-use Rattle.kpn_commit.specs.Reactions.{Reacts}
+use Rattle.kpn_commit.specs.Reactions.{Reacts, Acted}
 use Rattle.kpn_commit.specs.Settling.{Settles}
 use Rattle.kpn_commit.specs.Works.{Works, settled_entries, outcome_of}
 use Rattle.kpn_commit.proofs.Keeping.{each_set, keeps_busy}
 use Rattle.kpn_commit.proofs.Idle.{enabled_busy}
 use Rattle.kpn_commit.proofs.Working.{handed_busy, grows_exactly}
 use Rattle.kpn_machine.specs.MachineView.{MachineView, machine_view, IsOutAt, HasBodies, waits, stays_in, IsSound, IsFaithful}
-use Rattle.kpn_machine.specs.Commits.{number, Appends, WorksOn, Commits, TellsEnabled}
+use Rattle.kpn_machine.specs.Commits.{number, Appends, WorksOn, Commits, TellsEnabled, GoesRound}
 use Rattle.kpn_machine.proofs.Ends.{left, left_stands, left_busy, left_idle}
 use Rattle.kpn_machine.proofs.Moves.{run_both, moved_count, waiting_in, in_within, out_or_not, works}
+use Rattle.std.proofs.lemmas.List.{set-set, set-get_or, length-map}
+use Rattle.kpn_model.specs.declared.history.Deed.{Deed}
+use Rattle.kpn_model.specs.declared.history.Status.{Status}
+use Rattle.kpn_model.specs.declared.history.Status.TheVariants.{Live}
+use Rattle.kpn_laws.proofs.WellTypedDeeds.{live_of}
+use Rattle.kpn_machine.proofs.Seats.{slot_at}
 
 module _ (kinds : Family) (net : Network) where
   -- what follows a reaction appends no entry, or two if no process was ready or out
   settled_few : (s : StateAndHistory) (l : List Standing) (x : Settled) (t : StateAndHistory) (m : List Standing) → Settles kinds net s l x t m → (settled_entries x ≡ 0) ⊎ ((settled_entries x ≡ 2) × (list_any is_busy l ≡ false))
-  settled_few s l Busy t m h = inl refl
-  settled_few s l (Ended end) t m h = inl refl
-  settled_few s l Enlarged t m h = inr (refl, h.0)
+  settled_few s l x t m h = grind arith
 
   -- done with 1 to 3 entries if the process could go on, parked with 0 or 2 if it couldn't
   tells :
@@ -57,15 +59,11 @@ module _ (kinds : Family) (net : Network) where
 
 -- an outcome's number is at most 3
 few_entries : (kinds : Family) (s : MachineView) (p : ℕ) (o : Outcome) → TellsEnabled kinds s p o → number o ≤ 3
-few_entries kinds s p (Done n) h = h.2
-few_entries kinds s p (Parks n) h = ⊎_elim (λ e. omega arith) (λ e. omega arith) h.1
-few_entries kinds s p LaidBack h = omega arith
+few_entries kinds s p o h = grind arith
 
 -- in a run that had not ended a commit works on the answer
 commits_of : (kinds : Family) (s : MachineView) (i : Input) (o : Outcome) (t : MachineView) → s.end ≡ None → TellsEnabled kinds s i.process o → WorksOn kinds s i o t → Commits kinds s i o t
-commits_of kinds s i (Done n) t none told h = h
-commits_of kinds s i (Parks n) t none told h = h
-commits_of kinds s i LaidBack t none told h = absurd (told none)
+commits_of kinds s i o t none told h = grind arith
 
 -- what holds of every state that a run leads to holds at each moment of a run
 at_each_moment : (kinds : Family) (net : Network) (E : List Entry) (M : State) (P : State → Type 0) → IsRun kinds net E M → ((F : List Entry) (N : State) → IsRun kinds net F N → P N) → AtEachMoment kinds net E P
@@ -82,10 +80,7 @@ bodies_back net l m bodies p card within is has keeps =
 module _ {kinds : Family} {admits : Card → List ℕ → Option Token → Type 0} where
   -- a live process that is neither ready nor out wants what it answered
   idle_wants : {net : Network} {M : State} {l : List Standing} → StandingsFit kinds admits net None M l → (p : ℕ) (x : Standing) → standing l p ≡ x → is_busy x ≡ false → wants kinds net M p ≡ parked_answer x
-  idle_wants k p Ready e idle = cc
-  idle_wants k p Out e idle = cc
-  idle_wants k p (Parked a) e idle = k.wanted p a e
-  idle_wants k p Stopped e idle = rw (k.stopped p e)
+  idle_wants k p x e idle = grind (arith, k.wanted p, k.stopped p)
 
   pub sound_faithful :
       (signature : Card → Option Signature) (s : MachineView) (room : ℕ) (bodies : List (Option Card)) → IsValid signature s.network → StaysWithin signature kinds → StaysWellTyped signature admits kinds
@@ -217,10 +212,62 @@ module _ {kinds : Family} {admits : Card → List ℕ → Option Token → Type 
 
 -- an option that is not `Some` is `None`
 pub none_of : (o : Option End) → is_some o ≡ false → o ≡ None
-none_of None e = refl
-none_of (Some x) e = cc
+none_of o e = grind arith
 
 -- an option that is `Some` is not `None`
 pub some_of : (o : Option End) → is_some o ≡ true → o ≢ None
-some_of None e f = cc
-some_of (Some x) e f = cc
+some_of o e f = grind arith
+
+module _ (kinds : Family) (net : Network) where
+  -- what a process does is the same whether it was ready or out
+  acted_out : {s t : StateAndHistory} {l m : List Standing} {p : ℕ} {d : Deed} → Acted kinds net s l p d t m → Acted kinds net s (set l p Out) p d t m
+  acted_out {l = l} {p = p} {d = d} h = record { does = h.does; entry = h.entry; moves = rw set-set h.moves }
+
+  reacts_out : (s : StateAndHistory) (l : List Standing) (p : ℕ) (a : Answer) (r : Reaction) (t : StateAndHistory) (m : List Standing) → Reacts kinds net s l p a r t m → Reacts kinds net s (set l p Out) p a r t m
+  reacts_out s l p a Waits t m h = (h.0, h.1, rw set-set h.2)
+  reacts_out s l p a Acts t m h = (h.0, acted_out h.1)
+  reacts_out s l p a HandsOn t m h =
+      record { deed = h.deed; between = h.between; standings_between = h.standings_between; first = acted_out h.first; other = h.other; wanted = h.wanted; at_other_end = h.at_other_end; parked = h.parked; handed = h.handed; second = h.second }
+
+  works_out :
+      (s : StateAndHistory) (l : List Standing) (p : ℕ) (a : Answer) (o : Outcome) (t : StateAndHistory) (m : List Standing) (end : Option End) → Works kinds net s l p a o t m end → Works kinds net s (set l p Out) p a o t m end
+  works_out s l p a o t m end w =
+      record { reaction = w.reaction; between = w.between; standings_between = w.standings_between; reacts = reacts_out s l p a w.reaction w.between w.standings_between w.reacts; settled = w.settled; settles = w.settles; outcome_is = w.outcome_is; end_is = w.end_is }
+
+-- a round keeps the invariant, and is one of the definitions
+pub record Round (kinds : Family) (admits : Card → List ℕ → Option Token → Type 0) (s t : MachineView) (room : ℕ) (bodies : List (Option Card)) : Type 0 where
+  pub sound : IsSound kinds admits t room bodies
+  pub goes : GoesRound kinds s t
+
+pub goes_round :
+    {kinds : Family} {admits : Card → List ℕ → Option Token → Type 0} {net : Network} {M : State} {E : List Entry} {l : List Standing} {end : Option End} {commits room : ℕ} {bodies : List (Option Card)} → IsSound kinds admits (machine_view net M E l end commits) room bodies → (p : ℕ) (a : Answer) → end ≡ None → standing l p ≡ Ready → wants kinds net M p ≡ Some a
+    → (o : Outcome) (N : State) (F : List Entry) (m : List Standing) (stop : Option End) (rest : ℕ) → Works kinds net (state_and_history M E room) l p a o (state_and_history N F rest) m stop → StandingsFit kinds admits net None N m
+    → Round kinds admits (machine_view net M E l end commits) (machine_view net N F m stop (commits + 1)) rest bodies
+goes_round {kinds = kinds} {net = net} {M = M} {E = E} {l = l} {end = end} {commits = commits} {room = room} {bodies = bodies} h p a none ready wanted o N F m stop rest works k =
+    let within : p < length l = standing_within l p (λ e. cc) in
+    let live = live_of kinds net p (status M p) a wanted in
+    let i : Input = input p (card_of net p) live.0 live.1.0 in
+    let out : IsOutAt net M (set l p Out) i = record { out = standing_set_same l p Out within; card = refl; live = live.1.1 } in
+    let one = h.keeps.one_each in
+    let has = h.has_bodies p (omega arith) (λ e. cc) in
+    let w = worked (sound_taken h p none ready) i out none o N F m stop rest (rw live.1.2 (works_out kinds net (state_and_history M E room) l p a o (state_and_history N F rest) m stop works)) k in
+    let seated : set (set bodies p None) p (Some (card_of net p)) ≡ bodies = rw (set-set, ← has) (set-get_or bodies p None) in
+    record {
+      sound = rw seated at w.sound;
+      goes = record { input = i; between = machine_view net M E (set l p Out) end commits; outcome = o; takes = record { ready = ready; card = refl; live = live.1.1; after = refl }; commits = w.commits; appends = w.appends; back = w.back; others = w.others };
+    }
+
+-- what the body of a ready process answers is what the process wants
+pub body_wants :
+    {kinds : Family} {admits : Card → List ℕ → Option Token → Type 0} {X : Type 0} (card : X → Card) {net : Network} {M : State} {E : List Entry} {l : List Standing} {end : Option End} {commits room : ℕ} (bodies : List (Option X))
+    → IsSound kinds admits (machine_view net M E l end commits) room (map (option_map card) bodies) → (p : ℕ) → p < length l → standing l p ≡ Ready
+    → (slot : Option X) (b : X) → slot ≡ get_or bodies p slot → slot ≡ Some b → (s : Status) (local : List ℕ) (last : Option Token) → s ≡ status M p → s ≡ Live local last
+    → (a : Answer) → a ≡ kinds.answer (card b) local last → wants kinds net M p ≡ Some a
+body_wants card {net = net} bodies h p below ready slot b at some s local last is live a e =
+    let many = h.keeps.one_each in
+    let slots = h.many_bodies in
+    let all = length-map bodies (option_map card) in
+    let has = h.has_bodies p (omega arith) (λ f. cc) in
+    let here = slot_at card bodies p slot (omega arith) at in
+    let same : card_of net p ≡ card b = cc in
+    rw (← is, live, same, e)

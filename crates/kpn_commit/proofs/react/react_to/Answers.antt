@@ -1,8 +1,7 @@
 -- A deed, and the deed that it enables.
 use Rattle.std.proofs.Common.{◌≡◌, refl, sym, ◌∙◌}
 use Rattle.kpn_model.specs.Network.{family_of}
-use Rattle.kpn_commit.proofs.Marks.{has_mark, others_blocked}
-use Rattle.kpn_commit.proofs.Waits.{acted_waiting}
+use Rattle.kpn_commit.proofs.Waits.{acted_waiting, has_mark, others_blocked}
 use Rattle.kpn_commit.proofs.Keeping.{keeps_sparing, keeps_all, keeps_handed}
 use Rattle.kpn_commit.proofs.Working.{acted}
 use Rattle.kpn_commit.proofs.react.react_to.Goals as goal

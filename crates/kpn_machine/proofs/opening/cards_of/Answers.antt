@@ -3,7 +3,7 @@ use Rattle.std.proofs.Common.{◌≤◌, ◌∙◌, ◌∷◌, ◌++◌, [], len
 use Rattle.std.proofs.lemmas.List.{length-map, take_all}
 use Rattle.kpn_model.specs.declared.parts.Process.{Process}
 use Rattle.kpn_machine.specs.Opening.{cards_of}
-use Rattle.kpn_machine.proofs.NetworkCards.{card_more, all_signed}
+use Rattle.kpn_machine.proofs.Seats.{card_more, all_signed}
 use Rattle.kpn_machine.proofs.opening.cards_of.Goals as goal
 
 pub loop-process-preserved : goal.loop-process-preserved

@@ -2,8 +2,7 @@
 use Rattle.std.proofs.Common.{◌≡◌, None, arith, length, ◌<◌}
 use Rattle.kpn_state.specs.declared.standing.Standing.TheVariants.{Ready}
 use Rattle.kpn_state.specs.Standings.{standing}
-use Rattle.kpn_machine.proofs.Sound.{commits_fit}
-use Rattle.kpn_machine.proofs.Rounds.{goes_round, body_wants}
+use Rattle.kpn_machine.proofs.Sound.{commits_fit, goes_round, body_wants}
 use Rattle.kpn_machine.proofs.machine.Machine.ask.Goals as goal
 
 pub overflow_add-self : goal.overflow_add-self

@@ -7,7 +7,7 @@ use Rattle.kpn_model.specs.Semantics.{start}
 use Rattle.kpn_machine.specs.Opening.{cards_of}
 use Rattle.kpn_machine.proofs.Listed.{waiting_none}
 use Rattle.kpn_machine.proofs.Opened.{sound_opened}
-use Rattle.kpn_machine.proofs.Fresh.{opened_fresh}
+use Rattle.kpn_machine.proofs.Opened.{opened_fresh}
 use Rattle.kpn_machine.proofs.machine.Machine.open.Goals as goal
 
 pub invariant_of-result : goal.invariant_of-result
