@@ -18,6 +18,7 @@ use Rattle.kpn_front.specs.declared.status.Status.{Status}
 use Rattle.kpn_front.specs.declared.status.Status.TheVariants.{Success}
 use Rattle.kpn_front.specs.Lines.{refused_line, status_of_fault}
 use Rattle.kpn_front.specs.Loading.{Loads}
+use Rattle.kpn_front.specs.Written.{SinkView}
 use Rattle.kpn_execute.specs.Execution.{TellsRefused, TellsLost, Writes}
 use Rattle.kpn_execute.specs.Program.{fault_of}
 
@@ -67,9 +68,9 @@ DrawsLoaded workers (Err fault) status text = (status ≡ status_of_fault fault)
 
 -- the input is loaded, and what is drawn of it is written; known of the input are its bytes, if they are known at all, and
 -- whether a read had failed before and after
-pub record Draws (workers : Option ℕ) (input : Option (List ℕ)) (failed_before failed_after : Bool) (takes : ℕ → Bool) (before after : Option (List ℕ)) (status : ℕ) (fault : Option NetFault) : Type 0 where
+pub record Draws (workers : Option ℕ) (input : Option (List ℕ)) (failed_before failed_after : Bool) (before after : SinkView) (status : ℕ) (fault : Option NetFault) : Type 0 where
   pub loaded : Result Network NetFault
   pub loads : failed_before ≡ false → IfSome input (λ text. Loads named signature failed_after text loaded)
   pub failed : failed_before ≡ false → failed_after ≡ true → loaded ≡ Err Input
   pub fault_is : fault ≡ fault_of loaded
-  pub writes : Writes (DrawsLoaded workers loaded) takes before after status
+  pub writes : Writes (DrawsLoaded workers loaded) before after status

@@ -42,7 +42,7 @@ pub fn serve<I: Source, O: Sink, R: Wait + Clock + Threads + Sync>(
     sink: &mut O,
 ) -> Served
     requires { HasFewIfRun workers }
-    ensures drawn { Draws workers (I.remaining source.old) (I.has_failed source.old) (I.has_failed source.new) (O.takes sink.old) (O.contents sink.old) (O.contents sink.new) result.status result.fault }
+    ensures drawn { Draws workers (I.remaining source.old) (I.has_failed source.old) (I.has_failed source.new) (O.seen sink.old) (O.seen sink.new) result.status result.fault }
     ensures accepted { result.fault ≡ None → result.message ≡ None }
     ensures memory { result.fault ≡ Some NetFault.Memory → result.message ≡ None }
     ensures input { result.fault ≡ Some NetFault.Input → result.message ≡ None }
@@ -80,7 +80,7 @@ fn draw<S: Sink, R: Wait + Clock + Threads + Sync>(
     sink: &mut S,
 ) -> u8
     requires { HasFewIfRun workers }
-    ensures { Writes (DrawsOf workers net) (S.takes sink.old) (S.contents sink.old) (S.contents sink.new) result }
+    ensures { Writes (DrawsOf workers net) (S.seen sink.old) (S.seen sink.new) result }
 {
     match workers {
         Some(workers) => draw_run(rt, alloc, net, workers, sink),
@@ -93,7 +93,7 @@ fn draw<S: Sink, R: Wait + Clock + Threads + Sync>(
 /// Returns the exit status: 0, 4 if memory was refused (`refused 14` is then written), and 7 if the
 /// write fails.
 fn draw_net<S: Sink>(alloc: Global, net: &Net<Standard>, sink: &mut S) -> u8
-    ensures { Writes (DrawsOf None net.now) (S.takes sink.old) (S.contents sink.old) (S.contents sink.new) result }
+    ensures { Writes (DrawsOf None net.now) (S.seen sink.old) (S.seen sink.new) result }
 {
     let start = Left {
         places: &[],

@@ -31,7 +31,7 @@ pub(crate) fn draw_run<S: Sink, R: Wait + Clock + Threads + Sync>(
     sink: &mut S,
 ) -> u8
     requires { (1 ≤ workers) × (workers ≤ 16) }
-    ensures { Writes (DrawsOf (Some workers) net) (S.takes sink.old) (S.contents sink.old) (S.contents sink.new) result }
+    ensures { Writes (DrawsOf (Some workers) net) (S.seen sink.old) (S.seen sink.new) result }
 {
     match bodies_of(alloc, &net) {
         Ok(bodies) => draw_run_of(rt, alloc, net, bodies, workers, sink),
@@ -50,7 +50,7 @@ fn draw_run_of<S: Sink, R: Wait + Clock + Threads + Sync>(
 ) -> u8
     requires cards { map ⟦<CardBody<Standard> as Body>⟧.card bodies.items ≡ map (λ p. p.card) net.processes }
     requires workers { (1 ≤ workers) × (workers ≤ 16) }
-    ensures { Writes (DrawsOf (Some workers) net) (S.takes sink.old) (S.contents sink.old) (S.contents sink.new) result }
+    ensures { Writes (DrawsOf (Some workers) net) (S.seen sink.old) (S.seen sink.new) result }
 {
     if workers == 1 {
         draw_alone(alloc, net, bodies, sink)
@@ -66,7 +66,7 @@ fn draw_alone<S: Sink>(
     bodies: Vec<CardBody<Standard>>,
     sink: &mut S,
 ) -> u8
-    ensures { Writes (DrawsEnd net) (S.takes sink.old) (S.contents sink.old) (S.contents sink.new) result }
+    ensures { Writes (DrawsEnd net) (S.seen sink.old) (S.seen sink.new) result }
 {
     let Ok(mut machine) = Machine::open(alloc, net, bodies) else {
         return say_refused(&NetFault::Memory, sink);
@@ -86,7 +86,7 @@ fn draw_by_workers<S: Sink, R: Wait + Clock + Threads + Sync>(
 ) -> u8
     requires cards { map ⟦<CardBody<Standard> as Body>⟧.card bodies.items ≡ map (λ p. p.card) net.processes }
     requires workers { (1 < workers) × (workers ≤ 16) }
-    ensures { Writes (DrawsOf (Some workers) net) (S.takes sink.old) (S.contents sink.old) (S.contents sink.new) result }
+    ensures { Writes (DrawsOf (Some workers) net) (S.seen sink.old) (S.seen sink.new) result }
 {
     match run(rt, alloc, net, bodies, workers, &Prompt) {
         Ok(finish) => draw_ended(alloc, finish.chronicle(), sink),
@@ -100,7 +100,7 @@ fn draw_by_workers<S: Sink, R: Wait + Clock + Threads + Sync>(
 /// Writes the picture of a run that ended.
 fn draw_ended<S: Sink>(alloc: Global, chronicle: &Chronicle<Standard>, sink: &mut S) -> u8
     requires { IsSome chronicle.now.end }
-    ensures { Writes (DrawsEnd chronicle.now.network) (S.takes sink.old) (S.contents sink.old) (S.contents sink.new) result }
+    ensures { Writes (DrawsEnd chronicle.now.network) (S.seen sink.old) (S.seen sink.new) result }
 {
     match picture_of_run(alloc, chronicle) {
         Ok(picture) => say(sink, picture.as_str(), Status::Success),

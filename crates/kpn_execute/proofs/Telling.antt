@@ -20,7 +20,7 @@ use Rattle.kpn_machine.specs.MachineView.{MachineView, IsFaithful}
 use Rattle.kpn_machine.specs.declared.opening.OpenFault.{OpenFault}
 use Rattle.kpn_machine.specs.declared.opening.OpenFault.TheVariants.{Bodies, Card as WrongCard, Memory as OutOfMemory}
 use Rattle.kpn_machine.specs.Opening.{cards_of, IsOpenFault}
-use Rattle.kpn_run.proofs.Told.{at_rest, over_of}
+use Rattle.kpn_run.proofs.RunReports.{at_rest, over_of}
 use Rattle.kpn_laws.specs.RoomOfRun.{TakesLeastRoom}
 use Rattle.kpn_laws.specs.StreamsOfRun.{ApproachLeastSolution}
 use Rattle.kpn_report.specs.Text.{end_line, digest_text, report_text}
@@ -47,7 +47,7 @@ module _ (kinds : Family) (net : Network) where
 
 -- an end is justified
 pub justified_by : (kinds : Family) (admits : Card → List ℕ → Option Token → Type 0) (s : MachineView) (cause : End) → IsFaithful kinds admits s → s.end ≡ Some cause → MayEnd kinds s.network s.history s.state cause
-justified_by kinds admits s cause faithful ended = subst (MayStand kinds s.network s.history s.state) ended faithful.bound
+justified_by kinds admits s cause faithful ended = subst (MayStand kinds s.network s.history s.state) ended faithful.justified
 
 -- the text of a run that ended is that of its history
 pub run_told :

@@ -1,7 +1,6 @@
 -- What the program writes of a network, and its exit status.
 use Rattle.std.specs.Prelude.{◌≡◌, ◌≢◌, ◌<◌, ◌⊎◌, ℕ, Bool, true, List, length, Option, Some, None, position}
 use Rattle.std.specs.Str.{bytes_eq}
-use Rattle.std.specs.Io.KnownBytes.{Appends}
 use Rattle.kpn_model.specs.declared.history.Entry.{Entry}
 use Rattle.kpn_model.specs.declared.history.End.{End}
 use Rattle.kpn_model.specs.declared.history.End.TheVariants.{Terminated, Deadlock, Ceiling, Budget, Memory}
@@ -14,9 +13,9 @@ use Rattle.kpn_laws.specs.RoomOfRun.{TakesLeastRoom}
 use Rattle.kpn_laws.specs.StreamsOfRun.{ApproachLeastSolution}
 use Rattle.kpn_report.specs.Text.{report_text}
 use Rattle.kpn_front.specs.declared.status.Status.{Status}
-use Rattle.kpn_front.specs.declared.status.Status.TheVariants.{Success, WrongArguments, BudgetSpent, MemoryRefused, Deadlocked, AtCeiling, WriteFailed, Lost}
-use Rattle.kpn_front.specs.Statuses.{code_of}
+use Rattle.kpn_front.specs.declared.status.Status.TheVariants.{Success, WrongArguments, BudgetSpent, MemoryRefused, Deadlocked, AtCeiling, Lost}
 use Rattle.kpn_front.specs.Lines.{lost_line, refused_line, no_channel_line}
+use Rattle.kpn_front.specs.Written.{SinkView, Says}
 
 -- the exit status of a run with this end
 abbrev pub status_of_end : End → Status
@@ -88,19 +87,17 @@ Tells kinds net workers show status text = TellsNoChannel net show status text �
 abbrev pub TellsOfBodies : Family → Network → ℕ → Option (List ℕ) → Status → List ℕ → Type 0
 TellsOfBodies kinds net workers show status text = TellsRefused status text ⊎ Tells kinds net workers show status text
 
--- a text is written, and the number is that of the status that belongs to it; it is the number of `WriteFailed` if the write fails, which
--- it does not if the sink takes that many bytes
-pub record Writes (tells : Status → List ℕ → Type 0) (takes : ℕ → Bool) (before after : Option (List ℕ)) (result : ℕ) : Type 0 where
+-- what is told is written, a text and the status that belongs to it
+pub record Writes (tells : Status → List ℕ → Type 0) (before after : SinkView) (number : ℕ) : Type 0 where
   pub status : Status
   pub text : List ℕ
   pub told : tells status text
-  pub written : result ≢ code_of WriteFailed → (result ≡ code_of status) × Appends before after text
-  pub room : takes (length text) ≡ true → result ≢ code_of WriteFailed
+  pub says : Says status text before after number
 
 -- what the program writes of a network
-abbrev pub Executes : Family → Network → ℕ → Option (List ℕ) → (ℕ → Bool) → Option (List ℕ) → Option (List ℕ) → ℕ → Type 0
-Executes kinds net workers show takes before after result = Writes (Tells kinds net workers show) takes before after result
+abbrev pub Executes : Family → Network → ℕ → Option (List ℕ) → SinkView → SinkView → ℕ → Type 0
+Executes kinds net workers show before after number = Writes (Tells kinds net workers show) before after number
 
 -- the same for a program that makes the bodies of the network
-abbrev pub MakesAndExecutes : Family → Network → ℕ → Option (List ℕ) → (ℕ → Bool) → Option (List ℕ) → Option (List ℕ) → ℕ → Type 0
-MakesAndExecutes kinds net workers show takes before after result = Writes (TellsOfBodies kinds net workers show) takes before after result
+abbrev pub MakesAndExecutes : Family → Network → ℕ → Option (List ℕ) → SinkView → SinkView → ℕ → Type 0
+MakesAndExecutes kinds net workers show before after number = Writes (TellsOfBodies kinds net workers show) before after number

@@ -11,6 +11,7 @@ use Rattle.kpn_front.specs.declared.status.Status.{Status}
 use Rattle.kpn_front.specs.declared.status.Status.TheVariants.{Success}
 use Rattle.kpn_front.specs.Lines.{checked_line, refused_line, status_of_fault}
 use Rattle.kpn_front.specs.Loading.{Loads}
+use Rattle.kpn_front.specs.Written.{SinkView}
 use Rattle.kpn_execute.specs.Execution.{TellsOfBodies, Writes}
 
 -- the fault of a description that was refused
@@ -30,9 +31,9 @@ TellsLoaded choice (Err fault) status text = (status ≡ status_of_fault fault) 
 
 -- the input is loaded, and what the choice asks for is written; known of the input are its bytes, if they are known at all, and
 -- whether a read had failed before and after
-pub record Serves (choice : Choice) (input : Option (List ℕ)) (failed_before failed_after : Bool) (takes : ℕ → Bool) (before after : Option (List ℕ)) (status : ℕ) (fault : Option NetFault) : Type 0 where
+pub record Serves (choice : Choice) (input : Option (List ℕ)) (failed_before failed_after : Bool) (before after : SinkView) (status : ℕ) (fault : Option NetFault) : Type 0 where
   pub loaded : Result Network NetFault
   pub loads : failed_before ≡ false → IfSome input (λ text. Loads named signature failed_after text loaded)
   pub failed : failed_before ≡ false → failed_after ≡ true → loaded ≡ Err Input
   pub fault_is : fault ≡ fault_of loaded
-  pub writes : Writes (TellsLoaded choice loaded) takes before after status
+  pub writes : Writes (TellsLoaded choice loaded) before after status

@@ -26,7 +26,7 @@ pub fn execute_net<K: Computes, S: Sink, R: Wait + Clock + Threads + Sync>(
     sink: &mut S,
 ) -> u8
     requires workers { (1 ≤ workers) × (workers ≤ 16) }
-    ensures { MakesAndExecutes (family_of K.start K.answer_of) net workers (option_map (λ s. s.now) show.entry) (S.takes sink.old) (S.contents sink.old) (S.contents sink.new) result }
+    ensures { MakesAndExecutes (family_of K.start K.answer_of) net workers (option_map (λ s. s.now) show.entry) (S.seen sink.old) (S.seen sink.new) result }
 {
     match bodies_of(alloc, &net) {
         Ok(bodies) => {

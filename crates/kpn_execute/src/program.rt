@@ -49,7 +49,7 @@ pub fn serve<'a, I: Source, O: Sink, R: Wait + Clock + Threads + Sync>(
     source: &mut I,
     sink: &mut O,
 ) -> Result<Served, WordsFault>
-    ensures served { IfOk result (λ served. (choice : ChoiceV) × IsChoice (map (λ w. w.now) arguments.entry.now) choice × Serves choice (I.remaining source.old) (I.has_failed source.old) (I.has_failed source.new) (O.takes sink.old) (O.contents sink.old) (O.contents sink.new) served.status served.fault) }
+    ensures served { IfOk result (λ served. (choice : ChoiceV) × IsChoice (map (λ w. w.now) arguments.entry.now) choice × Serves choice (I.remaining source.old) (I.has_failed source.old) (I.has_failed source.new) (O.seen sink.old) (O.seen sink.new) served.status served.fault) }
     ensures accepted { IfOk result (λ served. served.fault ≡ None → served.message ≡ None) }
     ensures memory { IfOk result (λ served. served.fault ≡ Some NetFault.Memory → served.message ≡ None) }
     ensures input { IfOk result (λ served. served.fault ≡ Some NetFault.Input → served.message ≡ None) }
@@ -75,7 +75,7 @@ fn serve_choice<I: Source, O: Sink, R: Wait + Clock + Threads + Sync>(
     ensures memory { result.fault ≡ Some NetFault.Memory → result.message ≡ None }
     ensures input { result.fault ≡ Some NetFault.Input → result.message ≡ None }
     ensures said { IfSome result.message (λ message. string_bytes message ≢ []) }
-    ensures served { Serves choice.entry (I.remaining source.old) (I.has_failed source.old) (I.has_failed source.new) (O.takes sink.old) (O.contents sink.old) (O.contents sink.new) result.status result.fault }
+    ensures served { Serves choice.entry (I.remaining source.old) (I.has_failed source.old) (I.has_failed source.new) (O.seen sink.old) (O.seen sink.new) result.status result.fault }
     ensures taken { ReadsAtMost (longest + 1) (I.remaining source.old) (I.remaining source.new) }
 {
     let net: Net<Standard> = match load_or_refuse(alloc, source) {
@@ -109,7 +109,7 @@ fn serve_net<O: Sink, R: Wait + Clock + Threads + Sync>(
     sink: &mut O,
 ) -> u8
     requires workers { HasFewWorkers choice }
-    ensures { Writes (TellsOf choice.entry net) (O.takes sink.old) (O.contents sink.old) (O.contents sink.new) result }
+    ensures { Writes (TellsOf choice.entry net) (O.seen sink.old) (O.seen sink.new) result }
 {
     match choice {
         Choice::Check => say_checked(&net, sink),

@@ -60,7 +60,7 @@ pub fn execute<B: Body, S: Sink, R: Wait + Clock + Threads + Sync>(
 ) -> u8
     requires cards { map B.card bodies.items ≡ cards_of net.processes }
     requires workers { (1 ≤ workers) × (workers ≤ 16) }
-    ensures { Executes (family_of B.Kinds.start B.Kinds.answer_of) net workers (option_map (λ s. s.now) show.entry) (S.takes sink.old) (S.contents sink.old) (S.contents sink.new) result }
+    ensures { Executes (family_of B.Kinds.start B.Kinds.answer_of) net workers (option_map (λ s. s.now) show.entry) (S.seen sink.old) (S.seen sink.new) result }
 {
     let request = RunRequest {
         net,
@@ -81,7 +81,7 @@ pub(crate) fn execute_request<B: Body, S: Sink, R: Wait + Clock + Threads + Sync
 ) -> u8
     requires cards { map B.card request.bodies.items ≡ cards_of request.net.processes }
     requires workers { (1 ≤ request.workers) × (request.workers ≤ 16) }
-    ensures { Executes (family_of B.Kinds.start B.Kinds.answer_of) request.net request.workers (option_map (λ s. s.now) show.entry) (S.takes sink.old) (S.contents sink.old) (S.contents sink.new) result }
+    ensures { Executes (family_of B.Kinds.start B.Kinds.answer_of) request.net request.workers (option_map (λ s. s.now) show.entry) (S.seen sink.old) (S.seen sink.new) result }
 {
     match show {
         None => tell(rt, alloc, request, gate, None, sink),
@@ -103,7 +103,7 @@ fn tell<B: Body, S: Sink, R: Wait + Clock + Threads + Sync, G: Gate>(
 ) -> u8
     requires cards { map B.card request.bodies.items ≡ cards_of request.net.processes }
     requires workers { (1 ≤ request.workers) × (request.workers ≤ 16) }
-    ensures { Writes (TellsKnown (family_of B.Kinds.start B.Kinds.answer_of) request.net request.workers channel) (S.takes sink.old) (S.contents sink.old) (S.contents sink.new) result }
+    ensures { Writes (TellsKnown (family_of B.Kinds.start B.Kinds.answer_of) request.net request.workers channel) (S.seen sink.old) (S.seen sink.new) result }
 {
     if request.workers == 1 {
         tell_alone(alloc, request.net, request.bodies, channel, sink)
@@ -121,7 +121,7 @@ fn tell_alone<B: Body, S: Sink>(
     channel: Option<usize>,
     sink: &mut S,
 ) -> u8
-    ensures { Writes (TellsEnded (family_of B.Kinds.start B.Kinds.answer_of) net channel) (S.takes sink.old) (S.contents sink.old) (S.contents sink.new) result }
+    ensures { Writes (TellsEnded (family_of B.Kinds.start B.Kinds.answer_of) net channel) (S.seen sink.old) (S.seen sink.new) result }
 {
     let Ok(mut machine) = Machine::open(alloc, net, bodies) else {
         return say_refused(&NetFault::Memory, sink);
@@ -142,7 +142,7 @@ fn tell_by_workers<B: Body, S: Sink, R: Wait + Clock + Threads + Sync, G: Gate>(
 ) -> u8
     requires cards { map B.card request.bodies.items ≡ cards_of request.net.processes }
     requires workers { (1 < request.workers) × (request.workers ≤ 16) }
-    ensures { Writes (TellsKnown (family_of B.Kinds.start B.Kinds.answer_of) request.net request.workers channel) (S.takes sink.old) (S.contents sink.old) (S.contents sink.new) result }
+    ensures { Writes (TellsKnown (family_of B.Kinds.start B.Kinds.answer_of) request.net request.workers channel) (S.seen sink.old) (S.seen sink.new) result }
 {
     let RunRequest {
         net,
@@ -166,7 +166,7 @@ fn say_told<K: Kinds, S: Sink>(
     sink: &mut S,
 ) -> u8
     requires { IsSome chronicle.now.end }
-    ensures { Writes (TellsEnded (family_of K.start K.answer_of) chronicle.now.network channel) (S.takes sink.old) (S.contents sink.old) (S.contents sink.new) result }
+    ensures { Writes (TellsEnded (family_of K.start K.answer_of) chronicle.now.network channel) (S.seen sink.old) (S.seen sink.new) result }
 {
     match told_of(alloc, chronicle, channel) {
         Ok(told) => say(sink, told.text.as_str(), told.status),

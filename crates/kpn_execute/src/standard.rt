@@ -29,7 +29,7 @@ pub fn execute_standard<S: Sink, R: Wait + Clock + Threads + Sync>(
     sink: &mut S,
 ) -> u8
     requires workers { (1 ≤ workers) × (workers ≤ 16) }
-    ensures { MakesAndExecutes standard net workers (option_map (λ s. s.now) show.entry) (S.takes sink.old) (S.contents sink.old) (S.contents sink.new) result }
+    ensures { MakesAndExecutes standard net workers (option_map (λ s. s.now) show.entry) (S.seen sink.old) (S.seen sink.new) result }
 {
     let Ok(cards) = cards_of(alloc, &net) else {
         return say_refused(&NetFault::Memory, sink);
@@ -56,7 +56,7 @@ fn make_and_execute<S: Sink, R: Wait + Clock + Threads + Sync>(
     requires cards { IfSome net (λ n. cards.now ≡ cards_of n.processes) }
     requires some { IsSome net }
     requires workers { (1 ≤ workers) × (workers ≤ 16) }
-    ensures ok { IfOk result (λ status. IfSome net (λ n. Executes standard n workers (option_map (λ s. s.now) show.entry) (S.takes sink.old) (S.contents sink.old) (S.contents sink.new) status)) }
+    ensures ok { IfOk result (λ status. IfSome net (λ n. Executes standard n workers (option_map (λ s. s.now) show.entry) (S.seen sink.old) (S.seen sink.new) status)) }
     ensures err { OnErr result (sink.new ≡ sink.old) }
 {
     let mut bodies = Vec::new(alloc);

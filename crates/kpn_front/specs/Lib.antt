@@ -1,3 +1,4 @@
 pub mod Statuses
 pub mod Lines
 pub mod Loading
+pub mod Written

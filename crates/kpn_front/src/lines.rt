@@ -2,8 +2,8 @@
 ghost use Rattle.std.specs.Prelude.{◌≡◌, ◌≢◌, ◌≤◌, ◌+◌, ◌++◌, true, OnOk, IsOk, decimal, length};
 ghost use Rattle.arrayvec.specs.ArrayString.{array_string_len};
 ghost use Rattle.std.specs.Io.KnownBytes.{Appends};
-ghost use Rattle.kpn_front.specs.Statuses.{code_of};
 ghost use Rattle.kpn_front.specs.Lines.{checked_line, lost_line, refused_line, no_channel_line, status_of_fault};
+ghost use Rattle.kpn_front.specs.Written.{Says};
 
 use crate::status::Status;
 use crate::streams::Sink;
@@ -21,8 +21,7 @@ const ROOM: usize = 64;
 /// written. `status` must not be `WriteFailed`.
 pub fn say<S: Sink>(sink: &mut S, text: &str, status: Status) -> u8
     requires { status ≢ Status.WriteFailed }
-    ensures said { result ≢ code_of Status.WriteFailed → (result ≡ code_of status) × Appends (S.contents sink.old) (S.contents sink.new) text.now }
-    ensures room { S.takes sink.old (length text.now) ≡ true → result ≢ code_of Status.WriteFailed }
+    ensures { Says status text.now (S.seen sink.old) (S.seen sink.new) result }
 {
     match sink.write_all(text.as_bytes()) {
         Ok(()) => status.code(),
@@ -34,8 +33,7 @@ pub fn say<S: Sink>(sink: &mut S, text: &str, status: Status) -> u8
 ///
 /// Returns the exit status: 0, or 7 if the write fails. Takes no memory.
 pub fn say_checked<K: Kinds, S: Sink>(net: &Net<K>, sink: &mut S) -> u8
-    ensures said { result ≢ code_of Status.WriteFailed → (result ≡ code_of Status.Success) × Appends (S.contents sink.old) (S.contents sink.new) (checked_line net.now) }
-    ensures room { S.takes sink.old (length (checked_line net.now)) ≡ true → result ≢ code_of Status.WriteFailed }
+    ensures { Says Status.Success (checked_line net.now) (S.seen sink.old) (S.seen sink.new) result }
 {
     say(sink, checked_text(net).as_str(), Status::Success)
 }
@@ -45,8 +43,7 @@ pub fn say_checked<K: Kinds, S: Sink>(net: &Net<K>, sink: &mut S) -> u8
 /// Returns the exit status: 4 if memory was refused, 2 for every other fault, and 7 if the write fails.
 /// Takes no memory.
 pub fn say_refused<S: Sink>(fault: &NetFault, sink: &mut S) -> u8
-    ensures said { result ≢ code_of Status.WriteFailed → (result ≡ code_of (status_of_fault fault.now)) × Appends (S.contents sink.old) (S.contents sink.new) (refused_line fault.now) }
-    ensures room { S.takes sink.old (length (refused_line fault.now)) ≡ true → result ≢ code_of Status.WriteFailed }
+    ensures { Says (status_of_fault fault.now) (refused_line fault.now) (S.seen sink.old) (S.seen sink.new) result }
 {
     say(sink, refused_text(fault).as_str(), status_of(fault))
 }
@@ -55,8 +52,7 @@ pub fn say_refused<S: Sink>(fault: &NetFault, sink: &mut S) -> u8
 ///
 /// Returns the exit status: 8, or 7 if the write fails. Takes no memory.
 pub fn say_lost<S: Sink>(sink: &mut S) -> u8
-    ensures said { result ≢ code_of Status.WriteFailed → (result ≡ code_of Status.Lost) × Appends (S.contents sink.old) (S.contents sink.new) lost_line }
-    ensures room { S.takes sink.old (length lost_line) ≡ true → result ≢ code_of Status.WriteFailed }
+    ensures { Says Status.Lost lost_line (S.seen sink.old) (S.seen sink.new) result }
 {
     say(sink, "lost\n", Status::Lost)
 }
@@ -65,8 +61,7 @@ pub fn say_lost<S: Sink>(sink: &mut S) -> u8
 ///
 /// Returns the exit status: 1, or 7 if the write fails. Takes no memory.
 pub fn say_no_channel<S: Sink>(name: &str, sink: &mut S) -> u8
-    ensures said { result ≢ code_of Status.WriteFailed → (result ≡ code_of Status.WrongArguments) × Appends (S.contents sink.old) (S.contents sink.new) (no_channel_line name.now) }
-    ensures room { S.takes sink.old (length (no_channel_line name.now)) ≡ true → result ≢ code_of Status.WriteFailed }
+    ensures { Says Status.WrongArguments (no_channel_line name.now) (S.seen sink.old) (S.seen sink.new) result }
 {
     match write_no_channel(name, sink) {
         Ok(()) => Status::WrongArguments.code(),
@@ -76,8 +71,8 @@ pub fn say_no_channel<S: Sink>(name: &str, sink: &mut S) -> u8
 
 /// Writes the line in three parts, since a name may be of any length.
 fn write_no_channel<S: Sink>(name: &str, sink: &mut S) -> io::Result<()>
-    ensures bytes { OnOk result (Appends (S.contents sink.old) (S.contents sink.new) (no_channel_line name.now)) }
-    ensures room { S.takes sink.old (length (no_channel_line name.now)) ≡ true → IsOk result }
+    ensures bytes { OnOk result (Appends (S.seen sink.old).contents (S.seen sink.new).contents (no_channel_line name.now)) }
+    ensures room { (S.seen sink.old).takes (length (no_channel_line name.now)) ≡ true → IsOk result }
 {
     sink.write_all(b"no channel ")?;
     sink.write_all(name.as_bytes())?;

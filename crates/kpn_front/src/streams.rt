@@ -2,6 +2,7 @@
 ghost use Rattle.std.specs.Prelude.{◌||◌, not, is_ok, ◌≡◌, ◌+◌, ℕ, Bool, true, false, List, Option, Some, OnOk, IsOk, length, vec_len, vec_capacity, nat_le};
 ghost use Rattle.std.specs.Io.{ReadsAtMost};
 ghost use Rattle.std.specs.Io.KnownBytes.{ReadConsumes, Appends};
+ghost use Rattle.kpn_front.specs.Written.{SinkView};
 
 use std::io;
 use std::io::{Read, Write};
@@ -30,18 +31,16 @@ pub trait Source {
 
 /// A sink of bytes.
 ///
-/// `contents` is what has been written, if that is known; `takes` says that a number of further bytes
-/// can be written without a failure, in one write or in several.
+/// `seen` is what contracts know of it: what has been written, if that is known, and whether a number of
+/// further bytes can be written without a failure, in one write or in several.
 pub trait Sink {
-    ghost contents: { Self → Option (List ℕ) };
-
-    ghost takes: { Self → ℕ → Bool };
+    ghost seen: { Self → SinkView };
 
     /// Writes all the bytes. If it fails, some of them may have been written.
     fn write_all(&mut self, bytes: &[u8]) -> io::Result<()>
-        ensures bytes { OnOk result (Appends (contents self.old) (contents self.new) bytes.now) }
-        ensures room { takes self.old (length bytes.now) ≡ true → IsOk result }
-        ensures left { (n : ℕ) → takes self.old (length bytes.now + n) ≡ true → IsOk result × (takes self.new n ≡ true) };
+        ensures bytes { OnOk result (Appends (seen self.old).contents (seen self.new).contents bytes.now) }
+        ensures room { (seen self.old).takes (length bytes.now) ≡ true → IsOk result }
+        ensures left { (n : ℕ) → (seen self.old).takes (length bytes.now + n) ≡ true → IsOk result × ((seen self.new).takes n ≡ true) };
 }
 
 /// A reader or a writer that may fail at any time, as a file or a terminal may. It remembers whether a
@@ -80,9 +79,7 @@ impl<R: Read> Source for Fallible<R> {
 }
 
 impl<W: Write> Sink for Fallible<W> {
-    ghost contents = { λ s. W.contents s.inner };
-
-    ghost takes = { λ _ _. false };
+    ghost seen = { λ s. record { contents = W.contents s.inner; takes = λ _. false } };
 
     fn write_all(&mut self, bytes: &[u8]) -> io::Result<()> {
         self.inner.write_all(bytes)
@@ -104,9 +101,7 @@ impl Source for &[u8] {
 
 /// A vector, to whose end bytes are written. A write for which it has room does not fail.
 impl Sink for Vec<u8> {
-    ghost contents = { λ v. Some v.items };
-
-    ghost takes = { λ v n. nat_le (vec_len v + n) (vec_capacity v) };
+    ghost seen = { λ v. record { contents = Some v.items; takes = λ n. nat_le (vec_len v + n) (vec_capacity v) } };
 
     fn write_all(&mut self, bytes: &[u8]) -> io::Result<()> {
         self.extend_from_slice(bytes)?;

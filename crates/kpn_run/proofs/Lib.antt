@@ -1,3 +1,3 @@
 pub mod Slots
 pub mod Finishes
-pub mod Told
+pub mod RunReports

@@ -27,7 +27,7 @@ pub(crate) fn run_flips<S: Sink, R: Wait + Clock + Threads + Sync>(
     sink: &mut S,
 ) -> Result<u8, AllocError>
     requires workers { (1 ≤ workers) × (workers ≤ 16) }
-    ensures ok { IfOk result (Executes flips net workers (option_map (λ s. s.now) show.entry) (S.takes sink.old) (S.contents sink.old) (S.contents sink.new)) }
+    ensures ok { IfOk result (Executes flips net workers (option_map (λ s. s.now) show.entry) (S.seen sink.old) (S.seen sink.new)) }
     ensures err { OnErr result (sink.new ≡ sink.old) }
 {
     let cards = cards_of(alloc, &net)?;
@@ -49,7 +49,7 @@ fn run_with_cards<S: Sink, R: Wait + Clock + Threads + Sync>(
     requires cards { IfSome net (λ n. cards.now ≡ cards_of n.processes) }
     requires some { IsSome net }
     requires workers { (1 ≤ workers) × (workers ≤ 16) }
-    ensures ok { IfOk result (λ status. IfSome net (λ n. Executes flips n workers (option_map (λ s. s.now) show.entry) (S.takes sink.old) (S.contents sink.old) (S.contents sink.new) status)) }
+    ensures ok { IfOk result (λ status. IfSome net (λ n. Executes flips n workers (option_map (λ s. s.now) show.entry) (S.seen sink.old) (S.seen sink.new) status)) }
     ensures err { OnErr result (sink.new ≡ sink.old) }
 {
     let mut bodies = Vec::new(alloc);

@@ -1,37 +1,20 @@
 -- A run that ended is drawn; refused memory, and an answer that was refused, are reported.
 use Rattle.std.proofs.Common.{inl, inr, refl, ap, ◌∙◌, Err}
-use Rattle.kpn_sketch.specs.declared.fault.NetFault.TheVariants.{Memory}
-use Rattle.kpn_front.specs.declared.status.Status.TheVariants.{Lost, MemoryRefused}
-use Rattle.kpn_front.specs.Lines.{lost_line, refused_line}
 use Rattle.kpn_machine.specs.MachineView.{MachineView}
 use Rattle.kpn_execute.proofs.Telling.{not_refused}
+use Rattle.kpn_execute.proofs.Written.{written, written_of, no_memory}
 use Rattle.kpn_drawing.proofs.running.draw_by_workers.Goals as goal
 
 pub returns-in-Ok : goal.returns-in-Ok
 returns-in-Ok g c =
     let same = ap (λ (s : MachineView). s.network) c.chronicle.ensures ∙ c.in-Ok.ensures.finish.network in
-    let t = c.draw_ended.ensures in
-    record { status = t.status; text = t.text; told = inr (rw same at t.told); written = t.written; room = t.room }
+    written_of (λ s t told. inr (rw same at told)) c.draw_ended.ensures
 
 pub returns-in-Err-Memory : goal.returns-in-Err-Memory
-returns-in-Err-Memory g c =
-    record {
-      status = MemoryRefused;
-      text = refused_line Memory;
-      told = inr (inl (record { status_is = refl; text_is = refl }));
-      written = c.say_refused.ensures.said;
-      room = c.say_refused.ensures.room;
-    }
+returns-in-Err-Memory g c = written c.say_refused.ensures (inr (inl no_memory))
 
 pub returns-in-Err-Lost : goal.returns-in-Err-Lost
-returns-in-Err-Lost g c =
-    record {
-      status = Lost;
-      text = lost_line;
-      told = inl (record { several = c.requires.workers.0; status_is = refl; text_is = refl });
-      written = c.say_lost.ensures.said;
-      room = c.say_lost.ensures.room;
-    }
+returns-in-Err-Lost g c = written c.say_lost.ensures (inl (record { several = c.requires.workers.0; status_is = refl; text_is = refl }))
 
 pub unreachable-requires-in-Err-Open : goal.unreachable-requires-in-Err-Open
 unreachable-requires-in-Err-Open g c =

@@ -2,7 +2,7 @@
 use Rattle.std.proofs.Common.{refl, sym, ◌∙◌}
 use Rattle.kpn_standard.specs.Standard.{standard}
 use Rattle.kpn_standard.specs.Admitted.{Admitted}
-use Rattle.kpn_run.proofs.Told.{own_report, every_runs, over_of}
+use Rattle.kpn_run.proofs.RunReports.{own_report, every_runs, over_of}
 use Rattle.kpn_execute.proofs.Telling.{justified_by}
 use Rattle.kpn_drawing.proofs.Pictures.{own_picture, every_picture}
 use Rattle.kpn_drawing.proofs.running.picture_of_run.Goals as goal

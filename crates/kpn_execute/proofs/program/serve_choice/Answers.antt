@@ -1,7 +1,7 @@
 -- What is loaded is a network, of which what was chosen is written, or a fault.
 use Rattle.std.proofs.Common.{◌≡◌, Ok, Err, refl, inl, inr}
 use Rattle.kpn_sketch.specs.declared.fault.NetFault.TheVariants.{Memory, Input}
-use Rattle.kpn_front.specs.Lines.{refused_line, status_of_fault}
+use Rattle.kpn_execute.proofs.Written.{written}
 use Rattle.kpn_execute.proofs.program.serve_choice.Goals as goal
 
 pub returns-in-Err-clause-memory : goal.returns-in-Err-clause-memory
@@ -18,7 +18,7 @@ returns-in-Err-clause-served g c =
       loads = c.in-Err.ensures.loads;
       failed = c.in-Err.ensures.failed;
       fault_is = refl;
-      writes = record { status = status_of_fault fault; text = refused_line fault; told = (refl, refl); written = c.say_refused.ensures.said; room = c.say_refused.ensures.room };
+      writes = written c.say_refused.ensures (refl, refl);
     }
 
 pub returns-clause-served : goal.returns-clause-served

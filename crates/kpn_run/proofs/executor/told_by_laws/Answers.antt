@@ -20,7 +20,7 @@ pub returns-clause-budget : goal.returns-clause-budget
 returns-clause-budget g c = λ F N b over short.
     let f = c.end.ensures.finish in
     let machine = c.args.finish.now.machine in
-    c.determinacy_of.ensures.budget machine.network machine.history F machine.state N c.args.finish.now.cause b f.run f.bound over short
+    c.determinacy_of.ensures.budget machine.network machine.history F machine.state N c.args.finish.now.cause b f.run f.justified over short
 
 pub returns-clause-comparable : goal.returns-clause-comparable
 returns-clause-comparable g c = λ sizes F N run.

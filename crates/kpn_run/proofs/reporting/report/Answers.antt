@@ -1,5 +1,5 @@
 -- The report is that of the finish, and so of every run that is over.
-use Rattle.kpn_run.proofs.Told.{own_report, every_runs, outcome, least_streams, final_of}
+use Rattle.kpn_run.proofs.RunReports.{own_report, every_runs, outcome, least_streams, final_of}
 use Rattle.kpn_model.specs.Network.{family_of}
 use Rattle.kpn_run.proofs.reporting.report.Goals as goal
 

@@ -88,11 +88,11 @@ module _ (kinds : Family) (net : Network) (E : List Entry) (M : State) (cause : 
 
 -- a run that came to its own end is over
 pub over_of : (kinds : Family) (net : Network) (cause : End) (E : List Entry) (M : State) → has_report cause ≡ true → MayEnd kinds net E M cause → IsOver kinds net M cause
-over_of kinds net Terminated E M has bound = bound
-over_of kinds net Deadlock E M has bound = bound
-over_of kinds net Ceiling E M has bound = bound
-over_of kinds net Budget E M has bound = cc
-over_of kinds net Memory E M has bound = cc
+over_of kinds net Terminated E M has justified = justified
+over_of kinds net Deadlock E M has justified = justified
+over_of kinds net Ceiling E M has justified = justified
+over_of kinds net Budget E M has justified = cc
+over_of kinds net Memory E M has justified = cc
 
 pub final_of : (kinds : Family) (net : Network) (f : FinishedRun) → IsFinish kinds net f → has_report f.cause ≡ true → IsFinal kinds net f.machine.history f.machine.state f.cause
-final_of kinds net f finish has = record { run = finish.run; over = over_of kinds net f.cause f.machine.history f.machine.state has finish.bound }
+final_of kinds net f finish has = record { run = finish.run; over = over_of kinds net f.cause f.machine.history f.machine.state has finish.justified }
