@@ -9,3 +9,5 @@ pub mod Name
 pub mod Valid
 pub mod Parts
 pub mod Version
+pub mod Waits
+pub mod Verdicts

@@ -124,7 +124,7 @@ pub trait Kinds: Send + Sync {
     }
 }
 
-/// Does nothing: a caller knows from here on that the card's numbers fit.
+/// Ghost lemma: the card's numbers fit.
 fn card_fits(card: Card)
     ensures { CardFits card }
 {

@@ -9,6 +9,7 @@ pub mod limits;
 pub mod parts;
 pub mod small;
 pub mod token;
+pub mod verdict;
 pub mod version;
 
 pub use history::{Deed, End, Entry, Place, Status};
@@ -16,3 +17,4 @@ pub use kinds::{Act, Answer, Card, Kinds, Local, Signature};
 pub use parts::{Channel, Ends, Process};
 pub use small::{Listed, Text};
 pub use token::{Sort, Token};
+pub use verdict::Verdict;

@@ -1,3 +1,2 @@
 pub mod Titles
-pub mod Waits
 pub mod Picture

@@ -6,8 +6,7 @@ mod looks;
 mod nodes;
 mod picture;
 mod titles;
-mod waits;
 
+pub use kpn_verdict::is_jammed;
 pub use picture::{Left, picture_of};
 pub use titles::Titled;
-pub use waits::is_jammed;

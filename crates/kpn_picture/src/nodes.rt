@@ -9,9 +9,9 @@ ghost use Rattle.kpn_picture.specs.Picture.{argument_part, box_opening, kind_tex
 use crate::edges::{channel_name, process_name};
 use crate::looks::{process_look, push_closing};
 use crate::titles::Titled;
-use crate::waits::{is_on_cycle, place_at};
 use kpn_model::{Card, Kinds, Place};
 use kpn_network::Net;
+use kpn_verdict::{is_on_cycle, place_at};
 use std::alloc::AllocError;
 use std::fmt::Write;
 

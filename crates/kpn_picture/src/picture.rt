@@ -29,8 +29,7 @@ digraph kpn {
   edge [color=\"#44546a\", fontcolor=\"#44546a\", fontname=\"Helvetica\", fontsize=11];
 ";
 
-/// Does nothing: a caller knows from here on that the names of a network need no escapes between
-/// quotes.
+/// Ghost lemma: the names of a network need no escapes between quotes.
 fn names_are_plain<K: Kinds>(net: &Net<K>)
     ensures processes { All (λ p. IsPlain p.name) net.now.processes }
     ensures channels { All (λ c. IsPlain c.name) net.now.channels }

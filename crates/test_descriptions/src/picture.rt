@@ -26,12 +26,12 @@ fn picture_of_start(
     picture_of(alloc, net, end, &start)
 }
 
-fn net_of(alloc: Global, text: &str) -> Result<Net<Standard>, Fail> {
+pub(crate) fn net_of(alloc: Global, text: &str) -> Result<Net<Standard>, Fail> {
     let sketch = read_sketch(alloc, text.as_bytes())?;
     Ok(Net::check(alloc, &sketch)?)
 }
 
-const COUNTER: &str = r#"version = 1
+pub(crate) const COUNTER: &str = r#"version = 1
 process = [{ name = "src", kind = "count", args = [1, 3] }, { name = "snk", kind = "sink", args = [3] }]
 channel = [{ name = "c0", from = "src", to = "snk" }]
 "#;
@@ -94,7 +94,7 @@ fn draws_flags_and_start_tokens(rt: HostRuntime) -> Result<(), Fail> {
 }
 
 /// Running sums by feedback without a start token: the adder and the copy wait for each other.
-const LOOP: &str = r#"version = 1
+pub(crate) const LOOP: &str = r#"version = 1
 process = [
     { name = "src", kind = "count", args = [1, 5] },
     { name = "ad", kind = "add" },
@@ -110,7 +110,7 @@ channel = [
 "#;
 
 /// The places in which the run of the loop leaves its processes.
-const LOOP_PLACES: [Place; 4] = [
+pub(crate) const LOOP_PLACES: [Place; 4] = [
     Place::Stopped,
     Place::Reads(1),
     Place::Reads(2),

@@ -1,7 +1,7 @@
 //! Which process waits for which after a run, and the cycles of these waits.
 ghost use Rattle.std.specs.Prelude.{◌≡◌, ◌<◌, false, length, slice_get};
 ghost use Rattle.std.specs.Option.{option_map_or};
-ghost use Rattle.kpn_picture.specs.Waits.{other_end, waits_for, is_met, is_on_cycle, stands_at_read, stands_at_write, is_jammed};
+ghost use Rattle.kpn_model.specs.Waits.{other_end, waits_for, is_met, is_on_cycle, stands_at_read, stands_at_write, is_jammed};
 
 use kpn_model::{Kinds, Place};
 use kpn_network::Net;
@@ -17,15 +17,15 @@ fn other_end<K: Kinds>(net: &Net<K>, place: Place) -> Option<usize>
     }
 }
 
-/// The place in which a run left a process, if that is known.
-pub(crate) fn place_at(places: &[Place], p: usize) -> Option<Place>
+/// Returns the place in which a run left a process, if that is known.
+pub fn place_at(places: &[Place], p: usize) -> Option<Place>
     ensures { result ≡ slice_get places.now p }
 {
     places.get(p).copied()
 }
 
 /// The process for which a process waits.
-fn waits_for<K: Kinds>(net: &Net<K>, places: &[Place], p: usize) -> Option<usize>
+pub(crate) fn waits_for<K: Kinds>(net: &Net<K>, places: &[Place], p: usize) -> Option<usize>
     ensures { result ≡ waits_for net.now places.now p }
 {
     match place_at(places, p) {
@@ -50,8 +50,8 @@ fn is_met<K: Kinds>(net: &Net<K>, places: &[Place], steps: usize, goal: usize, f
     false
 }
 
-/// Whether a process waits for itself, directly or through others.
-pub(crate) fn is_on_cycle<K: Kinds>(net: &Net<K>, places: &[Place], p: usize) -> bool
+/// Returns whether a process waits for itself, directly or through others.
+pub fn is_on_cycle<K: Kinds>(net: &Net<K>, places: &[Place], p: usize) -> bool
     ensures { result ≡ is_on_cycle net.now places.now p }
 {
     is_met(net, places, net.processes(), p, p)

@@ -1,6 +1,6 @@
 use Rattle.std.proofs.Common.{◌∙◌, rules, arith}
-use Rattle.kpn_picture.proofs.CycleSteps.{met_next}
-use Rattle.kpn_picture.proofs.waits.is_met.Goals as goal
+use Rattle.kpn_verdict.proofs.CycleSteps.{met_next}
+use Rattle.kpn_verdict.proofs.waits.is_met.Goals as goal
 
 pub loop-step-preserved : goal.loop-step-preserved
 loop-step-preserved g c =

@@ -1,0 +1,12 @@
+//! What the end of a run says of the network: whether it finished, ran dry, or waits in a circle; and which
+//! process waits for which.
+#![tactic(auto)]
+
+mod text;
+mod verdict;
+mod waits;
+
+pub use kpn_model::Verdict;
+pub use text::verdict_text;
+pub use verdict::verdict_of;
+pub use waits::{is_jammed, is_on_cycle, place_at};

@@ -1,0 +1,131 @@
+//! The text of a verdict.
+ghost use Rattle.std.specs.Prelude.{◌≡◌, ◌++◌, OnOk, IfOk, string_bytes};
+ghost use Rattle.kpn_model.specs.Parts.{channel_name, process_name};
+ghost use Rattle.kpn_verdict.specs.VerdictText.{circle_text, verdict_line, verdict_words, wait_text};
+
+use crate::waits::{place_at, waits_for};
+use kpn_model::{Kinds, Place, Verdict};
+use kpn_network::Net;
+use std::alloc::{AllocError, Global};
+use std::fmt::Write;
+
+/// Returns the line of a verdict on a run that left the processes so, as `verdict ran dry`; of a cycle with
+/// its processes and channels in the order in which tokens would flow, as `verdict cycle ad c2 cp c1`: `cp`
+/// waits at `c2` for `ad`, and `ad` at `c1` for `cp`.
+///
+/// Errors: memory was refused.
+pub fn verdict_text<K: Kinds>(
+    alloc: Global,
+    net: &Net<K>,
+    places: &[Place],
+    verdict: Verdict,
+) -> Result<String, AllocError>
+    ensures { IfOk result (λ text. string_bytes text ≡ verdict_line net.now places.now verdict) }
+{
+    let mut out = String::from_str(alloc, "verdict ")?;
+    push_words(&mut out, net, places, verdict)?;
+    out.push_str("\n")?;
+    Ok(out)
+}
+
+/// Appends what follows the word `verdict`.
+fn push_words<K: Kinds>(
+    out: &mut String,
+    net: &Net<K>,
+    places: &[Place],
+    verdict: Verdict,
+) -> Result<(), AllocError>
+    ensures { OnOk result (string_bytes out.new ≡ string_bytes out.old ++ verdict_words net.now places.now verdict) }
+{
+    match verdict {
+        Verdict::Finished => out.push_str("finished"),
+        Verdict::RanDry => out.push_str("ran dry"),
+        Verdict::Cycle(process) => push_cycle(out, net, places, process),
+        Verdict::Cut => out.push_str("cut"),
+        Verdict::Full => out.push_str("full"),
+        Verdict::Memory => out.push_str("memory"),
+    }
+}
+
+/// Appends the cycle of waits on which a process is.
+fn push_cycle<K: Kinds>(
+    out: &mut String,
+    net: &Net<K>,
+    places: &[Place],
+    process: usize,
+) -> Result<(), AllocError>
+    ensures { OnOk result (string_bytes out.new ≡ string_bytes out.old ++ verdict_words net.now places.now (Verdict.Cycle process)) }
+{
+    out.push_str("cycle")?;
+    push_circle(out, net, places, net.processes(), process, process)
+}
+
+/// Appends the circle on which a process waits for `goal`, of at most so many processes.
+fn push_circle<K: Kinds>(
+    out: &mut String,
+    net: &Net<K>,
+    places: &[Place],
+    most: usize,
+    goal: usize,
+    process: usize,
+) -> Result<(), AllocError>
+    ensures { OnOk result (string_bytes out.new ≡ string_bytes out.old ++ circle_text net.now places.now most goal process) }
+{
+    if most == 0 {
+        return Ok(());
+    }
+    match waits_for(net, places, process) {
+        Some(next) if next == goal => push_wait(out, net, places, next, process),
+        Some(next) => {
+            push_circle(out, net, places, most - 1, goal, next)?;
+            push_wait(out, net, places, next, process)
+        }
+        None => Ok(()),
+    }
+}
+
+/// Appends a process, and the channel at which another waits for it.
+fn push_wait<K: Kinds>(
+    out: &mut String,
+    net: &Net<K>,
+    places: &[Place],
+    process: usize,
+    waiting: usize,
+) -> Result<(), AllocError>
+    ensures { OnOk result (string_bytes out.new ≡ string_bytes out.old ++ wait_text net.now places.now process waiting) }
+{
+    let name = process_name(net, process);
+    match place_at(places, waiting) {
+        Some(Place::Reads(c)) => {
+            let channel = channel_name(net, c);
+            write!(out, " {name} {channel}")
+        }
+        Some(Place::Writes(c)) => {
+            let channel = channel_name(net, c);
+            write!(out, " {name} {channel}")
+        }
+        Some(Place::Stopped) | None => write!(out, " {name}"),
+    }
+}
+
+/// The name of a process; nothing if the network has no such process.
+fn process_name<K: Kinds>(net: &Net<K>, p: usize) -> &str
+    ensures { result.now ≡ process_name net.now p }
+{
+    if p < net.processes() {
+        net.process_name(p)
+    } else {
+        ""
+    }
+}
+
+/// The name of a channel; nothing if the network has no such channel.
+fn channel_name<K: Kinds>(net: &Net<K>, c: usize) -> &str
+    ensures { result.now ≡ channel_name net.now c }
+{
+    if c < net.channels() {
+        net.channel_name(c)
+    } else {
+        ""
+    }
+}
