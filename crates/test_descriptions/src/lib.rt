@@ -1,6 +1,7 @@
-//! Tests of descriptions, their messages, kinds and pictures: of kpn_net, kpn_message and kpn_picture, and
-//! in `kinds` of kpn_standard, kpn_body, kpn_compute and kpn_signals. They have a crate of their own so
-//! that these are proved once, and one crate so that what it uses is loaded once.
+//! Tests of descriptions, their messages, kinds, pictures and verdicts, and of texts of tokens: of kpn_net,
+//! kpn_message, kpn_picture, kpn_verdict and kpn_tokens, and in `kinds` of kpn_standard, kpn_body,
+//! kpn_compute and kpn_signals. They have a crate of their own so that these are proved once, and one crate
+//! so that what it uses is loaded once.
 #![tactic(auto)]
 
 #[cfg(test)]
@@ -13,3 +14,7 @@ mod message;
 mod net;
 #[cfg(test)]
 mod picture;
+#[cfg(test)]
+mod tokens;
+#[cfg(test)]
+mod verdict;

@@ -1,0 +1,32 @@
+//! Tokens written on lines of their own.
+ghost use Rattle.std.specs.Prelude.{◌≡◌, ◌++◌, IfOk, OnOk, string_bytes};
+ghost use Rattle.std.specs.List.{flat_map};
+ghost use Rattle.kpn_tokens.specs.TokenLines.{token_line};
+
+use kpn_model::Token;
+use std::alloc::{AllocError, Global};
+use std::fmt::Write;
+
+/// Returns the tokens as a text, one on each line, as [`read_tokens`](crate::read_tokens) reads them: a
+/// word in decimal, a flag as `true` or `false`.
+///
+/// Errors: memory was refused.
+pub fn tokens_text(alloc: Global, tokens: &[Token]) -> Result<String, AllocError>
+    ensures { IfOk result (λ text. string_bytes text ≡ flat_map token_line tokens.now) }
+{
+    let mut text = String::new(alloc);
+    for token in tokens {
+        push_token(&mut text, *token)?;
+    }
+    Ok(text)
+}
+
+/// Appends a token and a line feed.
+fn push_token(out: &mut String, token: Token) -> Result<(), AllocError>
+    ensures { OnOk result (string_bytes out.new ≡ string_bytes out.old ++ token_line token) }
+{
+    match token {
+        Token::Word(word) => write!(out, "{word}\n"),
+        Token::Flag(flag) => write!(out, "{flag}\n"),
+    }
+}
