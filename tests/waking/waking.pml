@@ -600,12 +600,12 @@ inline ask_in_place() {
 }
 
 /* round.rt: go_on */
-inline go_on() { take_step() }
+inline go_on() { take_turn() }
 
 /* Pace::exchanged is part of it: with tasks it goes on; without, one that is spare rests, and any other
    rests or pauses. */
-/* round.rt: take_step */
-inline take_step() {
+/* round.rt: take_turn */
+inline take_turn() {
     if
     :: taken == TASKS -> taken = 0; most = 0
     :: taken == NOTHING && most > 0 -> most = 0

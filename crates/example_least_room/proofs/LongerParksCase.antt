@@ -69,7 +69,7 @@ module _ (kinds : Family) (admits : Card → List ℕ → Option Token → Type 
 
   -- the cause of an end justifies it
   bound_by : (cause : End) → s.end ≡ Some cause → MayEnd kinds s.network s.history s.state cause
-  bound_by cause ended = subst (MayStand kinds s.network s.history s.state) ended faithful.bound
+  bound_by cause ended = subst (MayStand kinds s.network s.history s.state) ended faithful.justified
 
   -- no channel gets near the ceiling
   pub no_ceiling : s.end ≢ Some Ceiling

@@ -9,8 +9,8 @@ ghost use Rattle.example_streams.specs.Endless.{EndlessLoop};
 use kpn_laws::least_solution;
 use kpn_streams::{solving, standard_functions};
 
-/// Does nothing: what it ensures is what five networks of examples/ compute, whatever numbers arrive and
-/// whatever capacities their channels begin with.
+/// Ghost lemma: what five networks of examples/ compute, whatever numbers arrive and whatever
+/// capacities their channels begin with.
 ///
 /// `running_sums`: the sums so far, modulo 2^64; `sums`: at each place of these stands the sum of the
 /// numbers up to there; `table`: how the equations are solved for 1, 2 and 3, step by step. `moving_sum`:

@@ -93,7 +93,7 @@ fn perform<K: Kinds>(
     }
 }
 
-/// Does nothing: a caller knows from here on the laws of the family for each answer of a card.
+/// Ghost lemma: the laws of the family for each answer of a card.
 fn obey<K: Kinds>(card: Card)
     requires signed { IsSome (K.signature card) }
     ensures names { (local : List ℕ) (last : Option TokenV) → K.admits card local last → NamesPort K.signature card (K.answer_of card local last).act }

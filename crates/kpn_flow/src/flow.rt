@@ -194,13 +194,13 @@ impl<B: Body> Flow<B> {
         all_wait_to_read(self.standings.as_slice())
     }
 
-    /// Does nothing: a caller knows from here on what holds of each flow at each time. It was led to its
-    /// state by events, of which tokens came only into inputs and went only out of outputs. By whatever
-    /// such events that was, and whatever will still come into the inputs, what was done is a run of the
-    /// network that held all those tokens from the start; growths are left out of it. What that run wrote
-    /// to an output is what was drained, and then what is there; and every solution of that network's
-    /// equations begins with it (Kahn 1974). The entries among such events were counted; and what has not
-    /// ended is an input.
+    /// Ghost lemma: what holds of each flow at each time. It was led to its state by events, of which
+    /// tokens came only into inputs and went only out of outputs. By whatever such events that was,
+    /// and whatever will still come into the inputs, what was done is a run of the network that held
+    /// all those tokens from the start; growths are left out of it. What that run wrote to an output
+    /// is what was drained, and then what is there; and every solution of that network's equations
+    /// begins with it (Kahn 1974). The entries among such events were counted; and what has not ended
+    /// is an input.
     pub fn assure_one_run(&self)
         ensures ends { AreEnds (family_of B.Kinds.start B.Kinds.answer_of) self.now.network self.now.inputs self.now.outputs }
         ensures unended { (c : ℕ) → is_among self.now.unended c ≡ true → is_among self.now.inputs c ≡ true }

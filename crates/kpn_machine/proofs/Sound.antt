@@ -93,7 +93,7 @@ module _ {kinds : Family} {admits : Card → List ℕ → Option Token → Type 
         run = h.run;
         within = at_each_moment kinds s.network s.history s.state IsWithin h.run (within s.network valid);
         well_typed = at_each_moment kinds s.network s.history s.state (IsWellTyped admits s.network) h.run (well_typed s.network valid);
-        bound = h.ends;
+        justified = h.ends;
         none_held_back = enabled_busy h.keeps;
         wanted = λ p idle. idle_wants h.keeps p (standing s.standings p) refl idle;
         some_busy = h.busy;

@@ -99,7 +99,7 @@ pub record IsFaithful (kinds : Family) (admits : Card → List ℕ → Option To
   pub run : IsRun kinds s.network s.history s.state
   pub within : AtEachMoment kinds s.network s.history IsWithin
   pub well_typed : AtEachMoment kinds s.network s.history (IsWellTyped admits s.network)
-  pub bound : MayStand kinds s.network s.history s.state s.end
+  pub justified : MayStand kinds s.network s.history s.state s.end
   pub none_held_back : (p : ℕ) → IsEnabled kinds s.network s.state p → is_busy (standing s.standings p) ≡ true
   pub wanted : (p : ℕ) → is_busy (standing s.standings p) ≡ false → wants kinds s.network s.state p ≡ parked_answer (standing s.standings p)
   pub some_busy : s.end ≡ None → list_any is_busy s.standings ≡ true

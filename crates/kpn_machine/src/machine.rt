@@ -14,8 +14,8 @@ ghost use Rattle.kpn_laws.specs.RoomOfRun.{TakesLeastRoom};
 ghost use Rattle.kpn_laws.specs.StreamsOfRun.{ApproachLeastSolution};
 
 use crate::chronicle::Chronicle;
+use crate::equality::{same_card, same_last, same_local};
 use crate::opening::{OpenFault, Start, misfit, prepare, seat_all};
-use crate::same::{same_card, same_last, same_local};
 use kpn_body::{Body, Finished, Task};
 use kpn_commit::Outcome;
 use kpn_commit::work::work;
@@ -129,7 +129,7 @@ impl<B: Body> Machine<B> {
         self.end
     }
 
-    /// Does nothing: a caller knows from here on what holds of each machine at each time.
+    /// Ghost lemma: what holds of each machine at each time.
     pub fn assure_faithful(&self)
         ensures faithful { IsFaithful (family_of B.Kinds.start B.Kinds.answer_of) B.Kinds.admits self.now }
     {

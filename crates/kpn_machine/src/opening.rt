@@ -10,7 +10,7 @@ ghost use Rattle.kpn_state.specs.Marks.{mark_lists};
 ghost use Rattle.kpn_machine.specs.OpenFaults.{number_of_open_fault};
 ghost use Rattle.kpn_machine.specs.Opening.{starting, filled, cards_of, IsOpenFault, AreSeated};
 
-use crate::same::same_card;
+use crate::equality::same_card;
 use kpn_body::Body;
 use kpn_model::{Card, Kinds, Status};
 use kpn_network::Net;

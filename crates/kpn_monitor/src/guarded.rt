@@ -14,11 +14,10 @@ ghost use Rattle.kpn_watch.specs.Phases.{phase_of};
 ghost use Rattle.kpn_monitor.specs.Kept.{IsShown, HasEnded, WasCommitted, WasTaken, WentOn, FoundNothing};
 ghost use Rattle.kpn_monitor.specs.Hands.{TakesOutAll, CommitsAll, WereCommitted};
 ghost use Rattle.kpn_body.specs.Input.{Input};
-ghost use Rattle.kpn_machine.specs.MachineView.{MachineView, IsFaithful, IsFresh, TakesOut};
+ghost use Rattle.kpn_machine.specs.MachineView.{MachineView, IsFaithful, IsFresh, IsOut, TakesOut};
 ghost use Rattle.kpn_model.specs.Endings.{MayStand};
 ghost use Rattle.kpn_machine.specs.Commits.{Commits, Appends, ContinuesRun, number};
 
-use crate::giving::{give_all, give_one};
 use crate::hand::{Hand, Sharing};
 use crate::naming::EntryLedger;
 use crate::seat::Seat;
@@ -433,7 +432,7 @@ impl<B: Body, E: EntryLedger, O: Ledger> Guarded<B, E, O> {
         self.publisher.watch(board)
     }
 
-    /// Does nothing: a caller learns that the shares of all parts add up to the books.
+    /// Ghost lemma: the shares of all parts add up to the books.
     pub(crate) fn audit(&mut self, entries: &mut Share<E>, overs: &mut Share<O>)
         requires { (entries.old.parts ≡ 65536) × (overs.old.parts ≡ 65536) }
         ensures entries { entries.old.amount ≡ length self.old.machine.history }
@@ -461,6 +460,41 @@ impl<B: Body, E: EntryLedger, O: Ledger> Guarded<B, E, O> {
         } = self;
         (machine.into_chronicle(), publisher)
     }
+}
+
+/// Gives an answer to the machine that asked for it.
+#[inline(always)]
+pub(crate) fn give_one<B: Body>(machine: &mut Machine<B>, finished: Finished<B>) -> Outcome
+    requires { IsOut machine.old finished }
+    ensures commits { Commits (family_of B.Kinds.start B.Kinds.answer_of) machine.old finished result machine.new }
+    ensures appends { Appends (family_of B.Kinds.start B.Kinds.answer_of) machine.old machine.new (number result) }
+    ensures network { machine.new.network ≡ machine.old.network }
+    ensures committed { WasCommitted (family_of B.Kinds.start B.Kinds.answer_of) B.Kinds.admits machine.old.network finished result }
+{
+    machine.assure_faithful();
+    machine.commit_asked(finished)
+}
+
+/// Gives the answers of a hand to a machine, one after the other. Stops at an answer that the machine
+/// did not ask for, and returns it.
+pub(crate) fn give_all<B: Body>(machine: &mut Machine<B>, hand: &mut Hand<B>) -> Option<Finished<B>>
+    requires none { hand.old.outcomes ≡ [] }
+    requires few { length hand.old.tasks ≤ 64 }
+    requires within { hand.old.called ≤ length hand.old.tasks }
+    ensures machine { MatchOption result (CommitsAll (family_of B.Kinds.start B.Kinds.answer_of) machine.old hand.old.tasks hand.new.outcomes machine.new hand.new.tasks) (λ i. CommitsAll (family_of B.Kinds.start B.Kinds.answer_of) machine.old hand.old.tasks hand.new.outcomes machine.new (i ∷ hand.new.tasks)) }
+    ensures network { machine.new.network ≡ machine.old.network }
+    ensures committed { MatchOption result (WereCommitted (family_of B.Kinds.start B.Kinds.answer_of) B.Kinds.admits machine.old.network hand.old.tasks hand.new.outcomes hand.new.tasks) (λ i. WereCommitted (family_of B.Kinds.start B.Kinds.answer_of) B.Kinds.admits machine.old.network hand.old.tasks hand.new.outcomes (i ∷ hand.new.tasks)) }
+    ensures called { MatchOption result ((hand.new.called ≡ 0) × (length hand.new.outcomes ≡ hand.old.called)) (λ _. hand.new.called + 1 + length hand.new.outcomes ≡ hand.old.called) }
+    ensures count { MatchOption result (length hand.new.tasks + length hand.new.outcomes ≡ length hand.old.tasks) (λ _. length hand.new.tasks + 1 + length hand.new.outcomes ≡ length hand.old.tasks) }
+{
+    while let Some(task) = hand.first() {
+        if !machine.has_sent(task) {
+            return Some(hand.give());
+        }
+        let outcome = give_one(machine, hand.give());
+        hand.note(outcome);
+    }
+    None
 }
 
 /// How many entries were appended.

@@ -7,7 +7,6 @@
 #![tactic(auto)]
 
 mod closed;
-mod giving;
 mod guarded;
 mod hand;
 mod monitor;

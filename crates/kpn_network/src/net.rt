@@ -82,7 +82,7 @@ impl<K: Kinds> Net<K> {
         self.processes.len()
     }
 
-    /// Does nothing: a caller knows from here on that the network is valid.
+    /// Ghost lemma: the network is valid.
     pub fn assure_valid(&self)
         ensures valid { IsValid K.signature self.now }
     {

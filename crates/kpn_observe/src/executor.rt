@@ -197,7 +197,7 @@ fn run_machine<B: Body, R: Wait + Clock + Threads + Sync, G: Gate, V: Observer>(
     }
 }
 
-/// Does nothing: a caller knows from here on what the laws say of a run, over or not.
+/// Ghost lemma: what the laws say of a run, over or not.
 pub(crate) fn told_by_laws<K: Kinds>(ran: &WatchedRun<K>)
     ensures within { StaysWithinCapacities (family_of K.start K.answer_of) ran.now.machine.network ran.now.machine.history }
     ensures budget { EndSparesBudget (family_of K.start K.answer_of) ran.now.machine.network ran.now.machine.end }

@@ -22,7 +22,7 @@ pub record FinishedRun : Type 0 where
 pub record IsFinish (kinds : Family) (net : Network) (f : FinishedRun) : Type 0 where
   pub network : f.machine.network ≡ net
   pub run : IsRun kinds net f.machine.history f.machine.state
-  pub bound : MayEnd kinds net f.machine.history f.machine.state f.cause
+  pub justified : MayEnd kinds net f.machine.history f.machine.state f.cause
   pub receipts : length f.machine.history ≡ f.receipts
 
 -- after each prefix of the history no channel holds more tokens than its capacity

@@ -7,7 +7,7 @@
 mod boxed;
 mod executor;
 mod finish;
-mod hold;
+mod hold_gate;
 mod pace;
 mod reporting;
 mod round;
@@ -16,7 +16,7 @@ mod worker;
 
 pub use executor::{RunFault, run};
 pub use finish::Finish;
-pub use hold::Hold;
+pub use hold_gate::Hold;
 pub use kpn_model::Place;
 pub use kpn_report::{Detail, Growths, Places, Report, Sizes, Steps, Stream, Streams, stream_of};
 pub use reporting::report;

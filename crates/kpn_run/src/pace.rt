@@ -41,7 +41,7 @@ const LONGEST_LOOK: u64 = 50_000;
 
 /// What a worker does after an exchange.
 #[derive(Clone, Copy)]
-pub(crate) enum Step {
+pub(crate) enum Turn {
     Go,
     Pause,
     Rest(Rest),
@@ -147,11 +147,11 @@ impl Pace {
     }
 
     /// An exchange has ended, at time `now`. Returns what the worker does next.
-    pub(crate) fn exchanged(&mut self, next: Next, now: u64) -> Step {
+    pub(crate) fn exchanged(&mut self, next: Next, now: u64) -> Turn {
         self.exchanging = now.saturating_sub(self.then);
         self.then = now;
         if self.in_place > 0 {
-            return Step::Go;
+            return Turn::Go;
         }
         match next {
             Next::Tasks | Next::Over(_) => {
@@ -159,20 +159,20 @@ impl Pace {
                 if self.calling < BRIEF && self.strain == 0 {
                     self.untimed = UNTIMED_ROUNDS;
                 }
-                Step::Go
+                Turn::Go
             }
             Next::Nothing => self.step_without_task(),
         }
     }
 
-    fn step_without_task(&mut self) -> Step {
+    fn step_without_task(&mut self) -> Turn {
         self.looking = self.looking.saturating_add(self.exchanging);
         if self.strain >= PATIENCE {
-            Step::Rest(Rest::Spare)
+            Turn::Rest(Rest::Spare)
         } else if self.looking > self.calling.saturating_mul(LOOKS).min(LONGEST_LOOK) {
-            Step::Rest(Rest::Idle)
+            Turn::Rest(Rest::Idle)
         } else {
-            Step::Pause
+            Turn::Pause
         }
     }
 

@@ -1,7 +1,7 @@
 //! What a worker of a run does.
 ghost use Rattle.std.specs.Prelude.{◌≡◌, length, IfNone, IsTrue};
 
-use crate::pace::{Pace, Step};
+use crate::pace::{Pace, Turn};
 use crate::worker::Gate;
 use kpn_body::{Body, Finished};
 use kpn_machine::Stranger;
@@ -127,8 +127,8 @@ fn go_on<B: Body, E: EntryLedger, O: Ledger, R: Wait + Clock>(
     if !pace.is_timed() {
         pace.resume(watch.nanos(rt));
     }
-    let step = pace.exchanged(next, watch.nanos(rt));
-    take_step(rt, monitor, hand, watch, pace, step);
+    let turn = pace.exchanged(next, watch.nanos(rt));
+    take_turn(rt, monitor, hand, watch, pace, turn);
 }
 
 // Calls all tasks of a hand, and asks the gate after each. Returns how many there were.
@@ -144,22 +144,22 @@ fn call_all<B: Body, G: Gate>(hand: &mut Hand<B>, gate: &G) -> u64
 }
 
 // Goes on, pauses or rests.
-fn take_step<B: Body, E: EntryLedger, O: Ledger, R: Wait + Clock>(
+fn take_turn<B: Body, E: EntryLedger, O: Ledger, R: Wait + Clock>(
     rt: &R,
     monitor: &Monitor<B, E, O>,
     hand: &mut Hand<B>,
     watch: &Stopwatch,
     pace: &mut Pace,
-    step: Step,
+    turn: Turn,
 ) {
-    match step {
-        Step::Go => {}
-        Step::Pause => {
+    match turn {
+        Turn::Go => {}
+        Turn::Pause => {
             for _ in 0..PAUSES {
                 spin_loop();
             }
         }
-        Step::Rest(why) => {
+        Turn::Rest(why) => {
             let long = match why {
                 Rest::Spare => SPARE_REST,
                 Rest::Idle => IDLE_REST,

@@ -11,6 +11,30 @@ use crate::token::{got, reads, word, writes};
 use kpn_model::{Answer, Local, Token};
 use std::cmp::Ordering;
 
+/// Where `weave` is, the first number of its local state: at the turn of input 0 or 1, or it has just read
+/// from that input. The second number is how many words of this turn it has copied.
+const FIRST_TURN: u64 = 0;
+
+const FIRST_TURN_READ: u64 = 1;
+
+const SECOND_TURN: u64 = 2;
+
+const SECOND_TURN_READ: u64 = 3;
+
+/// Where `merge` is, the first number of its local state: which head it keeps (that of input 0 as second
+/// number, that of input 1 as third), and which it has just read.
+const NONE_KEPT: u64 = 0;
+
+const FIRST_READ: u64 = 1;
+
+const FIRST_KEPT_SECOND_READ: u64 = 2;
+
+const SECOND_KEPT: u64 = 3;
+
+const FIRST_KEPT: u64 = 4;
+
+const SECOND_KEPT_FIRST_READ: u64 = 5;
+
 /// Copies `args[0]` words of input 0, and then `args[1]` of input 1, for ever.
 pub fn weave(args: [u64; 3], local: Local, last: Option<Token>) -> Answer
     requires signed { IsSome (signature (card_of_kind Kind.Weave args)) }
@@ -20,12 +44,12 @@ pub fn weave(args: [u64; 3], local: Local, last: Option<Token>) -> Answer
     let [a, b, _] = args;
     let i = local[1];
     match local[0] {
-        0 => reads([1, i, 0, 0], 0),
-        1 if i + 1 < a => writes([0, i + 1, 0, 0], 0, got(last)),
-        1 => writes([2, 0, 0, 0], 0, got(last)),
-        2 => reads([3, i, 0, 0], 1),
-        _ if i + 1 < b => writes([2, i + 1, 0, 0], 0, got(last)),
-        _ => writes([0, 0, 0, 0], 0, got(last)),
+        FIRST_TURN => reads([FIRST_TURN_READ, i, 0, 0], 0),
+        FIRST_TURN_READ if i + 1 < a => writes([FIRST_TURN, i + 1, 0, 0], 0, got(last)),
+        FIRST_TURN_READ => writes([SECOND_TURN, 0, 0, 0], 0, got(last)),
+        SECOND_TURN => reads([SECOND_TURN_READ, i, 0, 0], 1),
+        _ if i + 1 < b => writes([SECOND_TURN, i + 1, 0, 0], 0, got(last)),
+        _ => writes([FIRST_TURN, 0, 0, 0], 0, got(last)),
     }
 }
 
@@ -38,22 +62,22 @@ pub fn merge(args: [u64; 3], local: Local, last: Option<Token>) -> Answer
     ensures { result ≡ standard.answer (card_of_kind Kind.Merge args) local last }
 {
     match local[0] {
-        0 => reads([1, 0, 0, 0], 0),
-        1 => reads([2, word(last), 0, 0], 1),
-        2 => lesser(local[1], word(last)),
-        3 => reads([5, 0, local[2], 0], 0),
-        4 => reads([2, local[1], 0, 0], 1),
+        NONE_KEPT => reads([FIRST_READ, 0, 0, 0], 0),
+        FIRST_READ => reads([FIRST_KEPT_SECOND_READ, word(last), 0, 0], 1),
+        FIRST_KEPT_SECOND_READ => lesser(local[1], word(last)),
+        SECOND_KEPT => reads([SECOND_KEPT_FIRST_READ, 0, local[2], 0], 0),
+        FIRST_KEPT => reads([FIRST_KEPT_SECOND_READ, local[1], 0, 0], 1),
         _ => lesser(word(last), local[2]),
     }
 }
 
-// The lesser of the heads is written, and the other is kept.
+/// The lesser of the heads is written, and the other is kept.
 fn lesser(x: u64, y: u64) -> Answer
     ensures { result ≡ emit x y }
 {
     match x.cmp(&y) {
-        Ordering::Less => writes([3, 0, y, 0], 0, Token::Word(x)),
-        Ordering::Greater => writes([4, x, 0, 0], 0, Token::Word(y)),
-        Ordering::Equal => writes([0, 0, 0, 0], 0, Token::Word(x)),
+        Ordering::Less => writes([SECOND_KEPT, 0, y, 0], 0, Token::Word(x)),
+        Ordering::Greater => writes([FIRST_KEPT, x, 0, 0], 0, Token::Word(y)),
+        Ordering::Equal => writes([NONE_KEPT, 0, 0, 0], 0, Token::Word(x)),
     }
 }

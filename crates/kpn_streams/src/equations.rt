@@ -4,8 +4,8 @@ ghost use Rattle.kpn_streams.specs.Solving.{TestTellsPorts, TestTellsOrder, Equa
 
 use kpn_model::Kinds;
 
-/// Does nothing: what it ensures is how a network's equations are solved by functions on streams, with no
-/// machine, for every family of kinds and every network.
+/// Ghost lemma: how a network's equations are solved by functions on streams, with no machine, for
+/// every family of kinds and every network.
 ///
 /// What a process of a card writes that is fed with certain tokens is a function (`Writes`). `fed_alone`:
 /// in a network such a process writes this alone, for streams that begin with these tokens; `fed_all`:
@@ -48,7 +48,7 @@ pub fn solving()
     ensures alike { (kinds : Family) → AlikeComputeTheSame kinds }
 {}
 
-/// Does nothing: the laws of [`solving`] for a family that is given as a type.
+/// Ghost lemma: the laws of [`solving`] for a family that is given as a type.
 pub fn solving_of<K: Kinds>()
     ensures equation { EquationByTest (family_of K.start K.answer_of) }
     ensures fed_alone { FedIsAlone (family_of K.start K.answer_of) }

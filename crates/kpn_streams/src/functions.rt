@@ -8,8 +8,8 @@ ghost use Rattle.kpn_streams.specs.Families.{OneOutcome, WriteAsTheirOwn};
 
 use kpn_compute::Filters;
 
-/// Does nothing: what it ensures is what each of the twelve standard kinds writes, as a function of
-/// what it is fed with, for all arguments and all words.
+/// Ghost lemma: what each of the twelve standard kinds writes, as a function of what it is fed with,
+/// for all arguments and all words.
 ///
 /// A process of the card, fed with these tokens on each of its inputs and no more, writes those on each
 /// of its outputs and no more, however long one waits. How many tokens it takes is not said, nor whether
@@ -42,19 +42,18 @@ pub fn standard_functions()
     ensures union { MergeIsUnion }
 {}
 
-/// Does nothing: what it ensures is what every filter writes, whatever its start and its step: a scan.
-/// The first word is stepped with what is kept at the start, each other word with what the step before
-/// it kept.
+/// Ghost lemma: what every filter writes, whatever its start and its step: a scan. The first word is
+/// stepped with what is kept at the start, each other word with what the step before it kept.
 pub fn filter_functions()
     ensures scans { (start : Card → List ℕ) (step : Card → List ℕ → ℕ → List ℕ × ℕ) → FiltersScan start step }
 {}
 
-/// Does nothing: the law of [`filter_functions`] for filters that are given as a type.
+/// Ghost lemma: the law of [`filter_functions`] for filters that are given as a type.
 pub fn filter_function_of<F: Filters>()
     ensures scans { FiltersScan F.start F.step }
 {}
 
-/// Does nothing: what it ensures holds of every family of kinds.
+/// Ghost lemmas that hold of every family of kinds.
 ///
 /// `one_outcome`: what a process writes is a function of what it is fed with. `joined`: a process of two
 /// families that are joined into one, as by `kpn_compute::Both`, writes what it writes in its own.

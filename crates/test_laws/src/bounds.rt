@@ -2,8 +2,8 @@
 ghost use Rattle.test_laws.specs.ChangedRules.{EarlyGrowth};
 ghost use Rattle.test_laws.specs.ChangedBounds.{GrowsBelowBy, GreatestGrows, EachBelowItsOwn, StaysUpTo};
 
-/// Does nothing: what it ensures is that the bound of `least_room`, changed in four ways, is false for
-/// networks of the standard kinds.
+/// Ghost lemma: the bound of `least_room`, changed in four ways, is false for networks of the standard
+/// kinds.
 ///
 /// `greatest_first`: if the greatest full channel grows, one may grow from a capacity that suffices.
 /// `early`: the same if a growth does not wait until no process can go on. `each_its_own`: the chosen

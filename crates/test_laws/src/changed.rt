@@ -1,8 +1,7 @@
 //! Definitions that would not do.
 ghost use Rattle.test_laws.specs.ChangedRules.{OneDigestBy, AlwaysWithinBy, EarlyGrowth, PutIntoFull, AnyOfEqual, TakenTells};
 
-/// Does nothing: what it ensures is that four definitions, each changed, make a law false for networks
-/// of the standard kinds.
+/// Ghost lemma: four definitions, each changed, make a law false for networks of the standard kinds.
 ///
 /// `early_growth`: if a channel may grow while some process can go on, runs that are over differ.
 /// `put_into_full`: if a put doesn't ask for room, a channel holds more than its capacity, and by

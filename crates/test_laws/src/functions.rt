@@ -39,9 +39,9 @@ impl Filters for Totals {
     fn lawful() {}
 }
 
-/// Does nothing: what it ensures is what a process of each standard kind writes, and a filter that keeps
-/// a total, fed with the words and flags that are written there. `turns` and `union` meet what two laws
-/// ask. It uses nothing but what `standard_functions` and `filter_function_of` ensure.
+/// Ghost lemma: what a process of each standard kind writes, and a filter that keeps a total, fed with
+/// the words and flags that are written there. `turns` and `union` meet what two laws ask. It uses
+/// nothing but what `standard_functions` and `filter_function_of` ensure.
 pub fn worked_functions()
     ensures count { CountsFourFromThree }
     ensures sink { SinksAll }
@@ -63,8 +63,7 @@ pub fn worked_functions()
     filter_function_of::<Totals>();
 }
 
-/// Does nothing: what it ensures is that the standard kinds don't write by functions that are changed a
-/// little.
+/// Ghost lemma: the standard kinds don't write by functions that are changed a little.
 ///
 /// `count`: the numbers up to n. `take`: one word more. `copy`: to its outputs in turn. `prefix`: without
 /// its word. `add`: sums of more than 64 bits. `weave`: the second stream for ever, after one turn of the

@@ -2,8 +2,8 @@
 ghost use Rattle.test_laws.specs.WorkedSolutions.{ParksSolution, SumsSolution, RingSolution};
 ghost use Rattle.test_laws.specs.ChangedSolutions.{EndIsGreatest, TakenIsSolution, BelowWithoutStart};
 
-/// Does nothing: what it ensures are the least solutions of the equations of three networks of the
-/// standard kinds, each stream written out.
+/// Ghost lemma: the least solutions of the equations of three networks of the standard kinds, each
+/// stream written out.
 ///
 /// `parks_case`: a counter, a copy, a weave of three and three, and a sink of six. `running_sums`: a
 /// loop that runs because of its start token. `ring`: a process that passes a token on to itself for
@@ -14,8 +14,8 @@ pub fn worked_solutions()
     ensures ring { RingSolution }
 {}
 
-/// Does nothing: what it ensures is that the law of the least solution, changed in three ways, is false
-/// for networks of the standard kinds.
+/// Ghost lemma: the law of the least solution, changed in three ways, is false for networks of the
+/// standard kinds.
 ///
 /// `greatest`: a solution may have tokens that no run has, as where a copy waits for its own output:
 /// any stream solves its equation, and the run's is the empty one. `taken`: the tokens taken, in place

@@ -1,8 +1,8 @@
 //! Laws of solving a network's equations that would be false.
 ghost use Rattle.test_laws.specs.ChangedSolving.{AllSolvedAreComputed, LimitFromAnyIsLeast};
 
-/// Does nothing: what it ensures is that laws of solving a network's equations, changed in two ways, are
-/// false for networks of the standard kinds: of a copy that waits for its own output.
+/// Ghost lemma: laws of solving a network's equations, changed in two ways, are false for networks of
+/// the standard kinds: of a copy that waits for its own output.
 ///
 /// `with_a_loop`: where there is a loop, tokens that solve the equations need not be what the network computes.
 /// `from_any`: approximations that don't begin with nothing need not lead to the least solution.

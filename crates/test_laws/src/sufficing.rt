@@ -1,8 +1,8 @@
 //! Networks for which it is known which capacity suffices.
 ghost use Rattle.test_laws.specs.WorkedRoom.{TwoPlacesSuffice, NeverThree, RingLasts};
 
-/// Does nothing: what it ensures is, for networks of the standard kinds, a capacity that suffices, so
-/// that the premise of the laws of `least_room` is met.
+/// Ghost lemma: for networks of the standard kinds, a capacity that suffices, so that the premise of
+/// the laws of `least_room` is met.
 ///
 /// `parks_case`: capacity two suffices for Parks's case with a counter of five, in a run of 46 entries.
 /// `never_three`: so whatever the schedule no channel of it ever grows to three. `ring`: capacity one

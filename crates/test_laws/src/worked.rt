@@ -3,9 +3,9 @@ ghost use Rattle.test_laws.specs.WorkedEnds.{CounterIntoSink, SinkWaitsForOneMor
 ghost use Rattle.test_laws.specs.Growing.{CounterOutlivesSink, EqualCapacities, SmallestFullChannelGrows, FullChannelOfStoppedWriter, GrowthStep, CeilingReached, ParksCase};
 ghost use Rattle.test_laws.specs.Computing.{ProductsWrap, SwitchedByFlags, RunningSums, MergedInOrder};
 
-/// Does nothing: what it ensures are the digests of worked networks of the standard kinds. Each clause
-/// says of its network that some run that is over has the digest written there, and that every other
-/// run that is over has the same, whatever the schedule.
+/// Ghost lemma: the digests of worked networks of the standard kinds. Each clause says of its network
+/// that some run that is over has the digest written there, and that every other run that is over has
+/// the same, whatever the schedule.
 pub fn worked_networks()
     ensures counter_into_sink { CounterIntoSink }
     ensures sink_waits_for_one_more { SinkWaitsForOneMore }

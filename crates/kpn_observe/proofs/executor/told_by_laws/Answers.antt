@@ -22,8 +22,8 @@ returns-clause-budget g c = λ cause ended F N b over short.
     let kinds = (family_of g.K.Kinds.start g.K.Kinds.answer_of) in
     let faithful = c.end.ensures.account.faithful in
     let machine = c.args.ran.now.machine in
-    let bound = ends_so kinds machine.network machine.history machine.state machine.end cause ended faithful.bound in
-    c.determinacy_of.ensures.budget machine.network machine.history F machine.state N cause b faithful.run bound over short
+    let justified = ends_so kinds machine.network machine.history machine.state machine.end cause ended faithful.justified in
+    c.determinacy_of.ensures.budget machine.network machine.history F machine.state N cause b faithful.run justified over short
 
 pub returns-clause-comparable : goal.returns-clause-comparable
 returns-clause-comparable g c = λ sizes F N run.

@@ -1,7 +1,7 @@
 use Rattle.std.proofs.Common.{◌≡◌, ◌+◌, ◌≤◌, length}
 use Rattle.kpn_model.specs.Network.{family_of}
 use Rattle.kpn_monitor.specs.Hands.{CommitsAll, WereCommitted}
-use Rattle.kpn_monitor.proofs.giving.give_all.Given as goal
+use Rattle.kpn_monitor.proofs.guarded.give_all.Given as goal
 
 abbrev pub invariant-loop-task : goal.invariant-loop-task
 invariant-loop-task g l = record {

@@ -3,7 +3,7 @@ use Rattle.std.proofs.Common.{◌∙◌, arith, subst}
 use Rattle.kpn_model.specs.Network.{Network, family_of}
 use Rattle.kpn_monitor.specs.Kept.{WasCommitted}
 use Rattle.kpn_monitor.proofs.Handing.{gave_machine, gave_committed, gave_many}
-use Rattle.kpn_monitor.proofs.giving.give_all.Goals as goal
+use Rattle.kpn_monitor.proofs.guarded.give_all.Goals as goal
 
 pub loop-task-preserved : goal.loop-task-preserved
 loop-task-preserved g c =
