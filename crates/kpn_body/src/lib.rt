@@ -1,5 +1,24 @@
 //! Bodies, which are cards with stored closures; the tasks in which they are called; and the answers
 //! that come back.
+//!
+//! ```text
+//! impl Body for Burning {
+//!     type Kinds = Standard;
+//!
+//!     ghost card = { λ body. body };
+//!
+//!     fn card(&self) -> Card {
+//!         self.card
+//!     }
+//!
+//!     fn answer(&self, local: Local, last: Option<Token>) -> Answer {
+//!         if burn(self.numbers) == 0 {
+//!             spin_loop();
+//!         }
+//!         answer(self.card, local, last)
+//!     }
+//! }
+//! ```
 #![tactic(auto)]
 
 pub mod answered;

@@ -35,6 +35,11 @@ pub struct NewChannel<'a> {
 
 impl<'a> NewChannel<'a> {
     /// A channel of words from output 0 to input 0, with room for one token.
+    ///
+    /// ```text
+    /// let wire = NewChannel::new("c0", "src", "snk");
+    /// made.channel(wire).expect(rt, "memory");
+    /// ```
     pub fn new(name: &'a str, from: &'a str, to: &'a str) -> NewChannel<'a>
         ensures names { (result.name.now ≡ name.now) × (result.from.now ≡ from.now) × (result.to.now ≡ to.now) }
         ensures ports { (result.out ≡ pos 0) × (result.input ≡ pos 0) }
@@ -55,6 +60,10 @@ impl<'a> NewChannel<'a> {
     }
 
     /// The same, from this output, counted from 0.
+    ///
+    /// ```text
+    /// made.channel(NewChannel::new("later", "cp", "late").out(1).capacity(4))?;
+    /// ```
     pub fn out(self, out: i64) -> NewChannel<'a>
         ensures { result ≡ record self.entry { out = out } }
     {
@@ -62,6 +71,13 @@ impl<'a> NewChannel<'a> {
     }
 
     /// The same, to this input, counted from 0.
+    ///
+    /// ```text
+    /// let asked = NewChannel::new("f", "dv", "dm")
+    ///     .input(1)
+    ///     .flags()
+    ///     .tokens(&flag);
+    /// ```
     pub fn input(self, input: i64) -> NewChannel<'a>
         ensures { result ≡ record self.entry { input = input } }
     {
@@ -69,6 +85,13 @@ impl<'a> NewChannel<'a> {
     }
 
     /// The same, of flags.
+    ///
+    /// ```text
+    /// let asked = NewChannel::new("f", "dv", "dm")
+    ///     .input(1)
+    ///     .flags()
+    ///     .tokens(&flag);
+    /// ```
     pub fn flags(self) -> NewChannel<'a>
         ensures { result ≡ record self.entry { sort = Sort.Flags } }
     {
@@ -79,6 +102,10 @@ impl<'a> NewChannel<'a> {
     }
 
     /// The same, with room for so many tokens.
+    ///
+    /// ```text
+    /// made.channel(NewChannel::new("x", "src", "x3").capacity(4))?;
+    /// ```
     pub fn capacity(self, capacity: i64) -> NewChannel<'a>
         ensures { result ≡ record self.entry { capacity = capacity } }
     {
@@ -86,6 +113,11 @@ impl<'a> NewChannel<'a> {
     }
 
     /// The same, with these tokens at first, in the order in which they are read.
+    ///
+    /// ```text
+    /// let words = [TokenSketch::Integer(5), TokenSketch::Integer(6)];
+    /// let held = NewChannel::new("c", "src", "dm").capacity(3).tokens(&words);
+    /// ```
     pub fn tokens(self, tokens: &'a [TokenSketch]) -> NewChannel<'a>
         ensures { result ≡ record self.entry { tokens = tokens.entry } }
     {
@@ -130,6 +162,10 @@ impl Model for Builder {
 
 impl Builder {
     /// A description without processes and channels, with a budget of 10,000 entries and a step of 1.
+    ///
+    /// ```text
+    /// let mut made = Builder::new(alloc);
+    /// ```
     pub fn new(alloc: Global) -> Builder
         ensures { result ≡ record { version = pos 2; budget = pos DEFAULT_BUDGET; step = pos 1; processes = []; channels = [] } }
     {
@@ -146,6 +182,10 @@ impl Builder {
     }
 
     /// Sets the budget: how many entries a run may have.
+    ///
+    /// ```text
+    /// made.set_budget(2_000_000);
+    /// ```
     pub fn set_budget(&mut self, budget: i64)
         ensures { self.new ≡ record self.old { budget = budget } }
     {
@@ -153,6 +193,10 @@ impl Builder {
     }
 
     /// Sets the step: how much a growth adds to a capacity.
+    ///
+    /// ```text
+    /// made.set_step(2);
+    /// ```
     pub fn set_step(&mut self, step: i64)
         ensures { self.new ≡ record self.old { step = step } }
     {
@@ -163,6 +207,10 @@ impl Builder {
     /// checked of it.
     ///
     /// Errors: memory was refused. Nothing has changed then.
+    ///
+    /// ```text
+    /// made.process("src", "count", &[1, 8])?;
+    /// ```
     pub fn process(&mut self, name: &str, kind: &str, args: &[i64]) -> Result<(), AllocError>
         ensures added { OnOk result (self.new ≡ record self.old { processes = self.old.processes ++ process_of name.now kind.now args.now ∷ [] }) }
         ensures refused { OnErr result (self.new ≡ self.old) }
@@ -174,6 +222,10 @@ impl Builder {
     /// Adds a channel after all others. Nothing is checked of it.
     ///
     /// Errors: memory was refused. Nothing has changed then.
+    ///
+    /// ```text
+    /// made.channel(NewChannel::new("x", "src", "x3").capacity(4))?;
+    /// ```
     pub fn channel(&mut self, channel: NewChannel<'_>) -> Result<(), AllocError>
         ensures added { OnOk result (self.new ≡ record self.old { channels = self.old.channels ++ channel_of channel.entry ∷ [] }) }
         ensures refused { OnErr result (self.new ≡ self.old) }
@@ -192,6 +244,12 @@ impl Builder {
     /// Makes the network of what was built, as `Net::check` does of a text. What was built stays.
     ///
     /// Errors: the first fault of the sketch, or memory was refused.
+    ///
+    /// ```text
+    /// let Ok(net) = made.check() else {
+    ///     return Err(AllocError);
+    /// };
+    /// ```
     pub fn check<K: Kinds>(&self) -> Result<Net<K>, NetFault>
         ensures ok { IfOk result (λ n. (first_fault K.named K.signature self.now ≡ None) × (n ≡ net_of K.named self.now)) }
         ensures valid { IfOk result (IsValid K.signature) }
@@ -203,6 +261,12 @@ impl Builder {
     /// Says what is wrong and where, by the names that the caller gave, on one line. `kinds` names the
     /// kinds that there are. There is no message of `Memory`, of which the fault says all, nor where
     /// memory is refused.
+    ///
+    /// ```text
+    /// if let Some(message) = made.message::<Standard>(fault, KINDS) {
+    ///     let _ = eprintln!(rt; "{message}");
+    /// }
+    /// ```
     pub fn message<K: Kinds>(&self, fault: NetFault, kinds: &str) -> Option<String>
         ensures plain { (fault ≡ NetFault.Memory) ⊎ (fault ≡ NetFault.Input) → result ≡ None }
         ensures said { IfSome result (λ message. string_bytes message ≢ []) }
@@ -213,6 +277,11 @@ impl Builder {
     /// Writes what was built as a description: reading it gives the same sketch.
     ///
     /// Errors: memory was refused.
+    ///
+    /// ```text
+    /// let text = made.to_toml()?;
+    /// let _ = print!(rt; "{text}");
+    /// ```
     pub fn to_toml(&self) -> Result<String, AllocError>
         ensures { IfOk result (λ text. Describes (string_bytes text) self.now) }
     {

@@ -3,13 +3,12 @@
 //!
 //! ```text
 //! let mut made = Builder::new(alloc);
-//! made.set_budget(10_000);
-//! made.process("src", "count", &[1, 40])?;
-//! made.process("triple", "scale", &[3])?;
-//! made.process("snk", "sink", &[40])?;
-//! made.channel(NewChannel::new("x", "src", "triple").capacity(16))?;
-//! made.channel(NewChannel::new("y", "triple", "snk").capacity(16))?;
-//! let net: Net<Standard> = made.check()?;
+//! made.process("src", "count", &[1, 8])?;
+//! made.process("x3", "scale", &[3])?;
+//! made.channel(NewChannel::new("x", "src", "x3").capacity(4))?;
+//! let Ok(net) = made.check() else {
+//!     return Err(AllocError);
+//! };
 //! ```
 #![tactic(auto)]
 

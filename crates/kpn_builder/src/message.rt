@@ -12,6 +12,10 @@ use std::alloc::Global;
 /// `fault` is the fault that the sketch was refused for, and `kinds` names the kinds that there are.
 /// There is no message where the fault says all (`Memory` and `Input`), where memory is refused, or
 /// where the sketch has no text (see `to_toml`).
+///
+/// ```text
+/// let none = sketch_message::<Standard>(alloc, made.sketch(), NetFault::Memory, KINDS);
+/// ```
 pub fn sketch_message<K: Kinds>(
     alloc: Global,
     sketch: &Sketch,

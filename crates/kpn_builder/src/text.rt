@@ -29,6 +29,11 @@ pub enum TextFault {
 ///
 /// Errors: `Version` exactly if no description says what the sketch says; `Memory` if memory was
 /// refused.
+///
+/// ```text
+/// let sketch = read_sketch(alloc, SWITCHED.as_bytes()).expect(&rt, "a fault");
+/// let text = to_toml(alloc, &sketch).expect(&rt, "a fault");
+/// ```
 pub fn to_toml(alloc: Global, sketch: &Sketch) -> Result<String, TextFault>
     ensures text { IfOk result (λ text. Describes (string_bytes text) sketch.now) }
     ensures version { (result ≡ Err TextFault.Version) ↔ (is_describable sketch.now ≡ false) }

@@ -11,6 +11,14 @@ use std::marker::{Model, PhantomData};
 
 /// A body that is a card alone: its family's function answers for it. The card has a signature.
 /// Contracts see the card.
+///
+/// ```text
+/// for body in bodies_of(alloc, net)? {
+///     let card = body.card();
+///     K::starts(card);
+///     answers.push(body.answer(K::start(&card), None))?;
+/// }
+/// ```
 #[derive(Drop)]
 pub struct CardBody<K: Computes> {
     card: Card,
@@ -59,6 +67,10 @@ impl<K: Computes> Body for CardBody<K> {
 /// Makes a body for each process of a network, in order, as an engine wants them.
 ///
 /// Errors: memory was refused.
+///
+/// ```text
+/// let bodies = bodies_of(alloc, &net)?;
+/// ```
 pub fn bodies_of<K: Computes>(alloc: Global, net: &Net<K>) -> Result<Vec<CardBody<K>>, AllocError>
     ensures { IfOk result (λ bodies. map ⟦<CardBody<K> as Body>⟧.card bodies.items ≡ map (λ p. p.card) net.now.processes) }
 {

@@ -1,5 +1,11 @@
 //! Families of kinds for which a plain function answers: their bodies, which need no closure; kinds
 //! that are one step; and two families joined into one.
+//!
+//! ```text
+//! type Mixed = Both<Standard, Both<Gains, Filtered<MovingSums>>>;
+//!
+//! let bodies = bodies_of(alloc, &net)?;
+//! ```
 #![tactic(auto)]
 
 pub mod bodies;

@@ -1,4 +1,10 @@
 //! The program from its arguments and its input to what it writes, and the run of a network by workers.
+//!
+//! ```text
+//! (Ok(net), Choice::Run { workers, show }) => {
+//!     execute_net(&rt, alloc, net, workers, show, &mut sink)
+//! }
+//! ```
 #![tactic(auto)]
 
 mod computed;

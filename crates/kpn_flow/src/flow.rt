@@ -74,6 +74,13 @@ impl<B: Body> Flow<B> {
     ///
     /// Errors: the first of `Bodies`, `Card`, `Channel`, `Twice`, `Writer`, `Reader` and `Memory` that
     /// applies, with the network and the bodies unchanged.
+    ///
+    /// ```text
+    /// match Flow::open(alloc, net, bodies, fed.as_slice(), drained.as_slice()) {
+    ///     Ok(flow) => Ok(flow),
+    ///     Err(refused) => bail!("{:?}", refused.fault),
+    /// }
+    /// ```
     pub fn open(
         alloc: Global,
         net: Net<B::Kinds>,
@@ -124,6 +131,11 @@ impl<B: Body> Flow<B> {
     }
 
     /// Returns the network.
+    ///
+    /// ```text
+    /// let net = flow.net();
+    /// let places = places_of(alloc, net, flow.standings())?;
+    /// ```
     pub fn net(&self) -> &Net<B::Kinds>
         ensures { result.now ≡ self.now.network }
     {
@@ -131,6 +143,10 @@ impl<B: Body> Flow<B> {
     }
 
     /// Returns the standing of each process, in order.
+    ///
+    /// ```text
+    /// let places = places_of(alloc, net, flow.standings())?;
+    /// ```
     pub fn standings(&self) -> &[Standing]
         ensures { result.now ≡ self.now.standings }
     {
@@ -139,6 +155,10 @@ impl<B: Body> Flow<B> {
 
     /// Returns how many entries the flow has made since it was opened; `u64::MAX` if they are as many or
     /// more.
+    ///
+    /// ```text
+    /// let (text, entries, growths) = (pause_text(pause), flow.entries(), flow.growths());
+    /// ```
     pub fn entries(&self) -> u64
         ensures { result ≡ self.now.counts.entries }
     {
@@ -146,6 +166,10 @@ impl<B: Body> Flow<B> {
     }
 
     /// Returns how many of the entries were growths; `u64::MAX` if they are as many or more.
+    ///
+    /// ```text
+    /// let (text, entries, growths) = (pause_text(pause), flow.entries(), flow.growths());
+    /// ```
     pub fn growths(&self) -> u64
         ensures { result ≡ self.now.counts.growths }
     {
@@ -160,6 +184,13 @@ impl<B: Body> Flow<B> {
     }
 
     /// Returns whether a channel is an output.
+    ///
+    /// ```text
+    /// if !flow.is_output(channel) {
+    ///     return None;
+    /// }
+    /// flow.drain(channel)
+    /// ```
     pub fn is_output(&self, channel: usize) -> bool
         ensures { result ≡ is_among self.now.outputs channel }
     {
@@ -216,6 +247,11 @@ impl<B: Body> Flow<B> {
     /// takes no memory except that of growths, and keeps no entry, but counts them. A channel grows only
     /// where neither feeding an input that has not ended nor draining lets a process go on (after Parks
     /// 1995). Unless it is `Cut`, `standings` then tells what each process waits for.
+    ///
+    /// ```text
+    /// let pause = self.flow.advance(most);
+    /// write_pause(&self.flow, pause, sink)?;
+    /// ```
     pub fn advance(&mut self, most: u64) -> Pause
         ensures same { IsSameFlow self.old self.new }
         ensures advances { Advances (family_of B.Kinds.start B.Kinds.answer_of) self.old.network self.old.unended self.old.outputs self.old.counts self.new.counts self.old.state self.new.state most result }
@@ -237,6 +273,12 @@ impl<B: Body> Flow<B> {
     /// Says that an input has ended: it will not be fed any more, and is an input no more. A process that
     /// waits for a token in it, once it is empty, waits for ever, so that `advance` does not come back
     /// `Starved` for it. Nothing changes if the channel is no input or has ended before.
+    ///
+    /// ```text
+    /// for port in self.inputs.iter() {
+    ///     self.flow.end_input(port.channel);
+    /// }
+    /// ```
     pub fn end_input(&mut self, channel: usize)
         ensures { self.new ≡ with_ended self.old channel }
     {
@@ -257,6 +299,13 @@ fn has_sort(token: Token, sort: Sort) -> bool
 
 impl<B: Body> Flow<B> {
     /// Returns whether a channel is an input that has not ended and a token has its sort.
+    ///
+    /// ```text
+    /// if !flow.may_feed(channel, token) {
+    ///     bail!("the input has ended, or has another sort");
+    /// }
+    /// Ok(flow.feed(channel, token))
+    /// ```
     pub fn may_feed(&self, channel: usize, token: Token) -> bool
         ensures { IsTrue result ↔ MayFeed self.now channel token }
     {
@@ -267,6 +316,13 @@ impl<B: Body> Flow<B> {
 
     /// Puts a token into an input, if it holds fewer than its capacity, and returns whether it did. The
     /// token must have the sort of the input.
+    ///
+    /// ```text
+    /// if !flow.may_feed(channel, token) {
+    ///     bail!("the input has ended, or has another sort");
+    /// }
+    /// Ok(flow.feed(channel, token))
+    /// ```
     pub fn feed(&mut self, channel: usize, token: Token) -> bool
         requires { MayFeed self.old channel token }
         ensures same { IsSameFlow self.old self.new }
@@ -290,6 +346,13 @@ impl<B: Body> Flow<B> {
     }
 
     /// Takes the first token of an output; `None` if the output is empty.
+    ///
+    /// ```text
+    /// if !flow.is_output(channel) {
+    ///     return None;
+    /// }
+    /// flow.drain(channel)
+    /// ```
     pub fn drain(&mut self, channel: usize) -> Option<Token>
         requires { is_among self.old.outputs channel ≡ true }
         ensures same { IsSameFlow self.old self.new }
@@ -314,6 +377,13 @@ impl<B: Body> Flow<B> {
 
 impl<B: Body> Flow<B> {
     /// Returns whether a channel is an input that has not ended and all tokens have its sort.
+    ///
+    /// ```text
+    /// if !self.flow.may_feed_all(channel, batch.as_slice()) {
+    ///     bail!("{name} has ended, or a token is of another sort");
+    /// }
+    /// Ok(self.flow.feed_all(channel, batch.as_slice()))
+    /// ```
     pub fn may_feed_all(&self, channel: usize, batch: &[Token]) -> bool
         ensures may { IsTrue result → MayFeedAll self.now channel batch.now }
         ensures may_not { result ≡ false → MayFeedAll self.now channel batch.now → ⊥ }
@@ -330,6 +400,13 @@ impl<B: Body> Flow<B> {
 
     /// Puts tokens into an input, in order, as many as it has room for, and returns how many. All must
     /// have the sort of the input.
+    ///
+    /// ```text
+    /// if !self.flow.may_feed_all(channel, batch.as_slice()) {
+    ///     bail!("{name} has ended, or a token is of another sort");
+    /// }
+    /// Ok(self.flow.feed_all(channel, batch.as_slice()))
+    /// ```
     pub fn feed_all(&mut self, channel: usize, batch: &[Token]) -> usize
         requires { MayFeedAll self.old channel batch.now }
         ensures same { IsSameFlow self.old self.new }
@@ -350,6 +427,11 @@ impl<B: Body> Flow<B> {
 
     /// Moves the first tokens of an output to the front of a buffer, in order, as many as there are and as
     /// the buffer is long, and returns how many.
+    ///
+    /// ```text
+    /// let mut buffer = [Token::Word(0); BATCH];
+    /// let count = take_batch(flow, port.channel, &mut buffer);
+    /// ```
     pub fn drain_into(&mut self, channel: usize, buffer: &mut [Token]) -> usize
         requires { is_among self.old.outputs channel ≡ true }
         ensures same { IsSameFlow self.old self.new }

@@ -1,5 +1,17 @@
 //! A network that goes on as long as it can, in bounded memory: tokens are fed into its inputs and
 //! drained from its outputs between stretches of its run, and no history is kept.
+//!
+//! ```text
+//! let pause = self.flow.advance(STRETCH);
+//! self.write_outputs(sink)?;
+//! match pause {
+//!     Pause::Cut | Pause::Blocked => {}
+//!     Pause::Starved | Pause::Over(_) => {
+//!         write_pause(&self.flow, pause, sink)?;
+//!         return write_places(alloc, &self.flow, sink);
+//!     }
+//! }
+//! ```
 #![tactic(auto)]
 
 pub mod counts;

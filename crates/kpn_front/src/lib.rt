@@ -1,4 +1,10 @@
 //! The ends of the program: its input and its lines.
+//!
+//! ```text
+//! let mut source = Fallible::new(rt.reader());
+//! let mut sink = Fallible::new(io::writer(&rt));
+//! let loaded: Result<Net<Mixed>, _> = load_or_refuse(alloc, &mut source);
+//! ```
 #![tactic(auto)]
 
 mod lines;

@@ -77,6 +77,12 @@ impl<B: Body> Machine<B> {
     ///
     /// Errors: the first of `Bodies`, `Card` and `Memory` that applies, with the network and the bodies
     /// unchanged.
+    ///
+    /// ```text
+    /// let Ok(mut machine) = Machine::open(alloc, net, bodies) else {
+    ///     return Err(AllocError);
+    /// };
+    /// ```
     pub fn open(
         alloc: Global,
         net: Net<B::Kinds>,
@@ -481,6 +487,11 @@ impl<B: Body> Machine<B> {
     /// network, no channel of capacity b or more grows in the run (Parks 1995; docs/least-room.md). The
     /// streams of the run are below every solution of the network's equations, and if it terminated or
     /// ended in a deadlock they are the least solution (Kahn 1974; docs/least-solution.md).
+    ///
+    /// ```text
+    /// machine.finish_alone();
+    /// Ok(machine.history().len() as u64)
+    /// ```
     pub fn finish_alone(&mut self)
         requires { count_by is_out self.old.standings ≡ 0 }
         ensures goes { ContinuesRun (family_of B.Kinds.start B.Kinds.answer_of) self.old self.new }

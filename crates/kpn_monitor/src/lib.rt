@@ -1,6 +1,20 @@
 //! A Parks machine that threads share: under one lock, with a ledger of the entries that each worker
 //! brought about, and with a board that watchers read without the lock.
 //!
+//! ```text
+//! match monitor.take(rt, seat) {
+//!     Taken::Over(_) => return None,
+//!     Taken::Task(task) => {
+//!         let finished = task.call();
+//!         gate.before_commit(finished.process());
+//!         match monitor.commit(rt, finished, seat) {
+//!             Ok(_) => {}
+//!             Err(Stranger { finished }) => return Some(finished),
+//!         }
+//!     }
+//! }
+//! ```
+//!
 //! A worker has a `Seat`. It takes a task from the `Monitor`, calls it outside the lock, and commits
 //! the answer. After the work `Monitor::close` compares the seats with the books, and returns the
 //! history.

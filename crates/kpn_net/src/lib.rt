@@ -1,5 +1,10 @@
 //! Descriptions of Kahn process networks (Kahn 1974), and the check that makes a network of one. `Net`
 //! and the types of the model are exported here too.
+//!
+//! ```text
+//! let sketch = read_sketch(alloc, text.as_bytes())?;
+//! Net::check(alloc, &sketch)
+//! ```
 #![tactic(auto)]
 
 pub mod check;

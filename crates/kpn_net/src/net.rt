@@ -15,6 +15,11 @@ use kpn_sketch::{ChannelSketch, NetFault, ProcessSketch, Sketch, TokenSketch};
 use std::alloc::Global;
 
 /// The check of a sketch, `Net::check`: a caller brings it into scope. `Net` alone implements it.
+///
+/// ```text
+/// let sketch = read_sketch(alloc, text.as_bytes())?;
+/// Net::check(alloc, &sketch)
+/// ```
 pub trait Check {
     /// The family of the network's kinds.
     type Kinds: Kinds;

@@ -1,4 +1,10 @@
 //! Valid networks of processes (Kahn 1974), and what is asked of one.
+//!
+//! ```text
+//! let Some(channel) = net.find_channel(word) else {
+//!     bail!("no channel {word}");
+//! };
+//! ```
 #![tactic(auto)]
 
 pub mod net;

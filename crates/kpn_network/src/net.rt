@@ -75,6 +75,11 @@ impl<K: Kinds> Net<K> {
     }
 
     /// Returns the number of processes: 1 to 64. A caller also learns that the network is valid.
+    ///
+    /// ```text
+    /// for process in 0..net.processes() {
+    ///     let card = net.card(process);
+    /// ```
     pub fn processes(&self) -> usize
         ensures count { result ≡ length self.now.processes }
         ensures valid { IsValid K.signature self.now }
@@ -106,6 +111,12 @@ impl<K: Kinds> Net<K> {
 
     /// Returns the name of process `p`: 1 to 16 characters, and no other
     /// process has it.
+    ///
+    /// ```text
+    /// if process < net.processes() {
+    ///     write!(sink, "process {} ", net.process_name(process))?;
+    /// }
+    /// ```
     pub fn process_name(&self, p: usize) -> &str
         requires { p < length self.now.processes }
         ensures { option_map (λ x. x.name) (slice_get self.now.processes p) ≡ Some result.now }
@@ -115,6 +126,12 @@ impl<K: Kinds> Net<K> {
 
     /// Returns the name of channel `c`: 1 to 16 characters, and no other
     /// channel has it.
+    ///
+    /// ```text
+    /// Place::Reads(channel) if *channel < net.channels() => {
+    ///     writeln!(sink, "reads {}", net.channel_name(*channel))?;
+    /// }
+    /// ```
     pub fn channel_name(&self, c: usize) -> &str
         requires { c < length self.now.channels }
         ensures { option_map (λ x. x.name) (slice_get self.now.channels c) ≡ Some result.now }
@@ -123,6 +140,12 @@ impl<K: Kinds> Net<K> {
     }
 
     /// Returns the number of the channel with this name; `None` if no channel has it.
+    ///
+    /// ```text
+    /// let Some(channel) = net.find_channel(word) else {
+    ///     bail!("no channel {word}");
+    /// };
+    /// ```
     pub fn find_channel(&self, name: &str) -> Option<usize>
         ensures { result ≡ position (λ c. bytes_eq c.name name.now) self.now.channels }
     {

@@ -145,6 +145,18 @@ impl<E: EntryLedger, O: Ledger> CrewSeat<E, O> {
 ///         monitor: &Monitor<CardBody<Standard>, E, O>,
 ///         seat: &mut CrewSeat<E, O>,
 ///     ) {
+///         for _ in self.rt.forever() {
+///             let Taken::Task(task) = seat.take(self.rt, monitor) else {
+///                 return;
+///             };
+///             let finished = task.call();
+///             self.answers.fetch_add(1, Ordering::SeqCst);
+///             if seat.commit(self.rt, monitor, finished).is_err() {
+///                 return;
+///             }
+///         }
+///     }
+/// }
 /// ```
 pub trait Crew<B: Body>: Sync {
     /// Called once in each thread, with its seat. It returns at the end of the run, or whenever it likes.

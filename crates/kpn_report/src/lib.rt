@@ -1,4 +1,11 @@
 //! The report of a run: what each process did, what went through each channel, and its text.
+//!
+//! ```text
+//! let net = finish.net();
+//! let places = places_of(alloc, net, finish.standings())?;
+//! let history = finish.history();
+//! let text = text_of(alloc, net, history, places.as_slice(), finish.end(), None)?;
+//! ```
 #![tactic(auto)]
 
 mod account;

@@ -31,6 +31,10 @@ fn place<K: Kinds>(net: &Net<K>, process: usize, wanted: Option<Answer>) -> Plac
 ///
 /// If no process is ready or out, these are the places in the report of the run. Errors: memory was
 /// refused.
+///
+/// ```text
+/// let places = places_of(alloc, net, flow.standings())?;
+/// ```
 pub fn places_of<K: Kinds>(
     alloc: Global,
     net: &Net<K>,

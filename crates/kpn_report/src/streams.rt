@@ -74,6 +74,14 @@ fn push_put_on(tokens: &mut Vec<Token>, channel: usize, entry: Entry) -> Result<
 
 /// Returns what went through a channel: its start tokens, and those that the entries put on it, in
 /// order; no tokens if the network has no such channel. Errors: memory was refused.
+///
+/// ```text
+/// for token in stream_of(alloc, run.net(), run.history(), channel)? {
+///     if let Token::Word(word) = token {
+///         words.push(word)?;
+///     }
+/// }
+/// ```
 pub fn stream_of<K: Kinds>(
     alloc: Global,
     net: &Net<K>,

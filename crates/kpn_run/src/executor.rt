@@ -88,6 +88,13 @@ impl<B: Body> RunFault<B> {
 /// started, that worker runs in the calling thread. The call returns when all workers have met the end.
 ///
 /// Errors: see [`RunFault`].
+///
+/// ```text
+/// match run(rt, alloc, net, bodies, workers, &Prompt) {
+///     Ok(finish) => Ok(finish.receipts()),
+///     Err(_) => Err(AllocError),
+/// }
+/// ```
 pub fn run<B: Body, R: Wait + Clock + Threads + Sync, G: Gate>(
     rt: &R,
     alloc: Global,

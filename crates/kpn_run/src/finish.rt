@@ -48,6 +48,11 @@ impl<K: Kinds> Finish<K> {
     }
 
     /// Returns the network.
+    ///
+    /// ```text
+    /// let net = finish.net();
+    /// let places = places_of(alloc, net, finish.standings())?;
+    /// ```
     pub fn net(&self) -> &Net<K>
         ensures { result.now ≡ self.now.machine.network }
     {
@@ -55,6 +60,10 @@ impl<K: Kinds> Finish<K> {
     }
 
     /// Returns what the machine left behind: network, history, standings and end.
+    ///
+    /// ```text
+    /// Ok(finish) => say_told(alloc, finish.chronicle(), channel, sink),
+    /// ```
     pub fn chronicle(&self) -> &Chronicle<K>
         ensures { result.now ≡ self.now.machine }
     {
@@ -62,6 +71,10 @@ impl<K: Kinds> Finish<K> {
     }
 
     /// Returns the entries, in order.
+    ///
+    /// ```text
+    /// let stream = stream_of(alloc, finish.net(), finish.history(), channel)?;
+    /// ```
     pub fn history(&self) -> &[Entry]
         ensures { result.now ≡ self.now.machine.history }
     {
@@ -69,6 +82,10 @@ impl<K: Kinds> Finish<K> {
     }
 
     /// Returns the standing of each process, in order.
+    ///
+    /// ```text
+    /// let places = places_of(alloc, net, finish.standings())?;
+    /// ```
     pub fn standings(&self) -> &[Standing]
         ensures { result.now ≡ self.now.machine.standings }
     {
@@ -76,6 +93,13 @@ impl<K: Kinds> Finish<K> {
     }
 
     /// Returns the sum of the shares of the workers' seats, which is the number of entries.
+    ///
+    /// ```text
+    /// match run(rt, alloc, net, bodies, workers, &Prompt) {
+    ///     Ok(finish) => Ok(finish.receipts()),
+    ///     Err(_) => Err(AllocError),
+    /// }
+    /// ```
     pub fn receipts(&self) -> u64
         ensures receipts { result ≡ self.now.receipts }
         ensures entries { result ≡ length self.now.machine.history }
@@ -86,6 +110,11 @@ impl<K: Kinds> Finish<K> {
     /// Returns how the run ended. The history is a run from the start of the network, and the end is
     /// justified: `Terminated`, `Deadlock` and `Ceiling` by the state that is reached, `Budget` by the
     /// number of entries, `Memory` by a growth that was due.
+    ///
+    /// ```text
+    /// let history = finish.history();
+    /// text_of(alloc, net, history, places.as_slice(), finish.end(), show)
+    /// ```
     pub fn end(&self) -> End
         ensures end { result ≡ self.now.cause }
         ensures stands { self.now.machine.end ≡ Some self.now.cause }

@@ -19,6 +19,10 @@ use std::alloc::{AllocError, Global};
 /// 1995). The streams of the detail are below every solution of the network's equations, and if the
 /// run terminated or ended in a deadlock they are the least solution (`streams`; Kahn 1974,
 /// docs/least-solution.md).
+///
+/// ```text
+/// let Report { end, detail } = report(alloc, finish).expect(rt, "no memory");
+/// ```
 pub fn report<K: Kinds>(alloc: Global, finish: &Finish<K>) -> Result<Report, AllocError>
     ensures end { IfOk result (λ r. r.end ≡ finish.now.cause) }
     ensures own { IfOk result (λ r. IsReport (family_of K.start K.answer_of) finish.now.machine.network finish.now.cause finish.now.machine.history finish.now.machine.state r.detail) }

@@ -9,6 +9,14 @@ use std::sync::ledger::Ledger;
 
 /// What a worker calls between an answer and its commit, outside the lock. A gate that waits holds its
 /// worker up; it does not change the result.
+///
+/// ```text
+/// impl<'a, R: Wait + Clock + Sync> Gate for Slowly<'a, R> {
+///     fn before_commit(&self, _process: usize) {
+///         sleep(self.rt, Duration::from_micros(50));
+///     }
+/// }
+/// ```
 pub trait Gate: Sync {
     /// Called with the number of the process whose answer is about to be committed.
     fn before_commit(&self, process: usize);

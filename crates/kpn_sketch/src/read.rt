@@ -27,6 +27,10 @@ use toml::{Table, Value};
 ///
 /// Errors: `NotToml` if the bytes are not UTF-8 or not TOML; `Keys` if a key is missing or unknown or
 /// its value is of another form; `Memory`, at any time, if memory was refused.
+///
+/// ```text
+/// let sketch = read_sketch(alloc, text.as_bytes())?;
+/// ```
 pub fn read_sketch(alloc: Global, text: &[u8]) -> Result<Sketch, NetFault>
     ensures ok { IfOk result (Describes text.now) }
     ensures fault { IfErr result (IsReadFault text.now) }

@@ -1,4 +1,8 @@
 //! The twelve standard kinds of processes, as a family: their names, arguments, ports and answers.
+//!
+//! ```text
+//! let net: Net<Standard> = made.check().expect(&rt, "a fault");
+//! ```
 #![tactic(auto)]
 
 pub mod answers;
