@@ -11,10 +11,11 @@ use Rattle.kpn_args.specs.declared.words.WordsFault.{WordsFault}
 use Rattle.kpn_args.specs.declared.words.WordsFault.TheVariants.{Parser, Workers}
 use Rattle.kpn_args.specs.Command.{kpn}
 
--- the text is read as a number of workers
+-- the text is read as this number of workers
 abbrev pub ReadsWorkers : Text → ℕ → Type 0
 ReadsWorkers text n = IsNumeral 10 (without_leading_plus text) × (digits_value 10 (without_leading_plus text) ≡ n) × (1 ≤ n) × (n ≤ MAX_WORKERS)
 
+-- what the text is read as: a number of workers, or none
 abbrev pub IsWorkers : Text → Option ℕ → Type 0
 IsWorkers text (Some n) = ReadsWorkers text n
 IsWorkers text None = (n : ℕ) → ReadsWorkers text n → ⊥
@@ -24,7 +25,7 @@ abbrev pub WorkersFrom : Option Text → ℕ → Type 0
 WorkersFrom None n = n ≡ 1
 WorkersFrom (Some text) n = ReadsWorkers text n
 
--- the text is no number of workers
+-- there is a text, and it is no number of workers
 abbrev pub IsRefusedWorkers : Option Text → Type 0
 IsRefusedWorkers None = ⊥
 IsRefusedWorkers (Some text) = IsWorkers text None
@@ -36,11 +37,12 @@ IsChoiceOf (Some p) Check = p.0 ≡ codes "check"
 IsChoiceOf (Some p) (Run workers show) =
     (p.0 ≡ codes "run") × WorkersFrom (first_of (codes "workers") p.1) workers × (option_map (λ s. s.now) show ≡ first_of (codes "show") p.1)
 
--- the workers of a run are not too many
+-- the workers of a run are as many as it may have
 abbrev pub HasFewWorkers : Choice → Type 0
 HasFewWorkers Check = Unit {0}
 HasFewWorkers (Run workers show) = (1 ≤ workers) × (workers ≤ MAX_WORKERS)
 
+-- the text of `--workers` is no number of workers
 abbrev pub HasRefusedWorkers : Option (Text × List Row) → Type 0
 HasRefusedWorkers None = ⊥
 HasRefusedWorkers (Some p) = IsRefusedWorkers (first_of (codes "workers") p.1)
@@ -58,6 +60,7 @@ abbrev pub IsWordsFault : List Text → WordsFault → Type 0
 IsWordsFault words (Parser e) = HasKind (fault_of kpn words) e
 IsWordsFault words Workers = AreTaken words × HasRefusedWorkers (subcommand_of kpn words)
 
+-- this kind of error is a text that was asked for
 abbrev pub is_text_asked_for : ErrorKind → Bool
 is_text_asked_for DisplayHelp = true
 is_text_asked_for DisplayVersion = true

@@ -11,9 +11,10 @@ use kpn_model::{Answer, Card, Kinds, Local, Token};
 /// often or when the body is called, nor on what other processes do. A call may take any time. A body
 /// is `Send`: a task may be called in any thread.
 ///
-/// Each family has its own type of bodies, since such a type stores a boxed closure beside facts about
-/// the family's answers, and these can be stated only of a known family. `StandardBody` is the type for
-/// the standard kinds.
+/// A type of bodies that stores boxed closures is of one family, since it keeps facts about the family's
+/// answers beside them, and these can be stated only of a known family. `StandardBody` is such a type, for
+/// the standard kinds. A type that stores none may serve many families: `CardBody` of `kpn_compute` serves
+/// all for which a plain function answers.
 pub trait Body: Send + Drop {
     ghost use Rattle.kpn_model.specs.declared.kinds.Card.{Card};
 

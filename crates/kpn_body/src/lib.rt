@@ -1,5 +1,5 @@
-//! Bodies, which are cards with stored closures; the tasks in which they are called; and the answers
-//! that come back.
+//! Bodies, which answer for the processes of a card, and of which some store a closure; the tasks in which
+//! they are called; and the answers that come back.
 //!
 //! ```text
 //! impl Body for Burning {

@@ -15,13 +15,14 @@ written_by net p (Read k) = None
 written_by net p (Write k t) = out_of net p k
 written_by net p Stop = None
 
+-- the channel to which p waits to write, given its standing
 abbrev pub awaited_by : Network → ℕ → Standing → Option ℕ
 awaited_by net p Ready = None
 awaited_by net p Out = None
 awaited_by net p (Parked a) = written_by net p a.act
 awaited_by net p Stopped = None
 
--- the channel to which p waits to write, if it is parked with a write
+-- the same, given the standings of all
 abbrev pub awaited : Network → List Standing → ℕ → Option ℕ
 awaited net standings p = awaited_by net p (standing standings p)
 
@@ -42,12 +43,13 @@ with_writer net x = (x.1, (channel_of net x.1).writer)
 abbrev pub IsCandidate : Network → State → List Standing → ℕ × ℕ → Type 0
 IsCandidate net M standings x = (x.0 ≡ capacity M x.1) × ((p : ℕ) × (awaited net standings p ≡ Some x.1))
 
--- a process that is parked with a write
+-- whether the act is a write
 abbrev pub is_write : Act → Bool
 is_write (Read k) = false
 is_write (Write k t) = true
 is_write Stop = false
 
+-- whether the process is parked with a write
 abbrev pub waits_to_write : Standing → Bool
 waits_to_write Ready = false
 waits_to_write Out = false

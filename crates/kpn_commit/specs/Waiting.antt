@@ -19,13 +19,14 @@ read_by_act net p (Read k) = in_of net p k
 read_by_act net p (Write k t) = None
 read_by_act net p Stop = None
 
+-- the channel from which p waits to read, given its standing
 abbrev pub expected_by : Network → ℕ → Standing → Option ℕ
 expected_by net p Ready = None
 expected_by net p Out = None
 expected_by net p (Parked a) = read_by_act net p a.act
 expected_by net p Stopped = None
 
--- the channel from which p waits to read, if it is parked with a read
+-- the same, given the standings of all
 abbrev pub expected : Network → List Standing → ℕ → Option ℕ
 expected net standings p = expected_by net p (standing standings p)
 

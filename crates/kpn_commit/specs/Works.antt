@@ -15,17 +15,19 @@ use Rattle.kpn_commit.specs.declared.outcome.Outcome.TheVariants.{Done, Parked}
 use Rattle.kpn_commit.specs.Reactions.{Reacts}
 use Rattle.kpn_commit.specs.Settling.{Settles}
 
--- how many entries it appends
+-- how many entries the reaction appends
 abbrev pub acted_entries : Reaction → ℕ
 acted_entries Waits = 0
 acted_entries Acts = 1
 acted_entries HandsOn = 2
 
+-- how many entries follow it
 abbrev pub settled_entries : Settled → ℕ
 settled_entries Busy = 0
 settled_entries (Ended end) = 0
 settled_entries Enlarged = 2
 
+-- the outcome of the commit
 abbrev pub outcome_of : Reaction → Settled → Outcome
 outcome_of Waits settled = Parked (settled_entries settled)
 outcome_of Acts settled = Done (1 + settled_entries settled)

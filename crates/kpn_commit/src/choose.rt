@@ -1,4 +1,4 @@
-//! Who is parked waits at a channel, and the channel that grows is one of those.
+//! A parked process waits at a channel; the channel that grows is one of those at which a writer waits.
 ghost use Rattle.std.specs.Prelude.{◌≡◌, ℕ, ◌<◌, length, set, true, slice_get, option_map, Contains, IfSome};
 ghost use Rattle.kpn_model.specs.Network.{family_of};
 ghost use Rattle.kpn_model.specs.Semantics.{IsPossible};
@@ -62,8 +62,8 @@ pub fn park<K: Kinds>(
     standings.update(process, Standing::Parked(answer));
 }
 
-/// Makes a parked process ready that can do what it answered. Its mark at the channel goes then, and a
-/// channel to which it waited to write is no candidate any more.
+/// Makes a parked process ready that can do what it answered. Its mark at the channel is removed
+/// then, and a channel to which it waited to write is no candidate any more.
 #[inline(always)]
 pub fn unpark<K: Kinds>(
     net: &Net<K>,

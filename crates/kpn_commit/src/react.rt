@@ -27,8 +27,8 @@ pub enum Reaction {
     HandsOn,
 }
 
-/// Does the answer of a process that is ready or out, or parks the process with it; then does the deed of the
-/// parked process that this enables. The history must have room for two entries.
+/// Does the act of the answer of a process that is ready or out, or parks the process with the answer; then
+/// does the deed of the parked process that this enables. The history must have room for two entries.
 #[inline(always)]
 pub fn react<K: Kinds>(
     net: &Net<K>,
@@ -74,7 +74,8 @@ pub fn react<K: Kinds>(
     }
 }
 
-/// What `react` does; it is there once for each act, so that what is done is tested but once.
+/// The body of `react`, which calls it from three places, one for each act, so that once it is inlined the
+/// act is tested only once.
 #[inline(always)]
 fn react_to<K: Kinds>(
     net: &Net<K>,
@@ -112,8 +113,8 @@ fn react_to<K: Kinds>(
 }
 
 /// Does what a process answered when it was parked, if it can now be done, and returns whether it was;
-/// otherwise nothing changes. Its mark at the channel goes then, and a channel to which it waited to write
-/// is no candidate any more. It is a function of its own, out of the way of a commit after which no parked
+/// otherwise nothing changes. Its mark at the channel is removed then, and a channel to which it waited to
+/// write is no candidate any more. It is a function of its own, out of the way of a commit after which no parked
 /// process goes on.
 #[inline(never)]
 fn resume<K: Kinds>(

@@ -1,4 +1,4 @@
-//! The ends of the program: its input and its lines.
+//! Input, output and exit statuses of a program.
 //!
 //! ```text
 //! let mut source = Fallible::new(rt.reader());

@@ -7,7 +7,7 @@ ghost use Rattle.kpn_front.specs.Statuses.{code_of};
 pub enum Status {
     /// 0: the run terminated, the description was accepted, or help was asked for.
     Success,
-    /// 1: the arguments were refused, or no channel has the name to show.
+    /// 1: the arguments were refused, also for want of memory; or no channel has the name to show.
     WrongArguments,
     /// 2: the description was refused.
     Refused,

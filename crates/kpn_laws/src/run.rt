@@ -27,8 +27,7 @@ pub fn moments()
     ensures one_cause { (kinds : Family) → OneCause kinds }
 {}
 
-/// Ghost lemma: a valid network begins with no channel above its capacity, and
-/// that no run of it ever has one.
+/// Ghost lemma: a valid network begins with no channel above its capacity, and no run of it ever has one.
 pub fn valid_runs()
     ensures start { (signature : Card → Option Signature) (kinds : Family) → StartsWithin signature kinds }
     ensures within { (signature : Card → Option Signature) (kinds : Family) → StaysWithin signature kinds }

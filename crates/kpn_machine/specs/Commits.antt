@@ -28,7 +28,7 @@ pub record Appends (kinds : Family) (s t : MachineView) (n : ℕ) : Type 0 where
   pub run : Run kinds s.network s.state entries t.state
   pub count : length entries ≡ n
 
--- the history goes on as a run, in the same network, and no answers were taken back
+-- the history goes on as a run, in the same network, and no fewer answers were taken than before
 pub record ContinuesRun (kinds : Family) (s t : MachineView) : Type 0 where
   pub network : t.network ≡ s.network
   pub commits : s.commits ≤ t.commits
@@ -58,8 +58,9 @@ TellsEnabled kinds s p (Done n) = IsEnabled kinds s.network s.state p × (1 ≤ 
 TellsEnabled kinds s p (Parked n) = (IsEnabled kinds s.network s.state p → ⊥) × ((n ≡ 0) ⊎ (n ≡ 2))
 TellsEnabled kinds s p LaidBack = s.end ≢ None
 
--- the end of a run that had not ended before: a cause for which runs are over exactly when no process is ready or out and the run is over for it;
--- `Memory` only if a growth is due; otherwise `Budget` exactly when it is spent; otherwise none
+-- the end after a commit, if there was none before. Terminated, Deadlock and Ceiling: exactly if no process is ready or out and the
+-- state is over for that cause. Memory: only if no process is ready or out and a growth is due. Budget: only if it is spent. None:
+-- only if it is not spent
 pub record EndsAs (kinds : Family) (t : MachineView) : Type 0 where
   pub over : (cause : End) → has_report cause ≡ true → (t.end ≡ Some cause) ↔ ((list_any is_busy t.standings ≡ false) × IsOver kinds t.network t.state cause)
   pub memory : t.end ≡ Some Memory → (list_any is_busy t.standings ≡ false) × CanGrow kinds t.network t.state

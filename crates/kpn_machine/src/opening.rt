@@ -27,7 +27,7 @@ pub enum OpenFault {
 }
 
 impl OpenFault {
-    /// Returns the number of a fault, as programs print it: 1 to 3, in the order above.
+    /// Returns the number of a fault: 1 to 3, in the order above.
     pub fn number(&self) -> u8
         ensures { result ≡ number_of_open_fault self.now }
     {

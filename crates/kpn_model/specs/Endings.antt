@@ -37,13 +37,13 @@ abbrev pub MayStand : Family → Network → List Entry → State → Option End
 MayStand kinds net E M None = length E < net.budget
 MayStand kinds net E M (Some end) = MayEnd kinds net E M end
 
--- whether the run was over, so that there is more to report than its end
+-- whether a run with this end is over, so that there is more to report than the end
 abbrev pub has_report : End → Bool
 has_report Budget = false
 has_report Memory = false
 has_report _ = true
 
--- the run came to its own end, which doesn't depend on the capacities: it terminated or ended in a deadlock
+-- the end is natural, the same from all capacities: the run terminated or ended in a deadlock
 abbrev pub IsNatural : End → Type 0
 IsNatural Terminated = Unit {0}
 IsNatural Deadlock = Unit {0}

@@ -37,7 +37,7 @@ const TRIAL: u64 = 16;
 pub enum Taken<B: Body> {
     /// A process that is now out, with the input for its body.
     Task(Task<B>),
-    /// The run is over.
+    /// The run has ended.
     Over(End),
 }
 
@@ -48,7 +48,7 @@ pub enum Next {
     Tasks,
     /// Nothing, since no process was ready, or no task was asked for.
     Nothing,
-    /// The run is over.
+    /// The run has ended.
     Over(End),
 }
 
@@ -59,7 +59,7 @@ pub enum Went {
     On { waited: bool },
     /// None was: no process was ready, or none was to be asked.
     Nowhere,
-    /// The run is over.
+    /// The run has ended.
     Over(End),
 }
 

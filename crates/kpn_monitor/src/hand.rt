@@ -20,7 +20,8 @@ pub(crate) enum Sharing {
     OneByOne,
     /// In equal shares for all workers.
     AmongAll,
-    /// In equal shares for the workers that are awake, if there are more than workers.
+    /// If more processes are ready than there are workers, in equal shares for those awake; otherwise for
+    /// all.
     AmongAwake,
 }
 
@@ -165,8 +166,7 @@ impl<B: Body> Hand<B> {
         awake < self.processors as u64
     }
 
-    /// Notes how many of the workers are awake, of whom two count if there are two: all, if 0 are known
-    /// to be.
+    /// Notes how many workers are awake: at least 2 and at most all; all, if `awake` is 0.
     pub(crate) fn see_awake(&mut self, awake: u64)
         ensures { self.new ≡ self.old }
     {

@@ -86,7 +86,7 @@ impl<B: Body, E: EntryLedger, O: Ledger> Monitor<B, E, O> {
         (monitor, Seat::whole(PARTS, entry_share, over_share))
     }
 
-    /// Takes a process out as a task; or, if the run is over, returns its end and notes in the seat
+    /// Takes a process out as a task; or, if the run has ended, returns its end and notes in the seat
     /// that it has met it (its share of overs is then 1), and wakes those that rest. A task leaves the
     /// seat unchanged. Waits while no process is ready and the run goes on. If a task is dropped, its
     /// process stays out for good.
@@ -141,7 +141,7 @@ impl<B: Body, E: EntryLedger, O: Ledger> Monitor<B, E, O> {
     ///
     /// The seat's share of entries grows by the number of entries that the answers appended. Afterwards
     /// the hand has at least one task; or it has none, since no process was ready or `most` is 0; or
-    /// the run is over, and the seat has met its end: its share of overs is 1.
+    /// the run has ended, and the seat has met its end: its share of overs is 1.
     ///
     /// Errors: the machine did not ask for an answer, which is handed back. The answers before it are
     /// committed, and those after it are left in the hand.
@@ -179,12 +179,12 @@ impl<B: Body, E: EntryLedger, O: Ledger> Monitor<B, E, O> {
     }
 
     /// Asks ready processes where their bodies lie, one after the other, and takes their answers as `commit`
-    /// does, until `most` answers were taken, no process is ready or the run is over; all in one holding of
+    /// does, until `most` answers were taken, no process is ready or the run has ended; all in one holding of
     /// the lock, in which the bodies are called. So it is for bodies that are quick, and that wait for
     /// nobody: one that waited for another body could wait for ever.
     ///
     /// The seat's share of entries grows by the number of entries appended. If no answer was taken and the
-    /// run is over, the seat has met its end: its share of overs is 1.
+    /// run has ended, the seat has met its end: its share of overs is 1.
     pub fn ask_in_place<R: Wait>(&self, rt: &R, seat: &mut Seat<E, O>, most: u64) -> Went
         ensures went { (n : ℕ) × (seat.new.entries ≡ seat.old.entries + n) × WentOn (family_of B.Kinds.start B.Kinds.answer_of) B.Kinds.admits E.net n }
         ensures parts { seat.new.parts ≡ seat.old.parts }
@@ -210,8 +210,8 @@ impl<B: Body, E: EntryLedger, O: Ledger> Monitor<B, E, O> {
         went
     }
 
-    /// Rests until the run is over, or until one more thread is of use, and returns whether it rested.
-    /// A thread doesn't rest if the run is over; nor, if it is idle, when a process is ready; nor, if it
+    /// Rests until the run has ended, or until one more thread is of use, and returns whether it rested.
+    /// A thread doesn't rest if the run has ended; nor, if it is idle, when a process is ready; nor, if it
     /// is spare, when all others that ever wanted to rest do.
     ///
     /// One of the threads that rest is the lookout, or two if one was idle: it alone wakes after `limit`,
@@ -256,7 +256,7 @@ impl<B: Body, E: EntryLedger, O: Ledger> Monitor<B, E, O> {
         true
     }
 
-    // Sleeps until the run is over or one more thread is of use.
+    // Sleeps until the run has ended or one more thread is of use.
     fn look_out<'a, R: Wait + Clock>(
         &'a self,
         rt: &R,
@@ -292,7 +292,7 @@ impl<B: Body, E: EntryLedger, O: Ledger> Monitor<B, E, O> {
         Look::new(now, guarded.has_work(), guarded.answers())
     }
 
-    // The run is over: wakes all that rest.
+    // The run has ended: wakes all that rest.
     fn rouse<R: Wait>(&self, rt: &R) {
         let mut resters = self.resters.lock(rt);
         let some = resters.finish();

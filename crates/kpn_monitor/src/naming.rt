@@ -14,6 +14,7 @@ pub trait EntryLedger: Ledger {
     ghost board: { TableId };
 }
 
+// The values are placeholders: a call that chooses the names for `Brand` doesn't use them.
 impl EntryLedger for Brand {
     ghost use Rattle.std.specs.Prelude.{[]};
 

@@ -29,7 +29,7 @@ pub enum Rest {
 }
 
 /// How many threads ever wanted to rest, how many rest now, how many of these are lookouts for the
-/// others, and whether the run is over.
+/// others, and whether the run has ended.
 #[derive(Drop)]
 pub(crate) struct Resters {
     known: usize,
@@ -50,7 +50,7 @@ impl Resters {
     }
 
     /// Counts a thread that wants to rest, perhaps for the first time. Returns false if it should not:
-    /// the run is over, or it is spare and all others rest.
+    /// the run has ended, or it is spare and all others rest.
     pub(crate) fn begin(&mut self, is_new: bool, why: Rest) -> bool {
         if is_new {
             self.known = self.known.saturating_add(1);
@@ -64,7 +64,7 @@ impl Resters {
     }
 
     /// Whether a thread that rests for this reason should be a lookout: there is none, or it is idle and
-    /// there is one, and the run is not over.
+    /// there is one, and the run has not ended.
     pub(crate) fn want_lookout(&self, why: Rest) -> bool {
         let others = match why {
             Rest::Idle => 1,
@@ -94,12 +94,12 @@ impl Resters {
         self.resting > 0 && self.want_lookout(Rest::Spare)
     }
 
-    /// Whether the run is over.
+    /// Whether the run has ended.
     pub(crate) fn is_over(&self) -> bool {
         self.over
     }
 
-    /// The run is over. Returns whether some thread still rests.
+    /// Notes that the run has ended. Returns whether some thread still rests.
     pub(crate) fn finish(&mut self) -> bool {
         self.over = true;
         self.resting > 0

@@ -84,7 +84,7 @@ impl<E: EntryLedger, O: Ledger> CrewSeat<E, O> {
 
     /// Gives an answer to the machine (`Monitor::commit`). The seat need not be the one that took the task.
     ///
-    /// Errors: the machine did not ask for this answer. It is handed back, and nothing changes.
+    /// Errors: the machine did not ask for this answer. It is handed back, and the seat is unchanged.
     ///
     /// ```text
     /// if seat.commit(self.rt, monitor, finished).is_err() {
@@ -104,12 +104,12 @@ impl<E: EntryLedger, O: Ledger> CrewSeat<E, O> {
         monitor.commit(rt, finished, &mut self.seat)
     }
 
-    /// Takes a task, calls it, asks the gate and commits the answer, again and again, until the run is over
-    /// or an answer is refused. Returns the refused answer; if there is none, the seat has met the end. It
-    /// may wait for other threads.
+    /// Takes a task, calls it, asks the gate and commits the answer, again and again, until the run has ended
+    /// or an answer is refused. Returns the refused answer; if there is none, the seat has met the end. It may
+    /// wait for other threads.
     ///
     /// ```text
-    /// let refused: Option<Finished<Standards>> = seat.work(self.rt, monitor, &Open);
+    /// let refused: Option<Finished<CardBody<Standard>>> = seat.work(self.rt, monitor, &Open);
     /// ```
     pub fn work<B: Body, R: Wait, G: Gate>(
         &mut self,

@@ -75,10 +75,11 @@ pub enum WatchedFault<B: Body> {
 /// and an end, if there is one, is justified; after each prefix of the history no channel holds more
 /// tokens than its capacity. All that is known of the history of `kpn_run::run` is known of it, stopped
 /// or not: the deeds of each process, and the streams, in this history and in any run from any starting
-/// capacities are prefix-comparable, so that what has come out is the beginning of what a longer run
-/// brings (Kahn 1974); if capacity b suffices for the network, no channel of capacity b or more grows in
-/// it (Parks 1995); its streams are below every solution of the network's equations. If it has ended, it
-/// has not ended by `Budget` if some run that is over has fewer entries than the budget.
+/// capacities are prefix-comparable, so that of what has come out of a channel here and in another run, one
+/// begins with the other; and every run that terminates or ends in a deadlock brings at least this (Kahn
+/// 1974). If capacity b suffices for the network, no channel of capacity b or more grows in it (Parks
+/// 1995); its streams are below every solution of the network's equations. If it has ended, it has not
+/// ended by `Budget` if some run that is over has fewer entries than the budget.
 ///
 /// The observer is called once before the start, with no entries; then in a thread of its own; and once
 /// more when the workers are done. Once it wishes to stop, each worker finishes what it holds and takes

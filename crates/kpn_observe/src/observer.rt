@@ -18,8 +18,10 @@ pub enum Wish {
     Stop,
 }
 
-/// Who is shown how far a run has come while it goes on, and may stop it. It is called in a thread of its
-/// own, and may wait; the workers don't wait for it, but the run returns only after it.
+/// Who is shown how far a run has come while it goes on, and may stop it. It is first called by the calling
+/// thread, before any worker has started; then in a thread of its own; and at last once more when the
+/// workers are done. If that thread can't be started, it is called only at the start and at the end. It may
+/// wait; the workers don't wait for it, but the run returns only after it.
 ///
 /// ```text
 /// impl<'a, R: Clock + Sync> Observer for Deadline<'a, R> {

@@ -13,9 +13,9 @@ use kpn_report::{Report, places_of, report_of};
 use std::alloc::{AllocError, Global};
 
 /// Returns the report of what a machine left behind, as `kpn_run::report` does of a `Finish`: of a run
-/// that was watched (`WatchedRun::chronicle`), or that threads of your own worked at
-/// (`Closed::into_chronicle` of `kpn_monitor`). There is none exactly if the run has no end, since it
-/// was stopped or given up.
+/// that was watched or run by a crew (`WatchedRun::chronicle`), or whose monitor you closed yourself
+/// (`Closed::into_chronicle` of `kpn_monitor`). There is none exactly if the run has no end, since its
+/// observer stopped it or its threads left it.
 ///
 /// It tells why the run ended, and its detail if it came to its own end; that detail is the one of every
 /// run of the network that is over, whatever the schedule and the number of workers, and its streams

@@ -1,4 +1,4 @@
-//! A run that has ended or was stopped.
+//! A run that has ended, that its observer stopped or that its crew left.
 ghost use Rattle.std.specs.Prelude.{◌≡◌, length};
 ghost use Rattle.kpn_model.specs.Network.{family_of};
 ghost use Rattle.kpn_monitor.specs.Kept.{IsAccount};
@@ -9,11 +9,11 @@ use kpn_monitor::{Closed, EntryLedger};
 use kpn_network::Net;
 use std::marker::Model;
 
-/// A run that has ended, or that its observer stopped: what its machine left behind, and as many
-/// receipts as entries.
+/// A run that has ended, that its observer stopped or that its crew left: what its machine left behind, and
+/// as many receipts as entries.
 ///
-/// The history of a stopped run is a run too: each entry is one of a commit under the lock, and what the
-/// workers held is in it.
+/// The history is a run in each case, since each entry is one of a commit under the lock. After a stop by
+/// the observer what the workers held is in it; a crew may leave with tasks whose answers are not.
 #[derive(Drop)]
 pub struct WatchedRun<K: Kinds> {
     chronicle: Chronicle<K>,
@@ -96,8 +96,8 @@ impl<K: Kinds> WatchedRun<K> {
         self.receipts
     }
 
-    /// Returns how the run ended; `None` if it was stopped before its end. In both cases the history is a
-    /// run from the start of the network, and an end is justified.
+    /// Returns how the run ended; `None` if its observer stopped it or its crew left it before its end. In
+    /// all cases the history is a run from the start of the network, and an end is justified.
     ///
     /// ```text
     /// if run.end().is_none() {

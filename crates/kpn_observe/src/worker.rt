@@ -24,7 +24,7 @@ const BRIEF: u128 = 4_000;
 const LONG: u128 = 16_000;
 
 /// Calls the tasks of a hand, asks the gate after each, and exchanges the answers for other tasks, again
-/// and again, until the run is over, an answer is refused, or the workers are to stop. Then it finishes
+/// and again, until the run has ended, an answer is refused, or the workers are to stop. Then it finishes
 /// what it holds, and takes nothing more. Returns the refused answer, if there is one; if there is none,
 /// it holds nothing any more. It may wait for other workers.
 pub(crate) fn work_until_stopped<B: Body, E: EntryLedger, O: Ledger, R: Wait + Clock, G: Gate>(

@@ -11,7 +11,7 @@ use Rattle.kpn_model.specs.Endings.{MayEnd}
 use Rattle.kpn_machine.specs.MachineView.{MachineView}
 use Rattle.kpn_monitor.specs.Names.{Shares}
 
--- what contracts see of a run that is over: the machine that was closed, the receipts, and the end
+-- what contracts see of a run that has ended: the machine that was closed, the receipts, and the end
 pub record FinishedRun : Type 0 where
   pub machine : MachineView
   pub receipts : ℕ

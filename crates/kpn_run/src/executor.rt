@@ -235,7 +235,7 @@ fn run_machine<B: Body, R: Wait + Clock + Threads + Sync, G: Gate>(
     }
 }
 
-/// Ghost lemma: what the laws say of a run that is over.
+/// Ghost lemma: what the laws say of a run that has ended.
 fn told_by_laws<K: Kinds>(finish: &Finish<K>)
     ensures within { StaysWithinCapacities (family_of K.start K.answer_of) finish.now.machine.network finish.now.machine.history }
     ensures budget { SparesBudget (family_of K.start K.answer_of) finish.now.machine.network finish.now.cause }

@@ -1,4 +1,4 @@
-//! A run that is over.
+//! A run that has ended.
 ghost use Rattle.std.specs.Prelude.{◌≡◌, Some, IsNone, length, MatchOption};
 ghost use Rattle.kpn_model.specs.Network.{family_of};
 ghost use Rattle.kpn_machine.specs.MachineView.{IsFaithful};
@@ -10,7 +10,7 @@ use kpn_monitor::{Closed, EntryLedger};
 use kpn_network::Net;
 use std::marker::Model;
 
-/// A run that is over: what its machine left behind, its end, and as many receipts as entries.
+/// A run that has ended: what its machine left behind, its end, and as many receipts as entries.
 ///
 /// It is made only from a `Closed` that has an end; so its machine was fresh when the monitor was
 /// opened, and each entry was appended by a commit under the lock.

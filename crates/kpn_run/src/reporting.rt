@@ -1,4 +1,4 @@
-//! The report of a run that is over.
+//! The report of a run that has ended.
 ghost use Rattle.std.specs.Prelude.{◌≡◌, IfOk};
 ghost use Rattle.kpn_model.specs.Network.{family_of};
 ghost use Rattle.kpn_report.specs.Reported.{IsReport};

@@ -49,7 +49,7 @@ impl Stopwatch {
 }
 
 /// Calls the tasks of a hand, asks the gate after each, and exchanges the answers for other tasks,
-/// again and again, until the run is over or an answer is refused; in between it has bodies asked in
+/// again and again, until the run has ended or an answer is refused; in between it has bodies asked in
 /// place, if the gate lets it and while that is quicker. Returns the refused answer; if there is none, the
 /// seat has met an end. It may wait for other workers.
 pub(crate) fn work_in_rounds<B: Body, E: EntryLedger, O: Ledger, R: Wait + Clock, G: Gate>(
@@ -84,8 +84,8 @@ pub(crate) fn work_in_rounds<B: Body, E: EntryLedger, O: Ledger, R: Wait + Clock
     unreachable!()
 }
 
-// Has bodies asked in place while that is quicker. Returns whether the run is over; the seat has then met
-// its end.
+// Has bodies asked in place while that is quicker. Returns whether the run has ended; the seat has then
+// met its end.
 fn ask_in_place<B: Body, E: EntryLedger, O: Ledger, R: Wait + Clock>(
     rt: &R,
     monitor: &Monitor<B, E, O>,

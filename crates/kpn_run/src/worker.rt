@@ -35,8 +35,9 @@ impl Gate for Open {
     fn before_commit(&self, _process: usize) {}
 }
 
-/// The gate that does nothing, for bodies that wait for nobody. While their calls are short, one worker
-/// asks them under the lock, which is as fast as no lock; while they are longer, all work as by `Open`.
+/// The gate that does nothing, for bodies that wait for nobody. While their calls are short, one worker of
+/// `run` asks them under the lock, which is as fast as no lock; while they are longer, all work as by
+/// `Open`. `work` never asks a body under the lock, and takes it as `Open`.
 pub struct Prompt;
 
 impl Gate for Prompt {
@@ -54,7 +55,7 @@ pub struct Worked<B: Body, E: EntryLedger, O: Ledger> {
     pub stranger: Option<Finished<B>>,
 }
 
-/// Takes a task, calls it, asks the gate and commits the answer, again and again, until the run is over
+/// Takes a task, calls it, asks the gate and commits the answer, again and again, until the run has ended
 /// or an answer is refused. Returns the seat, and the refused answer if there is one; if there is none,
 /// the seat has met an end. It may wait for other workers.
 pub fn work<B: Body, E: EntryLedger, O: Ledger, R: Wait, G: Gate>(

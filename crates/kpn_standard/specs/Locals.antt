@@ -7,10 +7,11 @@ use Rattle.kpn_model.specs.declared.kinds.Act.TheVariants.{Stop}
 use Rattle.kpn_model.specs.declared.kinds.Answer.{Answer}
 use Rattle.kpn_model.specs.Lawful.{Fits}
 
+-- the number at place k
 abbrev pub at : List ℕ → ℕ → ℕ
 at xs k = get_or xs k 0
 
--- a local state with these first numbers, the others 0
+-- local states with one, two or three first numbers, the others 0
 abbrev pub one : ℕ → List ℕ
 one a = a ∷ 0 ∷ 0 ∷ 0 ∷ []
 
@@ -25,7 +26,7 @@ abbrev pub IsLocal : List ℕ → Type 0
 IsLocal (a ∷ b ∷ c ∷ d ∷ []) = (a < 2 ^ 64) × (b < 2 ^ 64) × (c < 2 ^ 64) × (d < 2 ^ 64)
 IsLocal l = ⊥
 
--- a word has 64 bits
+-- the last token, if there is one, fits: a word has 64 bits
 abbrev pub LastFits : Option Token → Type 0
 LastFits None = Unit {0}
 LastFits (Some t) = Fits t
@@ -38,11 +39,12 @@ says a b c act = record { next = a ∷ b ∷ c ∷ 0 ∷ []; act = act }
 abbrev pub stays : List ℕ → Answer
 stays local = record { next = local; act = Stop }
 
--- the token of the read just done, and as a word or a flag
+-- the token of the read just done
 abbrev pub got : Option Token → Token
 got None = Word 0
 got (Some t) = t
 
+-- a token's word, or its flag
 abbrev pub word : Token → ℕ
 word (Word n) = n
 word (Flag b) = 0

@@ -16,8 +16,6 @@ use std::sync::atomic::{AtomicU64, Ordering};
 use std::sync::ledger::Ledger;
 use std::thread::Threads;
 
-type Standards = CardBody<Standard>;
-
 /// Works with each seat to the end, and counts the seats that met it.
 #[derive(Drop)]
 struct All<'a, R> {
@@ -25,13 +23,13 @@ struct All<'a, R> {
     met: AtomicU64,
 }
 
-impl<'a, R: Wait + Sync> Crew<Standards> for All<'a, R> {
+impl<'a, R: Wait + Sync> Crew<CardBody<Standard>> for All<'a, R> {
     fn work<E: EntryLedger, O: Ledger>(
         &self,
-        monitor: &Monitor<Standards, E, O>,
+        monitor: &Monitor<CardBody<Standard>, E, O>,
         seat: &mut CrewSeat<E, O>,
     ) {
-        let refused: Option<Finished<Standards>> = seat.work(self.rt, monitor, &Open);
+        let refused: Option<Finished<CardBody<Standard>>> = seat.work(self.rt, monitor, &Open);
         if refused.is_none() {
             self.met.fetch_add(1, Ordering::SeqCst);
         }
@@ -67,10 +65,10 @@ struct Leaving<'a, R> {
     rt: &'a R,
 }
 
-impl<'a, R: Wait + Sync> Crew<Standards> for Leaving<'a, R> {
+impl<'a, R: Wait + Sync> Crew<CardBody<Standard>> for Leaving<'a, R> {
     fn work<E: EntryLedger, O: Ledger>(
         &self,
-        monitor: &Monitor<Standards, E, O>,
+        monitor: &Monitor<CardBody<Standard>, E, O>,
         seat: &mut CrewSeat<E, O>,
     ) {
         if let Taken::Task(task) = seat.take(self.rt, monitor) {

@@ -87,7 +87,7 @@ fn assert_history<R: Abort>(rt: &R, history: &[Entry], due: &EndOfRun) {
     same(rt, due.name, found, (due.entries, Some(PUT_1), due.growths));
 }
 
-/// Compares a machine whose run is over.
+/// Compares a machine whose run has ended.
 fn assert_over<R: Abort>(rt: &R, alloc: Global, machine: &CardMachine, due: &EndOfRun) {
     let name = due.name;
     let found = (machine.end(), machine.commits());

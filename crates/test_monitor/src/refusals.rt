@@ -161,7 +161,7 @@ const AFTER_ALL: (Ended, Progress) = (
     },
 );
 
-/// Whether the growth was refused its memory, given that the run is over.
+/// Whether the growth was refused its memory, given that the run has ended.
 fn growth_refused<R: Abort>(rt: &R, ended: Ended, seen: Progress) -> Refused {
     let (due, refused) = match seen.phase {
         Phase::Memory => (BEFORE_THE_GROWTH, Refused::Growth),
