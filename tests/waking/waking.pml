@@ -361,8 +361,8 @@ inline end() {
     d_step { resting = resting - 1; hands_over = (resting > 0 && want_lookout(SPARE)) }
 }
 
-/* resting.rt: Resters::finish */
-inline finish() {
+/* resting.rt: Resters::note_end */
+inline note_end() {
     d_step { over = 1; some = (resting > 0) }
 }
 
@@ -474,7 +474,7 @@ inline rest() {
     rested = 0
 }
 
-/* Look::shows_want, which knows the time: nobody is wanted if there is nothing to do, and else any answer
+/* Sighting::shows_want, which knows the time: nobody is wanted if there is nothing to do, and else any answer
    may be given. Where each time limit passes the answer is yes if no answer was committed since the last look. */
 inline shows_want() {
     if
@@ -520,7 +520,7 @@ inline hold_up() { skip /* it bears on how the ready processes are shared out, w
 
 /* monitor.rt: Monitor::rouse */
 inline rouse() {
-    HOLDING { lock(resters); finish(); unlock(resters) };
+    HOLDING { lock(resters); note_end(); unlock(resters) };
     if
     :: some -> some = 0; notify_all(ROUSED)
     :: else
@@ -567,7 +567,7 @@ inline meet() {
 }
 #endif
 
-/* round.rt: call_all */
+/* worker.rt: call_all */
 inline call_all() {
     called = 0;
     do
@@ -585,7 +585,7 @@ inline pace_called() {
     called = 0
 }
 
-/* round.rt: ask_in_place */
+/* worker.rt: ask_in_place */
 inline ask_in_place() {
     do
     :: true ->
@@ -599,12 +599,12 @@ inline ask_in_place() {
     od
 }
 
-/* round.rt: go_on */
+/* worker.rt: go_on */
 inline go_on() { take_turn() }
 
 /* Pace::exchanged is part of it: with tasks it goes on; without, one that is spare rests, and any other
    rests or pauses. */
-/* round.rt: take_turn */
+/* worker.rt: take_turn */
 inline take_turn() {
     if
     :: taken == TASKS -> taken = 0; most = 0
@@ -613,7 +613,7 @@ inline take_turn() {
     fi
 }
 
-/* round.rt: work_in_rounds */
+/* worker.rt: work_in_rounds */
 proctype in_rounds(byte i) {
     byte hand, called, wanted, seen, taken, wakes, most;
     bit why, is_new, is_last, rested, hands_over, some, is_wanted;
@@ -640,7 +640,7 @@ proctype in_rounds(byte i) {
     atomic { at[i] = LEFT; look_round() }
 }
 
-/* worker.rt: work_with */
+/* own_thread.rt: work_with */
 proctype in_work(byte i) {
     byte taken, wakes;
     bit some;

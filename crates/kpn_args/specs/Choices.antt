@@ -4,11 +4,11 @@ use Rattle.std.specs.Str.Parse.{IsNumeral, digits_value, without_leading_plus}
 use Rattle.clap.specs.Words.{HasKind, Row, Text, fault_of, first_of, kind_of, subcommand_of}
 use Rattle.clap.specs.declared.error.kind.ErrorKind.{ErrorKind}
 use Rattle.clap.specs.declared.error.kind.ErrorKind.TheVariants.{DisplayHelp, DisplayVersion}
-use Rattle.kpn_args.specs.declared.words.TheConstants.{MAX_WORKERS}
-use Rattle.kpn_args.specs.declared.words.Choice.{Choice}
-use Rattle.kpn_args.specs.declared.words.Choice.TheVariants.{Check, Run}
-use Rattle.kpn_args.specs.declared.words.WordsFault.{WordsFault}
-use Rattle.kpn_args.specs.declared.words.WordsFault.TheVariants.{Parser, Workers}
+use Rattle.kpn_args.specs.declared.arguments.TheConstants.{MAX_WORKERS}
+use Rattle.kpn_args.specs.declared.arguments.Choice.{Choice}
+use Rattle.kpn_args.specs.declared.arguments.Choice.TheVariants.{Check, Run}
+use Rattle.kpn_args.specs.declared.arguments.WordsFault.{WordsFault}
+use Rattle.kpn_args.specs.declared.arguments.WordsFault.TheVariants.{Parser, Workers}
 use Rattle.kpn_args.specs.Command.{kpn}
 
 -- the text is read as this number of workers

@@ -1,6 +1,6 @@
 //! The arguments of the program `kpn`, and what they ask for.
 #![tactic(auto)]
 
-mod words;
+mod arguments;
 
-pub use words::{Choice, MAX_WORKERS, WordsFault, read_words};
+pub use arguments::{Choice, MAX_WORKERS, WordsFault, read_words};

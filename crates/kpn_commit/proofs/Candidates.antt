@@ -7,7 +7,7 @@ use Rattle.kpn_model.specs.Semantics.{State, capacity}
 use Rattle.kpn_state.specs.declared.standing.Standing.{Standing}
 use Rattle.kpn_state.specs.Standings.{standing}
 use Rattle.kpn_state.specs.Candidates.{CandidateList, IsInOrder}
-use Rattle.kpn_commit.specs.Choice.{awaited, with_writer, IsNoLater, IsSmallest, IsCandidate, AreCandidates}
+use Rattle.kpn_commit.specs.Candidates.{awaited, with_writer, IsNoLater, IsSmallest, IsCandidate, AreCandidates}
 use Rattle.kpn_commit.proofs.Waits.{is_writer}
 
 -- the first of a list is one of it

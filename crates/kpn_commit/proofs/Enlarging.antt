@@ -22,7 +22,7 @@ use Rattle.kpn_state.specs.Candidates.{CandidateList}
 use Rattle.kpn_state.specs.Marks.{is_marked, mark_lists}
 use Rattle.kpn_state.specs.Standings.{standing, is_busy, standing_after, partner, StandingsFit}
 use Rattle.kpn_state.proofs.Placed.{standing_within}
-use Rattle.kpn_commit.specs.Choice.{awaited, IsSmallest}
+use Rattle.kpn_commit.specs.Candidates.{awaited, IsSmallest}
 use Rattle.kpn_commit.specs.Waiting.{AreWaiting, partner_marked}
 use Rattle.kpn_commit.specs.Settling.{GrowsAndPuts}
 use Rattle.kpn_commit.proofs.Keeping.{keeps_all, keeps_grown}

@@ -11,7 +11,7 @@ use Rattle.kpn_model.specs.Semantics.{State, status, tokens, capacity, wants, Is
 use Rattle.kpn_state.specs.declared.standing.Standing.{Standing}
 use Rattle.kpn_state.specs.declared.standing.Standing.TheVariants.{Parked}
 use Rattle.kpn_state.specs.Standings.{standing, is_busy, has_stopped, StandingsFit}
-use Rattle.kpn_commit.specs.Choice.{awaited, IsSmallest}
+use Rattle.kpn_commit.specs.Candidates.{awaited, IsSmallest}
 use Rattle.kpn_commit.proofs.Waits.{waiting_writer}
 use Rattle.kpn_state.proofs.Placed.{idle_at, stopped_at, one_live}
 

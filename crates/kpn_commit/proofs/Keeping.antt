@@ -18,7 +18,7 @@ use Rattle.kpn_laws.proofs.WellTypedDeeds.{sorted_deed}
 use Rattle.kpn_laws.proofs.States.{in_of-reader, out_of-writer}
 use Rattle.kpn_laws.proofs.Steps.{after, processes_after, channels_after, live_within, status_after_same, status_after_other, capacity_after, done_wants_none}
 use Rattle.kpn_state.specs.declared.standing.Standing.{Standing}
-use Rattle.kpn_state.specs.declared.standing.Standing.TheVariants.{Ready, Out, Parked, Stopped as Ended}
+use Rattle.kpn_state.specs.declared.standing.Standing.TheVariants.{Ready, Out, Parked, Stopped}
 use Rattle.kpn_state.specs.Standings.{standing, standing_after, is_busy, partner, StandingsFit}
 use Rattle.kpn_state.proofs.Placed.{acted_not_parked, standing_within}
 use Rattle.kpn_commit.proofs.Deeds.{possible_before, partner_back}
@@ -33,14 +33,14 @@ each_set P xs i x d within here others j =
 -- who is parked after another's deed was parked before
 pub still_parked : (standings : List Standing) (p : ℕ) (d : Deed) (b : Answer) → p < length standings → (q : ℕ) → standing (set standings p (standing_after d)) q ≡ Parked b → (q ≢ p) × (standing standings q ≡ Parked b)
 still_parked standings p d b within =
-    each_set (λ q (y : Standing). y ≡ Parked b → (q ≢ p) × (standing standings q ≡ Parked b)) standings p (standing_after d) Ended within (λ e. absurd (acted_not_parked d b e)) (λ q o e. (o, e))
+    each_set (λ q (y : Standing). y ≡ Parked b → (q ≢ p) × (standing standings q ≡ Parked b)) standings p (standing_after d) Stopped within (λ e. absurd (acted_not_parked d b e)) (λ q o e. (o, e))
 
 -- a process that is made ready is not out, and no other goes out
 pub none_sent : (standings : List Standing) (p : ℕ) → p < length standings → (q : ℕ) → standing (set standings p Ready) q ≡ Out → standing standings q ≡ Out
-none_sent standings p within = each_set (λ q (y : Standing). y ≡ Out → standing standings q ≡ Out) standings p Ready Ended within (λ e. cc) (λ q o e. e)
+none_sent standings p within = each_set (λ q (y : Standing). y ≡ Out → standing standings q ≡ Out) standings p Ready Stopped within (λ e. cc) (λ q o e. e)
 
 -- a process has stopped after its deed exactly when its standing says so
-ended_done : (a : Answer) (d : Deed) → (standing_after d ≡ Ended → after (Some a) d ≡ Done) × (after (Some a) d ≡ Done → standing_after d ≡ Ended)
+ended_done : (a : Answer) (d : Deed) → (standing_after d ≡ Stopped → after (Some a) d ≡ Done) × (after (Some a) d ≡ Done → standing_after d ≡ Stopped)
 ended_done a d = grind arith
 
 spared_or_not : (s : Option ℕ) (q : ℕ) → (s ≡ Some q) ⊎ (s ≢ Some q)
@@ -56,8 +56,8 @@ record IsOfNetwork (admits : Card → List ℕ → Option Token → Type 0) (net
 
 -- this standing of p fits its status, and if p is parked and not spared it can't go on
 record Fits (kinds : Family) (net : Network) (spared : Option ℕ) (M : State) (p : ℕ) (x : Standing) : Type 0 where
-  stopped : x ≡ Ended → status M p ≡ Done
-  done : status M p ≡ Done → x ≡ Ended
+  stopped : x ≡ Stopped → status M p ≡ Done
+  done : status M p ≡ Done → x ≡ Stopped
   wanted : (a : Answer) → x ≡ Parked a → wants kinds net M p ≡ Some a
   blocked : (a : Answer) → spared ≢ Some p → x ≡ Parked a → IsPossible kinds net M p a.act → ⊥
 
@@ -100,7 +100,7 @@ module _ {kinds : Family} {admits : Card → List ℕ → Option Token → Type 
       }
     where
       all : (q : ℕ) → Fits kinds net r N q (standing (set l p x) q)
-      all = each_set (λ q (y : Standing). Fits kinds net r N q y) l p x Ended within here
+      all = each_set (λ q (y : Standing). Fits kinds net r N q y) l p x Stopped within here
           (λ q o. let is = same q o in record { stopped = λ e. let f = k.stopped q e in cc; done = λ e. k.done q (cc); wanted = λ a e. let f = k.wanted q a e in cc; blocked = λ a. blocked q a o })
 
   -- a live process is made ready, or goes out

@@ -7,7 +7,7 @@ use Rattle.kpn_model.specs.declared.kinds.Act.{Act}
 use Rattle.kpn_model.specs.declared.kinds.Act.TheVariants.{Read, Write, Stop}
 use Rattle.kpn_model.specs.declared.kinds.Answer.{Answer}
 use Rattle.kpn_model.specs.declared.history.Deed.{Deed}
-use Rattle.kpn_model.specs.declared.history.Deed.TheVariants.{Took, Put, Stopped as Halted}
+use Rattle.kpn_model.specs.declared.history.Deed.TheVariants.{Took, Put, Stopped as DidStop}
 use Rattle.kpn_model.specs.Network.{Family, Network, channel_of, in_of, out_of}
 use Rattle.kpn_model.specs.Semantics.{State, capacity, IsDeed, after_deed, IsPossible}
 use Rattle.kpn_laws.proofs.States.{in_of-reader, out_of-writer}
@@ -19,7 +19,7 @@ use Rattle.kpn_state.specs.Standings.{standing, standing_after, is_busy, HasChan
 use Rattle.kpn_state.specs.Candidates.{CandidateList}
 use Rattle.kpn_state.specs.Marks.{MarkLists, mark_lists}
 use Rattle.kpn_state.proofs.Placed.{standing_set_same, standing_set_other}
-use Rattle.kpn_commit.specs.Choice.{awaited_by, is_write, waits_to_write, AreCandidates, awaited}
+use Rattle.kpn_commit.specs.Candidates.{awaited_by, is_write, waits_to_write, AreCandidates, awaited}
 use Rattle.kpn_commit.specs.Waiting.{expected_by, StandFor, AreMarks, AreWaiting, expected, partner_marked, HasMark}
 use Rattle.kpn_commit.proofs.Keeping.{each_set, still_parked}
 use Rattle.kpn_model.specs.declared.kinds.Card.{Card}
@@ -295,20 +295,20 @@ module _ (kinds : Family) {net : Network} {M : State} {l : List Standing} {w : W
       done_writing k p Ready within (acted_waits_not net p (Put c t)) (after_deed kinds net M p a.next (Put c t)) c fewer (λ d _. capacity_after kinds net M p d a.next (Put c t)) written no_read taken many room
 
   -- a stop
-  pub stopped_waiting : IsDeed kinds net M p a.act Halted → AreWaiting net (after_deed kinds net M p a.next Halted) (set l p Stopped) w
+  pub stopped_waiting : IsDeed kinds net M p a.act DidStop → AreWaiting net (after_deed kinds net M p a.next DidStop) (set l p Stopped) w
   stopped_waiting is =
       let stop = stopped_stop kinds net M p a.act is in
       let no_write : awaited_by net p (standing l p) ≡ None = rw (parked, stop) in
       let no_read : expected_by net p (standing l p) ≡ None = rw (parked, stop) in
       let not_counted : waits_to_write (standing l p) ≡ false = rw (parked, stop) in
-      same_capacities (waits_nowhere k p Stopped within (record { no_write = no_write; no_read = no_read; not_counted = not_counted }) refl refl) (after_deed kinds net M p a.next Halted) (λ d. refl)
+      same_capacities (waits_nowhere k p Stopped within (record { no_write = no_write; no_read = no_read; not_counted = not_counted }) refl refl) (after_deed kinds net M p a.next DidStop) (λ d. refl)
 
 module _ {net : Network} {l : List Standing} {marks : MarkLists} (k : AreMarks net l marks) where
   -- a channel of the network may be marked
   pub has_mark : (d : Deed) → HasChannel net d → HasMark marks d
   has_mark (Took c t) h = omega arith
   has_mark (Put c t) h = omega arith
-  has_mark Halted h = tt
+  has_mark DidStop h = tt
 
   -- where the deed's channel has no mark for the other end, no parked process can go on after the deed
   pub others_blocked :
@@ -326,4 +326,4 @@ module _ {net : Network} {l : List Standing} {marks : MarkLists} (k : AreMarks n
       apart (Read i) (Put e t) c act is none at on = let here = before.1 in let waits : expected net l q ≡ Some c = cc in let mark = (k.readers c).1 (q, waits) in cc
       apart (Write i u) (Took e t) c act is none at on = let here = before.1 in let waits : awaited net l q ≡ Some c = cc in let mark = (k.writers c).1 (q, waits) in cc
       apart Stop d c act is none at on = absurd at
-      apart x Halted c act is none at on = absurd on
+      apart x DidStop c act is none at on = absurd on

@@ -8,7 +8,7 @@ use Rattle.kpn_model.specs.declared.history.End.{End}
 use Rattle.kpn_model.specs.declared.history.End.TheVariants.{Terminated, Deadlock, Ceiling, Budget, Memory}
 use Rattle.kpn_model.specs.Network.{Network, Family}
 use Rattle.kpn_model.specs.Semantics.{wants, IsDeed, after_deed}
-use Rattle.kpn_model.specs.Endings.{CanGrow, HasStopped}
+use Rattle.kpn_model.specs.Endings.{CanGrow, NothingGoesOn}
 use Rattle.kpn_laws.proofs.Causes.{over_grows_not}
 use Rattle.kpn_state.specs.StateAndHistory.{StateAndHistory, more}
 use Rattle.kpn_state.specs.declared.standing.Standing.{Standing}
@@ -62,7 +62,7 @@ module _ (kinds : Family) (net : Network) (s : StateAndHistory) (l : List Standi
   grows_exactly Busy t moved budget entries h not = (λ e. cc, λ due. let busy = h.0 in let idle = due.0 in cc)
   grows_exactly (Ended end) t moved budget entries h not = (λ e. cc, λ due. over end h.3 not due.1)
     where
-      over : (end : End) → HasStopped kinds net s.state end → Some end ≢ Some Memory → CanGrow kinds net s.state → Ended end ≡ Enlarged
+      over : (end : End) → NothingGoesOn kinds net s.state end → Some end ≢ Some Memory → CanGrow kinds net s.state → Ended end ≡ Enlarged
       over Budget h not can = absurd h
       over Memory h not can = absurd (not refl)
       over Terminated h not can = absurd (over_grows_not kinds net s.state Terminated can.channel can.to can.next h can.grows)

@@ -1,5 +1,5 @@
 pub mod Reactions
-pub mod Choice
+pub mod Candidates
 pub mod Waiting
 pub mod Settling
 pub mod Works

@@ -7,7 +7,7 @@ use Rattle.kpn_model.specs.declared.history.Deed.TheVariants.{Put}
 use Rattle.kpn_model.specs.declared.history.Entry.TheVariants.{Grew}
 use Rattle.kpn_model.specs.Network.{Family, Network}
 use Rattle.kpn_model.specs.Semantics.{State, Grows}
-use Rattle.kpn_model.specs.Endings.{HasStopped}
+use Rattle.kpn_model.specs.Endings.{NothingGoesOn}
 use Rattle.kpn_state.specs.StateAndHistory.{StateAndHistory, more}
 use Rattle.kpn_state.specs.declared.standing.Standing.{Standing}
 use Rattle.kpn_state.specs.declared.standing.Standing.TheVariants.{Parked}
@@ -31,5 +31,5 @@ pub record GrowsAndPuts (kinds : Family) (net : Network) (s : StateAndHistory) (
 -- some process is ready or out; or none is, and the run ends, or the chosen channel grows
 abbrev pub Settles : Family → Network → StateAndHistory → List Standing → Settled → StateAndHistory → List Standing → Type 0
 Settles kinds net s standings Busy t moved = (list_any is_busy standings ≡ true) × (t ≡ s) × (moved ≡ standings)
-Settles kinds net s standings (Ended end) t moved = (list_any is_busy standings ≡ false) × (t ≡ s) × (moved ≡ standings) × HasStopped kinds net s.state end
+Settles kinds net s standings (Ended end) t moved = (list_any is_busy standings ≡ false) × (t ≡ s) × (moved ≡ standings) × NothingGoesOn kinds net s.state end
 Settles kinds net s standings Enlarged t moved = (list_any is_busy standings ≡ false) × GrowsAndPuts kinds net s standings t moved

@@ -3,7 +3,7 @@ use Rattle.std.specs.Prelude.{◌≡◌, ◌↔◌, ◌<◌, ℕ, Bool, true, fa
 use Rattle.kpn_model.specs.declared.kinds.Act.{Act}
 use Rattle.kpn_model.specs.declared.kinds.Act.TheVariants.{Read, Write, Stop}
 use Rattle.kpn_model.specs.declared.history.Deed.{Deed}
-use Rattle.kpn_model.specs.declared.history.Deed.TheVariants.{Took, Put, Stopped as Halted}
+use Rattle.kpn_model.specs.declared.history.Deed.TheVariants.{Took, Put, Stopped as DidStop}
 use Rattle.kpn_model.specs.Network.{Network, in_of}
 use Rattle.kpn_model.specs.Semantics.{State}
 use Rattle.kpn_state.specs.declared.standing.Standing.{Standing}
@@ -11,7 +11,7 @@ use Rattle.kpn_state.specs.declared.standing.Standing.TheVariants.{Ready, Out, P
 use Rattle.kpn_state.specs.declared.waiting.Waiting.{Waiting}
 use Rattle.kpn_state.specs.Standings.{standing}
 use Rattle.kpn_state.specs.Marks.{MarkLists, is_marked}
-use Rattle.kpn_commit.specs.Choice.{awaited, AreCandidates}
+use Rattle.kpn_commit.specs.Candidates.{awaited, AreCandidates}
 
 -- the channel from which p's act reads
 abbrev pub read_by_act : Network → ℕ → Act → Option ℕ
@@ -49,10 +49,10 @@ pub record AreWaiting (net : Network) (M : State) (standings : List Standing) (w
 abbrev pub partner_marked : MarkLists → Deed → Bool
 partner_marked marks (Took c t) = is_marked marks.writers c
 partner_marked marks (Put c t) = is_marked marks.readers c
-partner_marked marks Halted = false
+partner_marked marks DidStop = false
 
 -- the deed's channel is one that may be marked
 abbrev pub HasMark : MarkLists → Deed → Type 0
 HasMark marks (Took c t) = c < length marks.writers
 HasMark marks (Put c t) = c < length marks.readers
-HasMark marks Halted = Unit {0}
+HasMark marks DidStop = Unit {0}

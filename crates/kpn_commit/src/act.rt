@@ -31,7 +31,7 @@ fn read<K: Kinds>(
     ensures same { IfNone result (store.new ≡ store.old) }
 {
     let channel = net.in_of(process, usize::from(port))?;
-    let (tokens, _) = store.filling(channel);
+    let (tokens, _) = store.tokens_and_capacity(channel);
     if tokens == 0 {
         return None;
     }
@@ -59,7 +59,7 @@ fn write<K: Kinds>(
     ensures same { IfNone result (store.new ≡ store.old) }
 {
     let channel = net.out_of(process, usize::from(port))?;
-    let (tokens, capacity) = store.filling(channel);
+    let (tokens, capacity) = store.tokens_and_capacity(channel);
     if tokens >= capacity {
         return None;
     }

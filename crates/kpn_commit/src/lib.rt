@@ -7,6 +7,7 @@ pub mod act;
 pub mod choose;
 pub mod outcome;
 pub mod outside;
+pub mod parking;
 pub mod react;
 pub mod settle;
 pub mod work;

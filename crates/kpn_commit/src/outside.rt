@@ -10,7 +10,7 @@ ghost use Rattle.kpn_state.specs.declared.standing.Standing.TheVariants.{Out};
 ghost use Rattle.kpn_state.specs.Standings.{StandingsFit, standing};
 ghost use Rattle.kpn_commit.specs.Waiting.{AreWaiting};
 
-use crate::choose::unpark;
+use crate::parking::unpark;
 use kpn_model::{Act, Kinds, Token};
 use kpn_network::Net;
 use kpn_state::standing::parked;
@@ -25,7 +25,7 @@ fn can_read<K: Kinds>(net: &Net<K>, store: &Store, process: usize, port: u8) -> 
     let Some(channel) = net.in_of(process, usize::from(port)) else {
         return false;
     };
-    let (tokens, _) = store.filling(channel);
+    let (tokens, _) = store.tokens_and_capacity(channel);
     tokens > 0
 }
 
@@ -38,7 +38,7 @@ fn can_write<K: Kinds>(net: &Net<K>, store: &Store, process: usize, port: u8, to
     let Some(channel) = net.out_of(process, usize::from(port)) else {
         return false;
     };
-    let (tokens, capacity) = store.filling(channel);
+    let (tokens, capacity) = store.tokens_and_capacity(channel);
     tokens < capacity
 }
 

@@ -11,7 +11,7 @@ ghost use Rattle.kpn_commit.specs.Waiting.{AreWaiting, HasMark, partner_marked};
 ghost use Rattle.kpn_commit.specs.Reactions.{Reacts, Resumes};
 
 use crate::act::advance;
-use crate::choose::park;
+use crate::parking::park;
 use kpn_model::{Act, Answer, Deed, Kinds, Token};
 use kpn_network::Net;
 use kpn_state::standing::parked;
@@ -141,7 +141,7 @@ fn resume<K: Kinds>(
     };
     match deed {
         Deed::Put { channel, .. } => {
-            let (_, capacity) = store.filling(channel);
+            let (_, capacity) = store.tokens_and_capacity(channel);
             waiting.candidates.remove(capacity, channel);
             waiting.marks.note_writer(channel, false);
         }

@@ -59,7 +59,7 @@ fn settle_idle<K: Kinds>(
     let Some((channel, writer)) = choose(net, &waiting.candidates) else {
         return Settled::Ended(End::Deadlock);
     };
-    let (_, capacity) = store.filling(channel);
+    let (_, capacity) = store.tokens_and_capacity(channel);
     if capacity >= net.ceiling() {
         return Settled::Ended(End::Ceiling);
     }

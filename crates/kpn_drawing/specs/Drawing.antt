@@ -19,7 +19,7 @@ use Rattle.kpn_front.specs.declared.status.Status.TheVariants.{Success}
 use Rattle.kpn_front.specs.Lines.{refused_line, status_of_fault}
 use Rattle.kpn_front.specs.Loading.{Loads}
 use Rattle.kpn_front.specs.Written.{SinkView}
-use Rattle.kpn_execute.specs.Execution.{TellsRefused, TellsLost, Writes}
+use Rattle.kpn_execute.specs.Execution.{TellsNoMemory, TellsLost, Writes}
 use Rattle.kpn_execute.specs.Program.{fault_of}
 
 -- the picture of a network after a run, from the run's digest
@@ -54,11 +54,11 @@ pub record DrawsNet (net : Network) (status : Status) (text : List ℕ) : Type 0
 
 -- what is drawn of a run that ended: its picture, or that memory was refused
 abbrev pub DrawsEnd : Network → Status → List ℕ → Type 0
-DrawsEnd net status text = TellsRefused status text ⊎ DrawsRun net status text
+DrawsEnd net status text = TellsNoMemory status text ⊎ DrawsRun net status text
 
 -- what is drawn of a network: itself, or as a run by this number of workers left it; or why not
 abbrev pub DrawsOf : Option ℕ → Network → Status → List ℕ → Type 0
-DrawsOf None net status text = TellsRefused status text ⊎ DrawsNet net status text
+DrawsOf None net status text = TellsNoMemory status text ⊎ DrawsNet net status text
 DrawsOf (Some workers) net status text = TellsLost workers status text ⊎ DrawsEnd net status text
 
 -- what is drawn of a description that was loaded, or written of one that was refused

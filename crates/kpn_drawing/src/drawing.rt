@@ -1,7 +1,7 @@
 //! The program, from its input to what it draws.
 ghost use Rattle.std.specs.Prelude.{◌≡◌, ◌≢◌, ◌+◌, [], Some, None, IfSome, string_bytes};
 ghost use Rattle.kpn_execute.specs.Execution.{Writes};
-ghost use Rattle.kpn_front.specs.Loading.{ReadsAtMost, longest};
+ghost use Rattle.kpn_front.specs.Loading.{ConsumesAtMost, longest};
 ghost use Rattle.kpn_drawing.specs.DrawChoices.{HasFewIfRun};
 ghost use Rattle.kpn_drawing.specs.Drawing.{Draws, DrawsOf};
 
@@ -47,7 +47,7 @@ pub fn serve<I: Source, O: Sink, R: Wait + Clock + Threads + Sync>(
     ensures memory { result.fault ≡ Some NetFault.Memory → result.message ≡ None }
     ensures input { result.fault ≡ Some NetFault.Input → result.message ≡ None }
     ensures said { IfSome result.message (λ message. string_bytes message ≢ []) }
-    ensures taken { ReadsAtMost (longest + 1) (I.remaining source.old) (I.remaining source.new) }
+    ensures taken { ConsumesAtMost (longest + 1) (I.remaining source.old) (I.remaining source.new) }
 {
     let net: Net<Standard> = match load_or_refuse(alloc, source) {
         Ok(net) => net,

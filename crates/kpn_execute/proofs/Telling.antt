@@ -18,7 +18,7 @@ use Rattle.kpn_state.specs.Standings.{standing, is_out, parked_answer}
 use Rattle.kpn_model.specs.declared.parts.Process.{Process}
 use Rattle.kpn_machine.specs.MachineView.{MachineView, IsFaithful}
 use Rattle.kpn_machine.specs.declared.opening.OpenFault.{OpenFault}
-use Rattle.kpn_machine.specs.declared.opening.OpenFault.TheVariants.{Bodies, Card as WrongCard, Memory as OutOfMemory}
+use Rattle.kpn_machine.specs.declared.opening.OpenFault.TheVariants.{Bodies, Card as WrongCard, Memory as NoMemory}
 use Rattle.kpn_machine.specs.Opening.{cards_of, IsOpenFault}
 use Rattle.kpn_run.proofs.RunReports.{at_rest, over_of}
 use Rattle.kpn_laws.specs.RoomOfRun.{TakesLeastRoom}
@@ -68,7 +68,7 @@ run_told kinds admits s cause places channel status bytes faithful room streams 
       streams = streams;
       status_is = status_is;
       text_is = told;
-      settled = λ has F N b final.
+      every = λ has F N b final.
           told ∙ one_text kinds s.network one s.history F s.state N cause b channel (record { run = faithful.run; over = over_of kinds s.network cause s.history s.state has justified }) final;
     }
 
@@ -86,7 +86,7 @@ status_not_failed Deadlock e = cc
 status_not_failed Ceiling e = cc
 
 -- bodies that fit are refused only because memory was
-pub not_refused : (ps : List Process) (cards : List Card) (fault : OpenFault) → cards ≡ cards_of ps → fault ≢ OutOfMemory → IsOpenFault ps cards fault → ⊥
+pub not_refused : (ps : List Process) (cards : List Card) (fault : OpenFault) → cards ≡ cards_of ps → fault ≢ NoMemory → IsOpenFault ps cards fault → ⊥
 not_refused ps cards Bodies fits other refused = refused (ap length fits ∙ length-map ps _)
 not_refused ps cards WrongCard fits other refused = refused.1 fits
-not_refused ps cards OutOfMemory fits other refused = other refl
+not_refused ps cards NoMemory fits other refused = other refl

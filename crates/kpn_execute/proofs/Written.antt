@@ -5,7 +5,7 @@ use Rattle.kpn_front.specs.declared.status.Status.{Status}
 use Rattle.kpn_front.specs.declared.status.Status.TheVariants.{MemoryRefused}
 use Rattle.kpn_front.specs.Lines.{refused_line}
 use Rattle.kpn_front.specs.Written.{SinkView, Says}
-use Rattle.kpn_execute.specs.Execution.{TellsRefused, Writes}
+use Rattle.kpn_execute.specs.Execution.{TellsNoMemory, Writes}
 
 module _ {before after : SinkView} {number : ℕ} where
   pub written : {tells : Status → List ℕ → Type 0} {status : Status} {text : List ℕ} → Says status text before after number → tells status text → Writes tells before after number
@@ -15,5 +15,5 @@ module _ {before after : SinkView} {number : ℕ} where
   written_of more w = record { status = w.status; text = w.text; told = more w.status w.text w.told; says = w.says }
 
 -- that memory was refused is told so
-pub no_memory : TellsRefused MemoryRefused (refused_line Memory)
+pub no_memory : TellsNoMemory MemoryRefused (refused_line Memory)
 no_memory = record { status_is = refl; text_is = refl }

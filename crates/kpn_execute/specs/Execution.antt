@@ -43,7 +43,7 @@ IsChannelToShow net None channel = channel ≡ None
 IsChannelToShow net (Some name) channel = (channel ≡ number_of_channel net name) × (channel ≢ None)
 
 -- memory was refused, before the first deed or for the report
-pub record TellsRefused (status : Status) (text : List ℕ) : Type 0 where
+pub record TellsNoMemory (status : Status) (text : List ℕ) : Type 0 where
   pub status_is : status ≡ MemoryRefused
   pub text_is : text ≡ refused_line OutOfMemory
 
@@ -54,8 +54,8 @@ pub record TellsLost (workers : ℕ) (status : Status) (text : List ℕ) : Type 
   pub text_is : text ≡ lost_line
 
 -- each run that is over has this text, whatever the schedule
-abbrev pub IsSettled : Family → Network → Option ℕ → List ℕ → Type 0
-IsSettled kinds net channel text = (F : List Entry) (N : State) (b : End) → IsFinal kinds net F N b → text ≡ report_text kinds net b F N channel
+abbrev pub IsTextOfEveryRun : Family → Network → Option ℕ → List ℕ → Type 0
+IsTextOfEveryRun kinds net channel text = (F : List Entry) (N : State) (b : End) → IsFinal kinds net F N b → text ≡ report_text kinds net b F N channel
 
 -- a run from the start ended for a cause that justifies its end; it took no more room than the network needs, and its streams
 -- approach the least solution of the network's equations
@@ -69,23 +69,23 @@ pub record TellsRun (kinds : Family) (net : Network) (channel : Option ℕ) (sta
   pub streams : ApproachLeastSolution kinds net history state
   pub status_is : status ≡ status_of_end cause
   pub text_is : text ≡ report_text kinds net cause history state channel
-  pub settled : has_report cause ≡ true → IsSettled kinds net channel text
+  pub every : has_report cause ≡ true → IsTextOfEveryRun kinds net channel text
 
 -- what is written of a run that ended
 abbrev pub TellsEnded : Family → Network → Option ℕ → Status → List ℕ → Type 0
-TellsEnded kinds net channel status text = TellsRefused status text ⊎ TellsRun kinds net channel status text
+TellsEnded kinds net channel status text = TellsNoMemory status text ⊎ TellsRun kinds net channel status text
 
 -- what is written of a network run by this number of workers, if `--show` names a channel or is absent
-abbrev pub TellsKnown : Family → Network → ℕ → Option ℕ → Status → List ℕ → Type 0
-TellsKnown kinds net workers channel status text = TellsLost workers status text ⊎ TellsEnded kinds net channel status text
+abbrev pub TellsShown : Family → Network → ℕ → Option ℕ → Status → List ℕ → Type 0
+TellsShown kinds net workers channel status text = TellsLost workers status text ⊎ TellsEnded kinds net channel status text
 
 -- what is written of a network run by this number of workers, and the status
 abbrev pub Tells : Family → Network → ℕ → Option (List ℕ) → Status → List ℕ → Type 0
-Tells kinds net workers show status text = TellsNoChannel net show status text ⊎ ((channel : Option ℕ) × IsChannelToShow net show channel × TellsKnown kinds net workers channel status text)
+Tells kinds net workers show status text = TellsNoChannel net show status text ⊎ ((channel : Option ℕ) × IsChannelToShow net show channel × TellsShown kinds net workers channel status text)
 
 -- the same, or that memory for the bodies was refused
-abbrev pub TellsOfBodies : Family → Network → ℕ → Option (List ℕ) → Status → List ℕ → Type 0
-TellsOfBodies kinds net workers show status text = TellsRefused status text ⊎ Tells kinds net workers show status text
+abbrev pub TellsOrNoMemory : Family → Network → ℕ → Option (List ℕ) → Status → List ℕ → Type 0
+TellsOrNoMemory kinds net workers show status text = TellsNoMemory status text ⊎ Tells kinds net workers show status text
 
 -- what is told is written, a text and the status that belongs to it
 pub record Writes (tells : Status → List ℕ → Type 0) (before after : SinkView) (number : ℕ) : Type 0 where
@@ -100,4 +100,4 @@ Executes kinds net workers show before after number = Writes (Tells kinds net wo
 
 -- the same for a program that makes the bodies of the network
 abbrev pub MakesAndExecutes : Family → Network → ℕ → Option (List ℕ) → SinkView → SinkView → ℕ → Type 0
-MakesAndExecutes kinds net workers show before after number = Writes (TellsOfBodies kinds net workers show) before after number
+MakesAndExecutes kinds net workers show before after number = Writes (TellsOrNoMemory kinds net workers show) before after number

@@ -5,14 +5,14 @@ use Rattle.kpn_sketch.specs.declared.fault.NetFault.TheVariants.{Input}
 use Rattle.kpn_model.specs.Network.{Network}
 use Rattle.kpn_standard.specs.Standard.{standard}
 use Rattle.kpn_standard.specs.Signatures.{named, signature}
-use Rattle.kpn_args.specs.declared.words.Choice.{Choice}
-use Rattle.kpn_args.specs.declared.words.Choice.TheVariants.{Check, Run}
+use Rattle.kpn_args.specs.declared.arguments.Choice.{Choice}
+use Rattle.kpn_args.specs.declared.arguments.Choice.TheVariants.{Check, Run}
 use Rattle.kpn_front.specs.declared.status.Status.{Status}
 use Rattle.kpn_front.specs.declared.status.Status.TheVariants.{Success}
 use Rattle.kpn_front.specs.Lines.{checked_line, refused_line, status_of_fault}
 use Rattle.kpn_front.specs.Loading.{Loads}
 use Rattle.kpn_front.specs.Written.{SinkView}
-use Rattle.kpn_execute.specs.Execution.{TellsOfBodies, Writes}
+use Rattle.kpn_execute.specs.Execution.{TellsOrNoMemory, Writes}
 
 -- the fault of a description that was refused
 abbrev pub fault_of : Result Network NetFault → Option NetFault
@@ -22,7 +22,7 @@ fault_of (Err fault) = Some fault
 -- what is written of a network: that it is one, or how it ran
 abbrev pub TellsOf : Choice → Network → Status → List ℕ → Type 0
 TellsOf Check net status text = (status ≡ Success) × (text ≡ checked_line net)
-TellsOf (Run workers show) net status text = TellsOfBodies standard net workers (option_map (λ s. s.now) show) status text
+TellsOf (Run workers show) net status text = TellsOrNoMemory standard net workers (option_map (λ s. s.now) show) status text
 
 -- what is written of a description that was loaded, or refused
 abbrev pub TellsLoaded : Choice → Result Network NetFault → Status → List ℕ → Type 0

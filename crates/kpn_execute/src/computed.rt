@@ -3,7 +3,7 @@ ghost use Rattle.std.specs.Prelude.{◌≤◌, option_map};
 ghost use Rattle.kpn_model.specs.Network.{family_of};
 ghost use Rattle.kpn_execute.specs.Execution.{MakesAndExecutes};
 
-use crate::running::{RunRequest, execute_request};
+use crate::execution::{RunRequest, execute_request};
 use kpn_compute::{Computes, bodies_of};
 use kpn_front::{Sink, say_refused};
 use kpn_net::{Net, NetFault};
@@ -14,7 +14,7 @@ use std::sync::Wait;
 use std::thread::Threads;
 
 /// Runs a network of a family for which a plain function answers, by 1 to 16 workers, and writes the
-/// outcome, as `execute` does. A body is made for each process.
+/// report, as `execute` does. A body is made for each process.
 ///
 /// Returns the exit status of `execute`, or 4 if memory for the bodies is refused (`refused 14`).
 pub fn execute_net<K: Computes, S: Sink, R: Wait + Clock + Threads + Sync>(

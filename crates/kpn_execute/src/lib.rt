@@ -8,13 +8,13 @@
 #![tactic(auto)]
 
 mod computed;
+mod execution;
 mod program;
-mod running;
 mod standard;
 
 pub use computed::execute_net;
+pub use execution::execute;
 pub use kpn_args::{Choice, WordsFault, read_words};
 pub use kpn_front::{load, say_checked, say_refused};
 pub use program::{KINDS, Served, serve};
-pub use running::execute;
 pub use standard::execute_standard;

@@ -1,8 +1,8 @@
 //! The program, from its arguments and its input to what it writes.
 ghost use Rattle.std.specs.Prelude.{◌≡◌, ◌≢◌, ◌+◌, [], Some, None, string_bytes, IfSome, IfOk, IfErr, OnErr, map};
 ghost use Rattle.kpn_args.specs.Choices.{HasFewWorkers, IsChoice, IsWordsFault};
-ghost use Rattle.kpn_front.specs.Loading.{ReadsAtMost, longest};
-ghost use Rattle.kpn_args.specs.declared.words.Choice.{Choice as ChoiceV};
+ghost use Rattle.kpn_front.specs.Loading.{ConsumesAtMost, longest};
+ghost use Rattle.kpn_args.specs.declared.arguments.Choice.{Choice as ChoiceV};
 ghost use Rattle.kpn_execute.specs.Execution.{Writes};
 ghost use Rattle.kpn_execute.specs.Program.{Serves, TellsOf};
 
@@ -56,7 +56,7 @@ pub fn serve<'a, I: Source, O: Sink, R: Wait + Clock + Threads + Sync>(
     ensures said { IfOk result (λ served. IfSome served.message (λ message. string_bytes message ≢ [])) }
     ensures arguments { IfErr result (IsWordsFault (map (λ w. w.now) arguments.entry.now)) }
     ensures untouched { OnErr result ((source.new ≡ source.old) × (sink.new ≡ sink.old)) }
-    ensures taken { ReadsAtMost (longest + 1) (I.remaining source.old) (I.remaining source.new) }
+    ensures taken { ConsumesAtMost (longest + 1) (I.remaining source.old) (I.remaining source.new) }
 {
     let choice = read_words(alloc, arguments)?;
     Ok(serve_choice(rt, alloc, choice, source, sink))
@@ -76,7 +76,7 @@ fn serve_choice<I: Source, O: Sink, R: Wait + Clock + Threads + Sync>(
     ensures input { result.fault ≡ Some NetFault.Input → result.message ≡ None }
     ensures said { IfSome result.message (λ message. string_bytes message ≢ []) }
     ensures served { Serves choice.entry (I.remaining source.old) (I.has_failed source.old) (I.has_failed source.new) (O.seen sink.old) (O.seen sink.new) result.status result.fault }
-    ensures taken { ReadsAtMost (longest + 1) (I.remaining source.old) (I.remaining source.new) }
+    ensures taken { ConsumesAtMost (longest + 1) (I.remaining source.old) (I.remaining source.new) }
 {
     let net: Net<Standard> = match load_or_refuse(alloc, source) {
         Ok(net) => net,

@@ -5,7 +5,7 @@ ghost use Rattle.kpn_body.specs.StandardKinds.{signature, Admitted};
 ghost use Rattle.kpn_machine.specs.Opening.{cards_of};
 ghost use Rattle.kpn_execute.specs.Execution.{Executes, MakesAndExecutes};
 
-use crate::running::{RunRequest, execute_request};
+use crate::execution::{RunRequest, execute_request};
 use kpn_body::{Call, Standard, StandardBody, answer};
 use kpn_front::{Sink, say_refused};
 use kpn_machine::cards_of;
@@ -16,7 +16,7 @@ use std::rt::Clock;
 use std::sync::Wait;
 use std::thread::Threads;
 
-/// Runs a network of standard kinds by 1 to 16 workers, and writes the outcome, as `execute` does. A
+/// Runs a network of standard kinds by 1 to 16 workers, and writes the report, as `execute` does. A
 /// body is made for each process, with a closure of its own.
 ///
 /// Returns the exit status of `execute`, or 4 if memory for a body is refused (`refused 14`).

@@ -6,7 +6,7 @@ use Rattle.kpn_model.specs.declared.history.Entry.{Entry}
 use Rattle.kpn_model.specs.declared.history.Entry.TheVariants.{Did, Grew}
 use Rattle.kpn_model.specs.Network.{Family, Network, in_of}
 use Rattle.kpn_model.specs.Semantics.{State, tokens, wants, Does, Grows, IsQuiet, IsBlocked}
-use Rattle.kpn_model.specs.Endings.{HasStopped}
+use Rattle.kpn_model.specs.Endings.{NothingGoesOn}
 use Rattle.kpn_state.specs.declared.standing.Standing.{Standing}
 use Rattle.kpn_state.specs.Standings.{standing, parked_answer}
 use Rattle.kpn_flow.specs.declared.counts.Counts.{Counts}
@@ -58,7 +58,7 @@ module _ (kinds : Family) (net : Network) where
     IsRest M Cut = ⊥
     IsRest M Starved = IsQuiet kinds net M × ((c : ℕ) × IsStarved inputs M c)
     IsRest M Blocked = IsQuiet kinds net M × ((c : ℕ) → IsStarved inputs M c → ⊥) × ((c : ℕ) × IsHeldUp outputs M c)
-    IsRest M (Over end) = HasStopped kinds net M end × NoneCanHelp inputs outputs M
+    IsRest M (Over end) = NothingGoesOn kinds net M end × NoneCanHelp inputs outputs M
 
     -- or fewer than two entries were left of those that were allowed
     abbrev pub IsPause : ℕ → ℕ → State → Pause → Type 0

@@ -330,7 +330,7 @@ impl<B: Body> Flow<B> {
         ensures fed { IsTrue result → Happens (family_of B.Kinds.start B.Kinds.answer_of) self.old.network self.old.state (Fed channel token) self.new.state }
         ensures full { result ≡ false → (self.new ≡ self.old) × (capacity self.old.state channel ≤ length (tokens self.old.state channel)) }
     {
-        let (held, capacity) = self.store.filling(channel);
+        let (held, capacity) = self.store.tokens_and_capacity(channel);
         if held >= capacity {
             return false;
         }
@@ -360,7 +360,7 @@ impl<B: Body> Flow<B> {
         ensures drained { IfSome result (λ token. Happens (family_of B.Kinds.start B.Kinds.answer_of) self.old.network self.old.state (Drained channel token) self.new.state) }
         ensures empty { IfNone result ((self.new ≡ self.old) × (tokens self.old.state channel ≡ [])) }
     {
-        let (held, _) = self.store.filling(channel);
+        let (held, _) = self.store.tokens_and_capacity(channel);
         if held == 0 {
             return None;
         }

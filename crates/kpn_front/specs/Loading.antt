@@ -18,8 +18,8 @@ abbrev pub longest : ℕ
 longest = LONGEST_TEXT
 
 -- if the bytes that the source had left are known, at most n of them have been consumed
-abbrev pub ReadsAtMost : ℕ → Option (List ℕ) → Option (List ℕ) → Type 0
-ReadsAtMost n old new = (bytes : List ℕ) × Consumes old new bytes × (length bytes ≤ n)
+abbrev pub ConsumesAtMost : ℕ → Option (List ℕ) → Option (List ℕ) → Type 0
+ConsumesAtMost n old new = (bytes : List ℕ) × Consumes old new bytes × (length bytes ≤ n)
 
 -- the fault of a refused description, without its text
 abbrev pub without_text : Result Network Refused → Result Network NetFault

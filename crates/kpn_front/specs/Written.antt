@@ -14,4 +14,4 @@ pub record SinkView : Type 0 where
 -- and the number is that of `WriteFailed`
 pub record Says (status : Status) (text : List ℕ) (before after : SinkView) (number : ℕ) : Type 0 where
   pub said : number ≢ code_of WriteFailed → (number ≡ code_of status) × Appends before.contents after.contents text
-  pub room : before.takes (length text) ≡ true → number ≢ code_of WriteFailed
+  pub written_if_it_fits : before.takes (length text) ≡ true → number ≢ code_of WriteFailed

@@ -13,7 +13,7 @@ use kpn_net::{Kinds, Net, NetFault};
 use std::io;
 
 /// The capacity of a line: two numbers and the text around them.
-const ROOM: usize = 64;
+const LINE_BYTES: usize = 64;
 
 /// Writes a text, and returns the number of `status`, or 7 if the write fails.
 ///
@@ -89,7 +89,7 @@ fn status_of(fault: &NetFault) -> Status
     }
 }
 
-fn checked_text<K: Kinds>(net: &Net<K>) -> ArrayString<ROOM>
+fn checked_text<K: Kinds>(net: &Net<K>) -> ArrayString<LINE_BYTES>
     ensures { result.bytes ≡ checked_line net.now }
 {
     let mut line = ArrayString::new();
@@ -101,7 +101,7 @@ fn checked_text<K: Kinds>(net: &Net<K>) -> ArrayString<ROOM>
     line
 }
 
-fn refused_text(fault: &NetFault) -> ArrayString<ROOM>
+fn refused_text(fault: &NetFault) -> ArrayString<LINE_BYTES>
     ensures { result.bytes ≡ refused_line fault.now }
 {
     let mut line = ArrayString::new();
@@ -112,7 +112,7 @@ fn refused_text(fault: &NetFault) -> ArrayString<ROOM>
 }
 
 /// Appends a number in decimal.
-fn push_number(line: &mut ArrayString<ROOM>, n: usize)
+fn push_number(line: &mut ArrayString<LINE_BYTES>, n: usize)
     requires { array_string_len line.old + 20 ≤ 64 }
     ensures bytes { line.new.bytes ≡ line.old.bytes ++ decimal n }
     ensures len { array_string_len line.new ≤ array_string_len line.old + 20 }

@@ -1,6 +1,6 @@
 //! Reading a network from a source.
 ghost use Rattle.std.specs.Prelude.{◌≡◌, ◌≢◌, false, ◌≤◌, ◌<◌, ◌+◌, ◌⊎◌, true, IfOk, IfErr, IfSome, length};
-ghost use Rattle.kpn_front.specs.Loading.{Loads, ReadsAtMost, longest, without_text, IsTextOf};
+ghost use Rattle.kpn_front.specs.Loading.{Loads, ConsumesAtMost, longest, without_text, IsTextOf};
 
 use crate::streams::Source;
 use kpn_model::limits::LONGEST_TEXT;
@@ -27,7 +27,7 @@ pub fn load<K: Kinds, S: Source>(alloc: Global, source: &mut S) -> Result<Net<K>
     ensures loads { S.has_failed source.old ≡ false → IfSome (S.remaining source.old) (λ text. Loads K.named K.signature (S.has_failed source.new) text result) }
     ensures failed { S.has_failed source.old ≡ false → S.has_failed source.new ≡ true → result ≡ Err NetFault.Input }
     ensures steady { S.is_steady source.old ≡ true → S.has_failed source.new ≡ S.has_failed source.old }
-    ensures taken { ReadsAtMost (longest + 1) (S.remaining source.old) (S.remaining source.new) }
+    ensures taken { ConsumesAtMost (longest + 1) (S.remaining source.old) (S.remaining source.new) }
 {
     load_or_refuse(alloc, source).map_err(|refused| refused.fault)
 }
@@ -38,7 +38,7 @@ pub fn load_or_refuse<K: Kinds, S: Source>(alloc: Global, source: &mut S) -> Res
     ensures text { IfSome (S.remaining source.old) (λ text. IfErr result (IsTextOf text)) }
     ensures failed { S.has_failed source.old ≡ false → S.has_failed source.new ≡ true → without_text result ≡ Err NetFault.Input }
     ensures steady { S.is_steady source.old ≡ true → S.has_failed source.new ≡ S.has_failed source.old }
-    ensures taken { ReadsAtMost (longest + 1) (S.remaining source.old) (S.remaining source.new) }
+    ensures taken { ConsumesAtMost (longest + 1) (S.remaining source.old) (S.remaining source.new) }
 {
     let text = match read_text(alloc, source) {
         Ok(text) => text,
@@ -69,7 +69,7 @@ fn read_text<S: Source>(alloc: Global, source: &mut S) -> Result<Vec<u8>, NetFau
     ensures fault { IfErr result (λ e. (e ≡ NetFault.Input) ⊎ (e ≡ NetFault.Memory)) }
     ensures failed { result ≢ Err NetFault.Input → S.has_failed source.new ≡ S.has_failed source.old }
     ensures steady { S.is_steady source.old ≡ true → S.has_failed source.new ≡ S.has_failed source.old }
-    ensures taken { ReadsAtMost (longest + 1) (S.remaining source.old) (S.remaining source.new) }
+    ensures taken { ConsumesAtMost (longest + 1) (S.remaining source.old) (S.remaining source.new) }
 {
     let mut text = Vec::new(alloc);
     let mut chunk = [0; CHUNK];

@@ -7,7 +7,7 @@ use Rattle.kpn_model.specs.declared.history.End.{End}
 use Rattle.kpn_model.specs.declared.history.End.TheVariants.{Terminated, Deadlock, Ceiling, Budget, Memory}
 use Rattle.kpn_model.specs.Network.{Network, Family}
 use Rattle.kpn_model.specs.Semantics.{State}
-use Rattle.kpn_model.specs.Endings.{HasStopped, IsOver, MayStand, has_report}
+use Rattle.kpn_model.specs.Endings.{NothingGoesOn, IsOver, MayStand, has_report}
 use Rattle.kpn_laws.proofs.Causes.{cause_same, over_grows_not}
 use Rattle.kpn_body.specs.Input.{Input}
 use Rattle.kpn_state.specs.StateAndHistory.{StateAndHistory}
@@ -28,7 +28,7 @@ use Rattle.kpn_machine.specs.Commits.{EndsAs, WorksOn, Commits}
 pub data Left (kinds : Family) (net : Network) (M : State) (entries : ℕ) (l : List Standing) (end : Option End) : Type 0 where
   On : end ≡ None → entries < net.budget → list_any is_busy l ≡ true → Left kinds net M entries l end
   Spent : end ≡ Some Budget → net.budget ≤ entries → list_any is_busy l ≡ true → Left kinds net M entries l end
-  Over : (cause : End) → end ≡ Some cause → HasStopped kinds net M cause → list_any is_busy l ≡ false → Left kinds net M entries l end
+  Over : (cause : End) → end ≡ Some cause → NothingGoesOn kinds net M cause → list_any is_busy l ≡ false → Left kinds net M entries l end
 
 module _ (kinds : Family) (net : Network) where
   by_budget : (M : State) (entries : ℕ) (l : List Standing) (b : Bool) → nat_le net.budget entries ≡ b → list_any is_busy l ≡ true → Left kinds net M entries l (if b then Some Budget else None)
@@ -61,13 +61,13 @@ module _ (kinds : Family) (net : Network) where
   left_idle h cause some not = grind arith
 
   -- a cause that was found is that of the definitions, and no other is
-  found : (M : State) (end cause : End) → has_report cause ≡ true → HasStopped kinds net M end → (Some end ≡ Some cause) ↔ IsOver kinds net M cause
+  found : (M : State) (end cause : End) → has_report cause ≡ true → NothingGoesOn kinds net M end → (Some end ≡ Some cause) ↔ IsOver kinds net M cause
   found M end cause c h = (λ e. let same : end ≡ cause = cc in is cause c (rw same at h), λ o. other end cause c h o)
     where
-      is : (cause : End) → has_report cause ≡ true → HasStopped kinds net M cause → IsOver kinds net M cause
+      is : (cause : End) → has_report cause ≡ true → NothingGoesOn kinds net M cause → IsOver kinds net M cause
       is cause c h = grind arith
 
-      other : (end cause : End) → has_report cause ≡ true → HasStopped kinds net M end → IsOver kinds net M cause → Some end ≡ Some cause
+      other : (end cause : End) → has_report cause ≡ true → NothingGoesOn kinds net M end → IsOver kinds net M cause → Some end ≡ Some cause
       other Terminated cause c h o = rw (cause_same kinds net M Terminated cause h o)
       other Deadlock cause c h o = rw (cause_same kinds net M Deadlock cause h o)
       other Ceiling cause c h o = rw (cause_same kinds net M Ceiling cause h o)

@@ -11,7 +11,7 @@ use Rattle.kpn_state.specs.Standings.{standing, is_busy}
 use Rattle.kpn_state.specs.Candidates.{candidate_list}
 use Rattle.kpn_state.specs.Marks.{mark_lists}
 use Rattle.kpn_state.proofs.Placed.{standing_within}
-use Rattle.kpn_commit.specs.Choice.{awaited_by}
+use Rattle.kpn_commit.specs.Candidates.{awaited_by}
 use Rattle.kpn_commit.specs.Waiting.{expected_by, StandFor, AreWaiting}
 use Rattle.kpn_commit.proofs.Waits.{busy_waits_not, waits_nowhere}
 use Rattle.kpn_machine.proofs.Opened.{ready_at, ended_past}

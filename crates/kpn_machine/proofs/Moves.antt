@@ -12,7 +12,7 @@ use Rattle.kpn_model.specs.Network.{Network, Family}
 use Rattle.kpn_model.specs.Semantics.{State, Run}
 use Rattle.kpn_state.specs.StateAndHistory.{StateAndHistory}
 use Rattle.kpn_state.specs.declared.standing.Standing.{Standing}
-use Rattle.kpn_state.specs.declared.standing.Standing.TheVariants.{Ready, Out, Parked, Stopped as Ended}
+use Rattle.kpn_state.specs.declared.standing.Standing.TheVariants.{Ready, Out, Parked, Stopped}
 use Rattle.kpn_state.specs.Standings.{standing, standing_after}
 use Rattle.kpn_state.proofs.Placed.{acted_not_out, standing_within}
 use Rattle.kpn_commit.specs.declared.react.Reaction.{Reaction}
@@ -25,7 +25,7 @@ use Rattle.kpn_commit.specs.Settling.{Settles}
 use Rattle.kpn_commit.specs.Works.{Works, acted_entries, settled_entries, outcome_of}
 use Rattle.kpn_commit.proofs.Keeping.{each_set}
 use Rattle.kpn_machine.specs.MachineView.{waits, stays_in}
-use Rattle.kpn_machine.specs.Commits.{number}
+use Rattle.kpn_machine.specs.Commits.{entries_appended}
 
 -- a process is out or it isn't
 pub out_or_not : (x : Standing) → (x ≡ Out) ⊎ (x ≢ Out)
@@ -33,7 +33,7 @@ out_or_not x = grind arith
 
 -- how a move changes a count
 pub moved_count : (f : Standing → ℕ) (l : List Standing) (p : ℕ) (x : Standing) → p < length l → sum_by f (set l p x) + f (standing l p) ≡ sum_by f l + f x
-moved_count f l p x within = sum_by-set f l p x Ended within
+moved_count f l p x within = sum_by-set f l p x Stopped within
 
 -- at most those that are not out wait, and at most all processes are not out
 waits_within : (x : Standing) → (waits x ≤ stays_in x) × (stays_in x ≤ 1)
@@ -85,8 +85,8 @@ module _ (kinds : Family) (net : Network) where
         count = refl;
         room = room;
         size = length-set l q x;
-        sent = each_set (λ r (y : Standing). y ≡ Out → (p ≢ Some r) × (standing l r ≡ Out)) l q x Ended within (λ e. absurd (not_out e)) (λ r o e. (others r o, e));
-        stay = each_set (λ r (y : Standing). p ≢ Some r → standing l r ≡ Out → y ≡ Out) l q x Ended within (λ n e. absurd (was n e)) (λ r o n e. e);
+        sent = each_set (λ r (y : Standing). y ≡ Out → (p ≢ Some r) × (standing l r ≡ Out)) l q x Stopped within (λ e. absurd (not_out e)) (λ r o e. (others r o, e));
+        stay = each_set (λ r (y : Standing). p ≢ Some r → standing l r ≡ Out → y ≡ Out) l q x Stopped within (λ n e. absurd (was n e)) (λ r o n e. e);
         counted = omega arith;
       }
 
@@ -143,10 +143,10 @@ module _ (kinds : Family) (net : Network) where
       (parked_one s l g.writer g.wanted Ready (grew ∷ put ∷ []) t g.parked (λ e. cc) (omega arith) (rw g.puts.entry (append_assoc s.history (grew ∷ []) (put ∷ []))) (rw g.puts.entry) (g.grown, g.grows, (t.state, g.puts.does, refl)))
 
 -- an outcome's number is that of both
-number_is : (r : Reaction) (x : Settled) → number (outcome_of r x) ≡ acted_entries r + settled_entries x
-number_is r x = grind arith
+entries_appended_is : (r : Reaction) (x : Settled) → entries_appended (outcome_of r x) ≡ acted_entries r + settled_entries x
+entries_appended_is r x = grind arith
 
 -- a commit's steps
-pub works : {kinds : Family} {net : Network} {s : StateAndHistory} {l : List Standing} {p : ℕ} {a : Answer} {o : Outcome} {t : StateAndHistory} {m : List Standing} {end : Option End} → p < length l → Works kinds net s l p a o t m end → Steps kinds net s l (Some p) (number o) t m
+pub works : {kinds : Family} {net : Network} {s : StateAndHistory} {l : List Standing} {p : ℕ} {a : Answer} {o : Outcome} {t : StateAndHistory} {m : List Standing} {end : Option End} → p < length l → Works kinds net s l p a o t m end → Steps kinds net s l (Some p) (entries_appended o) t m
 works {kinds = kinds} {net = net} {s = s} {l = l} {p = p} {a = a} {t = t} {m = m} within w =
-    rw (w.outcome_is, number_is w.reaction w.settled) (then kinds net (reacts kinds net s l p a w.reaction w.between w.standings_between within w.reacts) (settles kinds net w.between w.standings_between w.settled t m w.settles))
+    rw (w.outcome_is, entries_appended_is w.reaction w.settled) (then kinds net (reacts kinds net s l p a w.reaction w.between w.standings_between within w.reacts) (settles kinds net w.between w.standings_between w.settled t m w.settles))

@@ -32,7 +32,7 @@ use Rattle.kpn_commit.proofs.Keeping.{each_set, keeps_busy}
 use Rattle.kpn_commit.proofs.Idle.{enabled_busy}
 use Rattle.kpn_commit.proofs.Working.{handed_busy, grows_exactly}
 use Rattle.kpn_machine.specs.MachineView.{MachineView, machine_view, IsOutAt, HasBodies, waits, stays_in, IsSound, IsFaithful}
-use Rattle.kpn_machine.specs.Commits.{number, Appends, WorksOn, Commits, TellsEnabled, GoesRound}
+use Rattle.kpn_machine.specs.Commits.{entries_appended, Appends, WorksOn, Commits, TellsEnabled, GoesRound}
 use Rattle.kpn_machine.proofs.Ends.{left, left_stands, left_busy, left_idle}
 use Rattle.kpn_machine.proofs.Moves.{run_both, moved_count, waiting_in, in_within, out_or_not, works}
 use Rattle.std.proofs.lemmas.List.{set-set, set-get_or, length-map}
@@ -58,7 +58,7 @@ module _ (kinds : Family) (net : Network) where
       ((enabled_can_do kinds net s.state p).1 (h.deed, (h.between.state, h.first.does)), omega arith, ⊎_elim (λ e. omega arith) (λ e. let busy = handed_busy within h in let idle = e.1 in cc) few)
 
 -- an outcome's number is at most 3
-few_entries : (kinds : Family) (s : MachineView) (p : ℕ) (o : Outcome) → TellsEnabled kinds s p o → number o ≤ 3
+few_entries : (kinds : Family) (s : MachineView) (p : ℕ) (o : Outcome) → TellsEnabled kinds s p o → entries_appended o ≤ 3
 few_entries kinds s p o h = grind arith
 
 -- in a run that had not ended a commit works on the answer
@@ -165,7 +165,7 @@ module _ {kinds : Family} {admits : Card → List ℕ → Option Token → Type 
       -- the answer is worked on
       pub record Worked (o : Outcome) (t : MachineView) (left : ℕ) : Type 0 where
         pub commits : Commits kinds (machine_view net M E l end answers) i o t
-        pub appends : Appends kinds (machine_view net M E l end answers) t (number o)
+        pub appends : Appends kinds (machine_view net M E l end answers) t (entries_appended o)
         pub tells : TellsEnabled kinds (machine_view net M E l end answers) i.process o
         pub back : standing t.standings i.process ≢ Out
         pub others : (q : ℕ) → q ≢ i.process → (standing t.standings q ≡ Out) ↔ (standing l q ≡ Out)

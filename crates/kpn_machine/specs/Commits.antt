@@ -16,10 +16,11 @@ use Rattle.kpn_state.specs.Standings.{standing, is_busy}
 use Rattle.kpn_commit.specs.Works.{Works}
 use Rattle.kpn_machine.specs.MachineView.{MachineView, TakesOut, state_and_history_of}
 
-abbrev pub number : Outcome → ℕ
-number (Done n) = n
-number (Parked n) = n
-number LaidBack = 0
+-- how many entries a commit with this outcome appended
+abbrev pub entries_appended : Outcome → ℕ
+entries_appended (Done n) = n
+entries_appended (Parked n) = n
+entries_appended LaidBack = 0
 
 -- the history goes on by entries that lead from the old state to the new one, this many
 pub record Appends (kinds : Family) (s t : MachineView) (n : ℕ) : Type 0 where
@@ -74,6 +75,6 @@ pub record GoesRound (kinds : Family) (s t : MachineView) : Type 0 where
   pub outcome : Outcome
   pub takes : TakesOut s input between
   pub commits : Commits kinds between input outcome t
-  pub appends : Appends kinds between t (number outcome)
+  pub appends : Appends kinds between t (entries_appended outcome)
   pub back : standing t.standings input.process ≢ Out
   pub others : (p : ℕ) → p ≢ input.process → (standing t.standings p ≡ Out) ↔ (standing between.standings p ≡ Out)

@@ -57,7 +57,7 @@ abbrev pub HasBodies : Network → List Standing → List (Option Card) → Type
 HasBodies net standings bodies = (p : ℕ) → p < length net.processes → standing standings p ≢ Out → get_or bodies p None ≡ Some (card_of net p)
 
 -- the emptied vector of the bodies has capacity for all of them
-pub record HasRoom {X : Type 0} (net : Network) (spare : List X) (room : ℕ) : Type 0 where
+pub record HasSpareCapacity {X : Type 0} (net : Network) (spare : List X) (room : ℕ) : Type 0 where
   pub emptied : spare ≡ []
   pub enough : length net.processes ≤ room
 

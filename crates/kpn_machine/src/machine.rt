@@ -9,7 +9,7 @@ ghost use Rattle.kpn_state.specs.declared.standing.Standing.TheVariants.{Out, Re
 ghost use Rattle.kpn_state.specs.Standings.{standing, is_out, is_ready, StandingsFit};
 ghost use Rattle.kpn_body.specs.Input.{input};
 ghost use Rattle.kpn_machine.specs.MachineView.{machine_view, IsOut, IsOutAt, TakesOut, IsFaithful, IsFresh};
-ghost use Rattle.kpn_machine.specs.Commits.{Commits, Appends, EndsAs, ContinuesRun, GoesRound, TellsEnabled, number};
+ghost use Rattle.kpn_machine.specs.Commits.{Commits, Appends, EndsAs, ContinuesRun, GoesRound, TellsEnabled, entries_appended};
 ghost use Rattle.kpn_laws.specs.RoomOfRun.{TakesLeastRoom};
 ghost use Rattle.kpn_laws.specs.StreamsOfRun.{ApproachLeastSolution};
 
@@ -34,11 +34,15 @@ pub struct Machine<B: Body> {
     net: Net<B::Kinds>,
     store: Store,
     standings: Roster,
+    /// The candidates for a growth, and the marks of parked processes at their channels.
     waiting: Waiting,
+    /// The body of each process, but those of processes that are out.
     bodies: Vec<Option<B>>,
+    /// The emptied vector in which the bodies came, for `into_parts`.
     spare: Vec<B>,
     end: Option<End>,
     commits: u64,
+    /// The process that `ask_in_place` would have asked next, since it has just read.
     again: Option<usize>,
 }
 
@@ -46,14 +50,14 @@ impl<B: Body> Model for Machine<B> {
     ghost use Rattle.std.specs.Prelude.{map, option_map};
     ghost use Rattle.std.specs.Vec.{vec_capacity};
     ghost use Rattle.kpn_commit.specs.Waiting.{AreWaiting};
-    ghost use Rattle.kpn_machine.specs.MachineView.{MachineView, machine_view, IsSound, HasRoom};
+    ghost use Rattle.kpn_machine.specs.MachineView.{MachineView, machine_view, IsSound, HasSpareCapacity};
     ghost use Rattle.kpn_model.specs.Network.{family_of};
 
     ghost Value = { MachineView };
 
     ghost view = { λ m. machine_view m.net m.store.state m.store.history m.standings m.end m.commits };
 
-    ghost invariant = { λ m. IsSound (family_of B.Kinds.start B.Kinds.answer_of) B.Kinds.admits (machine_view m.net m.store.state m.store.history m.standings m.end m.commits) m.store.room (map (option_map B.card) m.bodies.items) × HasRoom m.net m.spare.items (vec_capacity m.spare) × AreWaiting m.net m.store.state m.standings m.waiting };
+    ghost invariant = { λ m. IsSound (family_of B.Kinds.start B.Kinds.answer_of) B.Kinds.admits (machine_view m.net m.store.state m.store.history m.standings m.end m.commits) m.store.room (map (option_map B.card) m.bodies.items) × HasSpareCapacity m.net m.spare.items (vec_capacity m.spare) × AreWaiting m.net m.store.state m.standings m.waiting };
 }
 
 /// Why a machine was not opened, with the network and the bodies handed back.
@@ -241,9 +245,9 @@ fn take_out<B: Body>(
     Task::new(process, body, *local, *last)
 }
 
-/// Whether a process is out, with this card, local state and last token.
+/// Whether a process is out, with this card, local state and last token: that of an answer or a task.
 #[inline(always)]
-fn is_out<K: Kinds>(
+fn is_out_with<K: Kinds>(
     net: &Net<K>,
     store: &Store,
     standings: &[Standing],
@@ -280,7 +284,7 @@ impl<B: Body> Machine<B> {
     pub fn has_asked(&self, finished: &Finished<B>) -> bool
         ensures { IsTrue result ↔ IsOut self.now finished.now }
     {
-        is_out(
+        is_out_with(
             &self.net,
             &self.store,
             self.standings.as_slice(),
@@ -296,7 +300,7 @@ impl<B: Body> Machine<B> {
     pub fn has_sent(&self, task: &Task<B>) -> bool
         ensures { IsTrue result ↔ IsOut self.now task.now }
     {
-        is_out(
+        is_out_with(
             &self.net,
             &self.store,
             self.standings.as_slice(),
@@ -323,7 +327,7 @@ impl<B: Body> Machine<B> {
         ensures deserved { IfErr result (λ _. IsOut self.old finished → ⊥) }
         ensures out { OnOk result (IsOut self.old finished) }
         ensures commits { IfOk result (λ outcome. Commits (family_of B.Kinds.start B.Kinds.answer_of) self.old finished outcome self.new) }
-        ensures appends { IfOk result (λ outcome. Appends (family_of B.Kinds.start B.Kinds.answer_of) self.old self.new (number outcome)) }
+        ensures appends { IfOk result (λ outcome. Appends (family_of B.Kinds.start B.Kinds.answer_of) self.old self.new (entries_appended outcome)) }
         ensures tells { IfOk result (TellsEnabled (family_of B.Kinds.start B.Kinds.answer_of) self.old finished.process) }
         ensures ends { OnOk result (self.old.end ≡ None → EndsAs (family_of B.Kinds.start B.Kinds.answer_of) self.new) }
         ensures back { OnOk result (standing self.new.standings finished.process ≢ Out) }
@@ -341,7 +345,7 @@ impl<B: Body> Machine<B> {
     pub fn commit_asked(&mut self, finished: Finished<B>) -> Outcome
         requires { IsOut self.old finished }
         ensures commits { Commits (family_of B.Kinds.start B.Kinds.answer_of) self.old finished result self.new }
-        ensures appends { Appends (family_of B.Kinds.start B.Kinds.answer_of) self.old self.new (number result) }
+        ensures appends { Appends (family_of B.Kinds.start B.Kinds.answer_of) self.old self.new (entries_appended result) }
         ensures tells { TellsEnabled (family_of B.Kinds.start B.Kinds.answer_of) self.old finished.process result }
         ensures ends { self.old.end ≡ None → EndsAs (family_of B.Kinds.start B.Kinds.answer_of) self.new }
         ensures back { standing self.new.standings finished.process ≢ Out }

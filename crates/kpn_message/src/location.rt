@@ -3,7 +3,7 @@ ghost use Rattle.std.specs.Prelude.{◌≡◌, length, IfSome, IfNone};
 ghost use Rattle.std.specs.List.{list_any};
 ghost use Rattle.kpn_message.specs.Location.{clashes_at, IsFirst, HoldsNowhere, process_has_fault, channel_has_fault, IsLocation};
 
-use kpn_net::check::{
+use kpn_net::faults::{
     Clash, SameIn, SameName, SameOut, has_unknown_kind, has_unused_port, has_wrong_args,
     has_wrong_capacity, has_wrong_sort, has_wrong_tokens, is_name, lacks_end,
 };

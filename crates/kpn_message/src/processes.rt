@@ -1,6 +1,6 @@
 //! What is wrong with a process.
 use crate::quoted::Quoted;
-use kpn_net::check::{is_name, is_unused_in, is_unused_out, signature_of};
+use kpn_net::faults::{is_name, is_unused_in, is_unused_out, signature_of};
 use kpn_net::{Kinds, NetFault, ProcessSketch, Sketch};
 use std::alloc::AllocError;
 use std::fmt::Write;

@@ -23,14 +23,14 @@ IsOver kinds net M Budget = ⊥
 IsOver kinds net M Memory = ⊥
 
 -- nothing goes on any more: the run is over for this cause; or it is `Memory`, and the growth that is due was refused
-abbrev pub HasStopped : Family → Network → State → End → Type 0
-HasStopped kinds net M Memory = CanGrow kinds net M
-HasStopped kinds net M end = IsOver kinds net M end
+abbrev pub NothingGoesOn : Family → Network → State → End → Type 0
+NothingGoesOn kinds net M Memory = CanGrow kinds net M
+NothingGoesOn kinds net M end = IsOver kinds net M end
 
 -- how the run E from the start to M may end: nothing goes on any more, or the budget is spent
 abbrev pub MayEnd : Family → Network → List Entry → State → End → Type 0
 MayEnd kinds net E M Budget = (net.budget ≤ length E) × (length E ≤ net.budget + 2)
-MayEnd kinds net E M end = HasStopped kinds net M end
+MayEnd kinds net E M end = NothingGoesOn kinds net M end
 
 -- how it may stand: without an end, while the budget is not spent, or with one
 abbrev pub MayStand : Family → Network → List Entry → State → Option End → Type 0

@@ -7,7 +7,7 @@ pub mod Determinacy
 pub mod Moments
 pub mod Name
 pub mod Valid
-pub mod Parts
+pub mod NamesAndLines
 pub mod Version
 pub mod Waits
 pub mod Verdicts

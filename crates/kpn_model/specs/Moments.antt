@@ -10,10 +10,6 @@ use Rattle.kpn_model.specs.Endings.{IsOver, MayEnd}
 use Rattle.kpn_model.specs.History.{stream, taken, growths, grown}
 use Rattle.kpn_model.specs.Determinacy.{IsRun, IsFinal}
 
--- how many entries and how many growths
-abbrev pub tally : List Entry → ℕ × ℕ
-tally E = (length E, length (growths E))
-
 -- no channel holds more tokens than its capacity
 abbrev pub IsWithin : State → Type 0
 IsWithin M = (c : ℕ) → length (tokens M c) ≤ capacity M c

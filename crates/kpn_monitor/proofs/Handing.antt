@@ -14,8 +14,8 @@ use Rattle.kpn_body.specs.Input.{Input, answer_to}
 use Rattle.kpn_commit.specs.declared.outcome.Outcome.{Outcome}
 use Rattle.kpn_commit.specs.declared.outcome.Outcome.TheVariants.{Done, Parked, LaidBack}
 use Rattle.kpn_machine.specs.MachineView.{MachineView, TakesOut}
-use Rattle.kpn_machine.specs.Commits.{Commits, Appends, number}
-use Rattle.kpn_monitor.specs.Names.{Holding}
+use Rattle.kpn_machine.specs.Commits.{Commits, Appends, entries_appended}
+use Rattle.kpn_monitor.specs.Views.{Holding}
 use Rattle.kpn_monitor.specs.Kept.{WasCommitted}
 use Rattle.kpn_monitor.specs.Hands.{AreAnswers, TakesOutAll, CommitsAll, WereCommitted}
 
@@ -67,7 +67,7 @@ takes_more s [] m i t all one = (t, subst (λ (x : MachineView). TakesOut x i t)
 takes_more s (j ∷ tasks) m i t all one = (all.0, all.1, takes_more all.0 tasks m i t all.2 one)
 
 -- one more answer was taken
-pub commits_more : (kinds : Family) (s : MachineView) (tasks : List Input) (outcomes : List Outcome) (m : MachineView) (i : Input) (left : List Input) (o : Outcome) (t : MachineView) → CommitsAll kinds s tasks outcomes m (i ∷ left) → Commits kinds m i o t → Appends kinds m t (number o)
+pub commits_more : (kinds : Family) (s : MachineView) (tasks : List Input) (outcomes : List Outcome) (m : MachineView) (i : Input) (left : List Input) (o : Outcome) (t : MachineView) → CommitsAll kinds s tasks outcomes m (i ∷ left) → Commits kinds m i o t → Appends kinds m t (entries_appended o)
     → CommitsAll kinds s tasks (outcomes ++ o ∷ []) t left
 commits_more kinds s [] [] m i left o t all one more = absurd (let e = all.1 in cc)
 commits_more kinds s (j ∷ tasks) [] m i left o t all one more =
@@ -85,7 +85,7 @@ committed_more kinds admits net (j ∷ tasks) (p ∷ outcomes) i left o all one 
 -- a hand gave its first answer, and noted the outcome
 pub gave_machine : (kinds : Family) (s : MachineView) (tasks : List Input) (before between after : Holding) (m t : MachineView) (i : Input) (o : Outcome)
     → before.tasks ≡ i ∷ between.tasks → between.outcomes ≡ before.outcomes → after ≡ record between { outcomes = between.outcomes ++ o ∷ [] }
-    → CommitsAll kinds s tasks before.outcomes m before.tasks → Commits kinds m i o t → Appends kinds m t (number o) → CommitsAll kinds s tasks after.outcomes t after.tasks
+    → CommitsAll kinds s tasks before.outcomes m before.tasks → Commits kinds m i o t → Appends kinds m t (entries_appended o) → CommitsAll kinds s tasks after.outcomes t after.tasks
 gave_machine kinds s tasks before between after m t i o first same noted all one more =
     subst (λ (h : Holding). CommitsAll kinds s tasks h.outcomes t h.tasks) (sym noted) (subst (λ (os : List Outcome). CommitsAll kinds s tasks (os ++ o ∷ []) t between.tasks) (sym same)
     (commits_more kinds s tasks before.outcomes m i between.tasks o t (subst (λ (l : List Input). CommitsAll kinds s tasks before.outcomes m l) first all) one more))
@@ -99,14 +99,14 @@ gave_committed kinds admits net tasks before between after i o first same noted 
 
 -- how many outcomes and tasks there are after it
 pub gave_many : (before between after : Holding) (i : Input) (o : Outcome) → before.tasks ≡ i ∷ between.tasks → between.outcomes ≡ before.outcomes → after ≡ record between { outcomes = between.outcomes ++ o ∷ [] }
-    → (length after.outcomes ≡ length before.outcomes + 1) × (length after.tasks + 1 ≡ length before.tasks) × (after.called ≡ between.called) × (sum_by number after.outcomes ≡ sum_by number before.outcomes + number o)
+    → (length after.outcomes ≡ length before.outcomes + 1) × (length after.tasks + 1 ≡ length before.tasks) × (after.called ≡ between.called) × (sum_by entries_appended after.outcomes ≡ sum_by entries_appended before.outcomes + entries_appended o)
 gave_many before between after i o first same noted =
     let outs : after.outcomes ≡ before.outcomes ++ o ∷ [] = ap (λ (h : Holding). h.outcomes) noted ∙ ap (λ (os : List Outcome). os ++ o ∷ []) same in
     let left : after.tasks ≡ between.tasks = ap (λ (h : Holding). h.tasks) noted in (
       ap length outs ∙ length_more before.outcomes o,
       omega (arith, ap length left, ap length first),
       ap (λ (h : Holding). h.called) noted,
-      ap (sum_by number) outs ∙ sum_more number before.outcomes o,
+      ap (sum_by entries_appended) outs ∙ sum_more entries_appended before.outcomes o,
     )
 
 -- a hand was dealt one more task
@@ -132,7 +132,7 @@ pub record WentOn (s t : MachineView) (n : ℕ) : Type 0 where
 went_nowhere : (s : MachineView) → WentOn s s 0
 went_nowhere s = record { history = prefix_self s.history; count = omega arith; ended = λ stands. (refl, refl) }
 
-went_on_once : (kinds : Family) (s : MachineView) (i : Input) (o : Outcome) (t : MachineView) → Commits kinds s i o t → Appends kinds s t (number o) → WentOn s t (number o)
+went_on_once : (kinds : Family) (s : MachineView) (i : Input) (o : Outcome) (t : MachineView) → Commits kinds s i o t → Appends kinds s t (entries_appended o) → WentOn s t (entries_appended o)
 went_on_once kinds s i (Done n) t one more = record { history = (more.entries, sym more.history); count = omega (arith, ap length more.history, length-append s.history more.entries, more.count); ended = λ stands. absurd (stands one.before) }
 went_on_once kinds s i (Parked n) t one more = record { history = (more.entries, sym more.history); count = omega (arith, ap length more.history, length-append s.history more.entries, more.count); ended = λ stands. absurd (stands one.before) }
 went_on_once kinds s i LaidBack t one more = record { history = (more.entries, sym more.history); count = omega (arith, ap length more.history, length-append s.history more.entries, more.count); ended = λ stands. (ap (λ (x : MachineView). x.history) one.1, ap (λ (x : MachineView). x.end) one.1) }
@@ -148,15 +148,15 @@ went_on_again s m t a b one more = record {
 }
 
 -- if answers were taken, the history went on by as many entries as they appended
-went_on : (kinds : Family) (s : MachineView) (tasks : List Input) (outcomes : List Outcome) (t : MachineView) (left : List Input) → CommitsAll kinds s tasks outcomes t left → WentOn s t (sum_by number outcomes)
+went_on : (kinds : Family) (s : MachineView) (tasks : List Input) (outcomes : List Outcome) (t : MachineView) (left : List Input) → CommitsAll kinds s tasks outcomes t left → WentOn s t (sum_by entries_appended outcomes)
 went_on kinds s tasks [] t left all = subst (λ (x : MachineView). WentOn s x 0) (sym all.0) (went_nowhere s)
 went_on kinds s [] (o ∷ outcomes) t left all = absurd all
 went_on kinds s (i ∷ tasks) (o ∷ outcomes) t left all =
-    subst (λ n. WentOn s t n) (sym (sum_by-cons number o outcomes)) (went_on_again s all.0 t (number o) (sum_by number outcomes) (went_on_once kinds s i o all.0 all.1 all.2) (went_on kinds all.0 tasks outcomes t left all.3))
+    subst (λ n. WentOn s t n) (sym (sum_by-cons entries_appended o outcomes)) (went_on_again s all.0 t (entries_appended o) (sum_by entries_appended outcomes) (went_on_once kinds s i o all.0 all.1 all.2) (went_on kinds all.0 tasks outcomes t left all.3))
 
 -- also if one was refused
 pub gave : (kinds : Family) (s : MachineView) (tasks : List Input) (outcomes : List Outcome) (t : MachineView) (left : List Input) (refused : Option Input)
-    → MatchOption refused (CommitsAll kinds s tasks outcomes t left) (λ i. CommitsAll kinds s tasks outcomes t (i ∷ left)) → WentOn s t (sum_by number outcomes)
+    → MatchOption refused (CommitsAll kinds s tasks outcomes t left) (λ i. CommitsAll kinds s tasks outcomes t (i ∷ left)) → WentOn s t (sum_by entries_appended outcomes)
 gave kinds s tasks outcomes t left None all = went_on kinds s tasks outcomes t left all
 gave kinds s tasks outcomes t left (Some i) all = went_on kinds s tasks outcomes t (i ∷ left) all
 

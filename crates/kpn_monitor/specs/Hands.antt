@@ -7,7 +7,7 @@ use Rattle.kpn_model.specs.Network.{Family, Network}
 use Rattle.kpn_body.specs.Input.{Input, answer_to}
 use Rattle.kpn_commit.specs.declared.outcome.Outcome.{Outcome}
 use Rattle.kpn_machine.specs.MachineView.{MachineView, TakesOut}
-use Rattle.kpn_machine.specs.Commits.{Commits, Appends, number}
+use Rattle.kpn_machine.specs.Commits.{Commits, Appends, entries_appended}
 use Rattle.kpn_monitor.specs.Kept.{WasCommitted}
 
 -- these are the answers to the first of the tasks, in order
@@ -26,7 +26,7 @@ TakesOutAll s (i ∷ tasks) t = (m : MachineView) × TakesOut s i m × TakesOutA
 abbrev pub CommitsAll : Family → MachineView → List Input → List Outcome → MachineView → List Input → Type 0
 CommitsAll kinds s tasks [] t left = (t ≡ s) × (left ≡ tasks)
 CommitsAll kinds s [] (o ∷ outcomes) t left = ⊥
-CommitsAll kinds s (i ∷ tasks) (o ∷ outcomes) t left = (m : MachineView) × Commits kinds s i o m × Appends kinds s m (number o) × CommitsAll kinds m tasks outcomes t left
+CommitsAll kinds s (i ∷ tasks) (o ∷ outcomes) t left = (m : MachineView) × Commits kinds s i o m × Appends kinds s m (entries_appended o) × CommitsAll kinds m tasks outcomes t left
 
 -- the answers to the first of the tasks were committed, each with the corresponding outcome; the tasks `left` remain
 abbrev pub WereCommitted : Family → (Card → List ℕ → Option Token → Type 0) → Network → List Input → List Outcome → List Input → Type 0

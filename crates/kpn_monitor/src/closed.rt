@@ -68,15 +68,15 @@ pub struct Closed<K: Kinds, E: EntryLedger> {
 
 impl<K: Kinds, E: EntryLedger> Model for Closed<K, E> {
     ghost use Rattle.std.specs.Prelude.{◌≡◌};
-    ghost use Rattle.kpn_monitor.specs.Names.{Account};
-    ghost use Rattle.kpn_monitor.specs.Kept.{IsAccount, IsShown};
+    ghost use Rattle.kpn_monitor.specs.Views.{ClosedView};
+    ghost use Rattle.kpn_monitor.specs.Kept.{IsClosed, IsShown};
     ghost use Rattle.kpn_model.specs.Network.{family_of};
 
-    ghost Value = { Account };
+    ghost Value = { ClosedView };
 
     ghost view = { λ c. record { machine = c.chronicle; receipts = c.receipts } };
 
-    ghost invariant = { λ c. IsAccount (family_of K.start K.answer_of) K.admits E.net (record { machine = c.chronicle; receipts = c.receipts }) × IsShown E.board c.chronicle c.publisher × (c.board ≡ E.board) };
+    ghost invariant = { λ c. IsClosed (family_of K.start K.answer_of) K.admits E.net (record { machine = c.chronicle; receipts = c.receipts }) × IsShown E.board c.chronicle c.publisher × (c.board ≡ E.board) };
 }
 
 impl<K: Kinds, E: EntryLedger> Closed<K, E> {
@@ -142,7 +142,7 @@ impl<K: Kinds, E: EntryLedger> Closed<K, E> {
         ensures shown { result ≡ shows self.old.machine.history (phase_of self.old.machine.end) }
         ensures same { self.new ≡ self.old }
     {
-        self.publisher.settle(&self.board, watcher)
+        self.publisher.join(&self.board, watcher)
     }
 
     /// Returns what the machine left behind: network, history, standings and end.

@@ -16,7 +16,7 @@ ghost use Rattle.kpn_monitor.specs.Hands.{TakesOutAll, CommitsAll, WereCommitted
 ghost use Rattle.kpn_body.specs.Input.{Input};
 ghost use Rattle.kpn_machine.specs.MachineView.{MachineView, IsFaithful, IsFresh, IsOut, TakesOut};
 ghost use Rattle.kpn_model.specs.Endings.{MayStand};
-ghost use Rattle.kpn_machine.specs.Commits.{Commits, Appends, ContinuesRun, number};
+ghost use Rattle.kpn_machine.specs.Commits.{Commits, Appends, ContinuesRun, entries_appended};
 
 use crate::hand::{Hand, Sharing};
 use crate::naming::EntryLedger;
@@ -84,7 +84,7 @@ pub(crate) struct Guarded<B: Body, E: EntryLedger, O: Ledger> {
 
 impl<B: Body, E: EntryLedger, O: Ledger> Model for Guarded<B, E, O> {
     ghost use Rattle.std.specs.Prelude.{◌≡◌};
-    ghost use Rattle.kpn_monitor.specs.Names.{UnderLock};
+    ghost use Rattle.kpn_monitor.specs.Views.{UnderLock};
     ghost use Rattle.kpn_monitor.specs.Kept.{IsKept, IsShown};
     ghost use Rattle.kpn_model.specs.Network.{family_of};
 
@@ -158,8 +158,8 @@ impl<B: Body, E: EntryLedger, O: Ledger> Guarded<B, E, O> {
         seat: &mut Seat<E, O>,
     ) -> Result<Outcome, Stranger<B>>
         requires { board.now ≡ E.board }
-        ensures machine { MatchResult result (λ o. Commits (family_of B.Kinds.start B.Kinds.answer_of) self.old.machine finished o self.new.machine × Appends (family_of B.Kinds.start B.Kinds.answer_of) self.old.machine self.new.machine (number o)) (λ s. (self.new ≡ self.old) × (s.finished ≡ finished)) }
-        ensures seat { MatchResult result (λ o. seat.new ≡ record seat.old { entries = seat.old.entries + number o }) (λ _. seat.new ≡ seat.old) }
+        ensures machine { MatchResult result (λ o. Commits (family_of B.Kinds.start B.Kinds.answer_of) self.old.machine finished o self.new.machine × Appends (family_of B.Kinds.start B.Kinds.answer_of) self.old.machine self.new.machine (entries_appended o)) (λ s. (self.new ≡ self.old) × (s.finished ≡ finished)) }
+        ensures seat { MatchResult result (λ o. seat.new ≡ record seat.old { entries = seat.old.entries + entries_appended o }) (λ _. seat.new ≡ seat.old) }
         ensures committed { IfOk result (λ o. WasCommitted (family_of B.Kinds.start B.Kinds.answer_of) B.Kinds.admits E.net finished o) }
     {
         if !self.machine.has_asked(&finished) {
@@ -186,7 +186,7 @@ impl<B: Body, E: EntryLedger, O: Ledger> Guarded<B, E, O> {
         ensures committed { MatchOption result (WereCommitted (family_of B.Kinds.start B.Kinds.answer_of) B.Kinds.admits E.net hand.old.tasks hand.new.outcomes hand.new.tasks) (λ i. WereCommitted (family_of B.Kinds.start B.Kinds.answer_of) B.Kinds.admits E.net hand.old.tasks hand.new.outcomes (i ∷ hand.new.tasks)) }
         ensures called { MatchOption result ((hand.new.called ≡ 0) × (length hand.new.outcomes ≡ hand.old.called)) (λ _. hand.new.called + 1 + length hand.new.outcomes ≡ hand.old.called) }
         ensures count { MatchOption result (length hand.new.tasks + length hand.new.outcomes ≡ length hand.old.tasks) (λ _. length hand.new.tasks + 1 + length hand.new.outcomes ≡ length hand.old.tasks) }
-        ensures seat { seat.new ≡ record seat.old { entries = seat.old.entries + sum_by number hand.new.outcomes } }
+        ensures seat { seat.new ≡ record seat.old { entries = seat.old.entries + sum_by entries_appended hand.new.outcomes } }
     {
         hand.forget();
         let before = self.machine.history().len();
@@ -263,7 +263,7 @@ impl<B: Body, E: EntryLedger, O: Ledger> Guarded<B, E, O> {
         ensures committed { OnOk result (WereCommitted (family_of B.Kinds.start B.Kinds.answer_of) B.Kinds.admits E.net hand.old.tasks hand.new.outcomes []) }
         ensures stranger { IfErr result (λ s. WereCommitted (family_of B.Kinds.start B.Kinds.answer_of) B.Kinds.admits E.net hand.old.tasks hand.new.outcomes (s.finished ∷ hand.new.tasks) × CommitsAll (family_of B.Kinds.start B.Kinds.answer_of) self.old.machine hand.old.tasks hand.new.outcomes self.new.machine (s.finished ∷ hand.new.tasks)) }
         ensures kept { OnErr result ((seat.new.overs ≡ seat.old.overs) × (hand.new.called ≡ length hand.new.tasks)) }
-        ensures seat { (seat.new.parts ≡ seat.old.parts) × (seat.new.entries ≡ seat.old.entries + sum_by number hand.new.outcomes) }
+        ensures seat { (seat.new.parts ≡ seat.old.parts) × (seat.new.entries ≡ seat.old.entries + sum_by entries_appended hand.new.outcomes) }
         ensures taken { OnOk result (All (WasTaken (family_of B.Kinds.start B.Kinds.answer_of) B.Kinds.admits E.net) hand.new.tasks × (hand.new.called ≡ 0)) }
         ensures most { OnOk result (length hand.new.tasks ≤ most) }
         ensures tasks { result ≡ Ok Next.Tasks → (seat.new.overs ≡ seat.old.overs) × (0 < length hand.new.tasks) }
@@ -467,7 +467,7 @@ impl<B: Body, E: EntryLedger, O: Ledger> Guarded<B, E, O> {
 pub(crate) fn give_one<B: Body>(machine: &mut Machine<B>, finished: Finished<B>) -> Outcome
     requires { IsOut machine.old finished }
     ensures commits { Commits (family_of B.Kinds.start B.Kinds.answer_of) machine.old finished result machine.new }
-    ensures appends { Appends (family_of B.Kinds.start B.Kinds.answer_of) machine.old machine.new (number result) }
+    ensures appends { Appends (family_of B.Kinds.start B.Kinds.answer_of) machine.old machine.new (entries_appended result) }
     ensures network { machine.new.network ≡ machine.old.network }
     ensures committed { WasCommitted (family_of B.Kinds.start B.Kinds.answer_of) B.Kinds.admits machine.old.network finished result }
 {
@@ -499,7 +499,7 @@ pub(crate) fn give_all<B: Body>(machine: &mut Machine<B>, hand: &mut Hand<B>) ->
 
 /// How many entries were appended.
 fn count_of(outcome: Outcome) -> u64
-    ensures { result ≡ number outcome }
+    ensures { result ≡ entries_appended outcome }
 {
     match outcome {
         Outcome::Done(count) | Outcome::Parked(count) => count as u64,

@@ -11,7 +11,7 @@ use std::alloc::{AllocError, Global};
 use std::marker::Model;
 
 /// The greatest number of tasks in a hand.
-const ROOM: usize = 64;
+const MOST_TASKS: usize = 64;
 
 /// How the ready processes are shared out among the workers.
 #[derive(Clone, Copy)]
@@ -43,7 +43,7 @@ pub struct Hand<B: Body> {
 
 impl<B: Body> Model for Hand<B> {
     ghost use Rattle.std.specs.Prelude.{◌≡◌, ◌≤◌, length, vec_capacity};
-    ghost use Rattle.kpn_monitor.specs.Names.{Holding};
+    ghost use Rattle.kpn_monitor.specs.Views.{Holding};
     ghost use Rattle.kpn_monitor.specs.Hands.{AreAnswers};
     ghost use Rattle.kpn_model.specs.Network.{family_of};
 
@@ -61,9 +61,9 @@ impl<B: Body> Hand<B> {
         ensures { IfOk result (λ h. h ≡ record { tasks = []; called = 0; outcomes = [] }) }
     {
         Ok(Hand {
-            tasks: HeapCircularBuffer::with_capacity(alloc, ROOM)?,
-            answers: HeapCircularBuffer::with_capacity(alloc, ROOM)?,
-            outcomes: Vec::with_capacity(alloc, ROOM)?,
+            tasks: HeapCircularBuffer::with_capacity(alloc, MOST_TASKS)?,
+            answers: HeapCircularBuffer::with_capacity(alloc, MOST_TASKS)?,
+            outcomes: Vec::with_capacity(alloc, MOST_TASKS)?,
             sharers: sharers.max(1),
             awake: sharers.max(1),
             processors: sharers.max(1),
@@ -187,7 +187,7 @@ impl<B: Body> Hand<B> {
             Sharing::AmongAwake if ready > self.sharers => ready / self.awake.max(1),
             _ => ready / self.sharers.max(1),
         };
-        share.min(most).clamp(1, ROOM)
+        share.min(most).clamp(1, MOST_TASKS)
     }
 
     /// Whether its worker wants to rest for the first time.

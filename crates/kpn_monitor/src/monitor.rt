@@ -9,17 +9,17 @@ ghost use mathlib.Core.List.{IsPrefix};
 ghost use Rattle.kpn_watch.specs.declared.progress.Phase.TheVariants.{Running};
 ghost use Rattle.kpn_watch.specs.Shown.{shows};
 ghost use Rattle.kpn_body.specs.Input.{Input};
-ghost use Rattle.kpn_machine.specs.Commits.{number};
-ghost use Rattle.kpn_monitor.specs.Names.{Shares};
-ghost use Rattle.kpn_monitor.specs.Kept.{FoundNothing, HasEnded, IsAccount, WasCommitted, WasTaken, WentOn};
+ghost use Rattle.kpn_machine.specs.Commits.{entries_appended};
+ghost use Rattle.kpn_monitor.specs.Views.{Shares};
+ghost use Rattle.kpn_monitor.specs.Kept.{FoundNothing, HasEnded, IsClosed, WasCommitted, WasTaken, WentOn};
 ghost use Rattle.kpn_monitor.specs.Hands.{WereCommitted};
 
 use crate::closed::{Closed, Unclosed};
 use crate::guarded::{Guarded, Next, Taken, Wakes, Went};
 use crate::hand::Hand;
 use crate::naming::EntryLedger;
-use crate::opening::{Opening, Parts};
-use crate::resting::{Look, Rest, Resters, next_limit};
+use crate::opening::{Opening, OpeningParts};
+use crate::resting::{Sighting, Rest, Resters, next_limit};
 use crate::seat::{Seat, merge, totals_of};
 use kpn_body::{Body, Finished};
 use kpn_machine::{Outcome, Stranger};
@@ -48,9 +48,12 @@ const PAUSES: u32 = 8;
 #[derive(Drop)]
 pub struct Monitor<B: Body, E: EntryLedger, O: Ledger> {
     state: Mutex<Guarded<B, E, O>>,
+    /// Where threads wait for a ready process or the end, with the lock of `state`.
     changed: Condvar,
     resters: Mutex<Resters>,
+    /// Where threads rest, with the lock of `resters`.
     roused: Condvar,
+    /// How many threads are awake, of those that ever wanted to rest.
     awake: AtomicU64,
     board: Board,
     ghost named: { board ≡ E.board },
@@ -66,7 +69,7 @@ impl<B: Body, E: EntryLedger, O: Ledger> Monitor<B, E, O> {
         requires overs { (opening.overs.name ≡ O.name) × (opening.overs.parts ≡ O.parts) }
         ensures { result.1 ≡ record { parts = 65536; entries = 0; overs = 0 } }
     {
-        let Parts {
+        let OpeningParts {
             machine,
             board,
             publisher,
@@ -123,7 +126,7 @@ impl<B: Body, E: EntryLedger, O: Ledger> Monitor<B, E, O> {
         finished: Finished<B>,
         seat: &mut Seat<E, O>,
     ) -> Result<Outcome, Stranger<B>>
-        ensures seat { MatchResult result (λ o. seat.new ≡ record seat.old { entries = seat.old.entries + number o }) (λ _. seat.new ≡ seat.old) }
+        ensures seat { MatchResult result (λ o. seat.new ≡ record seat.old { entries = seat.old.entries + entries_appended o }) (λ _. seat.new ≡ seat.old) }
         ensures stranger { IfErr result (λ s. s.finished ≡ finished) }
         ensures committed { IfOk result (λ o. WasCommitted (family_of B.Kinds.start B.Kinds.answer_of) B.Kinds.admits E.net finished o) }
     {
@@ -154,7 +157,7 @@ impl<B: Body, E: EntryLedger, O: Ledger> Monitor<B, E, O> {
     ) -> Result<Next, Stranger<B>>
         requires { hand.old.called ≡ length hand.old.tasks }
         ensures parts { seat.new.parts ≡ seat.old.parts }
-        ensures entries { seat.new.entries ≡ seat.old.entries + sum_by number hand.new.outcomes }
+        ensures entries { seat.new.entries ≡ seat.old.entries + sum_by entries_appended hand.new.outcomes }
         ensures committed { OnOk result (WereCommitted (family_of B.Kinds.start B.Kinds.answer_of) B.Kinds.admits E.net hand.old.tasks hand.new.outcomes []) }
         ensures stranger { IfErr result (λ s. WereCommitted (family_of B.Kinds.start B.Kinds.answer_of) B.Kinds.admits E.net hand.old.tasks hand.new.outcomes (s.finished ∷ hand.new.tasks)) }
         ensures kept { OnErr result ((seat.new.overs ≡ seat.old.overs) × (hand.new.called ≡ length hand.new.tasks)) }
@@ -286,16 +289,16 @@ impl<B: Body, E: EntryLedger, O: Ledger> Monitor<B, E, O> {
     }
 
     // What a lookout sees.
-    fn look_for_work<R: Wait + Clock>(&self, rt: &R) -> Look {
+    fn look_for_work<R: Wait + Clock>(&self, rt: &R) -> Sighting {
         let now = Instant::now(rt).ok();
         let guarded = self.lock(rt);
-        Look::new(now, guarded.has_work(), guarded.answers())
+        Sighting::new(now, guarded.has_work(), guarded.answers())
     }
 
     // The run has ended: wakes all that rest.
     fn rouse<R: Wait>(&self, rt: &R) {
         let mut resters = self.resters.lock(rt);
-        let some = resters.finish();
+        let some = resters.note_end();
         drop(resters);
         if some {
             self.roused.notify_all();
@@ -357,7 +360,7 @@ impl<B: Body, E: EntryLedger, O: Ledger> Monitor<B, E, O> {
     ///
     /// Errors: the shares do not add up to the books. The monitor and the seats are handed back.
     pub fn close(self, seats: Vec<Seat<E, O>>) -> Result<Closed<B::Kinds, E>, Unclosed<B, E, O>>
-        ensures account { IfOk result (λ c. IsAccount (family_of B.Kinds.start B.Kinds.answer_of) B.Kinds.admits E.net c) }
+        ensures closed { IfOk result (λ c. IsClosed (family_of B.Kinds.start B.Kinds.answer_of) B.Kinds.admits E.net c) }
         ensures receipts { IfOk result (λ c. c.receipts ≡ sum_by (λ (s : Shares). s.entries) seats.items) }
         ensures ended { IfOk result (λ c. (k : ℕ) (s : Shares) → slice_get seats.items k ≡ Some s → s.overs ≡ 1 → IsSome c.machine.end) }
         ensures seats { IfErr result (λ u. u.seats.items ≡ seats.items) }

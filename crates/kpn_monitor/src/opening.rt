@@ -25,7 +25,7 @@ impl<B: Body> Model for Opening<B> {
     ghost use Rattle.std.specs.Prelude.{◌≡◌, []};
     ghost use Rattle.kpn_watch.specs.declared.progress.Phase.TheVariants.{Running};
     ghost use Rattle.kpn_machine.specs.MachineView.{IsFresh};
-    ghost use Rattle.kpn_monitor.specs.Names.{Unopened};
+    ghost use Rattle.kpn_monitor.specs.Views.{Unopened};
 
     ghost Value = { Unopened };
 
@@ -69,7 +69,7 @@ impl<B: Body> Opening<B> {
         machine
     }
 
-    pub(crate) fn into_parts(self) -> Parts<B>
+    pub(crate) fn into_parts(self) -> OpeningParts<B>
         ensures machine { (result.machine ≡ self.machine) × IsFresh result.machine }
         ensures board { result.board ≡ self.board }
         ensures publisher { result.publisher ≡ record { board = self.board; entries = []; phase = Running; watchers = 0 } }
@@ -83,7 +83,7 @@ impl<B: Body> Opening<B> {
             entries,
             overs,
         } = self;
-        Parts {
+        OpeningParts {
             machine,
             board,
             publisher,
@@ -95,7 +95,7 @@ impl<B: Body> Opening<B> {
 
 /// What an opening is made of.
 #[derive(Drop)]
-pub(crate) struct Parts<B: Body> {
+pub(crate) struct OpeningParts<B: Body> {
     pub(crate) machine: Machine<B>,
     pub(crate) board: Board,
     pub(crate) publisher: Publisher,

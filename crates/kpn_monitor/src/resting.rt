@@ -100,7 +100,7 @@ impl Resters {
     }
 
     /// Notes that the run has ended. Returns whether some thread still rests.
-    pub(crate) fn finish(&mut self) -> bool {
+    pub(crate) fn note_end(&mut self) -> bool {
         self.over = true;
         self.resting > 0
     }
@@ -109,15 +109,15 @@ impl Resters {
 /// What a lookout sees at one time: whether there is something to do, and how many answers were
 /// committed so far.
 #[derive(Clone, Copy)]
-pub(crate) struct Look {
+pub(crate) struct Sighting {
     time: Option<Instant>,
     has_work: bool,
     answers: u64,
 }
 
-impl Look {
-    pub(crate) fn new(time: Option<Instant>, has_work: bool, answers: u64) -> Look {
-        Look {
+impl Sighting {
+    pub(crate) fn new(time: Option<Instant>, has_work: bool, answers: u64) -> Sighting {
+        Sighting {
             time,
             has_work,
             answers,
@@ -126,7 +126,7 @@ impl Look {
 
     /// Whether one more thread is of use: there is something to do, and few answers were committed since
     /// an earlier look; none for a long time, if there is no processor for it.
-    pub(crate) fn shows_want(&self, earlier: &Look, has_processor: bool) -> bool {
+    pub(crate) fn shows_want(&self, earlier: &Sighting, has_processor: bool) -> bool {
         if !self.has_work {
             return false;
         }
@@ -137,18 +137,18 @@ impl Look {
     }
 
     /// Whether no answer was committed since an earlier look.
-    pub(crate) fn is_same(&self, earlier: &Look) -> bool {
+    pub(crate) fn is_same(&self, earlier: &Sighting) -> bool {
         self.answers == earlier.answers
     }
 
     /// Whether few answers were committed since an earlier look.
-    pub(crate) fn is_slow(&self, earlier: &Look) -> bool {
+    pub(crate) fn is_slow(&self, earlier: &Sighting) -> bool {
         let answers = self.answers.saturating_sub(earlier.answers);
         self.nanos_since(earlier) > u128::from(answers.saturating_mul(SLOW))
     }
 
     /// The nanoseconds since an earlier look; very many if the clock could not be read.
-    fn nanos_since(&self, earlier: &Look) -> u128 {
+    fn nanos_since(&self, earlier: &Sighting) -> u128 {
         match (self.time, earlier.time) {
             (Some(now), Some(then)) => now.saturating_duration_since(then).as_nanos(),
             _ => u128::MAX,

@@ -1,7 +1,7 @@
 //! Seats: what each worker has of the ledgers.
 ghost use Rattle.std.specs.Prelude.{◌≡◌, ◌+◌, ◌-◌, ◌<◌, ◌≤◌, ◌^◌, [], true, false, MatchOption, IfNone, IfSome};
 ghost use Rattle.std.specs.List.{sum_by};
-ghost use Rattle.kpn_monitor.specs.Names.{Shares};
+ghost use Rattle.kpn_monitor.specs.Views.{Shares};
 
 use crate::naming::EntryLedger;
 use std::marker::Model;
@@ -20,7 +20,7 @@ pub struct Seat<E: EntryLedger, O: Ledger> {
 
 impl<E: EntryLedger, O: Ledger> Model for Seat<E, O> {
     ghost use Rattle.std.specs.Prelude.{◌≡◌, ◌<◌, ◌≤◌};
-    ghost use Rattle.kpn_monitor.specs.Names.{Shares};
+    ghost use Rattle.kpn_monitor.specs.Views.{Shares};
 
     ghost Value = { Shares };
 

@@ -1,57 +1,193 @@
-//! The faults of a sketch: the first of them, and the conditions by which each is found.
-ghost use Rattle.std.specs.Prelude.{◌≡◌};
+//! The check of a sketch, which makes a network of it.
+ghost use Rattle.std.specs.Prelude.{All, ◌≡◌, ◌≢◌, Some, None, IfOk, IfErr, map, position};
+ghost use Rattle.std.specs.Str.{bytes_eq};
+ghost use Rattle.kpn_model.specs.Lawful.{CardFits, Fits};
+ghost use Rattle.kpn_model.specs.Valid.{IsValid};
 ghost use Rattle.kpn_net.specs.Faults.{first_fault};
+ghost use Rattle.kpn_net.specs.Sketched.{net_of, process_in, token_in, channel_in, index_of};
 
-use crate::limits::{
-    has_channel_with_wrong_tokens, has_wrong_budget, has_wrong_capacities, has_wrong_counts,
-    has_wrong_step, has_wrong_version,
-};
-pub use crate::limits::{has_wrong_capacity, has_wrong_tokens, is_token};
-use crate::names::has_wrong_names;
-pub use crate::names::{Clash, SameName, is_name, process_named};
-use crate::ports::{
-    has_channel_without_end, has_process_with_wrong_args, has_unknown_kinds, has_unused_ports,
-    has_wrong_sorts, shares_port,
-};
-pub use crate::ports::{
-    SameIn, SameOut, has_unknown_kind, has_unused_port, has_wrong_args, has_wrong_sort, in_sort,
-    is_sort, is_unused_in, is_unused_out, lacks_end, out_sort, port_sort, signature_of,
-    takes_other_count,
-};
-use kpn_model::Kinds;
-use kpn_sketch::{NetFault, Sketch};
+use crate::faults::first_fault;
+use crate::ports::card_with;
+use kpn_model::version::ceiling_in;
+use kpn_model::{Channel, Kinds, Listed, Process, Text, Token};
+use kpn_network::{Net, Parts};
+use kpn_sketch::{ChannelSketch, NetFault, ProcessSketch, Sketch, TokenSketch};
+use std::alloc::Global;
 
-/// The fault of least number whose condition holds.
-pub(crate) fn first_fault<K: Kinds>(sketch: &Sketch) -> Option<NetFault>
-    ensures { result ≡ first_fault K.named K.signature sketch.now }
+/// The check of a sketch, `Net::check`. It is a trait, which a caller brings into scope, since `Net` is a type of
+/// `kpn_network`, and only the crate of a type can give it methods of its own. `Net` alone implements it.
+///
+/// ```text
+/// let sketch = read_sketch(alloc, text.as_bytes())?;
+/// Net::check(alloc, &sketch)
+/// ```
+pub trait Check {
+    /// The family of the network's kinds.
+    type Kinds: Kinds;
+
+    /// Makes the valid network that a sketch describes. Its channels grow up to a capacity of 65,535 in
+    /// version 1, and of 1,000,000 in version 2. The sketch stays as it is.
+    ///
+    /// Errors: the first of `Version`, `Counts`, `Name`, `Kind`, `Args`, `NoEnd`, `Twice`, `Unused`,
+    /// `Sorts`, `Capacity`, `Budget`, `Tokens` and `Step` whose condition holds of the sketch; or
+    /// `Memory`, at any time, if memory was refused. A sketch without such a fault is refused for
+    /// memory alone.
+    final fn check(alloc: Global, sketch: &Sketch) -> Result<Net<Self::Kinds>, NetFault>
+        ensures ok { IfOk result (λ n. (first_fault Self.Kinds.named Self.Kinds.signature sketch.now ≡ None) × (n ≡ net_of Self.Kinds.named sketch.now)) }
+        ensures valid { IfOk result (IsValid Self.Kinds.signature) }
+        ensures fault { IfErr result (λ e. e ≢ NetFault.Memory → first_fault Self.Kinds.named Self.Kinds.signature sketch.now ≡ Some e) }
+    {
+        if let Some(fault) = first_fault::<Self::Kinds>(sketch) {
+            return Err(fault);
+        }
+        let sketches = sketch.processes.as_slice();
+        let processes = processes_of::<Self::Kinds>(alloc, sketches)?;
+        let channels = channels_of(alloc, sketches, sketch.channels.as_slice())?;
+        let parts = Parts {
+            processes,
+            channels,
+            budget: sketch.budget.unsigned_abs(),
+            step: sketch.step.unsigned_abs() as usize,
+            ceiling: ceiling_in(sketch.version) as usize,
+        };
+        match Net::<Self::Kinds>::of_parts(alloc, parts) {
+            Ok(net) => Ok(net),
+            Err(_) => Err(NetFault::Memory),
+        }
+    }
+}
+
+impl<K: Kinds> Check for Net<K> {
+    type Kinds = K;
+}
+
+/// The process of a sketch; a kind that the family lacks counts as kind 0. Fails if memory was refused.
+fn process_in<K: Kinds>(alloc: Global, sketch: &ProcessSketch) -> Result<Process, NetFault>
+    ensures ok { IfOk result (λ p. p ≡ process_in K.named sketch.now) }
+    ensures fits { IfOk result (λ p. CardFits p.card) }
+    ensures memory { IfErr result (λ e. e ≡ NetFault.Memory) }
 {
-    if has_wrong_version::<K>(sketch) {
-        Some(NetFault::Version)
-    } else if has_wrong_counts::<K>(sketch) {
-        Some(NetFault::Counts)
-    } else if has_wrong_names::<K>(sketch) {
-        Some(NetFault::Name)
-    } else if has_unknown_kinds::<K>(sketch) {
-        Some(NetFault::Kind)
-    } else if has_process_with_wrong_args::<K>(sketch) {
-        Some(NetFault::Args)
-    } else if has_channel_without_end::<K>(sketch) {
-        Some(NetFault::NoEnd)
-    } else if shares_port::<K>(sketch) {
-        Some(NetFault::Twice)
-    } else if has_unused_ports::<K>(sketch) {
-        Some(NetFault::Unused)
-    } else if has_wrong_sorts::<K>(sketch) {
-        Some(NetFault::Sorts)
-    } else if has_wrong_capacities::<K>(sketch) {
-        Some(NetFault::Capacity)
-    } else if has_wrong_budget::<K>(sketch) {
-        Some(NetFault::Budget)
-    } else if has_channel_with_wrong_tokens::<K>(sketch) {
-        Some(NetFault::Tokens)
-    } else if has_wrong_step::<K>(sketch) {
-        Some(NetFault::Step)
-    } else {
-        None
+    let kind = match K::named(sketch.kind.as_str()) {
+        Some((kind, _)) => kind,
+        None => 0,
+    };
+    Ok(Process {
+        name: copied(alloc, &sketch.name)?,
+        card: card_with(kind, sketch.args.as_slice()),
+    })
+}
+
+/// The number of the first process with this name.
+fn find_process(processes: &[ProcessSketch], name: &str) -> Option<usize>
+    ensures { result ≡ position (λ p. bytes_eq p.name name.now) processes.now }
+{
+    processes.iter().position(|p| p.name.as_str() == name)
+}
+
+/// The same; 0 if there is none.
+fn index_of(processes: &[ProcessSketch], name: &str) -> usize
+    ensures { result ≡ index_of processes.now name.now }
+{
+    match find_process(processes, name) {
+        Some(p) => p,
+        None => 0,
+    }
+}
+
+/// The token of a sketch; of an integer its size counts.
+fn token_in(sketch: TokenSketch) -> Token
+    ensures is { result ≡ token_in sketch }
+    ensures fits { Fits result }
+{
+    match sketch {
+        TokenSketch::Integer(integer) => Token::Word(integer.unsigned_abs()),
+        TokenSketch::Boolean(boolean) => Token::Flag(boolean),
+    }
+}
+
+/// The tokens of some sketches, in order. Fails if memory was refused.
+fn tokens_in(alloc: Global, sketches: &[TokenSketch]) -> Result<Vec<Token>, NetFault>
+    ensures ok { IfOk result (λ v. v.items ≡ map token_in sketches.now) }
+    ensures fit { IfOk result (λ v. All Fits v.items) }
+    ensures memory { IfErr result (λ e. e ≡ NetFault.Memory) }
+{
+    let mut tokens = Vec::new(alloc);
+    for sketch in sketches {
+        if tokens.push(token_in(*sketch)).is_err() {
+            return Err(NetFault::Memory);
+        }
+    }
+    Ok(tokens)
+}
+
+/// The channel of a sketch, between these processes. Fails if memory was refused.
+fn channel_in(
+    alloc: Global,
+    processes: &[ProcessSketch],
+    sketch: &ChannelSketch,
+) -> Result<Channel, NetFault>
+    ensures ok { IfOk result (λ c. c ≡ channel_in processes.now sketch.now) }
+    ensures fits { IfOk result (λ c. All Fits c.tokens) }
+    ensures memory { IfErr result (λ e. e ≡ NetFault.Memory) }
+{
+    Ok(Channel {
+        name: copied(alloc, &sketch.name)?,
+        writer: index_of(processes, sketch.from.as_str()),
+        out: sketch.out.unsigned_abs() as usize,
+        reader: index_of(processes, sketch.to.as_str()),
+        input: sketch.input.unsigned_abs() as usize,
+        sort: sketch.sort,
+        capacity: sketch.capacity.unsigned_abs() as usize,
+        tokens: Listed::new(tokens_in(alloc, sketch.tokens.as_slice())?),
+    })
+}
+
+/// The processes of some sketches, in order. Fails if memory was refused.
+fn processes_of<K: Kinds>(
+    alloc: Global,
+    sketches: &[ProcessSketch],
+) -> Result<Vec<Process>, NetFault>
+    ensures ok { IfOk result (λ v. v.items ≡ map (process_in K.named) sketches.now) }
+    ensures fit { IfOk result (λ v. All (λ p. CardFits p.card) v.items) }
+    ensures memory { IfErr result (λ e. e ≡ NetFault.Memory) }
+{
+    let mut processes = Vec::new(alloc);
+    for sketch in sketches {
+        let process = process_in::<K>(alloc, sketch)?;
+        if processes.push(process).is_err() {
+            return Err(NetFault::Memory);
+        }
+    }
+    Ok(processes)
+}
+
+/// The channels of some sketches, in order, between these processes. Fails if memory was refused.
+fn channels_of(
+    alloc: Global,
+    processes: &[ProcessSketch],
+    sketches: &[ChannelSketch],
+) -> Result<Vec<Channel>, NetFault>
+    ensures ok { IfOk result (λ v. v.items ≡ map (channel_in processes.now) sketches.now) }
+    ensures fit { IfOk result (λ v. All (λ c. All Fits c.tokens) v.items) }
+    ensures memory { IfErr result (λ e. e ≡ NetFault.Memory) }
+{
+    let mut channels = Vec::new(alloc);
+    for sketch in sketches {
+        let channel = channel_in(alloc, processes, sketch)?;
+        if channels.push(channel).is_err() {
+            return Err(NetFault::Memory);
+        }
+    }
+    Ok(channels)
+}
+
+/// A text once more. Fails if memory was refused.
+fn copied(alloc: Global, text: &Text) -> Result<Text, NetFault>
+    ensures ok { IfOk result (λ t. t ≡ text.now) }
+    ensures memory { IfErr result (λ e. e ≡ NetFault.Memory) }
+{
+    match String::from_str(alloc, text.as_str()) {
+        Ok(string) => Ok(Text::new(string)),
+        Err(_) => Err(NetFault::Memory),
     }
 }

@@ -8,11 +8,12 @@
 #![tactic(auto)]
 
 pub mod check;
+pub mod faults;
 mod limits;
 mod names;
-pub mod net;
 mod ports;
 
+pub use check::Check;
 pub use kpn_model::{
     Act, Answer, Card, Channel, Deed, End, Ends, Entry, Kinds, Listed, Local, Place, Process,
     Signature, Sort, Status, Text, Token, version,
@@ -21,4 +22,3 @@ pub use kpn_network::Net;
 pub use kpn_sketch::{
     ChannelSketch, NetFault, ProcessSketch, Sketch, TokenSketch, fault, read, read_sketch, sketch,
 };
-pub use net::Check;

@@ -4,17 +4,17 @@ ghost use Rattle.std.specs.List.{sum_by};
 ghost use Rattle.kpn_model.specs.Network.{family_of};
 ghost use Rattle.kpn_model.specs.declared.history.End.{End as EndV};
 ghost use Rattle.kpn_body.specs.Input.{Input};
-ghost use Rattle.kpn_machine.specs.Commits.{number};
+ghost use Rattle.kpn_machine.specs.Commits.{entries_appended};
 ghost use Rattle.kpn_machine.specs.Opening.{cards_of, IsOpenFault};
 ghost use Rattle.kpn_machine.specs.MachineView.{IsFresh};
 ghost use Rattle.kpn_laws.specs.RoomOfRun.{TakesLeastRoom};
 ghost use Rattle.kpn_laws.specs.StreamsOfRun.{ApproachLeastSolution};
-ghost use Rattle.kpn_monitor.specs.Names.{Shares};
-ghost use Rattle.kpn_monitor.specs.Kept.{HasEnded, IsAccount, WasCommitted, WasTaken};
+ghost use Rattle.kpn_monitor.specs.Views.{Shares};
+ghost use Rattle.kpn_monitor.specs.Kept.{HasEnded, IsClosed, WasCommitted, WasTaken};
 ghost use Rattle.kpn_run.specs.Runs.{IsComparable, StaysWithinCapacities};
-ghost use Rattle.kpn_observe.specs.Accounts.{EndSparesBudget};
+ghost use Rattle.kpn_observe.specs.WatchedReports.{EndSparesBudget};
 
-use crate::executor::told_by_laws;
+use crate::running::told_by_laws;
 use crate::watched::WatchedRun;
 use kpn_body::{Body, Finished};
 use kpn_machine::{Machine, OpenFault, OpenRefused, Outcome, Stranger};
@@ -35,7 +35,7 @@ pub struct CrewSeat<E: EntryLedger, O: Ledger> {
 
 impl<E: EntryLedger, O: Ledger> Model for CrewSeat<E, O> {
     ghost use Rattle.std.specs.Prelude.{◌≡◌};
-    ghost use Rattle.kpn_monitor.specs.Names.{Shares};
+    ghost use Rattle.kpn_monitor.specs.Views.{Shares};
 
     ghost Value = { Shares };
 
@@ -97,7 +97,7 @@ impl<E: EntryLedger, O: Ledger> CrewSeat<E, O> {
         monitor: &Monitor<B, E, O>,
         finished: Finished<B>,
     ) -> Result<Outcome, Stranger<B>>
-        ensures seat { MatchResult result (λ o. self.new ≡ record self.old { entries = self.old.entries + number o }) (λ _. self.new ≡ self.old) }
+        ensures seat { MatchResult result (λ o. self.new ≡ record self.old { entries = self.old.entries + entries_appended o }) (λ _. self.new ≡ self.old) }
         ensures stranger { IfErr result (λ s. s.finished ≡ finished) }
         ensures committed { IfOk result (λ o. WasCommitted (family_of B.Kinds.start B.Kinds.answer_of) B.Kinds.admits E.net finished o) }
     {
@@ -196,7 +196,7 @@ pub fn run_by_crew<B: Body, R: Threads + Sync, C: Crew<B>>(
     seats: u16,
     crew: &C,
 ) -> Result<WatchedRun<B::Kinds>, OpenRefused<B>>
-    ensures account { IfOk result (IsAccount (family_of B.Kinds.start B.Kinds.answer_of) B.Kinds.admits net) }
+    ensures closed { IfOk result (IsClosed (family_of B.Kinds.start B.Kinds.answer_of) B.Kinds.admits net) }
     ensures within { IfOk result (λ r. StaysWithinCapacities (family_of B.Kinds.start B.Kinds.answer_of) net r.machine.history) }
     ensures budget { IfOk result (λ r. EndSparesBudget (family_of B.Kinds.start B.Kinds.answer_of) net r.machine.end) }
     ensures comparable { IfOk result (λ r. IsComparable (family_of B.Kinds.start B.Kinds.answer_of) net r.machine.history) }
@@ -226,7 +226,7 @@ fn run_opened<B: Body, R: Threads + Sync, C: Crew<B>>(
     crew: &C,
 ) -> Result<WatchedRun<B::Kinds>, OpenRefused<B>>
     requires { IsFresh machine }
-    ensures account { IfOk result (IsAccount (family_of B.Kinds.start B.Kinds.answer_of) B.Kinds.admits machine.network) }
+    ensures closed { IfOk result (IsClosed (family_of B.Kinds.start B.Kinds.answer_of) B.Kinds.admits machine.network) }
     ensures within { IfOk result (λ r. StaysWithinCapacities (family_of B.Kinds.start B.Kinds.answer_of) machine.network r.machine.history) }
     ensures budget { IfOk result (λ r. EndSparesBudget (family_of B.Kinds.start B.Kinds.answer_of) machine.network r.machine.end) }
     ensures comparable { IfOk result (λ r. IsComparable (family_of B.Kinds.start B.Kinds.answer_of) machine.network r.machine.history) }
@@ -281,7 +281,7 @@ fn run_named<
     requires board { opening.board ≡ E.board }
     requires entries { (opening.entries.name ≡ E.name) × (opening.entries.parts ≡ E.parts) }
     requires overs { (opening.overs.name ≡ O.name) × (opening.overs.parts ≡ O.parts) }
-    ensures account { IfOk result (IsAccount (family_of B.Kinds.start B.Kinds.answer_of) B.Kinds.admits E.net) }
+    ensures closed { IfOk result (IsClosed (family_of B.Kinds.start B.Kinds.answer_of) B.Kinds.admits E.net) }
     ensures net_back { IfErr result (λ refused. refused.net ≡ opening.machine.network) }
     ensures cards_back { IfErr result (λ refused. map B.card refused.bodies.items ≡ cards_of opening.machine.network.processes) }
     ensures fault { IfErr result (λ refused. refused.fault ≡ OpenFault.Memory) }
@@ -343,7 +343,7 @@ fn run_seated<
 ) -> WatchedRun<B::Kinds>
     requires parts { length crewed.items + rest.parts ≡ 65536 }
     requires seats { (seats.items ≡ []) × (length crewed.items < vec_capacity seats) }
-    ensures { IsAccount (family_of B.Kinds.start B.Kinds.answer_of) B.Kinds.admits E.net result }
+    ensures { IsClosed (family_of B.Kinds.start B.Kinds.answer_of) B.Kinds.admits E.net result }
 {
     let mut crewed = crewed;
     work_all(rt, &monitor, &mut crewed, crew);

@@ -23,18 +23,18 @@
 
 mod bell;
 mod crew;
-mod executor;
 mod observer;
 mod reporting;
+mod running;
 mod slot;
 mod watched;
 mod worker;
 
 pub use crew::{Crew, CrewSeat, run_by_crew};
-pub use executor::{WatchedFault, run_watched};
 pub use kpn_machine::{OpenFault, OpenRefused};
 pub use kpn_monitor::{EntryLedger, Monitor, Taken};
 pub use kpn_watch::{Phase, Progress};
 pub use observer::{Observer, Wish};
 pub use reporting::chronicle_report;
+pub use running::{WatchedFault, run_watched};
 pub use watched::WatchedRun;

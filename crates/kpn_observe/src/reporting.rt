@@ -4,7 +4,7 @@ ghost use Rattle.kpn_model.specs.declared.history.End.{End as EndV};
 ghost use Rattle.kpn_model.specs.Network.{family_of};
 ghost use Rattle.kpn_report.specs.Reported.{IsReport};
 ghost use Rattle.kpn_run.specs.Reports.{IsEveryRuns, IsOutcome, TellsLeastSolution};
-ghost use Rattle.kpn_observe.specs.Accounts.{Tells};
+ghost use Rattle.kpn_observe.specs.WatchedReports.{IsReportOf};
 
 use kpn_laws::{determinacy_of, least_solution_of};
 use kpn_machine::Chronicle;
@@ -30,7 +30,7 @@ pub fn chronicle_report<K: Kinds>(
     chronicle: &Chronicle<K>,
 ) -> Result<Option<Report>, AllocError>
     ensures some { IfOk result (λ r. is_some r ≡ is_some chronicle.now.end) }
-    ensures tells { (cause : EndV) → chronicle.now.end ≡ Some cause → IfOk result (λ o. IfSome o (λ r. Tells (family_of K.start K.answer_of) chronicle.now cause r.end r.detail)) }
+    ensures tells { (cause : EndV) → chronicle.now.end ≡ Some cause → IfOk result (λ o. IfSome o (λ r. IsReportOf (family_of K.start K.answer_of) chronicle.now cause r.end r.detail)) }
 {
     let Some(end) = chronicle.end() else {
         return Ok(None);

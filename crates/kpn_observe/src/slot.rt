@@ -1,7 +1,7 @@
 //! The seats of the workers of a run.
 ghost use Rattle.std.specs.Prelude.{◌≡◌, ◌+◌, ◌<◌, ◌≤◌, ℕ, [], length, vec_capacity, slice_index_or};
 ghost use Rattle.std.specs.List.{sum_by};
-ghost use Rattle.kpn_monitor.specs.Names.{Shares};
+ghost use Rattle.kpn_monitor.specs.Views.{Shares};
 
 use crate::bell::Bell;
 use crate::worker::work_until_stopped;
@@ -26,7 +26,7 @@ pub(crate) struct WorkerSlot<B: Body, E: EntryLedger, O: Ledger> {
 }
 
 impl<B: Body, E: EntryLedger, O: Ledger> Model for WorkerSlot<B, E, O> {
-    ghost use Rattle.kpn_monitor.specs.Names.{Shares};
+    ghost use Rattle.kpn_monitor.specs.Views.{Shares};
 
     ghost Value = { Shares };
 

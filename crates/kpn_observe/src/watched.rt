@@ -1,7 +1,7 @@
 //! A run that has ended, that its observer stopped or that its crew left.
 ghost use Rattle.std.specs.Prelude.{◌≡◌, length};
 ghost use Rattle.kpn_model.specs.Network.{family_of};
-ghost use Rattle.kpn_monitor.specs.Kept.{IsAccount};
+ghost use Rattle.kpn_monitor.specs.Kept.{IsClosed};
 
 use kpn_machine::{Chronicle, Standing};
 use kpn_model::{End, Entry, Kinds};
@@ -22,9 +22,9 @@ pub struct WatchedRun<K: Kinds> {
 
 impl<K: Kinds> Model for WatchedRun<K> {
     ghost use Rattle.std.specs.Prelude.{◌≡◌, length};
-    ghost use Rattle.kpn_monitor.specs.Names.{Account};
+    ghost use Rattle.kpn_monitor.specs.Views.{ClosedView};
 
-    ghost Value = { Account };
+    ghost Value = { ClosedView };
 
     ghost view = { λ r. record { machine = r.chronicle; receipts = r.receipts } };
 
@@ -106,7 +106,7 @@ impl<K: Kinds> WatchedRun<K> {
     /// ```
     pub fn end(&self) -> Option<End>
         ensures end { result ≡ self.now.machine.end }
-        ensures account { IsAccount (family_of K.start K.answer_of) K.admits self.now.machine.network self.now }
+        ensures closed { IsClosed (family_of K.start K.answer_of) K.admits self.now.machine.network self.now }
     {
         self.chronicle.end()
     }

@@ -11,7 +11,7 @@ use Rattle.kpn_model.specs.declared.history.Place.TheVariants.{Stopped, Reads, W
 use Rattle.kpn_model.specs.declared.history.End.{End}
 use Rattle.kpn_model.specs.declared.history.End.TheVariants.{Terminated, Deadlock, Ceiling, Budget, Memory}
 use Rattle.kpn_model.specs.Network.{Network, card_of, channel_of}
-use Rattle.kpn_model.specs.Parts.{process_name, channel_name, lines_upto}
+use Rattle.kpn_model.specs.NamesAndLines.{process_name, channel_name, lines_upto}
 use Rattle.kpn_model.specs.Waits.{is_on_cycle, is_jammed}
 
 -- the lines above all processes

@@ -1,7 +1,7 @@
 //! Channels, as edges.
 ghost use Rattle.std.specs.Prelude.{◌≡◌, ◌++◌, ◌<◌, OnOk, length, string_bytes};
 ghost use Rattle.kpn_model.specs.Waits.{is_jammed};
-ghost use Rattle.kpn_model.specs.Parts.{process_name, channel_name, lines_upto};
+ghost use Rattle.kpn_model.specs.NamesAndLines.{process_name, channel_name, lines_upto};
 ghost use Rattle.kpn_picture.specs.Picture.{arrow, label_opening, edge_opening, edge_look, has_grown, capacity_text, held_part, held_tokens, last_capacity, edge_line};
 
 use crate::looks::{edge_look, push_closing, sort_text};

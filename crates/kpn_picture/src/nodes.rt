@@ -3,7 +3,7 @@ ghost use Rattle.std.specs.Prelude.{◌≡◌, ◌++◌, ◌<◌, [], OnOk, IsSo
 ghost use Rattle.std.specs.List.{flat_map};
 ghost use Rattle.std.specs.Option.{option_map_or};
 ghost use Rattle.kpn_model.specs.Network.{card_of};
-ghost use Rattle.kpn_model.specs.Parts.{lines_upto};
+ghost use Rattle.kpn_model.specs.NamesAndLines.{lines_upto};
 ghost use Rattle.kpn_picture.specs.Picture.{argument_part, box_opening, kind_text, place_label, node_line};
 
 use crate::edges::{channel_name, process_name};

@@ -12,10 +12,10 @@ use Rattle.kpn_model.specs.declared.history.Place.{Place}
 use Rattle.kpn_model.specs.Network.{Family, Network, channel_of}
 use Rattle.kpn_model.specs.Semantics.{State}
 use Rattle.kpn_model.specs.History.{Digest, digest, each_channel, stream, put_on, taken, growths, grown}
-use Rattle.kpn_model.specs.Parts.{lines_upto}
+use Rattle.kpn_model.specs.NamesAndLines.{lines_upto}
 use Rattle.kpn_model.specs.Endings.{has_report}
-use Rattle.kpn_report.specs.declared.account.Account.{Account}
-use Rattle.kpn_report.specs.Tally.{KeepsAccounts}
+use Rattle.kpn_report.specs.declared.channel_counts.ChannelCounts.{ChannelCounts}
+use Rattle.kpn_report.specs.Tally.{KeepsCounts}
 use Rattle.kpn_report.specs.Text.{end_line, digest_line, digest_text, report_text}
 use Rattle.kpn_report.specs.Counted.{counted_line, counted_text, shown_of}
 
@@ -41,8 +41,8 @@ module _ (kinds : Family) (net : Network) (E : List Entry) (M : State) where
   abbrev told : Digest
   told = digest kinds net Terminated E M
 
-  module _ (accounts : List Account) (k : KeepsAccounts net E accounts) where
-    line_is : (c : ℕ) → c < length net.channels → counted_line net accounts c ≡ digest_line net told c
+  module _ (channel_counts : List ChannelCounts) (k : KeepsCounts net E channel_counts) where
+    line_is : (c : ℕ) → c < length net.channels → counted_line net channel_counts c ≡ digest_line net told c
     line_is c l =
         let put : length (stream net E c) - length (channel_of net c).tokens ≡ length (put_on E c) = omega (arith, length-append (channel_of net c).tokens (put_on E c)) in
         rw (
@@ -55,12 +55,12 @@ module _ (kinds : Family) (net : Network) (E : List Entry) (M : State) where
           length-append,
         )
 
-    lines : lines_upto (counted_line net accounts) (length net.channels) ≡ lines_upto (digest_line net told) (length net.channels)
+    lines : lines_upto (counted_line net channel_counts) (length net.channels) ≡ lines_upto (digest_line net told) (length net.channels)
     lines = lines_same _ _ (length net.channels) line_is
 
     pub counted_all :
         (places : List Place) (steps : List ℕ) (grew : List (ℕ × ℕ)) (show : Option ℕ) → places ≡ told.places → steps ≡ told.steps → grew ≡ growths E
-        → counted_text net places steps accounts grew (length E) ++ shown_of net E show ≡ digest_text net told show
+        → counted_text net places steps channel_counts grew (length E) ++ shown_of net E show ≡ digest_text net told show
     counted_all places steps grew None places_are steps_are grew_are = rw (places_are, steps_are, grew_are, lines)
     counted_all places steps grew (Some c) places_are steps_are grew_are = rw (places_are, steps_are, grew_are, lines)
 

@@ -9,8 +9,8 @@ use Rattle.kpn_model.specs.declared.history.Entry.TheVariants.{Did, Grew}
 use Rattle.kpn_model.specs.Network.{Network}
 use Rattle.kpn_model.specs.History.{each_channel, deeds, put_on, stream, taken, growths}
 use Rattle.kpn_laws.proofs.Views.{deeds_push_same, deeds_push_other, deeds_push_grew, put_on-append, taken-append, growths-append, grown_push}
-use Rattle.kpn_report.specs.declared.account.Account.{Account}
-use Rattle.kpn_report.specs.Tally.{account, no_account, account_at, Tabulates, CountsSteps, KeepsAccounts, KeepsStreams, steps_after, accounts_after, streams_after}
+use Rattle.kpn_report.specs.declared.channel_counts.ChannelCounts.{ChannelCounts}
+use Rattle.kpn_report.specs.Tally.{counts_of, no_counts, counts_at, Tabulates, CountsSteps, KeepsCounts, KeepsStreams, steps_after, counts_after, streams_after}
 use Rattle.kpn_report.proofs.Tables.{changed, unchanged, at_most}
 
 -- what is read off a history with one more entry
@@ -27,15 +27,15 @@ module _ (net : Network) (E : List Entry) where
   steps_kept steps k (Did p d) = changed 0 (length net.processes) (λ q. length (deeds E q)) steps k (λ q. length (deeds (E ++ Did p d ∷ []) q)) p (get_or steps p 0 + 1) (λ l. rw (k.each p l, deeds_push_same E p d, length-append)) (λ q ne. ap length (deeds_push_other E p q d (flip q p ne)))
   steps_kept steps k (Grew c to) = unchanged 0 (length net.processes) (λ q. length (deeds E q)) steps k (λ q. length (deeds (E ++ Grew c to ∷ []) q)) (λ q. ap length (deeds_push_grew E c to q))
 
-  module _ (accounts : List Account) (k : KeepsAccounts net E accounts) where
-    set_to : (e : Entry) (c : ℕ) (x : Account) → (c < length net.channels → x ≡ account net (E ++ e ∷ []) c) → ((b : ℕ) → b ≢ c → account net (E ++ e ∷ []) b ≡ account net E b) → KeepsAccounts net (E ++ e ∷ []) (set accounts c x)
-    set_to e c x = changed no_account (length net.channels) (account net E) accounts k (account net (E ++ e ∷ [])) c x
+  module _ (channel_counts : List ChannelCounts) (k : KeepsCounts net E channel_counts) where
+    set_to : (e : Entry) (c : ℕ) (x : ChannelCounts) → (c < length net.channels → x ≡ counts_of net (E ++ e ∷ []) c) → ((b : ℕ) → b ≢ c → counts_of net (E ++ e ∷ []) b ≡ counts_of net E b) → KeepsCounts net (E ++ e ∷ []) (set channel_counts c x)
+    set_to e c x = changed no_counts (length net.channels) (counts_of net E) channel_counts k (counts_of net (E ++ e ∷ [])) c x
 
-    accounts_kept : (e : Entry) → KeepsAccounts net (E ++ e ∷ []) (accounts_after accounts e)
-    accounts_kept (Did p (Put c t)) = set_to (Did p (Put c t)) c _ (λ l. rw (k.each c l) (simp (pushes, same c))) (λ b ne. simp (pushes, flip b c ne))
-    accounts_kept (Did p (Took c t)) = set_to (Did p (Took c t)) c _ (λ l. rw (k.each c l) (simp (pushes, same c))) (λ b ne. simp (pushes, flip b c ne))
-    accounts_kept (Did p Stopped) = unchanged no_account (length net.channels) (account net E) accounts k (account net (E ++ Did p Stopped ∷ [])) (λ b. simp pushes)
-    accounts_kept (Grew c to) = set_to (Grew c to) c _ (λ l. rw (k.each c l) (simp (pushes, same c))) (λ b ne. simp (pushes, flip b c ne))
+    counts_kept : (e : Entry) → KeepsCounts net (E ++ e ∷ []) (counts_after channel_counts e)
+    counts_kept (Did p (Put c t)) = set_to (Did p (Put c t)) c _ (λ l. rw (k.each c l) (simp (pushes, same c))) (λ b ne. simp (pushes, flip b c ne))
+    counts_kept (Did p (Took c t)) = set_to (Did p (Took c t)) c _ (λ l. rw (k.each c l) (simp (pushes, same c))) (λ b ne. simp (pushes, flip b c ne))
+    counts_kept (Did p Stopped) = unchanged no_counts (length net.channels) (counts_of net E) channel_counts k (counts_of net (E ++ Did p Stopped ∷ [])) (λ b. simp pushes)
+    counts_kept (Grew c to) = set_to (Grew c to) c _ (λ l. rw (k.each c l) (simp (pushes, same c))) (λ b ne. simp (pushes, flip b c ne))
 
   module _ (streams : List (List Token)) (k : KeepsStreams net E streams) where
     as_before : (e : Entry) → ((b : ℕ) → stream net (E ++ e ∷ []) b ≡ stream net E b) → KeepsStreams net (E ++ e ∷ []) streams
@@ -49,9 +49,9 @@ module _ (net : Network) (E : List Entry) where
 
     -- what is left of them
     pub rests_listed :
-        (accounts : List Account) (rests : List (List Token)) → KeepsAccounts net E accounts → Tabulates [] (length streams) (λ c. drop (account_at accounts c).taken (get_or streams c [])) rests
+        (channel_counts : List ChannelCounts) (rests : List (List Token)) → KeepsCounts net E channel_counts → Tabulates [] (length streams) (λ c. drop (counts_at channel_counts c).taken (get_or streams c [])) rests
         → rests ≡ each_channel net (λ c. drop (length (taken E c)) (stream net E c))
-    rests_listed accounts rests a r = fill_by_all (λ c. drop (length (taken E c)) (stream net E c)) rests (length net.channels) [] (r.count ∙ k.count) (λ c l. r.each c (omega (arith, k.count)) ∙ rw (a.each c l, k.each c l))
+    rests_listed channel_counts rests a r = fill_by_all (λ c. drop (length (taken E c)) (stream net E c)) rests (length net.channels) [] (r.count ∙ k.count) (λ c l. r.each c (omega (arith, k.count)) ∙ rw (a.each c l, k.each c l))
 
 fewer_of_choice : {X : Type 0} (b : Bool) (x : X) (xs : List X) (n : ℕ) → length xs ≤ n → length (cond b (x ∷ xs) xs) ≤ suc n
 fewer_of_choice true x xs n h = omega arith
@@ -83,20 +83,20 @@ module _ (net : Network) (E : List Entry) where
   pub few_deeds : (steps : List ℕ) → CountsSteps net E steps → (p : ℕ) → get_or steps p 0 ≤ length E
   few_deeds steps k = at_most 0 (length net.processes) (λ q. length (deeds E q)) steps k (λ n. n) (length E) refl (deeds_fewer E)
 
-  module _ (accounts : List Account) (k : KeepsAccounts net E accounts) where
-    pub few_taken : (c : ℕ) → (account_at accounts c).taken ≤ length E
-    few_taken = at_most no_account (length net.channels) (account net E) accounts k (λ a. a.taken) (length E) refl (taken_fewer E)
+  module _ (channel_counts : List ChannelCounts) (k : KeepsCounts net E channel_counts) where
+    pub few_taken : (c : ℕ) → (counts_at channel_counts c).taken ≤ length E
+    few_taken = at_most no_counts (length net.channels) (counts_of net E) channel_counts k (λ a. a.taken) (length E) refl (taken_fewer E)
 
-    pub few_put : (c : ℕ) → (account_at accounts c).put ≤ length E
-    few_put = at_most no_account (length net.channels) (account net E) accounts k (λ a. a.put) (length E) refl (put_fewer E)
+    pub few_put : (c : ℕ) → (counts_at channel_counts c).put ≤ length E
+    few_put = at_most no_counts (length net.channels) (counts_of net E) channel_counts k (λ a. a.put) (length E) refl (put_fewer E)
 
 -- the next entry of a history
 module _ (net : Network) (history : List Entry) (i : ℕ) (d : Entry) (within : i < length history) where
   pub steps_next : (old new : List ℕ) → CountsSteps net (take i history) old → new ≡ steps_after old (get_or history i d) → CountsSteps net (take (i + 1) history) new
   steps_next old new k is = rw (take_more history i d within, is) (steps_kept net (take i history) old k (get_or history i d))
 
-  pub accounts_next : (old new : List Account) → KeepsAccounts net (take i history) old → new ≡ accounts_after old (get_or history i d) → KeepsAccounts net (take (i + 1) history) new
-  accounts_next old new k is = rw (take_more history i d within, is) (accounts_kept net (take i history) old k (get_or history i d))
+  pub counts_next : (old new : List ChannelCounts) → KeepsCounts net (take i history) old → new ≡ counts_after old (get_or history i d) → KeepsCounts net (take (i + 1) history) new
+  counts_next old new k is = rw (take_more history i d within, is) (counts_kept net (take i history) old k (get_or history i d))
 
   pub growths_next : (old new : List (ℕ × ℕ)) → old ≡ growths (take i history) → new ≡ old ++ growths (get_or history i d ∷ []) → new ≡ growths (take (i + 1) history)
   growths_next old new e is = rw (take_more history i d within, is, e) (simp growths-append)

@@ -5,20 +5,20 @@ use Rattle.kpn_model.specs.declared.history.Entry.{Entry}
 use Rattle.kpn_model.specs.declared.history.Place.{Place}
 use Rattle.kpn_model.specs.Network.{Network, channel_of}
 use Rattle.kpn_model.specs.History.{stream, each_channel}
-use Rattle.kpn_report.specs.declared.account.Account.{Account}
-use Rattle.kpn_report.specs.Tally.{account_at}
-use Rattle.kpn_model.specs.Parts.{lines_upto}
+use Rattle.kpn_report.specs.declared.channel_counts.ChannelCounts.{ChannelCounts}
+use Rattle.kpn_report.specs.Tally.{counts_at}
+use Rattle.kpn_model.specs.NamesAndLines.{lines_upto}
 use Rattle.kpn_report.specs.Text.{process_line, channel_line, growth_line, stream_line}
 
 -- the line of channel c: what is left are its start tokens and those put on it, without those taken
-abbrev pub counted_line : Network → List Account → ℕ → List ℕ
-counted_line net accounts c =
-    let a = account_at accounts c in channel_line net a.put (length (channel_of net c).tokens + a.put - a.taken) a.capacity c
+abbrev pub counted_line : Network → List ChannelCounts → ℕ → List ℕ
+counted_line net channel_counts c =
+    let a = counts_at channel_counts c in channel_line net a.put (length (channel_of net c).tokens + a.put - a.taken) a.capacity c
 
 -- all lines except the first and that of the channel to show
-abbrev pub counted_text : Network → List Place → List ℕ → List Account → List (ℕ × ℕ) → ℕ → List ℕ
-counted_text net places steps accounts growths entries =
-    lines_upto (process_line net places steps) (length net.processes) ++ lines_upto (counted_line net accounts) (length net.channels)
+abbrev pub counted_text : Network → List Place → List ℕ → List ChannelCounts → List (ℕ × ℕ) → ℕ → List ℕ
+counted_text net places steps channel_counts growths entries =
+    lines_upto (process_line net places steps) (length net.processes) ++ lines_upto (counted_line net channel_counts) (length net.channels)
     ++ flat_map (growth_line net) growths ++ codes "entries " ++ decimal entries ++ codes "\n"
 
 -- the line of the channel to show, if there is one

@@ -7,13 +7,14 @@ use Rattle.kpn_model.specs.declared.history.Entry.{Entry}
 use Rattle.kpn_model.specs.declared.history.Entry.TheVariants.{Did, Grew}
 use Rattle.kpn_model.specs.Network.{Network, channel_of}
 use Rattle.kpn_model.specs.History.{deeds, put_on, stream, taken, growths, grown}
-use Rattle.kpn_report.specs.declared.account.Account.{Account}
+use Rattle.kpn_report.specs.declared.channel_counts.ChannelCounts.{ChannelCounts}
 
-abbrev pub account : Network → List Entry → ℕ → Account
-account net E c = record { put = length (put_on E c); taken = length (taken E c); capacity = grown (channel_of net c).capacity (growths E) c }
+-- the counts of channel c
+abbrev pub counts_of : Network → List Entry → ℕ → ChannelCounts
+counts_of net E c = record { put = length (put_on E c); taken = length (taken E c); capacity = grown (channel_of net c).capacity (growths E) c }
 
-abbrev pub no_account : Account
-no_account = record { put = 0; taken = 0; capacity = 0 }
+abbrev pub no_counts : ChannelCounts
+no_counts = record { put = 0; taken = 0; capacity = 0 }
 
 -- the list has n items, and item i of it is f i
 pub record Tabulates {X : Type 0} (none : X) (n : ℕ) (f : ℕ → X) (xs : List X) : Type 0 where
@@ -24,40 +25,40 @@ pub record Tabulates {X : Type 0} (none : X) (n : ℕ) (f : ℕ → X) (xs : Lis
 abbrev pub CountsSteps : Network → List Entry → List ℕ → Type 0
 CountsSteps net E steps = Tabulates 0 (length net.processes) (λ p. length (deeds E p)) steps
 
--- the account of each channel
-abbrev pub KeepsAccounts : Network → List Entry → List Account → Type 0
-KeepsAccounts net E accounts = Tabulates no_account (length net.channels) (account net E) accounts
+-- the counts of each channel
+abbrev pub KeepsCounts : Network → List Entry → List ChannelCounts → Type 0
+KeepsCounts net E channel_counts = Tabulates no_counts (length net.channels) (counts_of net E) channel_counts
 
 -- the stream of each channel
 abbrev pub KeepsStreams : Network → List Entry → List (List Token) → Type 0
 KeepsStreams net E streams = Tabulates [] (length net.channels) (stream net E) streams
 
-abbrev pub account_at : List Account → ℕ → Account
-account_at accounts c = get_or accounts c no_account
+abbrev pub counts_at : List ChannelCounts → ℕ → ChannelCounts
+counts_at channel_counts c = get_or channel_counts c no_counts
 
--- an account after a put, a take and a growth
-abbrev pub with_put : Account → Account
+-- the counts of a channel after a put, a take and a growth
+abbrev pub with_put : ChannelCounts → ChannelCounts
 with_put a = record a { put = a.put + 1 }
 
-abbrev pub with_taken : Account → Account
+abbrev pub with_taken : ChannelCounts → ChannelCounts
 with_taken a = record a { taken = a.taken + 1 }
 
-abbrev pub with_capacity : Account → ℕ → Account
+abbrev pub with_capacity : ChannelCounts → ℕ → ChannelCounts
 with_capacity a n = record a { capacity = n }
 
--- the steps and the accounts after one more entry
+-- the steps and the counts of the channels after one more entry
 abbrev pub steps_after : List ℕ → Entry → List ℕ
 steps_after steps (Did p d) = set steps p (get_or steps p 0 + 1)
 steps_after steps (Grew c to) = steps
 
-abbrev pub accounts_after_deed : List Account → Deed → List Account
-accounts_after_deed accounts (Took c t) = set accounts c (with_taken (account_at accounts c))
-accounts_after_deed accounts (Put c t) = set accounts c (with_put (account_at accounts c))
-accounts_after_deed accounts Stopped = accounts
+abbrev pub counts_after_deed : List ChannelCounts → Deed → List ChannelCounts
+counts_after_deed channel_counts (Took c t) = set channel_counts c (with_taken (counts_at channel_counts c))
+counts_after_deed channel_counts (Put c t) = set channel_counts c (with_put (counts_at channel_counts c))
+counts_after_deed channel_counts Stopped = channel_counts
 
-abbrev pub accounts_after : List Account → Entry → List Account
-accounts_after accounts (Did p d) = accounts_after_deed accounts d
-accounts_after accounts (Grew c to) = set accounts c (with_capacity (account_at accounts c) to)
+abbrev pub counts_after : List ChannelCounts → Entry → List ChannelCounts
+counts_after channel_counts (Did p d) = counts_after_deed channel_counts d
+counts_after channel_counts (Grew c to) = set channel_counts c (with_capacity (counts_at channel_counts c) to)
 
 -- the streams after one more deed, or one more entry
 abbrev pub streams_after_deed : List (List Token) → Deed → List (List Token)

@@ -6,9 +6,9 @@ ghost use Rattle.kpn_model.specs.Semantics.{State, wants};
 ghost use Rattle.kpn_model.specs.History.{each_process, place_of, digest};
 ghost use Rattle.kpn_report.specs.Reported.{digest_with, IsReport};
 ghost use Rattle.kpn_model.specs.Endings.{has_report};
-ghost use Rattle.kpn_report.specs.Tally.{Tabulates, account_at};
+ghost use Rattle.kpn_report.specs.Tally.{Tabulates, counts_at};
 
-use crate::account::Account;
+use crate::channel_counts::ChannelCounts;
 use crate::streams::{Stream, Streams, streams_of};
 use crate::tally::tally_of;
 use kpn_model::{End, Entry, Kinds, Listed, Place, Token};
@@ -50,24 +50,24 @@ fn rest(alloc: Global, stream: &[Token], taken: usize) -> Result<Stream, AllocEr
 }
 
 /// What each channel still holds.
-fn rests(alloc: Global, streams: &[Stream], accounts: &[Account]) -> Result<Vec<Stream>, AllocError>
-    requires { length accounts.now ≡ length streams.now }
-    ensures { IfOk result (λ v. Tabulates [] (length streams.now) (λ c. drop (account_at accounts.now c).taken (get_or streams.now c [])) v.items) }
+fn rests(alloc: Global, streams: &[Stream], channel_counts: &[ChannelCounts]) -> Result<Vec<Stream>, AllocError>
+    requires { length channel_counts.now ≡ length streams.now }
+    ensures { IfOk result (λ v. Tabulates [] (length streams.now) (λ c. drop (counts_at channel_counts.now c).taken (get_or streams.now c [])) v.items) }
 {
     let mut rests = Vec::with_capacity(alloc, streams.len())?;
     for c in 0..streams.len() {
-        rests.push(rest(alloc, streams[c].as_slice(), accounts[c].taken)?)?;
+        rests.push(rest(alloc, streams[c].as_slice(), channel_counts[c].taken)?)?;
     }
     Ok(rests)
 }
 
 /// The last capacity of each channel.
-fn capacities(alloc: Global, accounts: &[Account]) -> Result<Vec<usize>, AllocError>
-    ensures { IfOk result (λ v. v.items ≡ map (λ a. a.capacity) accounts.now) }
+fn capacities(alloc: Global, channel_counts: &[ChannelCounts]) -> Result<Vec<usize>, AllocError>
+    ensures { IfOk result (λ v. v.items ≡ map (λ a. a.capacity) channel_counts.now) }
 {
-    accounts
+    channel_counts
         .iter()
-        .map(|account| account.capacity)
+        .map(|counts| counts.capacity)
         .collect(alloc)
 }
 
@@ -84,8 +84,8 @@ pub fn detail_of<K: Kinds>(
 {
     let tally = tally_of(alloc, net, history)?;
     let streams = streams_of(alloc, net, history)?;
-    let capacities = capacities(alloc, tally.accounts.as_slice())?;
-    let rests = rests(alloc, streams.as_slice(), tally.accounts.as_slice())?;
+    let capacities = capacities(alloc, tally.channel_counts.as_slice())?;
+    let rests = rests(alloc, streams.as_slice(), tally.channel_counts.as_slice())?;
     Ok(Detail {
         places: Listed::new(places),
         steps: Listed::new(tally.steps),

@@ -8,7 +8,7 @@
 //! ```
 #![tactic(auto)]
 
-mod account;
+mod channel_counts;
 mod detail;
 mod lines;
 mod places;

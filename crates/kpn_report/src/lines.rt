@@ -1,7 +1,7 @@
 //! The lines of a report.
 ghost use Rattle.std.specs.Prelude.{◌≡◌, ◌++◌, ◌<◌, OnOk, IfOk, length, string_bytes};
 ghost use Rattle.std.specs.List.{flat_map};
-ghost use Rattle.kpn_model.specs.Parts.{channel_name, lines_upto};
+ghost use Rattle.kpn_model.specs.NamesAndLines.{channel_name, lines_upto};
 ghost use Rattle.kpn_report.specs.Text.{process_line, channel_line, growth_line, token_part, end_text, end_line, stream_line};
 
 use kpn_model::{End, Kinds, Place, Token};

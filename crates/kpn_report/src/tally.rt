@@ -1,9 +1,9 @@
 //! What is counted of a history, entry by entry.
 ghost use Rattle.std.specs.Prelude.{◌≡◌, ◌<◌, ◌+◌, ◌^◌, ◌++◌, ◌∷◌, [], ℕ, set, get_or, IfOk, OnOk};
 ghost use Rattle.kpn_model.specs.History.{growths as growths_of};
-ghost use Rattle.kpn_report.specs.Tally.{CountsSteps, KeepsAccounts, with_put, with_taken, with_capacity, account_at, steps_after, accounts_after_deed, accounts_after};
+ghost use Rattle.kpn_report.specs.Tally.{CountsSteps, KeepsCounts, with_put, with_taken, with_capacity, counts_at, steps_after, counts_after_deed, counts_after};
 
-use crate::account::Account;
+use crate::channel_counts::ChannelCounts;
 use kpn_model::{Deed, Entry, Kinds};
 use kpn_network::Net;
 use std::alloc::{AllocError, Global};
@@ -13,7 +13,7 @@ use std::alloc::{AllocError, Global};
 #[derive(Drop)]
 pub(crate) struct Tally {
     pub(crate) steps: Vec<u64>,
-    pub(crate) accounts: Vec<Account>,
+    pub(crate) channel_counts: Vec<ChannelCounts>,
     pub(crate) growths: Vec<(usize, usize)>,
 }
 
@@ -28,46 +28,46 @@ fn count_deed(steps: &mut Vec<u64>, process: usize)
 }
 
 /// Counts one more token put on a channel.
-fn count_put(accounts: &mut Vec<Account>, channel: usize)
-    requires { (account_at accounts.old.items channel).put + 1 < 2 ^ 64 }
-    ensures { accounts.new.items ≡ set accounts.old.items channel (with_put (account_at accounts.old.items channel)) }
+fn count_put(channel_counts: &mut Vec<ChannelCounts>, channel: usize)
+    requires { (counts_at channel_counts.old.items channel).put + 1 < 2 ^ 64 }
+    ensures { channel_counts.new.items ≡ set channel_counts.old.items channel (with_put (counts_at channel_counts.old.items channel)) }
 {
-    if channel < accounts.len() {
-        let account = &mut accounts[channel];
-        account.put += 1;
+    if channel < channel_counts.len() {
+        let counts = &mut channel_counts[channel];
+        counts.put += 1;
     }
 }
 
 /// Counts one more token taken from a channel.
-fn count_taken(accounts: &mut Vec<Account>, channel: usize)
-    requires { (account_at accounts.old.items channel).taken + 1 < 2 ^ 64 }
-    ensures { accounts.new.items ≡ set accounts.old.items channel (with_taken (account_at accounts.old.items channel)) }
+fn count_taken(channel_counts: &mut Vec<ChannelCounts>, channel: usize)
+    requires { (counts_at channel_counts.old.items channel).taken + 1 < 2 ^ 64 }
+    ensures { channel_counts.new.items ≡ set channel_counts.old.items channel (with_taken (counts_at channel_counts.old.items channel)) }
 {
-    if channel < accounts.len() {
-        let account = &mut accounts[channel];
-        account.taken += 1;
+    if channel < channel_counts.len() {
+        let counts = &mut channel_counts[channel];
+        counts.taken += 1;
     }
 }
 
 /// Notes the new capacity of a channel.
-fn note_capacity(accounts: &mut Vec<Account>, channel: usize, to: usize)
-    ensures { accounts.new.items ≡ set accounts.old.items channel (with_capacity (account_at accounts.old.items channel) to) }
+fn note_capacity(channel_counts: &mut Vec<ChannelCounts>, channel: usize, to: usize)
+    ensures { channel_counts.new.items ≡ set channel_counts.old.items channel (with_capacity (counts_at channel_counts.old.items channel) to) }
 {
-    if channel < accounts.len() {
-        let account = &mut accounts[channel];
-        account.capacity = to;
+    if channel < channel_counts.len() {
+        let counts = &mut channel_counts[channel];
+        counts.capacity = to;
     }
 }
 
 /// Counts what a deed puts or takes.
-fn note_deed(accounts: &mut Vec<Account>, deed: Deed)
-    requires few_put { (c : ℕ) → (account_at accounts.old.items c).put + 1 < 2 ^ 64 }
-    requires few_taken { (c : ℕ) → (account_at accounts.old.items c).taken + 1 < 2 ^ 64 }
-    ensures { accounts.new.items ≡ accounts_after_deed accounts.old.items deed }
+fn note_deed(channel_counts: &mut Vec<ChannelCounts>, deed: Deed)
+    requires few_put { (c : ℕ) → (counts_at channel_counts.old.items c).put + 1 < 2 ^ 64 }
+    requires few_taken { (c : ℕ) → (counts_at channel_counts.old.items c).taken + 1 < 2 ^ 64 }
+    ensures { channel_counts.new.items ≡ counts_after_deed channel_counts.old.items deed }
 {
     match deed {
-        Deed::Took { channel, .. } => count_taken(accounts, channel),
-        Deed::Put { channel, .. } => count_put(accounts, channel),
+        Deed::Took { channel, .. } => count_taken(channel_counts, channel),
+        Deed::Put { channel, .. } => count_put(channel_counts, channel),
         Deed::Stopped => {}
     }
 }
@@ -75,25 +75,25 @@ fn note_deed(accounts: &mut Vec<Account>, deed: Deed)
 /// Counts one more entry. Fails if memory was refused.
 fn note(
     steps: &mut Vec<u64>,
-    accounts: &mut Vec<Account>,
+    channel_counts: &mut Vec<ChannelCounts>,
     growths: &mut Vec<(usize, usize)>,
     entry: Entry,
 ) -> Result<(), AllocError>
     requires few_deeds { (p : ℕ) → get_or steps.old.items p 0 + 1 < 2 ^ 64 }
-    requires few_put { (c : ℕ) → (account_at accounts.old.items c).put + 1 < 2 ^ 64 }
-    requires few_taken { (c : ℕ) → (account_at accounts.old.items c).taken + 1 < 2 ^ 64 }
+    requires few_put { (c : ℕ) → (counts_at channel_counts.old.items c).put + 1 < 2 ^ 64 }
+    requires few_taken { (c : ℕ) → (counts_at channel_counts.old.items c).taken + 1 < 2 ^ 64 }
     ensures steps { OnOk result (steps.new.items ≡ steps_after steps.old.items entry) }
-    ensures accounts { OnOk result (accounts.new.items ≡ accounts_after accounts.old.items entry) }
+    ensures channel_counts { OnOk result (channel_counts.new.items ≡ counts_after channel_counts.old.items entry) }
     ensures growths { OnOk result (growths.new.items ≡ growths.old.items ++ growths_of (entry ∷ [])) }
 {
     match entry {
         Entry::Did { process, deed } => {
             count_deed(steps, process);
-            note_deed(accounts, deed);
+            note_deed(channel_counts, deed);
             Ok(())
         }
         Entry::Grew { channel, to } => {
-            note_capacity(accounts, channel, to);
+            note_capacity(channel_counts, channel, to);
             growths.push((channel, to))?;
             Ok(())
         }
@@ -107,19 +107,19 @@ fn no_steps<K: Kinds>(alloc: Global, net: &Net<K>) -> Result<Vec<u64>, AllocErro
     vec![in alloc; 0u64; net.processes()]
 }
 
-/// The account of each channel before any entry.
-fn first_accounts<K: Kinds>(alloc: Global, net: &Net<K>) -> Result<Vec<Account>, AllocError>
-    ensures { IfOk result (λ v. KeepsAccounts net.now [] v.items) }
+/// The counts of each channel before any entry.
+fn first_counts<K: Kinds>(alloc: Global, net: &Net<K>) -> Result<Vec<ChannelCounts>, AllocError>
+    ensures { IfOk result (λ v. KeepsCounts net.now [] v.items) }
 {
-    let mut accounts = Vec::with_capacity(alloc, net.channels())?;
+    let mut channel_counts = Vec::with_capacity(alloc, net.channels())?;
     for c in 0..net.channels() {
-        accounts.push(Account {
+        channel_counts.push(ChannelCounts {
             put: 0,
             taken: 0,
             capacity: net.capacity(c),
         })?;
     }
-    Ok(accounts)
+    Ok(channel_counts)
 }
 
 /// Counts a history, which is read once. Fails if memory was refused.
@@ -129,18 +129,18 @@ pub(crate) fn tally_of<K: Kinds>(
     history: &[Entry],
 ) -> Result<Tally, AllocError>
     ensures steps { IfOk result (λ t. CountsSteps net.now history.now t.steps.items) }
-    ensures accounts { IfOk result (λ t. KeepsAccounts net.now history.now t.accounts.items) }
+    ensures channel_counts { IfOk result (λ t. KeepsCounts net.now history.now t.channel_counts.items) }
     ensures growths { IfOk result (λ t. t.growths.items ≡ growths_of history.now) }
 {
     let mut steps = no_steps(alloc, net)?;
-    let mut accounts = first_accounts(alloc, net)?;
+    let mut channel_counts = first_counts(alloc, net)?;
     let mut growths = Vec::new(alloc);
     for entry in history {
-        note(&mut steps, &mut accounts, &mut growths, *entry)?;
+        note(&mut steps, &mut channel_counts, &mut growths, *entry)?;
     }
     Ok(Tally {
         steps,
-        accounts,
+        channel_counts,
         growths,
     })
 }

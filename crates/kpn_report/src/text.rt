@@ -4,13 +4,13 @@ ghost use Rattle.kpn_model.specs.Network.{Family};
 ghost use Rattle.kpn_model.specs.Semantics.{State, wants};
 ghost use Rattle.kpn_model.specs.History.{each_process, place_of, digest};
 ghost use Rattle.kpn_model.specs.declared.history.End.TheVariants.{Terminated};
-ghost use Rattle.kpn_report.specs.Tally.{account_at};
+ghost use Rattle.kpn_report.specs.Tally.{counts_at};
 ghost use Rattle.kpn_report.specs.Counted.{counted_line, counted_text, shown_of};
-ghost use Rattle.kpn_model.specs.Parts.{lines_upto};
+ghost use Rattle.kpn_model.specs.NamesAndLines.{lines_upto};
 ghost use Rattle.kpn_report.specs.Text.{digest_text, report_text};
 ghost use Rattle.kpn_model.specs.Endings.{has_report};
 
-use crate::account::Account;
+use crate::channel_counts::ChannelCounts;
 use crate::detail::has_report;
 use crate::lines::{end_line, push_channel, push_growths, push_processes, push_stream};
 use crate::streams::stream_of;
@@ -24,31 +24,31 @@ use std::fmt::Write;
 fn push_counted<K: Kinds>(
     out: &mut String,
     net: &Net<K>,
-    accounts: &[Account],
+    channel_counts: &[ChannelCounts],
     c: usize,
 ) -> Result<(), AllocError>
     requires channel { c < length net.now.channels }
-    requires all { length accounts.now ≡ length net.now.channels }
-    requires few { (account_at accounts.now c).put < 2 ^ 63 }
-    ensures { OnOk result (string_bytes out.new ≡ string_bytes out.old ++ counted_line net.now accounts.now c) }
+    requires all { length channel_counts.now ≡ length net.now.channels }
+    requires few { (counts_at channel_counts.now c).put < 2 ^ 63 }
+    ensures { OnOk result (string_bytes out.new ≡ string_bytes out.old ++ counted_line net.now channel_counts.now c) }
 {
-    let account = accounts[c];
-    let left = (net.tokens(c).len() + account.put).saturating_sub(account.taken);
-    push_channel(out, net, account.put, left, account.capacity, c)
+    let counts = channel_counts[c];
+    let left = (net.tokens(c).len() + counts.put).saturating_sub(counts.taken);
+    push_channel(out, net, counts.put, left, counts.capacity, c)
 }
 
 /// Appends the lines of the channels, from what was counted of them.
 fn push_channels<K: Kinds>(
     out: &mut String,
     net: &Net<K>,
-    accounts: &[Account],
+    channel_counts: &[ChannelCounts],
 ) -> Result<(), AllocError>
-    requires few { (c : ℕ) → (account_at accounts.now c).put < 2 ^ 63 }
-    requires all { length accounts.now ≡ length net.now.channels }
-    ensures { OnOk result (string_bytes out.new ≡ string_bytes out.old ++ lines_upto (counted_line net.now accounts.now) (length net.now.channels)) }
+    requires few { (c : ℕ) → (counts_at channel_counts.now c).put < 2 ^ 63 }
+    requires all { length channel_counts.now ≡ length net.now.channels }
+    ensures { OnOk result (string_bytes out.new ≡ string_bytes out.old ++ lines_upto (counted_line net.now channel_counts.now) (length net.now.channels)) }
 {
     for c in 0..net.channels() {
-        push_counted(out, net, accounts, c)?;
+        push_counted(out, net, channel_counts, c)?;
     }
     Ok(())
 }
@@ -80,12 +80,12 @@ fn push_tally<K: Kinds>(
     tally: &Tally,
     entries: usize,
 ) -> Result<(), AllocError>
-    requires few { (c : ℕ) → (account_at tally.now.accounts.items c).put < 2 ^ 63 }
-    requires all { length tally.now.accounts.items ≡ length net.now.channels }
-    ensures { OnOk result (string_bytes out.new ≡ string_bytes out.old ++ counted_text net.now places.now tally.now.steps.items tally.now.accounts.items tally.now.growths.items entries) }
+    requires few { (c : ℕ) → (counts_at tally.now.channel_counts.items c).put < 2 ^ 63 }
+    requires all { length tally.now.channel_counts.items ≡ length net.now.channels }
+    ensures { OnOk result (string_bytes out.new ≡ string_bytes out.old ++ counted_text net.now places.now tally.now.steps.items tally.now.channel_counts.items tally.now.growths.items entries) }
 {
     push_processes(out, net, places, tally.steps.as_slice())?;
-    push_channels(out, net, tally.accounts.as_slice())?;
+    push_channels(out, net, tally.channel_counts.as_slice())?;
     push_growths(out, net, tally.growths.as_slice())?;
     write!(out, "entries {entries}\n")
 }

@@ -19,7 +19,7 @@ use Rattle.kpn_state.proofs.Placed.{idle_at}
 use Rattle.kpn_machine.specs.MachineView.{MachineView, IsFaithful}
 use Rattle.kpn_report.specs.declared.detail.Detail.{Detail}
 use Rattle.kpn_report.specs.Reported.{IsReport}
-use Rattle.kpn_run.specs.Runs.{FinishedRun, IsFinish}
+use Rattle.kpn_run.specs.Runs.{FinishView, IsFinish}
 use Rattle.kpn_run.specs.Reports.{IsEveryRuns, IsOutcome, TellsLeastSolution}
 
 not_budget : (cause : End) → has_report cause ≡ true → cause ≢ Budget
@@ -94,5 +94,5 @@ over_of kinds net Ceiling E M has justified = justified
 over_of kinds net Budget E M has justified = cc
 over_of kinds net Memory E M has justified = cc
 
-pub final_of : (kinds : Family) (net : Network) (f : FinishedRun) → IsFinish kinds net f → has_report f.cause ≡ true → IsFinal kinds net f.machine.history f.machine.state f.cause
+pub final_of : (kinds : Family) (net : Network) (f : FinishView) → IsFinish kinds net f → has_report f.cause ≡ true → IsFinal kinds net f.machine.history f.machine.state f.cause
 final_of kinds net f finish has = record { run = finish.run; over = over_of kinds net f.cause f.machine.history f.machine.state has finish.justified }

@@ -9,17 +9,17 @@ use Rattle.kpn_model.specs.Determinacy.{IsRun, IsFinal, AreAllPrefixComparable}
 use Rattle.kpn_model.specs.Moments.{IsWithin}
 use Rattle.kpn_model.specs.Endings.{MayEnd}
 use Rattle.kpn_machine.specs.MachineView.{MachineView}
-use Rattle.kpn_monitor.specs.Names.{Shares}
+use Rattle.kpn_monitor.specs.Views.{Shares}
 
 -- what contracts see of a run that has ended: the machine that was closed, the receipts, and the end
-pub record FinishedRun : Type 0 where
+pub record FinishView : Type 0 where
   pub machine : MachineView
   pub receipts : ℕ
   pub cause : End
 
 -- the history is a run of this network from its start, so each entry is a transition of the sequential machine; its end is
 -- justified; and there are as many entries as receipts
-pub record IsFinish (kinds : Family) (net : Network) (f : FinishedRun) : Type 0 where
+pub record IsFinish (kinds : Family) (net : Network) (f : FinishView) : Type 0 where
   pub network : f.machine.network ≡ net
   pub run : IsRun kinds net f.machine.history f.machine.state
   pub justified : MayEnd kinds net f.machine.history f.machine.state f.cause

@@ -23,9 +23,9 @@ pub struct Finish<K: Kinds> {
 
 impl<K: Kinds> Model for Finish<K> {
     ghost use Rattle.std.specs.Prelude.{◌≡◌, Some, length};
-    ghost use Rattle.kpn_run.specs.Runs.{FinishedRun, IsFinish};
+    ghost use Rattle.kpn_run.specs.Runs.{FinishView, IsFinish};
 
-    ghost Value = { FinishedRun };
+    ghost Value = { FinishView };
 
     ghost view = { λ f. record { machine = f.chronicle; receipts = f.receipts; cause = f.end } };
 

@@ -1,5 +1,5 @@
 //! A gate that makes one process give way to another.
-use crate::worker::Gate;
+use crate::gate::Gate;
 use std::sync::atomic::{AtomicU64, Ordering};
 
 /// A gate that holds up the answers of one process until another process has passed it a number of

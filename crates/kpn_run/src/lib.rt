@@ -12,19 +12,21 @@
 #![tactic(auto)]
 
 mod boxed;
-mod executor;
 mod finish;
+mod gate;
 mod hold_gate;
+mod own_thread;
 mod pace;
 mod reporting;
-mod round;
+mod running;
 mod slot;
 mod worker;
 
-pub use executor::{RunFault, run};
 pub use finish::Finish;
+pub use gate::{Gate, Open, Prompt};
 pub use hold_gate::Hold;
 pub use kpn_model::Place;
 pub use kpn_report::{Detail, Growths, Places, Report, Sizes, Steps, Stream, Streams, stream_of};
+pub use own_thread::{Worked, work};
 pub use reporting::report;
-pub use worker::{Gate, Open, Prompt, Worked, work};
+pub use running::{RunFault, run};

@@ -1,11 +1,11 @@
 //! The seats of the workers of a run.
 ghost use Rattle.std.specs.Prelude.{◌≡◌, ◌+◌, ◌<◌, ◌≤◌, ℕ, [], length, vec_capacity, is_some, slice_index_or, IfNone};
 ghost use Rattle.std.specs.List.{All, sum_by};
-ghost use Rattle.kpn_monitor.specs.Names.{Shares};
+ghost use Rattle.kpn_monitor.specs.Views.{Shares};
 ghost use Rattle.kpn_run.specs.Runs.{AtSlot, HasMet};
 
-use crate::round::work_in_rounds;
-use crate::worker::Gate;
+use crate::worker::work_in_rounds;
+use crate::gate::Gate;
 use kpn_body::{Body, Finished};
 use kpn_monitor::{EntryLedger, Hand, Monitor, Seat};
 use std::alloc::{AllocError, Global};

@@ -1,98 +1,171 @@
-//! What one worker does.
-ghost use Rattle.std.specs.Prelude.{◌≡◌, IfNone};
+//! What a worker of a run does.
+ghost use Rattle.std.specs.Prelude.{◌≡◌, length, IfNone, IsTrue};
 
+use crate::pace::{Pace, Turn};
+use crate::gate::Gate;
 use kpn_body::{Body, Finished};
 use kpn_machine::Stranger;
-use kpn_monitor::{EntryLedger, Monitor, Seat, Taken};
+use kpn_monitor::{EntryLedger, Hand, Monitor, Next, Rest, Seat, Went};
+use std::hint::spin_loop;
+use std::rt::Clock;
 use std::sync::Wait;
 use std::sync::ledger::Ledger;
+use std::time::{Duration, Instant};
 
-/// What a worker calls between an answer and its commit, outside the lock. A gate that waits holds its
-/// worker up; it does not change the result.
-///
-/// ```text
-/// impl<'a, R: Wait + Clock + Sync> Gate for Slowly<'a, R> {
-///     fn before_commit(&self, _process: usize) {
-///         sleep(self.rt, Duration::from_micros(50));
-///     }
-/// }
-/// ```
-pub trait Gate: Sync {
-    /// Called with the number of the process whose answer is about to be committed.
-    fn before_commit(&self, process: usize);
+/// How long the lookout rests at first: at the start of a run, after it was at work and is spare, and
+/// after it found nothing to do, in microseconds.
+const FIRST_REST: u64 = 50;
 
-    /// Whether workers may ask bodies under the lock, and then without this gate. That is for bodies that
-    /// wait for nobody: one that waited for another under the lock would wait for ever.
-    fn lets_ask_in_place(&self) -> bool {
-        false
+const SPARE_REST: u64 = 200;
+
+const IDLE_REST: u64 = 100;
+
+/// How often a worker pauses between two looks for something to do.
+const PAUSES: u32 = 64;
+
+/// Measures how many nanoseconds have gone by since it was made.
+#[derive(Clone, Copy)]
+struct Stopwatch {
+    start: Option<Instant>,
+}
+
+impl Stopwatch {
+    fn new<R: Clock>(rt: &R) -> Stopwatch {
+        Stopwatch {
+            start: Instant::now(rt).ok(),
+        }
+    }
+
+    /// The nanoseconds so far; 0 if the clock can't be read.
+    fn nanos<R: Clock>(&self, rt: &R) -> u64 {
+        let Some(start) = self.start else {
+            return 0;
+        };
+        match start.elapsed(rt) {
+            Ok(past) => u64::try_from(past.as_nanos()).unwrap_or(u64::MAX),
+            Err(_) => 0,
+        }
     }
 }
 
-/// The gate that does nothing.
-pub struct Open;
-
-impl Gate for Open {
-    fn before_commit(&self, _process: usize) {}
-}
-
-/// The gate that does nothing, for bodies that wait for nobody. While their calls are short, one worker of
-/// `run` asks them under the lock, which is as fast as no lock; while they are longer, all work as by
-/// `Open`. `work` never asks a body under the lock, and takes it as `Open`.
-pub struct Prompt;
-
-impl Gate for Prompt {
-    fn before_commit(&self, _process: usize) {}
-
-    fn lets_ask_in_place(&self) -> bool {
-        true
-    }
-}
-
-/// What a worker hands back: its seat, and the answer that the monitor refused, if there is one.
-#[derive(Drop)]
-pub struct Worked<B: Body, E: EntryLedger, O: Ledger> {
-    pub seat: Seat<E, O>,
-    pub stranger: Option<Finished<B>>,
-}
-
-/// Takes a task, calls it, asks the gate and commits the answer, again and again, until the run has ended
-/// or an answer is refused. Returns the seat, and the refused answer if there is one; if there is none,
-/// the seat has met an end. It may wait for other workers.
-pub fn work<B: Body, E: EntryLedger, O: Ledger, R: Wait, G: Gate>(
-    rt: &R,
-    monitor: &Monitor<B, E, O>,
-    mut seat: Seat<E, O>,
-    gate: &G,
-) -> Worked<B, E, O>
-    ensures parts { result.seat.parts ≡ seat.parts }
-    ensures over { IfNone result.stranger (result.seat.overs ≡ 1) }
-{
-    let stranger = work_with(rt, monitor, gate, &mut seat);
-    Worked { seat, stranger }
-}
-
-// As `work`, with a borrowed seat.
-fn work_with<B: Body, E: EntryLedger, O: Ledger, R: Wait, G: Gate>(
+/// Calls the tasks of a hand, asks the gate after each, and exchanges the answers for other tasks,
+/// again and again, until the run has ended or an answer is refused; in between it has bodies asked in
+/// place, if the gate lets it and while that is quicker. Returns the refused answer; if there is none, the
+/// seat has met an end. It may wait for other workers.
+pub(crate) fn work_in_rounds<B: Body, E: EntryLedger, O: Ledger, R: Wait + Clock, G: Gate>(
     rt: &R,
     monitor: &Monitor<B, E, O>,
     gate: &G,
     seat: &mut Seat<E, O>,
+    hand: &mut Hand<B>,
 ) -> Option<Finished<B>>
     ensures parts { seat.new.parts ≡ seat.old.parts }
     ensures over { IfNone result (seat.new.overs ≡ 1) }
 {
+    monitor.rest(rt, hand, Rest::Spare, Duration::from_micros(FIRST_REST));
+    let watch = Stopwatch::new(rt);
+    let mut pace = Pace::new(watch.nanos(rt), gate.lets_ask_in_place());
     for _ in rt.forever() {
-        match monitor.take(rt, seat) {
-            Taken::Over(_) => return None,
-            Taken::Task(task) => {
-                let finished = task.call();
-                gate.before_commit(finished.process());
-                match monitor.commit(rt, finished, seat) {
-                    Ok(_) => {}
-                    Err(Stranger { finished }) => return Some(finished),
-                }
-            }
+        if pace.in_place() > 0 && ask_in_place(rt, monitor, seat, &watch, &mut pace) {
+            return None;
+        }
+        let calls = call_all(hand, gate);
+        let most = if pace.is_timed() {
+            pace.called(calls, watch.nanos(rt))
+        } else {
+            pace.most()
+        };
+        match monitor.exchange(rt, hand, seat, most) {
+            Ok(Next::Over(_)) => return None,
+            Ok(next) => go_on(rt, monitor, hand, &watch, &mut pace, next),
+            Err(Stranger { finished }) => return Some(finished),
         }
     }
     unreachable!()
+}
+
+// Has bodies asked in place while that is quicker. Returns whether the run has ended; the seat has then
+// met its end.
+fn ask_in_place<B: Body, E: EntryLedger, O: Ledger, R: Wait + Clock>(
+    rt: &R,
+    monitor: &Monitor<B, E, O>,
+    seat: &mut Seat<E, O>,
+    watch: &Stopwatch,
+    pace: &mut Pace,
+) -> bool
+    ensures parts { seat.new.parts ≡ seat.old.parts }
+    ensures over { IsTrue result → seat.new.overs ≡ 1 }
+{
+    for _ in rt.forever() {
+        match monitor.ask_in_place(rt, seat, pace.in_place()) {
+            Went::On { waited } => pace.asked(waited, watch.nanos(rt)),
+            Went::Nowhere => pace.stop_asking(),
+            Went::Over(_) => return true,
+        }
+        if pace.in_place() == 0 {
+            return false;
+        }
+    }
+    unreachable!()
+}
+
+// After an exchange: goes on, pauses or rests.
+fn go_on<B: Body, E: EntryLedger, O: Ledger, R: Wait + Clock>(
+    rt: &R,
+    monitor: &Monitor<B, E, O>,
+    hand: &mut Hand<B>,
+    watch: &Stopwatch,
+    pace: &mut Pace,
+    next: Next,
+) {
+    if !pace.is_timed() && matches!(next, Next::Tasks) {
+        if pace.pass() {
+            pace.resume(watch.nanos(rt));
+        }
+        return;
+    }
+    if !pace.is_timed() {
+        pace.resume(watch.nanos(rt));
+    }
+    let turn = pace.exchanged(next, watch.nanos(rt));
+    take_turn(rt, monitor, hand, watch, pace, turn);
+}
+
+// Calls all tasks of a hand, and asks the gate after each. Returns how many there were.
+fn call_all<B: Body, G: Gate>(hand: &mut Hand<B>, gate: &G) -> u64
+    ensures { hand.new.called ≡ length hand.new.tasks }
+{
+    let mut calls: u64 = 0;
+    while let Some(process) = hand.call() {
+        gate.before_commit(process);
+        calls = calls.saturating_add(1);
+    }
+    calls
+}
+
+// Goes on, pauses or rests.
+fn take_turn<B: Body, E: EntryLedger, O: Ledger, R: Wait + Clock>(
+    rt: &R,
+    monitor: &Monitor<B, E, O>,
+    hand: &mut Hand<B>,
+    watch: &Stopwatch,
+    pace: &mut Pace,
+    turn: Turn,
+) {
+    match turn {
+        Turn::Go => {}
+        Turn::Pause => {
+            for _ in 0..PAUSES {
+                spin_loop();
+            }
+        }
+        Turn::Rest(why) => {
+            let long = match why {
+                Rest::Spare => SPARE_REST,
+                Rest::Idle => IDLE_REST,
+            };
+            let rested = monitor.rest(rt, hand, why, Duration::from_micros(long));
+            pace.rested(rested, watch.nanos(rt));
+        }
+    }
 }

@@ -41,7 +41,7 @@ impl Ring {
     }
 
     /// Returns how many tokens the channel holds, and its capacity.
-    pub fn filling(&self) -> (usize, usize)
+    pub fn tokens_and_capacity(&self) -> (usize, usize)
         ensures tokens { result.0 ≡ length self.now.tokens }
         ensures capacity { result.1 ≡ self.now.capacity }
         ensures within { result.0 ≤ result.1 }

@@ -160,7 +160,7 @@ impl Roster {
         match self.standings[process] {
             Standing::Ready => self.update_ready(process, next),
             Standing::Out | Standing::Parked(_) | Standing::Stopped => {
-                self.update_idle(process, next)
+                self.update_unready(process, next)
             }
         }
     }
@@ -185,9 +185,9 @@ impl Roster {
 
     /// Sets the standing of a process that is not ready.
     #[inline(always)]
-    fn update_idle(&mut self, process: usize, next: Standing)
+    fn update_unready(&mut self, process: usize, next: Standing)
         requires process { process < length self.old }
-        requires idle { standing self.old process ≢ Ready }
+        requires unready { standing self.old process ≢ Ready }
         ensures { self.new ≡ set self.old process next }
     {
         let before = self.standings[process];

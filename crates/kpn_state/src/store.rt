@@ -65,14 +65,14 @@ impl Store {
     }
 
     /// Returns how many tokens a channel holds, and its capacity.
-    pub fn filling(&self, channel: usize) -> (usize, usize)
+    pub fn tokens_and_capacity(&self, channel: usize) -> (usize, usize)
         requires { channel < length self.now.state.channels }
         ensures tokens { result.0 ≡ length (tokens self.now.state channel) }
         ensures capacity { result.1 ≡ capacity self.now.state channel }
         ensures within { result.0 ≤ result.1 }
     {
         let ring = &self.rings[channel];
-        ring.filling()
+        ring.tokens_and_capacity()
     }
 
     /// Forgets the entries so far: what is told goes on from the state that they led to, and there is room

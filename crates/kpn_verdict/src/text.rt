@@ -1,6 +1,6 @@
 //! The text of a verdict.
 ghost use Rattle.std.specs.Prelude.{◌≡◌, ◌++◌, OnOk, IfOk, string_bytes};
-ghost use Rattle.kpn_model.specs.Parts.{channel_name, process_name};
+ghost use Rattle.kpn_model.specs.NamesAndLines.{channel_name, process_name};
 ghost use Rattle.kpn_verdict.specs.VerdictText.{circle_text, verdict_line, verdict_words, wait_text};
 
 use crate::waits::{place_at, waits_for};

@@ -87,7 +87,7 @@ impl CountingPublisher {
 
     /// Ends a watcher of the publisher's board, and returns what is published. The history goes on from
     /// what the watcher had seen, and is the same if the watcher had seen an end.
-    pub fn settle(&mut self, board: &Board, watcher: Watcher) -> Progress
+    pub fn join(&mut self, board: &Board, watcher: Watcher) -> Progress
         requires board { self.old.board ≡ board.now }
         requires watcher { watcher.board ≡ board.now }
         ensures goes_on { IsPrefix watcher.entries self.old.entries }

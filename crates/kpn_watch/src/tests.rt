@@ -205,6 +205,6 @@ fn each_commit_has_its_word(rt: HostRuntime) -> Result<(), Fail> {
         watcher,
         history: _,
     } = display;
-    assert!(rt; publisher.settle(&board, watcher) == last.progress);
+    assert!(rt; publisher.join(&board, watcher) == last.progress);
     Ok(())
 }

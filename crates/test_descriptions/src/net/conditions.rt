@@ -1,7 +1,7 @@
 //! The condition of each fault, of single processes and channels of a sketch, against what the rules say.
 use crate::checks::same;
 use crate::net::tests::{CountAndSink, sketch_of};
-use kpn_net::check::{
+use kpn_net::faults::{
     Clash, SameIn, SameName, SameOut, has_unknown_kind, has_unused_port, has_wrong_args,
     has_wrong_capacity, has_wrong_sort, has_wrong_tokens, in_sort, is_name, is_sort, is_token,
     is_unused_in, is_unused_out, lacks_end, out_sort, port_sort, process_named, signature_of,

@@ -40,7 +40,7 @@ returns-in_default-grow-clause-settles g c =
     let k = c.requires.keeps in
     let best = chosen c.requires.waiting.candidates c.in-Some.ensures.ordered _ c.in-Some.ensures.first in
     let parked = rw c.as_slice.ensures.value at c.in-Some-parked.ensures.some in
-    let to_is : c.enlarged-to.result ≡ min (capacity c.args.store.now.state c.in-Some.channel + c.args.net.now.step) c.args.net.now.ceiling = rw (← c.filling-capacity.ensures.capacity, ← c.step.ensures, ← c.ceiling-2.ensures) c.enlarged-to.ensures in
+    let to_is : c.enlarged-to.result ≡ min (capacity c.args.store.now.state c.in-Some.channel + c.args.net.now.step) c.args.net.now.ceiling = rw (← c.tokens_and_capacity-capacity.ensures.capacity, ← c.step.ensures, ← c.ceiling-2.ensures) c.enlarged-to.ensures in
     (idle, c.in_default-grow.ensures.err, refl, record { channel = c.in-Some.channel; to = c.enlarged-to.result; next = _; grows = growth k c.in-Some.channel c.in-Some.writer c.enlarged-to.result best.0 c.in-Some-parked.answer parked idle best (omega arith) to_is })
 
 pub choose-requires-after_bounds : goal.choose-requires-after_bounds
@@ -59,7 +59,7 @@ pub advance-requires-clause-keeps : goal.advance-requires-clause-keeps
 advance-requires-clause-keeps g c κs within =
     let best = chosen c.requires.waiting.candidates c.in-Some.ensures.ordered _ c.in-Some.ensures.first in
     rw c.in-Ok.ensures.ok
-    (keeps_enlarged c.requires.keeps c.in-Some.channel c.in-Some.writer c.enlarged-to.result best.0 (omega (arith, c.enlarged-to.ensures, c.filling-capacity.ensures.capacity)) (omega (arith, c.enlarged-to.ensures, c.ceiling-2.ensures)))
+    (keeps_enlarged c.requires.keeps c.in-Some.channel c.in-Some.writer c.enlarged-to.result best.0 (omega (arith, c.enlarged-to.ensures, c.tokens_and_capacity-capacity.ensures.capacity)) (omega (arith, c.enlarged-to.ensures, c.ceiling-2.ensures)))
 
 pub unreachable-requires-in_default-advance : goal.unreachable-requires-in_default-advance
 unreachable-requires-in_default-advance g c =
@@ -68,14 +68,14 @@ unreachable-requires-in_default-advance g c =
     c.in_default-advance.ensures.cannot
     (rw c.in-Ok.ensures.ok
     (put_possible c.requires.keeps c.in-Some.channel c.in-Some.writer c.enlarged-to.result best.0 c.in-Some-parked.answer parked
-    (omega (arith, c.assure_valid.ensures.valid.some_step, c.enlarged-to.ensures, c.filling-capacity.ensures.capacity, c.filling-capacity.ensures.within, c.filling-capacity.ensures.tokens))))
+    (omega (arith, c.assure_valid.ensures.valid.some_step, c.enlarged-to.ensures, c.tokens_and_capacity-capacity.ensures.capacity, c.tokens_and_capacity-capacity.ensures.within, c.tokens_and_capacity-capacity.ensures.tokens))))
 
 pub returns-clause-settles : goal.returns-clause-settles
 returns-clause-settles g c =
     let did = c.in-Some-advance.ensures in
     let best = chosen c.requires.waiting.candidates c.in-Some.ensures.ordered _ c.in-Some.ensures.first in
     let parked = rw c.as_slice.ensures.value at c.in-Some-parked.ensures.some in
-    let to_is : c.enlarged-to.result ≡ min (capacity c.args.store.now.state c.in-Some.channel + c.args.net.now.step) c.args.net.now.ceiling = rw (← c.filling-capacity.ensures.capacity, ← c.step.ensures, ← c.ceiling-2.ensures) c.enlarged-to.ensures in (
+    let to_is : c.enlarged-to.result ≡ min (capacity c.args.store.now.state c.in-Some.channel + c.args.net.now.step) c.args.net.now.ceiling = rw (← c.tokens_and_capacity-capacity.ensures.capacity, ← c.step.ensures, ← c.ceiling-2.ensures) c.enlarged-to.ensures in (
       c.requires.idle,
       rw (did.entry, did.standing, c.in-Ok.ensures.ok)
           (grows_and_puts c.requires.keeps c.in-Some.channel c.in-Some.writer c.enlarged-to.result best.0 c.in-Some-parked.answer parked c.requires.idle best (omega arith) to_is c.args.store.now.history c.args.store.now.room c.in-Some-advance.field-0 (rw c.in-Ok.ensures.ok at did.is_deed)),
@@ -88,7 +88,7 @@ returns-clause-keeps g c =
     let parked = rw c.as_slice.ensures.value at c.in-Some-parked.ensures.some in
     rw (did.entry, did.standing, c.in-Ok.ensures.ok)
     (keeps_after_put c.requires.keeps c.in-Some.channel c.in-Some.writer c.enlarged-to.result best.0 c.in-Some-parked.answer parked c.requires.waiting c.in-Some-advance.field-0
-    (omega (arith, c.enlarged-to.ensures, c.filling-capacity.ensures.capacity)) (omega (arith, c.enlarged-to.ensures, c.ceiling-2.ensures)) (rw c.in-Ok.ensures.ok at did.is_deed) (rw (did.entry, did.standing, c.in-Ok.ensures.ok) at did.keeps))
+    (omega (arith, c.enlarged-to.ensures, c.tokens_and_capacity-capacity.ensures.capacity)) (omega (arith, c.enlarged-to.ensures, c.ceiling-2.ensures)) (rw c.in-Ok.ensures.ok at did.is_deed) (rw (did.entry, did.standing, c.in-Ok.ensures.ok) at did.keeps))
 
 pub returns-clause-waiting : goal.returns-clause-waiting
 returns-clause-waiting g c =
@@ -97,4 +97,4 @@ returns-clause-waiting g c =
     let parked = rw c.as_slice.ensures.value at c.in-Some-parked.ensures.some in
     rw (did.entry, did.standing, c.in-Ok.ensures.ok, c.note_writer.ensures)
     (waiting_after_put c.requires.keeps c.in-Some.channel c.in-Some.writer c.enlarged-to.result best.0 c.in-Some-parked.answer parked c.requires.waiting c.in-Some-advance.field-0 c.remove.new.self
-    (rw c.filling-capacity.ensures.capacity at c.remove.ensures.pairs) (rw c.filling-capacity.ensures.capacity at c.remove.ensures.many) c.remove.ensures.room)
+    (rw c.tokens_and_capacity-capacity.ensures.capacity at c.remove.ensures.pairs) (rw c.tokens_and_capacity-capacity.ensures.capacity at c.remove.ensures.many) c.remove.ensures.room)

@@ -1,5 +1,5 @@
 use Rattle.std.proofs.Common.{rules, arith, ap}
-use Rattle.kpn_monitor.specs.Names.{Shares}
+use Rattle.kpn_monitor.specs.Views.{Shares}
 use Rattle.kpn_run.proofs.Slots.{sum_more, length_more}
 use Rattle.kpn_observe.proofs.crew.leave_all.Goals as goal
 

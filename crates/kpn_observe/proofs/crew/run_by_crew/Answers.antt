@@ -3,15 +3,15 @@ use Rattle.std.proofs.Common.{◌∙◌, ap, subst, sym}
 use Rattle.kpn_model.specs.Network.{Network, family_of}
 use Rattle.kpn_machine.specs.Opening.{cards_of}
 use Rattle.kpn_machine.specs.MachineView.{MachineView}
-use Rattle.kpn_monitor.specs.Kept.{IsAccount}
+use Rattle.kpn_monitor.specs.Kept.{IsClosed}
 use Rattle.kpn_run.specs.Runs.{StaysWithinCapacities, IsComparable}
-use Rattle.kpn_observe.specs.Accounts.{EndSparesBudget}
+use Rattle.kpn_observe.specs.WatchedReports.{EndSparesBudget}
 use Rattle.kpn_observe.proofs.crew.run_by_crew.Goals as goal
 
-pub returns-in-Ok-run_opened-clause-account : goal.returns-in-Ok-run_opened-clause-account
-returns-in-Ok-run_opened-clause-account g c =
-    subst (λ (n : Network). IsAccount (family_of g.B.Kinds.Kinds.start g.B.Kinds.Kinds.answer_of) g.B.Kinds.Kinds.admits n c.in-Ok-run_opened.ran) (ap (λ (m : MachineView). m.network) c.in-Ok.ensures.opened)
-    c.in-Ok-run_opened.ensures.account
+pub returns-in-Ok-run_opened-clause-closed : goal.returns-in-Ok-run_opened-clause-closed
+returns-in-Ok-run_opened-clause-closed g c =
+    subst (λ (n : Network). IsClosed (family_of g.B.Kinds.Kinds.start g.B.Kinds.Kinds.answer_of) g.B.Kinds.Kinds.admits n c.in-Ok-run_opened.ran) (ap (λ (m : MachineView). m.network) c.in-Ok.ensures.opened)
+    c.in-Ok-run_opened.ensures.closed
 
 pub returns-in-Ok-run_opened-clause-within : goal.returns-in-Ok-run_opened-clause-within
 returns-in-Ok-run_opened-clause-within g c =

@@ -1,7 +1,7 @@
 -- All seats come back, so the monitor closes.
 use Rattle.std.proofs.Common.{◌≡◌, arith, refl}
 use Rattle.std.specs.List.{sum_by}
-use Rattle.kpn_monitor.specs.Names.{Shares}
+use Rattle.kpn_monitor.specs.Views.{Shares}
 use Rattle.kpn_run.proofs.Slots.{not_refused, sum_more}
 use Rattle.kpn_observe.proofs.crew.run_seated.Goals as goal
 

@@ -1,7 +1,7 @@
 -- The report is that of the history, and so of every run that is over.
 use Rattle.kpn_model.specs.Network.{family_of}
 use Rattle.kpn_run.proofs.RunReports.{own_report, every_runs, outcome, least_streams}
-use Rattle.kpn_observe.proofs.Accounts.{is_final}
+use Rattle.kpn_observe.proofs.WatchedReports.{is_final}
 use Rattle.kpn_observe.proofs.reporting.report_at.Goals as goal
 
 pub returns-clause-own : goal.returns-clause-own

@@ -1,7 +1,7 @@
 use Rattle.std.proofs.Common.{◌≡◌, ◌+◌, ◌≤◌, ◌<◌, length}
 use Rattle.std.specs.Prelude.{vec_capacity}
 use Rattle.std.specs.List.{sum_by}
-use Rattle.kpn_monitor.specs.Names.{Shares}
+use Rattle.kpn_monitor.specs.Views.{Shares}
 use Rattle.kpn_observe.proofs.slot.seat_all.Given as goal
 
 abbrev pub invariant-loop-i : goal.invariant-loop-i

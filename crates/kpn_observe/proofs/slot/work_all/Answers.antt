@@ -1,5 +1,5 @@
 use Rattle.std.proofs.Common.{ap, sym, ◌∙◌, length}
-use Rattle.kpn_monitor.specs.Names.{Shares}
+use Rattle.kpn_monitor.specs.Views.{Shares}
 use Rattle.kpn_run.proofs.Slots.{sums_same, slice_back}
 use Rattle.kpn_observe.proofs.slot.work_all.Goals as goal
 

@@ -1,11 +1,11 @@
 use Rattle.std.proofs.Common.{◌≡◌, take}
 use Rattle.kpn_model.specs.History.{growths}
-use Rattle.kpn_report.specs.Tally.{CountsSteps, KeepsAccounts}
+use Rattle.kpn_report.specs.Tally.{CountsSteps, KeepsCounts}
 use Rattle.kpn_report.proofs.tally.tally_of.Given as goal
 
 abbrev pub invariant-loop-entry : goal.invariant-loop-entry
 invariant-loop-entry g l = record {
   steps : CountsSteps l.net (take l.entry-index l.history) l.steps.items;
-  accounts : KeepsAccounts l.net (take l.entry-index l.history) l.accounts.items;
+  channel_counts : KeepsCounts l.net (take l.entry-index l.history) l.channel_counts.items;
   growths : l.growths.items ≡ growths (take l.entry-index l.history);
 }

@@ -1,6 +1,6 @@
 use Rattle.std.proofs.Common.{◌≡◌, false, rules, arith, ap, sym, ◌∙◌}
 use Rattle.std.specs.Prelude.{is_some}
-use Rattle.kpn_monitor.specs.Names.{Shares}
+use Rattle.kpn_monitor.specs.Views.{Shares}
 use Rattle.kpn_run.specs.Runs.{AtSlot}
 use Rattle.kpn_run.proofs.Slots.{front_met, last_met, sum_more, length_more, none_more}
 use Rattle.kpn_run.proofs.slot.leave_all.Goals as goal

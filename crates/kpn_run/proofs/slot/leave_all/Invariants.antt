@@ -1,7 +1,7 @@
 use Rattle.std.proofs.Common.{◌≡◌, ◌+◌, ◌≤◌, length, vec_len}
 use Rattle.std.specs.Prelude.{vec_capacity, IfNone}
 use Rattle.std.specs.List.{All, sum_by}
-use Rattle.kpn_monitor.specs.Names.{Shares}
+use Rattle.kpn_monitor.specs.Views.{Shares}
 use Rattle.kpn_run.specs.Runs.{AtSlot, HasMet}
 use Rattle.kpn_run.proofs.slot.leave_all.Given as goal
 

@@ -1,6 +1,6 @@
 -- What the answers appended is booked.
 use Rattle.std.proofs.Common.{length, ap, arith, length-append}
-use Rattle.kpn_monitor.specs.Names.{Shares}
+use Rattle.kpn_monitor.specs.Views.{Shares}
 use Rattle.kpn_monitor.proofs.guarded.Guarded.ask_in_place.Goals as goal
 
 pub returns-clause-went : goal.returns-clause-went

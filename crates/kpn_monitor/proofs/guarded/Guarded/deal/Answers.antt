@@ -3,7 +3,7 @@ use Rattle.std.proofs.Common.{◌∙◌, ◌++◌, ◌∷◌, List, [], refl, ap
 use Rattle.kpn_model.specs.Network.{family_of}
 use Rattle.std.specs.Prelude.{Some}
 use Rattle.kpn_body.specs.Input.{Input}
-use Rattle.kpn_monitor.specs.Names.{Holding, Shares}
+use Rattle.kpn_monitor.specs.Views.{Holding, Shares}
 use Rattle.kpn_monitor.specs.Kept.{WasTaken}
 use Rattle.kpn_monitor.specs.Hands.{TakesOutAll}
 use Rattle.kpn_monitor.proofs.Handing.{dealt_out, all_one}

@@ -1,7 +1,7 @@
 -- One more task was dealt.
 use Rattle.std.proofs.Common.{◌∙◌, ap, arith, length}
 use Rattle.kpn_model.specs.Network.{family_of}
-use Rattle.kpn_monitor.specs.Names.{Holding}
+use Rattle.kpn_monitor.specs.Views.{Holding}
 use Rattle.kpn_monitor.specs.Kept.{WasTaken}
 use Rattle.kpn_monitor.proofs.Handing.{dealt_out, all_more, length_more}
 use Rattle.kpn_monitor.proofs.guarded.Guarded.deal_more.Goals as goal

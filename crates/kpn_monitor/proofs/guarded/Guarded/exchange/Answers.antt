@@ -2,7 +2,7 @@
 use Rattle.std.proofs.Common.{◌∙◌, List, ap, subst, arith}
 use Rattle.kpn_model.specs.Network.{family_of}
 use Rattle.kpn_body.specs.Input.{Input}
-use Rattle.kpn_monitor.specs.Names.{Shares}
+use Rattle.kpn_monitor.specs.Views.{Shares}
 use Rattle.kpn_monitor.specs.Hands.{CommitsAll, WereCommitted}
 use Rattle.kpn_monitor.proofs.Handing.{no_item}
 use Rattle.kpn_monitor.proofs.guarded.Guarded.exchange.Goals as goal

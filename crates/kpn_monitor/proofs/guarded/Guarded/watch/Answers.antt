@@ -5,7 +5,7 @@ use Rattle.std.specs.Prelude.{IfOk}
 use Rattle.kpn_model.specs.Semantics.{State}
 use Rattle.kpn_model.specs.Determinacy.{IsRun}
 use Rattle.kpn_model.specs.Endings.{MayStand}
-use Rattle.kpn_monitor.specs.Names.{UnderLock}
+use Rattle.kpn_monitor.specs.Views.{UnderLock}
 use Rattle.kpn_monitor.proofs.Showing.{ok_with, shown_run}
 use Rattle.kpn_monitor.proofs.guarded.Guarded.watch.Goals as goal
 

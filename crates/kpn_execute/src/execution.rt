@@ -1,0 +1,220 @@
+//! Running a network, and writing the report.
+ghost use Rattle.std.specs.Prelude.{◌≡◌, ◌≢◌, ◌<◌, ◌≤◌, Some, None, IfOk, IsSome, map, option_map, string_bytes};
+ghost use Rattle.kpn_model.specs.Network.{family_of};
+ghost use Rattle.kpn_machine.specs.Opening.{cards_of};
+ghost use Rattle.kpn_execute.specs.Execution.{status_of_end, Executes, TellsEnded, TellsShown, TellsRun, Writes};
+
+use kpn_body::Body;
+use kpn_front::{Sink, Status, say, say_lost, say_no_channel, say_refused};
+use kpn_laws::{determinacy_of, least_room_of, least_solution_of};
+use kpn_machine::{Chronicle, Machine};
+use kpn_net::{End, Kinds, Net, NetFault};
+use kpn_report::{places_of, text_of};
+use kpn_run::{Gate, Open, RunFault, run};
+use std::alloc::{AllocError, Global};
+use std::rt::Clock;
+use std::sync::Wait;
+use std::thread::Threads;
+
+/// What is written of a run, and its status.
+#[derive(Drop)]
+struct Told {
+    status: Status,
+    text: String,
+}
+
+/// A network to be run by 1 to 16 workers, with a body for each process.
+#[derive(Drop)]
+pub(crate) struct RunRequest<B: Body> {
+    pub(crate) net: Net<B::Kinds>,
+    pub(crate) bodies: Vec<B>,
+    pub(crate) workers: usize,
+}
+
+/// Runs a network by 1 to 16 workers, with a body for each process, and writes the report of the run,
+/// with the stream of the channel that `show` names. A single worker is the calling thread,
+/// which then takes no lock.
+///
+/// If the run came to its own end, each run of the network that is over has the same text, whatever the
+/// schedule. If capacity b suffices for the network, no channel of capacity b or more grows in the run
+/// (Parks 1995; docs/least-room.md). The streams are below every solution of the network's equations,
+/// and if the run terminated or ended in a deadlock they are the least solution (Kahn 1974;
+/// docs/least-solution.md).
+///
+/// Returns the exit status:
+///
+/// - 0 if the run terminated, 5 if it ended in a deadlock, 6 at the ceiling, 3 if its budget was spent;
+/// - 1 if no channel has the name `show` (nothing is then run, and `no channel NAME` is written);
+/// - 4 if memory was refused: before the run or for the report (`refused 14`), or for a growth
+///   (`end memory`);
+/// - 7 if the write fails;
+/// - 8 if the machine refused an answer of one of several workers (`lost`).
+pub fn execute<B: Body, S: Sink, R: Wait + Clock + Threads + Sync>(
+    rt: &R,
+    alloc: Global,
+    net: Net<B::Kinds>,
+    bodies: Vec<B>,
+    workers: usize,
+    show: Option<&str>,
+    sink: &mut S,
+) -> u8
+    requires cards { map B.card bodies.items ≡ cards_of net.processes }
+    requires workers { (1 ≤ workers) × (workers ≤ 16) }
+    ensures { Executes (family_of B.Kinds.start B.Kinds.answer_of) net workers (option_map (λ s. s.now) show.entry) (S.seen sink.old) (S.seen sink.new) result }
+{
+    let request = RunRequest {
+        net,
+        bodies,
+        workers,
+    };
+    execute_request(rt, alloc, request, &Open, show, sink)
+}
+
+/// As `execute`, where several workers pass this gate.
+pub(crate) fn execute_request<B: Body, S: Sink, R: Wait + Clock + Threads + Sync, G: Gate>(
+    rt: &R,
+    alloc: Global,
+    request: RunRequest<B>,
+    gate: &G,
+    show: Option<&str>,
+    sink: &mut S,
+) -> u8
+    requires cards { map B.card request.bodies.items ≡ cards_of request.net.processes }
+    requires workers { (1 ≤ request.workers) × (request.workers ≤ 16) }
+    ensures { Executes (family_of B.Kinds.start B.Kinds.answer_of) request.net request.workers (option_map (λ s. s.now) show.entry) (S.seen sink.old) (S.seen sink.new) result }
+{
+    match show {
+        None => tell(rt, alloc, request, gate, None, sink),
+        Some(name) => match request.net.find_channel(name) {
+            Some(channel) => tell(rt, alloc, request, gate, Some(channel), sink),
+            None => say_no_channel(name, sink),
+        },
+    }
+}
+
+/// Runs a network and writes the report, with the stream of a channel if one is given.
+fn tell<B: Body, S: Sink, R: Wait + Clock + Threads + Sync, G: Gate>(
+    rt: &R,
+    alloc: Global,
+    request: RunRequest<B>,
+    gate: &G,
+    channel: Option<usize>,
+    sink: &mut S,
+) -> u8
+    requires cards { map B.card request.bodies.items ≡ cards_of request.net.processes }
+    requires workers { (1 ≤ request.workers) × (request.workers ≤ 16) }
+    ensures { Writes (TellsShown (family_of B.Kinds.start B.Kinds.answer_of) request.net request.workers channel) (S.seen sink.old) (S.seen sink.new) result }
+{
+    if request.workers == 1 {
+        tell_alone(alloc, request.net, request.bodies, channel, sink)
+    } else {
+        tell_by_workers(rt, alloc, request, gate, channel, sink)
+    }
+}
+
+/// The same, in the calling thread. `tell` calls it with bodies that fit, so a machine that is not opened was
+/// refused memory.
+#[inline(never)]
+fn tell_alone<B: Body, S: Sink>(
+    alloc: Global,
+    net: Net<B::Kinds>,
+    bodies: Vec<B>,
+    channel: Option<usize>,
+    sink: &mut S,
+) -> u8
+    ensures { Writes (TellsEnded (family_of B.Kinds.start B.Kinds.answer_of) net channel) (S.seen sink.old) (S.seen sink.new) result }
+{
+    let Ok(mut machine) = Machine::open(alloc, net, bodies) else {
+        return say_refused(&NetFault::Memory, sink);
+    };
+    machine.finish_alone();
+    say_told(alloc, &machine.into_chronicle(), channel, sink)
+}
+
+/// The same, by several workers.
+#[inline(never)]
+fn tell_by_workers<B: Body, S: Sink, R: Wait + Clock + Threads + Sync, G: Gate>(
+    rt: &R,
+    alloc: Global,
+    request: RunRequest<B>,
+    gate: &G,
+    channel: Option<usize>,
+    sink: &mut S,
+) -> u8
+    requires cards { map B.card request.bodies.items ≡ cards_of request.net.processes }
+    requires workers { (1 < request.workers) × (request.workers ≤ 16) }
+    ensures { Writes (TellsShown (family_of B.Kinds.start B.Kinds.answer_of) request.net request.workers channel) (S.seen sink.old) (S.seen sink.new) result }
+{
+    let RunRequest {
+        net,
+        bodies,
+        workers,
+    } = request;
+    match run(rt, alloc, net, bodies, workers, gate) {
+        Ok(finish) => say_told(alloc, finish.chronicle(), channel, sink),
+        Err(RunFault::Memory { .. }) => say_refused(&NetFault::Memory, sink),
+        Err(RunFault::Lost { .. }) => say_lost(sink),
+        Err(RunFault::Workers { .. }) => unreachable!(),
+        Err(RunFault::Open { .. }) => unreachable!(),
+    }
+}
+
+/// Writes what there is to write of a run that ended.
+fn say_told<K: Kinds, S: Sink>(
+    alloc: Global,
+    chronicle: &Chronicle<K>,
+    channel: Option<usize>,
+    sink: &mut S,
+) -> u8
+    requires { IsSome chronicle.now.end }
+    ensures { Writes (TellsEnded (family_of K.start K.answer_of) chronicle.now.network channel) (S.seen sink.old) (S.seen sink.new) result }
+{
+    match told_of(alloc, chronicle, channel) {
+        Ok(told) => say(sink, told.text.as_str(), told.status),
+        Err(_) => say_refused(&NetFault::Memory, sink),
+    }
+}
+
+/// The text of a run that ended, and its status.
+fn told_of<K: Kinds>(
+    alloc: Global,
+    chronicle: &Chronicle<K>,
+    channel: Option<usize>,
+) -> Result<Told, AllocError>
+    requires { IsSome chronicle.now.end }
+    ensures { IfOk result (λ told. TellsRun (family_of K.start K.answer_of) chronicle.now.network channel told.status (string_bytes told.text)) }
+{
+    let Some(end) = chronicle.end() else {
+        unreachable!()
+    };
+    determinacy_of::<K>();
+    least_room_of::<K>();
+    least_solution_of::<K>();
+    let net = chronicle.net();
+    let places = places_of(alloc, net, chronicle.standings())?;
+    let text = text_of(
+        alloc,
+        net,
+        chronicle.history(),
+        places.as_slice(),
+        end,
+        channel,
+    )?;
+    Ok(Told {
+        status: status_of(end),
+        text,
+    })
+}
+
+/// The exit status of a run with this end.
+fn status_of(end: End) -> Status
+    ensures { result ≡ status_of_end end }
+{
+    match end {
+        End::Terminated => Status::Success,
+        End::Budget => Status::BudgetSpent,
+        End::Memory => Status::MemoryRefused,
+        End::Deadlock => Status::Deadlocked,
+        End::Ceiling => Status::AtCeiling,
+    }
+}

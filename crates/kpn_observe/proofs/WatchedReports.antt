@@ -1,0 +1,21 @@
+-- What a watched run and its report say.
+use Rattle.std.proofs.Common.{◌≡◌, ℕ, true, List, Option, Some, subst}
+use Rattle.kpn_model.specs.declared.token.Token.{Token}
+use Rattle.kpn_model.specs.declared.kinds.Card.{Card}
+use Rattle.kpn_model.specs.declared.history.End.{End}
+use Rattle.kpn_model.specs.declared.history.Entry.{Entry}
+use Rattle.kpn_model.specs.Network.{Family, Network}
+use Rattle.kpn_model.specs.Semantics.{State}
+use Rattle.kpn_model.specs.Endings.{MayEnd, MayStand, has_report}
+use Rattle.kpn_model.specs.Determinacy.{IsFinal}
+use Rattle.kpn_machine.specs.MachineView.{MachineView, IsFaithful}
+use Rattle.kpn_run.proofs.RunReports.{over_of}
+
+pub ends_so : (kinds : Family) (net : Network) (E : List Entry) (M : State) (o : Option End) (e : End) → o ≡ Some e → MayStand kinds net E M o → MayEnd kinds net E M e
+ends_so kinds net E M o e is h = subst (MayStand kinds net E M) is h
+
+-- what a machine left behind that came to its own end is a run that is over
+pub is_final : (kinds : Family) (admits : Card → List ℕ → Option Token → Type 0) (s : MachineView) (cause : End) → IsFaithful kinds admits s → s.end ≡ Some cause → has_report cause ≡ true
+    → IsFinal kinds s.network s.history s.state cause
+is_final kinds admits s cause faithful ended has =
+    record { run = faithful.run; over = over_of kinds s.network cause s.history s.state has (ends_so kinds s.network s.history s.state s.end cause ended faithful.justified) }

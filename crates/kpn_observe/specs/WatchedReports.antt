@@ -1,0 +1,22 @@
+-- What a watched run says of its end, and what is reported of it.
+use Rattle.std.specs.Prelude.{◌≡◌, Option, Some}
+use Rattle.kpn_model.specs.declared.history.End.{End}
+use Rattle.kpn_model.specs.Network.{Family, Network}
+use Rattle.kpn_machine.specs.MachineView.{MachineView}
+use Rattle.kpn_report.specs.declared.detail.Detail.{Detail}
+use Rattle.kpn_report.specs.Reported.{IsReport}
+use Rattle.kpn_run.specs.Runs.{SparesBudget}
+use Rattle.kpn_run.specs.Reports.{IsEveryRuns, IsOutcome, TellsLeastSolution}
+
+-- a run that ended did not end because of its budget, if some run that is over has fewer entries
+abbrev pub EndSparesBudget : Family → Network → Option End → Type 0
+EndSparesBudget kinds net end = (cause : End) → end ≡ Some cause → SparesBudget kinds net cause
+
+-- this end and this detail are the report of what the machine left behind, which ended for this cause; and so of every run of its
+-- network that is over
+pub record IsReportOf (kinds : Family) (s : MachineView) (cause end : End) (detail : Option Detail) : Type 0 where
+  pub end_is : end ≡ cause
+  pub own : IsReport kinds s.network cause s.history s.state detail
+  pub every : IsEveryRuns kinds s.network cause detail
+  pub any_capacities : IsOutcome kinds s.network cause s.history detail
+  pub streams : TellsLeastSolution kinds s.network cause detail

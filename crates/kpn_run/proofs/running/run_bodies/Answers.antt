@@ -1,0 +1,41 @@
+-- The machine is one of this network.
+use Rattle.std.proofs.Common.{◌∙◌, ap, subst, sym}
+use Rattle.kpn_model.specs.Network.{Network, family_of}
+use Rattle.kpn_machine.specs.Opening.{cards_of}
+use Rattle.kpn_machine.specs.MachineView.{MachineView}
+use Rattle.kpn_run.specs.Runs.{IsFinish, StaysWithinCapacities, SparesBudget, IsComparable}
+use Rattle.kpn_run.proofs.running.run_bodies.Goals as goal
+
+pub returns-in-Ok-run_machine-clause-finish : goal.returns-in-Ok-run_machine-clause-finish
+returns-in-Ok-run_machine-clause-finish g c =
+    subst (λ (n : Network). IsFinish (family_of g.B.Kinds.Kinds.start g.B.Kinds.Kinds.answer_of) n c.in-Ok-run_machine.finish) (ap (λ (m : MachineView). m.network) c.in-Ok.ensures.opened) c.in-Ok-run_machine.ensures.finish
+
+pub returns-in-Ok-run_machine-clause-within : goal.returns-in-Ok-run_machine-clause-within
+returns-in-Ok-run_machine-clause-within g c =
+    subst (λ (n : Network). StaysWithinCapacities (family_of g.B.Kinds.Kinds.start g.B.Kinds.Kinds.answer_of) n c.in-Ok-run_machine.finish.machine.history) (ap (λ (m : MachineView). m.network) c.in-Ok.ensures.opened)
+    c.in-Ok-run_machine.ensures.within
+
+pub returns-in-Err-run_machine-clause-workers : goal.returns-in-Err-run_machine-clause-workers
+returns-in-Err-run_machine-clause-workers g c = λ n bs is. absurd (c.in-Err-run_machine.ensures.workers n bs is)
+
+pub returns-in-Err-run_machine-clause-open : goal.returns-in-Err-run_machine-clause-open
+returns-in-Err-run_machine-clause-open g c = λ n bs fault is. absurd (c.in-Err-run_machine.ensures.open n bs fault is)
+
+pub returns-in-Err-run_machine-clause-memory : goal.returns-in-Err-run_machine-clause-memory
+returns-in-Err-run_machine-clause-memory g c = λ n bs is.
+    let back = c.in-Err-run_machine.ensures.memory n bs is in
+    let opened = c.in-Ok.ensures.opened in
+    (back.0 ∙ ap (λ (m : MachineView). m.network) opened, back.1 ∙ ap (λ (m : MachineView). cards_of m.network.processes) opened ∙ sym c.in-Ok.ensures.cards, c.in-Ok.ensures.cards)
+
+pub returns-in-Ok-run_machine-clause-budget : goal.returns-in-Ok-run_machine-clause-budget
+returns-in-Ok-run_machine-clause-budget g c =
+    subst (λ (n : Network). SparesBudget (family_of g.B.Kinds.Kinds.start g.B.Kinds.Kinds.answer_of) n c.in-Ok-run_machine.finish.cause) (ap (λ (m : MachineView). m.network) c.in-Ok.ensures.opened)
+    c.in-Ok-run_machine.ensures.budget
+
+pub returns-in-Ok-run_machine-clause-comparable : goal.returns-in-Ok-run_machine-clause-comparable
+returns-in-Ok-run_machine-clause-comparable g c =
+    subst (λ (n : Network). IsComparable (family_of g.B.Kinds.Kinds.start g.B.Kinds.Kinds.answer_of) n c.in-Ok-run_machine.finish.machine.history) (ap (λ (m : MachineView). m.network) c.in-Ok.ensures.opened)
+    c.in-Ok-run_machine.ensures.comparable
+
+pub returns-in-Err-run_machine-clause-lost : goal.returns-in-Err-run_machine-clause-lost
+returns-in-Err-run_machine-clause-lost g c = λ a b is. (c.in-Ok.ensures.cards, c.in-Err-run_machine.ensures.lost a b is)

@@ -1,0 +1,58 @@
+//! What a worker does in a thread of a caller's own.
+ghost use Rattle.std.specs.Prelude.{◌≡◌, IfNone};
+
+use crate::gate::Gate;
+use kpn_body::{Body, Finished};
+use kpn_machine::Stranger;
+use kpn_monitor::{EntryLedger, Monitor, Seat, Taken};
+use std::sync::Wait;
+use std::sync::ledger::Ledger;
+
+/// What a worker hands back: its seat, and the answer that the monitor refused, if there is one.
+#[derive(Drop)]
+pub struct Worked<B: Body, E: EntryLedger, O: Ledger> {
+    pub seat: Seat<E, O>,
+    pub stranger: Option<Finished<B>>,
+}
+
+/// Takes a task, calls it, asks the gate and commits the answer, again and again, until the run has ended
+/// or an answer is refused. Returns the seat, and the refused answer if there is one; if there is none,
+/// the seat has met an end. It may wait for other workers.
+pub fn work<B: Body, E: EntryLedger, O: Ledger, R: Wait, G: Gate>(
+    rt: &R,
+    monitor: &Monitor<B, E, O>,
+    mut seat: Seat<E, O>,
+    gate: &G,
+) -> Worked<B, E, O>
+    ensures parts { result.seat.parts ≡ seat.parts }
+    ensures over { IfNone result.stranger (result.seat.overs ≡ 1) }
+{
+    let stranger = work_with(rt, monitor, gate, &mut seat);
+    Worked { seat, stranger }
+}
+
+// As `work`, with a borrowed seat.
+fn work_with<B: Body, E: EntryLedger, O: Ledger, R: Wait, G: Gate>(
+    rt: &R,
+    monitor: &Monitor<B, E, O>,
+    gate: &G,
+    seat: &mut Seat<E, O>,
+) -> Option<Finished<B>>
+    ensures parts { seat.new.parts ≡ seat.old.parts }
+    ensures over { IfNone result (seat.new.overs ≡ 1) }
+{
+    for _ in rt.forever() {
+        match monitor.take(rt, seat) {
+            Taken::Over(_) => return None,
+            Taken::Task(task) => {
+                let finished = task.call();
+                gate.before_commit(finished.process());
+                match monitor.commit(rt, finished, seat) {
+                    Ok(_) => {}
+                    Err(Stranger { finished }) => return Some(finished),
+                }
+            }
+        }
+    }
+    unreachable!()
+}

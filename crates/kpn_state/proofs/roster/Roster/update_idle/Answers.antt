@@ -1,6 +1,0 @@
--- Moving a process keeps the invariant.
-use Rattle.kpn_state.proofs.Rostered.{queue_room}
-use Rattle.kpn_state.proofs.roster.Roster.update_idle.Goals as goal
-
-pub enqueue-requires : goal.enqueue-requires
-enqueue-requires c = λ ready. queue_room _ _ _ _ _ c.self.invariant c.args.process (rw (← c.self.view_is) at c.requires.process) (rw (← c.self.view_is) at c.requires.idle)
