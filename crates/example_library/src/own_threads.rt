@@ -3,7 +3,7 @@
 use crate::words;
 use kpn_builder::{Builder, NewChannel};
 use kpn_compute::{CardBody, bodies_of};
-use kpn_observe::{Crew, CrewSeat, EntryLedger, Monitor, Taken, run_by_crew};
+use kpn_observe::{Crew, CrewSeat, EntryLedger, Monitor, Outcome, Taken, run_by_crew};
 use kpn_standard::Standard;
 use std::alloc::{AllocError, Global};
 use std::sync::Wait;
@@ -11,14 +11,28 @@ use std::sync::atomic::{AtomicU64, Ordering};
 use std::sync::ledger::Ledger;
 use std::thread::Threads;
 
-/// Threads that count their answers.
+/// Threads that count the entries that they bring about.
 #[derive(Drop)]
 struct Counting<'a, R> {
     rt: &'a R,
-    answers: AtomicU64,
+    entries: AtomicU64,
 }
 
-impl<'a, R: Wait + Sync> Crew<CardBody<Standard>> for Counting<'a, R> {
+impl<'a, R: Eprint> Counting<'a, R> {
+    /// Counts the entries that a commit appended, and says how many there are.
+    fn count(&self, outcome: Outcome) {
+        match outcome {
+            Outcome::Done(more) | Outcome::Parked(more) => {
+                let before = self.entries.fetch_add(more as u64, Ordering::SeqCst);
+                let entries = before.saturating_add(more as u64);
+                let _ = eprintln!(self.rt; "{entries} entries");
+            }
+            Outcome::LaidBack => {}
+        }
+    }
+}
+
+impl<'a, R: Wait + Eprint + Sync> Crew<CardBody<Standard>> for Counting<'a, R> {
     fn work<E: EntryLedger, O: Ledger>(
         &self,
         monitor: &Monitor<CardBody<Standard>, E, O>,
@@ -28,10 +42,9 @@ impl<'a, R: Wait + Sync> Crew<CardBody<Standard>> for Counting<'a, R> {
             let Taken::Task(task) = seat.take(self.rt, monitor) else {
                 return;
             };
-            let finished = task.call();
-            self.answers.fetch_add(1, Ordering::SeqCst);
-            if seat.commit(self.rt, monitor, finished).is_err() {
-                return;
+            match seat.commit(self.rt, monitor, task.call()) {
+                Ok(outcome) => self.count(outcome),
+                Err(_) => return,
             }
         }
     }
@@ -43,8 +56,8 @@ fn make(made: &mut Builder) -> Result<(), AllocError> {
     made.channel(NewChannel::new("words", "src", "snk").capacity(2))
 }
 
-/// Runs the network by three threads, and prints how many answers they had and what they sent.
-pub(crate) fn show<R: Threads + Wait + Print + Sync>(
+/// Runs the network by three threads, and prints how many entries they brought about and what they sent.
+pub(crate) fn show<R: Threads + Wait + Print + Eprint + Sync>(
     rt: &R,
     alloc: Global,
 ) -> Result<(), AllocError> {
@@ -54,13 +67,13 @@ pub(crate) fn show<R: Threads + Wait + Print + Sync>(
         return Err(AllocError);
     };
     let bodies = bodies_of(alloc, &net)?;
-    let answers = AtomicU64::new(0);
-    let crew = Counting { rt, answers };
+    let entries = AtomicU64::new(0);
+    let crew = Counting { rt, entries };
     let Ok(run) = run_by_crew(rt, alloc, net, bodies, 3, &crew) else {
         return Err(AllocError);
     };
-    let answers = crew.answers.load(Ordering::SeqCst);
-    let _ = println!(rt; "{answers} answers");
+    let entries = crew.entries.load(Ordering::SeqCst);
+    let _ = println!(rt; "{entries} entries");
     for word in words(alloc, &run, "words")?.iter() {
         let _ = println!(rt; "{word}");
     }

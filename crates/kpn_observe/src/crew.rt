@@ -67,9 +67,9 @@ impl<E: EntryLedger, O: Ledger> CrewSeat<E, O> {
     ///     let Taken::Task(task) = seat.take(self.rt, monitor) else {
     ///         return;
     ///     };
-    ///     let finished = task.call();
-    ///     if seat.commit(self.rt, monitor, finished).is_err() {
-    ///         return;
+    ///     match seat.commit(self.rt, monitor, task.call()) {
+    ///         Ok(outcome) => self.count(outcome),
+    ///         Err(_) => return,
     ///     }
     /// }
     /// ```
@@ -87,8 +87,9 @@ impl<E: EntryLedger, O: Ledger> CrewSeat<E, O> {
     /// Errors: the machine did not ask for this answer. It is handed back, and the seat is unchanged.
     ///
     /// ```text
-    /// if seat.commit(self.rt, monitor, finished).is_err() {
-    ///     return;
+    /// match seat.commit(self.rt, monitor, task.call()) {
+    ///     Ok(outcome) => self.count(outcome),
+    ///     Err(_) => return,
     /// }
     /// ```
     pub fn commit<B: Body, R: Wait>(
@@ -139,7 +140,7 @@ impl<E: EntryLedger, O: Ledger> CrewSeat<E, O> {
 /// the run (`E` and `O`): so it is a method for all names.
 ///
 /// ```text
-/// impl<'a, R: Wait + Sync> Crew<CardBody<Standard>> for Counting<'a, R> {
+/// impl<'a, R: Wait + Eprint + Sync> Crew<CardBody<Standard>> for Counting<'a, R> {
 ///     fn work<E: EntryLedger, O: Ledger>(
 ///         &self,
 ///         monitor: &Monitor<CardBody<Standard>, E, O>,
@@ -149,10 +150,9 @@ impl<E: EntryLedger, O: Ledger> CrewSeat<E, O> {
 ///             let Taken::Task(task) = seat.take(self.rt, monitor) else {
 ///                 return;
 ///             };
-///             let finished = task.call();
-///             self.answers.fetch_add(1, Ordering::SeqCst);
-///             if seat.commit(self.rt, monitor, finished).is_err() {
-///                 return;
+///             match seat.commit(self.rt, monitor, task.call()) {
+///                 Ok(outcome) => self.count(outcome),
+///                 Err(_) => return,
 ///             }
 ///         }
 ///     }

@@ -31,7 +31,7 @@ mod watched;
 mod worker;
 
 pub use crew::{Crew, CrewSeat, run_by_crew};
-pub use kpn_machine::{OpenFault, OpenRefused};
+pub use kpn_machine::{OpenFault, OpenRefused, Outcome, Stranger};
 pub use kpn_monitor::{EntryLedger, Monitor, Taken};
 pub use kpn_watch::{Phase, Progress};
 pub use observer::{Observer, Wish};
