@@ -22,7 +22,7 @@ use std::thread::Threads;
 pub(crate) struct WorkerSlot<B: Body, E: EntryLedger, O: Ledger> {
     seat: Seat<E, O>,
     hand: Hand<B>,
-    stranger: Option<Finished<B>>,
+    refused: Option<Finished<B>>,
 }
 
 impl<B: Body, E: EntryLedger, O: Ledger> Model for WorkerSlot<B, E, O> {
@@ -40,7 +40,7 @@ impl<B: Body, E: EntryLedger, O: Ledger> WorkerSlot<B, E, O> {
         WorkerSlot {
             seat,
             hand,
-            stranger: None,
+            refused: None,
         }
     }
 
@@ -50,9 +50,9 @@ impl<B: Body, E: EntryLedger, O: Ledger> WorkerSlot<B, E, O> {
         let WorkerSlot {
             seat,
             hand: _,
-            stranger,
+            refused,
         } = self;
-        (seat, stranger)
+        (seat, refused)
     }
 
     fn work<R: Wait + Clock, G: Gate>(
@@ -64,7 +64,7 @@ impl<B: Body, E: EntryLedger, O: Ledger> WorkerSlot<B, E, O> {
     )
         ensures { self.new.parts ≡ self.old.parts }
     {
-        self.stranger = work_until_stopped(rt, monitor, gate, bell, &mut self.seat, &mut self.hand);
+        self.refused = work_until_stopped(rt, monitor, gate, bell, &mut self.seat, &mut self.hand);
     }
 }
 
@@ -182,13 +182,13 @@ pub(crate) fn leave_all<B: Body, E: EntryLedger, O: Ledger>(
     ensures parts { sum_by (λ (s : Shares). s.parts) seats.new.items ≡ sum_by (λ (b : Shares). b.parts) slots.items }
     ensures len { length seats.new.items ≡ length slots.items }
 {
-    let mut lost = None;
+    let mut refused = None;
     while let Some(slot) = slots.pop() {
-        let (seat, stranger) = slot.leave();
+        let (seat, answer) = slot.leave();
         seats.push_reserved(seat);
-        if let Some(finished) = stranger {
-            lost = Some(finished);
+        if let Some(finished) = answer {
+            refused = Some(finished);
         }
     }
-    lost
+    refused
 }

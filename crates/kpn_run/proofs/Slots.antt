@@ -31,9 +31,9 @@ length_more xs ys y is = rw is (omega (arith, length-append ys (y ∷ [])))
 pub all_more : (seats more : List Shares) (s : Shares) → more ≡ seats ++ s ∷ [] → All (λ (x : Shares). x.overs ≡ 1) seats → s.overs ≡ 1 → All (λ (x : Shares). x.overs ≡ 1) more
 all_more seats more s is all one = rw is (All-append (λ (x : Shares). x.overs ≡ 1) seats (s ∷ []) all (one_at (λ (x : Shares). x.overs ≡ 1) s one))
 
--- one more seat, of a worker that lost no answer
-pub none_more : {F : Type 0} (lost : Option F) (seats more : List Shares) (s : Shares) → more ≡ seats ++ s ∷ []
-    → IfNone lost (All (λ (x : Shares). x.overs ≡ 1) seats) → s.overs ≡ 1 → IfNone lost (All (λ (x : Shares). x.overs ≡ 1) more)
+-- one more seat, of a worker none of whose answers was refused
+pub none_more : {F : Type 0} (refused : Option F) (seats more : List Shares) (s : Shares) → more ≡ seats ++ s ∷ []
+    → IfNone refused (All (λ (x : Shares). x.overs ≡ 1) seats) → s.overs ≡ 1 → IfNone refused (All (λ (x : Shares). x.overs ≡ 1) more)
 none_more None seats more s is all one = all_more seats more s is all one
 none_more (Some f) seats more s is all one = tt
 

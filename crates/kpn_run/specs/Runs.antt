@@ -40,8 +40,8 @@ IsComparable kinds net history = (sizes : ℕ → ℕ) (F : List Entry) (N : Sta
 -- what contracts see of a worker's slot: its seat, and whether an answer of the worker was refused
 pub record AtSlot : Type 0 where
   pub seat : Shares
-  pub lost : Bool
+  pub refused : Bool
 
 -- a worker none of whose answers was refused has met an end
 abbrev pub HasMet : AtSlot → Type 0
-HasMet b = b.lost ≡ false → b.seat.overs ≡ 1
+HasMet b = b.refused ≡ false → b.seat.overs ≡ 1

@@ -22,7 +22,7 @@ use std::thread::Threads;
 pub(crate) struct WorkerSlot<B: Body, E: EntryLedger, O: Ledger> {
     seat: Seat<E, O>,
     hand: Hand<B>,
-    stranger: Option<Finished<B>>,
+    refused: Option<Finished<B>>,
 }
 
 impl<B: Body, E: EntryLedger, O: Ledger> Model for WorkerSlot<B, E, O> {
@@ -31,7 +31,7 @@ impl<B: Body, E: EntryLedger, O: Ledger> Model for WorkerSlot<B, E, O> {
 
     ghost Value = { AtSlot };
 
-    ghost view = { λ b. record { seat = b.seat; lost = is_some b.stranger } };
+    ghost view = { λ b. record { seat = b.seat; refused = is_some b.refused } };
 }
 
 impl<B: Body, E: EntryLedger, O: Ledger> WorkerSlot<B, E, O> {
@@ -41,27 +41,27 @@ impl<B: Body, E: EntryLedger, O: Ledger> WorkerSlot<B, E, O> {
         WorkerSlot {
             seat,
             hand,
-            stranger: None,
+            refused: None,
         }
     }
 
     fn leave(self) -> (Seat<E, O>, Option<Finished<B>>)
         ensures seat { result.0 ≡ self.seat }
-        ensures lost { is_some result.1 ≡ self.lost }
+        ensures refused { is_some result.1 ≡ self.refused }
     {
         let WorkerSlot {
             seat,
             hand: _,
-            stranger,
+            refused,
         } = self;
-        (seat, stranger)
+        (seat, refused)
     }
 
     fn work<R: Wait + Clock, G: Gate>(&mut self, rt: &R, monitor: &Monitor<B, E, O>, gate: &G)
         ensures parts { self.new.seat.parts ≡ self.old.seat.parts }
         ensures met { HasMet self.new }
     {
-        self.stranger = work_in_rounds(rt, monitor, gate, &mut self.seat, &mut self.hand);
+        self.refused = work_in_rounds(rt, monitor, gate, &mut self.seat, &mut self.hand);
     }
 }
 
@@ -183,13 +183,13 @@ pub(crate) fn leave_all<B: Body, E: EntryLedger, O: Ledger>(
     ensures met { IfNone result (All (λ (s : Shares). s.overs ≡ 1) seats.new.items) }
     ensures len { length seats.new.items ≡ length slots.items }
 {
-    let mut lost = None;
+    let mut refused = None;
     while let Some(slot) = slots.pop() {
-        let (seat, stranger) = slot.leave();
+        let (seat, answer) = slot.leave();
         seats.push_reserved(seat);
-        if let Some(finished) = stranger {
-            lost = Some(finished);
+        if let Some(finished) = answer {
+            refused = Some(finished);
         }
     }
-    lost
+    refused
 }

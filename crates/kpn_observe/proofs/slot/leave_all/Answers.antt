@@ -3,8 +3,8 @@ use Rattle.kpn_monitor.specs.Views.{Shares}
 use Rattle.kpn_run.proofs.Slots.{sum_more, length_more}
 use Rattle.kpn_observe.proofs.slot.leave_all.Goals as goal
 
-pub loop-slot-preserved-in-Some-stranger : goal.loop-slot-preserved-in-Some-stranger
-loop-slot-preserved-in-Some-stranger g c =
+pub loop-slot-preserved-in-Some-answer : goal.loop-slot-preserved-in-Some-answer
+loop-slot-preserved-in-Some-answer g c =
     let i = c.loop-slot.invariant in
     let pop = c.in-Some.ensures.items in
     let push = c.push_reserved.ensures.items in

@@ -9,7 +9,7 @@ abbrev pub invariant-loop-slot : goal.invariant-loop-slot
 invariant-loop-slot g l =
     (sum_by (λ (s : Shares). s.parts) l.seats.items + sum_by (λ (b : AtSlot). b.seat.parts) l.slots.items ≡ sum_by (λ (b : AtSlot). b.seat.parts) l.fn.slots.items)
     × (length l.seats.items + length l.slots.items ≡ length l.fn.slots.items)
-    × IfNone l.lost (All (λ (s : Shares). s.overs ≡ 1) l.seats.items)
+    × IfNone l.refused (All (λ (s : Shares). s.overs ≡ 1) l.seats.items)
     × (length l.fn.slots.items ≤ vec_capacity l.seats)
     × All HasMet l.slots.items
 
