@@ -1,7 +1,9 @@
 //! What is wrong with a channel.
 use crate::processes::NAME_FORM;
 use crate::quoted::Quoted;
-use kpn_net::faults::{Clash, SameIn, SameOut, is_name, is_sort, is_token, out_sort, process_named};
+use kpn_net::faults::{
+    Clash, SameIn, SameOut, is_name, is_sort, is_token, out_sort, process_named,
+};
 use kpn_net::version::ceiling_in;
 use kpn_net::{ChannelSketch, Kinds, NetFault, Sketch, Sort, TokenSketch};
 use std::alloc::AllocError;

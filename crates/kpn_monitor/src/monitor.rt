@@ -19,7 +19,7 @@ use crate::guarded::{Guarded, Next, Taken, Wakes, Went};
 use crate::hand::Hand;
 use crate::naming::EntryLedger;
 use crate::opening::{Opening, OpeningParts};
-use crate::resting::{Sighting, Rest, Resters, next_limit};
+use crate::resting::{Rest, Resters, Sighting, next_limit};
 use crate::seat::{Seat, merge, totals_of};
 use kpn_body::{Body, Finished};
 use kpn_machine::{Outcome, Stranger};

@@ -50,7 +50,11 @@ fn rest(alloc: Global, stream: &[Token], taken: usize) -> Result<Stream, AllocEr
 }
 
 /// What each channel still holds.
-fn rests(alloc: Global, streams: &[Stream], channel_counts: &[ChannelCounts]) -> Result<Vec<Stream>, AllocError>
+fn rests(
+    alloc: Global,
+    streams: &[Stream],
+    channel_counts: &[ChannelCounts],
+) -> Result<Vec<Stream>, AllocError>
     requires { length channel_counts.now ≡ length streams.now }
     ensures { IfOk result (λ v. Tabulates [] (length streams.now) (λ c. drop (counts_at channel_counts.now c).taken (get_or streams.now c [])) v.items) }
 {

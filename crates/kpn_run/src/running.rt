@@ -11,8 +11,8 @@ ghost use Rattle.kpn_body.specs.Input.{Input};
 
 use crate::boxed::{BoxedBody, Boxes, box_all, unbox_all};
 use crate::finish::Finish;
-use crate::slot::{Hands, WorkerSlot, hands_for, leave_all, seat_all, work_all};
 use crate::gate::Gate;
+use crate::slot::{Hands, WorkerSlot, hands_for, leave_all, seat_all, work_all};
 use kpn_body::{Answered, Body, Finished};
 use kpn_laws::{determinacy_of, least_room_of, least_solution_of, valid_runs};
 use kpn_machine::{Machine, OpenFault, OpenRefused};

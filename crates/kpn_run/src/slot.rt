@@ -4,8 +4,8 @@ ghost use Rattle.std.specs.List.{All, sum_by};
 ghost use Rattle.kpn_monitor.specs.Views.{Shares};
 ghost use Rattle.kpn_run.specs.Runs.{AtSlot, HasMet};
 
-use crate::worker::work_in_rounds;
 use crate::gate::Gate;
+use crate::worker::work_in_rounds;
 use kpn_body::{Body, Finished};
 use kpn_monitor::{EntryLedger, Hand, Monitor, Seat};
 use std::alloc::{AllocError, Global};

@@ -1,8 +1,8 @@
 //! What a worker of a run does.
 ghost use Rattle.std.specs.Prelude.{◌≡◌, length, IfNone, IsTrue};
 
-use crate::pace::{Pace, Turn};
 use crate::gate::Gate;
+use crate::pace::{Pace, Turn};
 use kpn_body::{Body, Finished};
 use kpn_machine::Stranger;
 use kpn_monitor::{EntryLedger, Hand, Monitor, Next, Rest, Seat, Went};
