@@ -3,4 +3,4 @@ use Rattle.kpn_state.proofs.Rostered.{queue_room}
 use Rattle.kpn_state.proofs.roster.Roster.update_unready.Goals as goal
 
 pub enqueue-requires : goal.enqueue-requires
-enqueue-requires c = λ ready. queue_room _ _ _ _ _ c.self.invariant c.args.process (rw (← c.self.view_is) at c.requires.process) (rw (← c.self.view_is) at c.requires.idle)
+enqueue-requires c = λ ready. queue_room _ _ _ _ _ c.self.invariant c.args.process (rw (← c.self.view_is) at c.requires.process) (rw (← c.self.view_is) at c.requires.unready)
