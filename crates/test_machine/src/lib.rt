@@ -1,4 +1,4 @@
-//! Tests of kpn_machine, in a crate of their own so that kpn_machine is proved once.
+//! Tests of kpn_machine and kpn_flow, in a crate of their own so that these are proved once.
 #![tactic(auto)]
 
 #[cfg(test)]
@@ -9,6 +9,8 @@ mod checks;
 mod ends;
 #[cfg(test)]
 mod entries;
+#[cfg(test)]
+mod flow;
 #[cfg(test)]
 mod histories;
 #[cfg(test)]

@@ -1,4 +1,4 @@
-//! Tests of runs by several workers.
+//! Tests of runs by several workers, and of what a program of one's own calls.
 #![tactic(auto)]
 
 #[cfg(test)]
@@ -11,6 +11,8 @@ mod due;
 mod histories;
 #[cfg(test)]
 mod large;
+#[cfg(test)]
+mod library;
 #[cfg(test)]
 mod meeting;
 #[cfg(test)]

@@ -1,7 +1,7 @@
 //! One request for memory is refused, whichever it is.
 use crate::checks::same;
-use crate::flows::{CardFlow, drain_words, opened};
-use crate::networks::{OUTPUT_AND_GROWTH, Parts, parts_of};
+use crate::flow::flows::{CardFlow, drain_words, opened};
+use crate::flow::networks::{OUTPUT_AND_GROWTH, Parts, parts_of};
 use kpn_flow::{Flow, FlowFault, Pause};
 use kpn_net::End;
 use std::alloc::{AllocError, Global};

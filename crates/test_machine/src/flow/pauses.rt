@@ -1,7 +1,7 @@
 //! Flows that are fed and drained, and why each comes back.
 use crate::checks::same;
-use crate::flows::{CardFlow, drain_buffer, drain_words, feed, feed_batch, feed_words, flow_of};
-use crate::networks::{OUTPUT_AND_GROWTH, RUNNING_SUM, SCALE, SINK_OF_TWO};
+use crate::flow::flows::{CardFlow, drain_buffer, drain_words, feed, feed_batch, feed_words, flow_of};
+use crate::flow::networks::{OUTPUT_AND_GROWTH, RUNNING_SUM, SCALE, SINK_OF_TWO};
 use kpn_flow::Pause;
 use kpn_net::{End, Place, Token};
 use kpn_report::places_of;

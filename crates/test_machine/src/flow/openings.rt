@@ -1,6 +1,6 @@
 //! Each fault for which a flow is not opened.
 use crate::checks::same;
-use crate::networks::{Parts, SCALE, parts_of};
+use crate::flow::networks::{Parts, SCALE, parts_of};
 use kpn_body::{Body, Standard};
 use kpn_compute::CardBody;
 use kpn_flow::{Flow, FlowFault, FlowRefused};

@@ -1,6 +1,6 @@
 //! Runs by threads of a caller's own.
 use crate::checks::same;
-use crate::watched::{counter, tells_counter};
+use crate::library::watched::{counter, tells_counter};
 use kpn_body::Finished;
 use kpn_compute::{CardBody, bodies_of};
 use kpn_net::End;

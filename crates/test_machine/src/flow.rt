@@ -1,0 +1,6 @@
+//! Tests of kpn_flow.
+mod flows;
+mod networks;
+mod openings;
+mod pauses;
+mod refusals;
