@@ -1,0 +1,107 @@
+-- What is told of a run that is over is told of each.
+use Rattle.std.proofs.Common.{◌≡◌, ℕ, true, List, [], ◌++◌, map, get_or, Option, Some, refl, sym, ap, ◌∙◌, subst, string_bytes}
+use Rattle.std.proofs.Math.Path.{fun_ext}
+use Rattle.std.specs.List.{flat_map}
+use Rattle.kpn_model.specs.declared.token.Token.{Token}
+use Rattle.kpn_model.specs.declared.history.Entry.{Entry}
+use Rattle.kpn_model.specs.declared.history.End.{End}
+use Rattle.kpn_model.specs.declared.history.End.TheVariants.{Terminated, Deadlock, Ceiling, Budget, Memory}
+use Rattle.kpn_model.specs.declared.history.Place.{Place}
+use Rattle.kpn_model.specs.declared.verdict.Verdict.{Verdict}
+use Rattle.kpn_model.specs.declared.kinds.Card.{Card}
+use Rattle.kpn_model.specs.Network.{Family, Network}
+use Rattle.kpn_model.specs.Semantics.{State, start}
+use Rattle.kpn_model.specs.Endings.{IsOver, has_report}
+use Rattle.kpn_model.specs.History.{Digest, digest, each_channel, each_process, place_of, stream}
+use Rattle.kpn_model.specs.Determinacy.{AllPrefixComparable, IsFinal, OneDigest}
+use Rattle.kpn_state.specs.Standings.{standing, parked_answer}
+use Rattle.kpn_machine.specs.MachineView.{MachineView, IsFaithful}
+use Rattle.kpn_laws.specs.RoomOfRun.{TakesLeastRoom}
+use Rattle.kpn_laws.specs.StreamsOfRun.{ApproachLeastSolution}
+use Rattle.kpn_run.proofs.RunReports.{at_rest, over_of}
+use Rattle.kpn_execute.proofs.Telling.{justified_by}
+use Rattle.kpn_model.specs.Verdicts.{IsVerdict}
+use Rattle.kpn_laws.proofs.ReportedStreams.{each_stream}
+use Rattle.kpn_report.specs.Text.{end_line, digest_text, report_text}
+use Rattle.kpn_verdict.specs.VerdictText.{verdict_line}
+use Rattle.kpn_tokens.specs.TokenLines.{token_line}
+use Rattle.hox_run.specs.declared.telling.Told.{Told}
+use Rattle.hox_run.specs.Telling.{TellsOf, TellsRun, places_in, status_of_verdict, stream_text}
+
+-- what is said of a network, a history and places is said of equal ones
+pub moved : (P : Network → List Entry → List Place → Type 0) (net m : Network) (E F : List Entry) (places others : List Place) → m ≡ net → F ≡ E → others ≡ places → P m F others → P net E places
+moved P net m E F places others same_net same_history same_places h = subst (λ x. P x E places) same_net (subst (λ x. P m x places) same_history (subst (λ x. P m F x) same_places h))
+
+-- if the run came to no end of its own, where it left the processes says nothing of the verdict, nor of its line
+pub judged_anyhow : (net : Network) (places others : List Place) (cause : End) (verdict : Verdict) → (has_report cause ≡ true → places ≡ others)
+    → IsVerdict net places cause verdict → IsVerdict net others cause verdict × (verdict_line net places verdict ≡ verdict_line net others verdict)
+judged_anyhow net places others Budget verdict same judged = (judged, rw judged refl)
+judged_anyhow net places others Memory verdict same judged = (judged, rw judged refl)
+judged_anyhow net places others Terminated verdict same judged = (judged, rw judged refl)
+judged_anyhow net places others Ceiling verdict same judged = (judged, rw judged refl)
+judged_anyhow net places others Deadlock verdict same judged =
+    subst (λ l. IsVerdict net l Deadlock verdict × (verdict_line net places verdict ≡ verdict_line net l verdict)) (same refl) (judged, refl)
+
+module _ (kinds : Family) (net : Network) where
+  -- the text of a run that is over, from its digest
+  abbrev text_of : Option ℕ → Digest → List ℕ
+  text_of show d = end_line d.cause ++ digest_text net d show
+
+  over_text : (cause : End) (E : List Entry) (M : State) (show : Option ℕ) → IsOver kinds net M cause → report_text kinds net cause E M show ≡ text_of show (digest kinds net cause E M)
+  over_text Terminated E M show over = refl
+  over_text Deadlock E M show over = refl
+  over_text Ceiling E M show over = refl
+  over_text Budget E M show over = elim over [ ]
+  over_text Memory E M show over = elim over [ ]
+
+  module _ (show : Option ℕ) (outputs : List ℕ) (told : Told) (one : OneDigest kinds) where
+    pub told_of_each : (cause b : End) (E F : List Entry) (M N : State) (verdict : Verdict) → IsFinal kinds net E M cause → IsFinal kinds net F N b
+        → TellsOf kinds net show outputs told cause E M verdict → TellsOf kinds net show outputs told b F N verdict
+    told_of_each cause b E F M N verdict e f tells =
+        let same : digest kinds net cause E M ≡ digest kinds net b F N = one net E F M N cause b e f in
+        let streams : each_channel net (λ c. stream net E c) ≡ each_channel net (λ c. stream net F c) = ap (λ (d : Digest). d.streams) same in
+        let places : places_in kinds net M ≡ places_in kinds net N = ap (λ (d : Digest). d.places) same in
+        let texts : report_text kinds net cause E M show ≡ report_text kinds net b F N show = over_text cause E M show e.over ∙ ap (text_of show) same ∙ sym (over_text b F N show f.over) in
+        let at : (c : ℕ) → stream net E c ≡ stream net F c = λ c. each_stream kinds net (start kinds net) E M e.run c ∙ ap (λ (ss : List (List Token)). get_or ss c []) streams ∙ sym (each_stream kinds net (start kinds net) F N f.run c) in
+        let outs : stream_text net E ≡ stream_text net F = fun_ext (λ c. ap (flat_map token_line) (at c)) in
+        record {
+          judged = subst (λ (d : Digest). IsVerdict net d.places d.cause verdict) same tells.judged;
+          status_is = tells.status_is;
+          report_is = tells.report_is ∙ ap (λ t. t ++ verdict_line net (places_in kinds net M) verdict) texts ∙ ap (λ (p : List Place). report_text kinds net b F N show ++ verdict_line net p verdict) places;
+          outputs_are = tells.outputs_are ∙ ap (λ (o : ℕ → List ℕ). map o outputs) outs;
+        }
+
+-- so is what is told of the run of a machine that has ended
+pub told_so :
+    (kinds : Family) (admits : Card → List ℕ → Option Token → Type 0) (s : MachineView) (cause : End) (places : List Place) (verdict : Verdict) (show : Option ℕ) (outputs : List ℕ) (told : Told)
+    → IsFaithful kinds admits s → TakesLeastRoom kinds s.network s.history s.state → ApproachLeastSolution kinds s.network s.history s.state → AllPrefixComparable kinds → OneDigest kinds
+    → s.end ≡ Some cause → places ≡ each_process s.network (λ p. place_of s.network p (parked_answer (standing s.standings p)))
+    → IsVerdict s.network places cause verdict → told.status ≡ status_of_verdict verdict
+    → ((has_report cause ≡ true → places ≡ places_in kinds s.network s.state) → string_bytes told.report ≡ report_text kinds s.network cause s.history s.state show ++ verdict_line s.network places verdict)
+    → told.outputs.items ≡ map (stream_text s.network s.history) outputs → TellsRun kinds s.network show outputs told
+told_so kinds admits s cause places verdict show outputs told faithful room streams comparable one ended places_are judged status_is report outputs_are =
+    let net = s.network in
+    let here = places_in kinds net s.state in
+    let same : has_report cause ≡ true → places ≡ here = λ has. places_are ∙ at_rest kinds admits s cause faithful ended has in
+    let both = judged_anyhow net places here cause verdict same judged in
+    let justified = justified_by kinds admits s cause faithful ended in
+    let tells : TellsOf kinds net show outputs told cause s.history s.state verdict = record {
+      judged = both.0;
+      status_is = status_is;
+      report_is = report same ∙ ap (λ (l : List ℕ). report_text kinds net cause s.history s.state show ++ l) both.1;
+      outputs_are = outputs_are;
+    } in
+    record {
+      history = s.history;
+      state = s.state;
+      cause = cause;
+      verdict = verdict;
+      run = faithful.run;
+      justified = justified;
+      room = room;
+      streams = streams;
+      comparable = λ sizes F N run. comparable net sizes s.history F s.state N faithful.run run;
+      tells = tells;
+      settled = λ has F N b final.
+          told_of_each kinds net show outputs told one cause b s.history F s.state N verdict (record { run = faithful.run; over = over_of kinds net cause s.history s.state has justified }) final tells;
+    }

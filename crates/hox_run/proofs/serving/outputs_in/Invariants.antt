@@ -1,0 +1,10 @@
+use Rattle.std.proofs.Common.{◌≡◌, ◌<◌, length, map, take, Some}
+use Rattle.std.specs.List.{All}
+use Rattle.kpn_execute.specs.Execution.{number_of_channel}
+use Rattle.hox_run.proofs.serving.outputs_in.Given as goal
+
+abbrev pub invariant-loop-k : goal.invariant-loop-k
+invariant-loop-k g l = record {
+  named : map (number_of_channel l.net) (take l.k l.names) ≡ map Some l.channels.items;
+  within : All (λ c. c < length l.net.channels) l.channels.items;
+}

@@ -1,0 +1,4 @@
+pub mod Presets
+pub mod Statuses
+pub mod Telling
+pub mod Serving

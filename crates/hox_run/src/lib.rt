@@ -1,0 +1,21 @@
+//! Runs a described network on tokens of files, and tells what went through its channels, from bytes to
+//! bytes.
+#![tactic(auto)]
+
+mod family;
+mod parts;
+mod presets;
+mod reading;
+mod request;
+mod running;
+mod serving;
+mod telling;
+
+pub use family::{AllKinds, KINDS};
+pub use parts::parts_of;
+pub use presets::{FileFault, PresetFault, preset};
+pub use reading::{LONGEST_FILE, ReadFault, read_whole};
+pub use request::{Fault, Request, TokenFile};
+pub use running::{RunFault, execute};
+pub use serving::{prepare, serve};
+pub use telling::{Told, told_of};

@@ -1,0 +1,48 @@
+//! Reading a file of tokens to its end.
+ghost use Rattle.std.specs.Prelude.{◌≡◌, ◌≢◌, ◌<◌, ◌≤◌, ◌+◌, true, IfOk, IfSome, length};
+ghost use Rattle.kpn_front.specs.Loading.{ReadsAtMost};
+
+use kpn_front::Source;
+use std::alloc::Global;
+
+/// How many bytes a file of tokens may have: 64 MiB, which is 67 for each of 1,000,000 tokens.
+pub const LONGEST_FILE: usize = 67108864;
+
+/// How many bytes one turn reads at most.
+const CHUNK: usize = 4096;
+
+/// Why a file of tokens was not read: a read failed, or it has more than [`LONGEST_FILE`] bytes, or memory
+/// was refused.
+#[derive(Clone, Copy, Debug, PartialEq, Eq)]
+pub enum ReadFault {
+    Failed,
+    TooLong,
+    Memory,
+}
+
+/// Returns the bytes of a source, read to its end.
+///
+/// Errors: see [`ReadFault`]. What was read has then been consumed from the source.
+pub fn read_whole<S: Source>(alloc: Global, source: &mut S) -> Result<Vec<u8>, ReadFault>
+    ensures ok { IfOk result (λ t. (length t.items ≤ LONGEST_FILE) × IfSome (S.remaining source.old) (λ text. t.items ≡ text)) }
+    ensures long { result ≡ Err ReadFault.TooLong → IfSome (S.remaining source.old) (λ text. LONGEST_FILE < length text) }
+    ensures unfailed { result ≢ Err ReadFault.Failed → S.has_failed source.new ≡ S.has_failed source.old }
+    ensures failed { result ≡ Err ReadFault.Failed → S.has_failed source.new ≡ true }
+    ensures taken { ReadsAtMost (LONGEST_FILE + 1) (S.remaining source.old) (S.remaining source.new) }
+{
+    let mut text = Vec::new(alloc);
+    let mut chunk = [0; CHUNK];
+    while text.len() <= LONGEST_FILE {
+        let room = CHUNK.min(LONGEST_FILE + 1 - text.len());
+        match source.read(&mut chunk[..room]) {
+            Ok(0) => return Ok(text),
+            Ok(n) => {
+                if text.extend_from_slice(&chunk[..n]).is_err() {
+                    return Err(ReadFault::Memory);
+                }
+            }
+            Err(_) => return Err(ReadFault::Failed),
+        }
+    }
+    Err(ReadFault::TooLong)
+}

@@ -1,0 +1,146 @@
+//! Running a described network as it is asked for, from bytes to bytes.
+ghost use Rattle.std.specs.Prelude.{◌≡◌, ◌<◌, ◌+◌, ◌⊎◌, ℕ, List, [], Some, None, IfOk, IfErr, IfSome, length, get_or};
+ghost use Rattle.std.specs.List.{All};
+ghost use Rattle.kpn_model.specs.Network.{family_of, Network as NetworkV};
+ghost use Rattle.kpn_execute.specs.Execution.{number_of_channel};
+ghost use Rattle.kpn_front.specs.Loading.{ReadsAtMost, longest};
+ghost use Rattle.hox_run.specs.Presets.{PresetAll};
+ghost use Rattle.hox_run.specs.Serving.{AreNamed, GivesNet, GivesRun, HasFewWorkers, IsNamed, Serves};
+
+use crate::parts::parts_of;
+use crate::presets::{greatest_budget, preset, set_budget};
+use crate::request::{Fault, Request};
+use crate::running::{RunFault, execute};
+use crate::telling::Told;
+use kpn_compute::Computes;
+use kpn_front::{Source, load_or_refuse};
+use kpn_model::{Kinds, Text};
+use kpn_network::Net;
+use std::alloc::Global;
+use std::rt::Clock;
+use std::sync::Wait;
+use std::thread::Threads;
+
+/// Reads a description from the source, gives its channels the tokens of the request's files and its
+/// network the request's budget, and runs it. Returns what is told of the run.
+///
+/// Errors: see [`Fault`].
+pub fn serve<K: Computes, I: Source, R: Wait + Clock + Threads + Sync>(
+    rt: &R,
+    alloc: Global,
+    request: &Request,
+    source: &mut I,
+) -> Result<Told, Fault>
+    requires { HasFewWorkers request.now }
+    ensures served { Serves K.named K.signature (GivesRun (family_of K.start K.answer_of) request.now) (I.remaining source.old) (I.has_failed source.old) (I.has_failed source.new) result }
+    ensures taken { ReadsAtMost (longest + 1) (I.remaining source.old) (I.remaining source.new) }
+{
+    let loaded: Result<Net<K>, _> = load_or_refuse(alloc, source);
+    match loaded {
+        Ok(net) => serve_net(rt, alloc, request, &net),
+        Err(refused) => Err(Fault::Description(refused)),
+    }
+}
+
+/// Reads a description from the source, and returns its network, with the tokens of the request's files and
+/// with the request's budget. Nothing is run.
+///
+/// Errors: see [`Fault`]; `NoShown`, `NoOutput` and `Lost` are none of them.
+pub fn prepare<K: Kinds, I: Source>(
+    alloc: Global,
+    request: &Request,
+    source: &mut I,
+) -> Result<Net<K>, Fault>
+    ensures served { Serves K.named K.signature (GivesNet request.now) (I.remaining source.old) (I.has_failed source.old) (I.has_failed source.new) result }
+    ensures taken { ReadsAtMost (longest + 1) (I.remaining source.old) (I.remaining source.new) }
+{
+    let loaded: Result<Net<K>, _> = load_or_refuse(alloc, source);
+    match loaded {
+        Ok(net) => prepare_net(alloc, request, &net),
+        Err(refused) => Err(Fault::Description(refused)),
+    }
+}
+
+/// Runs a network that was loaded, as the request wants it.
+fn serve_net<K: Computes, R: Wait + Clock + Threads + Sync>(
+    rt: &R,
+    alloc: Global,
+    request: &Request,
+    net: &Net<K>,
+) -> Result<Told, Fault>
+    requires { HasFewWorkers request.now }
+    ensures { GivesRun (family_of K.start K.answer_of) request.now net.now result }
+{
+    let net = prepare_net(alloc, request, net)?;
+    let show = shown_in(&net, request)?;
+    let outputs = outputs_in(alloc, &net, request.outputs.as_slice())?;
+    match execute(rt, alloc, net, request.workers, show, outputs.as_slice()) {
+        Ok(told) => Ok(told),
+        Err(RunFault::Memory) => Err(Fault::Memory),
+        Err(RunFault::Lost) => Err(Fault::Lost),
+    }
+}
+
+/// A network that was loaded, with the tokens of the request's files and with the request's budget.
+fn prepare_net<K: Kinds>(alloc: Global, request: &Request, net: &Net<K>) -> Result<Net<K>, Fault>
+    ensures { GivesNet request.now net.now result }
+{
+    net.assure_valid();
+    let Ok(mut parts) = parts_of(alloc, net) else {
+        return Err(Fault::Memory);
+    };
+    if let Err(stop) = preset::<K>(alloc, &mut parts, request.tokens.as_slice()) {
+        return Err(Fault::Tokens(stop));
+    }
+    if let Some(budget) = request.budget {
+        if !set_budget::<K>(&mut parts, budget) {
+            return Err(Fault::Budget(greatest_budget(parts.ceiling)));
+        }
+    }
+    match Net::of_parts(alloc, parts) {
+        Ok(net) => Ok(net),
+        Err(_) => Err(Fault::Memory),
+    }
+}
+
+/// The channel to show, if one is asked for.
+fn shown_in<K: Kinds>(net: &Net<K>, request: &Request) -> Result<Option<usize>, Fault>
+    ensures ok { IfOk result (IsNamed net.now request.now.show) }
+    ensures fault { IfErr result (λ e. (e ≡ Fault.NoShown) × (name : List ℕ) × (request.now.show ≡ Some name) × (number_of_channel net.now name ≡ None)) }
+{
+    let Some(name) = &request.show else {
+        return Ok(None);
+    };
+    match net.find_channel(name.as_str()) {
+        Some(channel) => Ok(Some(channel)),
+        None => Err(Fault::NoShown),
+    }
+}
+
+/// The channels of these names.
+fn outputs_in<K: Kinds>(alloc: Global, net: &Net<K>, names: &[Text]) -> Result<Vec<usize>, Fault>
+    ensures named { IfOk result (λ v. AreNamed net.now names.now v.items) }
+    ensures within { IfOk result (λ v. All (λ c. c < length net.now.channels) v.items) }
+    ensures fault { IfErr result (λ e. (e ≡ Fault.Memory) ⊎ ((k : ℕ) × (e ≡ Fault.NoOutput k) × (k < length names.now) × (number_of_channel net.now (get_or names.now k []) ≡ None))) }
+{
+    let mut channels = Vec::new(alloc);
+    for k in 0..names.len() {
+        match find_within(net, names[k].as_str()) {
+            Some(channel) => {
+                if channels.push(channel).is_err() {
+                    return Err(Fault::Memory);
+                }
+            }
+            None => return Err(Fault::NoOutput(k)),
+        }
+    }
+    Ok(channels)
+}
+
+/// The channel of this name.
+fn find_within<K: Kinds>(net: &Net<K>, name: &str) -> Option<usize>
+    ensures is { result ≡ number_of_channel net.now name.now }
+    ensures within { IfSome result (λ c. c < length net.now.channels) }
+{
+    net.find_channel(name)
+}

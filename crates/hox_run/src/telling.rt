@@ -1,0 +1,129 @@
+//! What is told of a run that ended.
+ghost use Rattle.std.specs.Prelude.{◌≡◌, ◌<◌, ◌++◌, ℕ, true, IfOk, IsSome, length, map, string_bytes};
+ghost use Rattle.std.specs.List.{All};
+ghost use Rattle.kpn_model.specs.Network.{Family, family_of};
+ghost use Rattle.kpn_model.specs.Semantics.{State};
+ghost use Rattle.kpn_model.specs.Endings.{has_report};
+ghost use Rattle.kpn_model.specs.Verdicts.{IsVerdict};
+ghost use Rattle.kpn_report.specs.Text.{report_text};
+ghost use Rattle.kpn_verdict.specs.VerdictText.{verdict_line};
+ghost use Rattle.hox_run.specs.Telling.{TellsRun, places_in, status_of_verdict, stream_text};
+
+use kpn_front::Status;
+use kpn_laws::{determinacy_of, least_room_of, least_solution_of};
+use kpn_machine::Chronicle;
+use kpn_model::{End, Entry, Kinds, Place, Text, Verdict};
+use kpn_network::Net;
+use kpn_report::{places_of, stream_of, text_of};
+use kpn_tokens::tokens_text;
+use kpn_verdict::{verdict_of, verdict_text};
+use std::alloc::{AllocError, Global};
+
+/// What is told of a run: the exit status, the report with the line of the verdict, and for each channel
+/// that was asked for its stream, one token a line.
+#[derive(Drop)]
+pub struct Told {
+    pub status: Status,
+    pub report: String,
+    pub outputs: Vec<Text>,
+}
+
+/// A verdict, and the report with its line.
+#[derive(Drop)]
+struct Judged {
+    verdict: Verdict,
+    report: String,
+}
+
+/// Returns what is told of a run that ended, with the stream of channel `show` in the report if it is given.
+///
+/// Errors: memory was refused.
+pub fn told_of<K: Kinds>(
+    alloc: Global,
+    chronicle: &Chronicle<K>,
+    show: Option<usize>,
+    outputs: &[usize],
+) -> Result<Told, AllocError>
+    requires ended { IsSome chronicle.now.end }
+    requires within { All (λ c. c < length chronicle.now.network.channels) outputs.now }
+    ensures { IfOk result (TellsRun (family_of K.start K.answer_of) chronicle.now.network show outputs.now) }
+{
+    let Some(end) = chronicle.end() else {
+        unreachable!()
+    };
+    determinacy_of::<K>();
+    least_room_of::<K>();
+    least_solution_of::<K>();
+    let net = chronicle.net();
+    let history = chronicle.history();
+    let places = places_of(alloc, net, chronicle.standings())?;
+    let judged = judge(alloc, net, history, places.as_slice(), end, show)?;
+    Ok(Told {
+        status: status_of(judged.verdict),
+        report: judged.report,
+        outputs: outputs_of(alloc, net, history, outputs)?,
+    })
+}
+
+/// The report of a run, and the verdict on it.
+fn judge<K: Kinds>(
+    alloc: Global,
+    net: &Net<K>,
+    history: &[Entry],
+    places: &[Place],
+    end: End,
+    show: Option<usize>,
+) -> Result<Judged, AllocError>
+    ensures verdict { IfOk result (λ judged. IsVerdict net.now places.now end judged.verdict) }
+    ensures report { IfOk result (λ judged. (kinds : Family) (M : State) → (has_report end ≡ true → places.now ≡ places_in kinds net.now M) → string_bytes judged.report ≡ report_text kinds net.now end history.now M show ++ verdict_line net.now places.now judged.verdict) }
+{
+    let verdict = verdict_of(net, places, end);
+    let line = verdict_text(alloc, net, places, verdict)?;
+    let mut report = text_of(alloc, net, history, places, end, show)?;
+    report.push_str(line.as_str())?;
+    Ok(Judged { verdict, report })
+}
+
+/// The streams of these channels, each as a text.
+fn outputs_of<K: Kinds>(
+    alloc: Global,
+    net: &Net<K>,
+    history: &[Entry],
+    channels: &[usize],
+) -> Result<Vec<Text>, AllocError>
+    requires { All (λ c. c < length net.now.channels) channels.now }
+    ensures { IfOk result (λ v. v.items ≡ map (stream_text net.now history.now) channels.now) }
+{
+    let mut outputs = Vec::with_capacity(alloc, channels.len())?;
+    for channel in channels {
+        outputs.push(output_of(alloc, net, history, *channel)?)?;
+    }
+    Ok(outputs)
+}
+
+/// The stream of a channel as a text.
+fn output_of<K: Kinds>(
+    alloc: Global,
+    net: &Net<K>,
+    history: &[Entry],
+    channel: usize,
+) -> Result<Text, AllocError>
+    requires { channel < length net.now.channels }
+    ensures { IfOk result (λ text. text ≡ stream_text net.now history.now channel) }
+{
+    let tokens = stream_of(alloc, net, history, channel)?;
+    Ok(Text::new(tokens_text(alloc, tokens.as_slice())?))
+}
+
+/// The exit status of a run with this verdict.
+fn status_of(verdict: Verdict) -> Status
+    ensures { result ≡ status_of_verdict verdict }
+{
+    match verdict {
+        Verdict::Finished | Verdict::RanDry => Status::Success,
+        Verdict::Cycle(_) => Status::Deadlocked,
+        Verdict::Cut => Status::BudgetSpent,
+        Verdict::Full => Status::AtCeiling,
+        Verdict::Memory => Status::MemoryRefused,
+    }
+}
