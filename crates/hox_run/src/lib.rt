@@ -12,10 +12,9 @@ mod serving;
 mod telling;
 
 pub use family::{AllKinds, KINDS};
-pub use parts::parts_of;
-pub use presets::{FileFault, PresetFault, preset};
+pub use presets::{FileFault, PresetFault};
 pub use reading::{LONGEST_FILE, ReadFault, read_whole};
 pub use request::{Fault, Request, TokenFile};
 pub use running::{RunFault, execute};
 pub use serving::{prepare, serve};
-pub use telling::{Told, told_of};
+pub use telling::Told;

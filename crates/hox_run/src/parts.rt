@@ -9,7 +9,7 @@ use std::alloc::{AllocError, Global};
 /// Returns the parts of which a network is made, copied.
 ///
 /// Errors: memory was refused.
-pub fn parts_of<K: Kinds>(alloc: Global, net: &Net<K>) -> Result<Parts, AllocError>
+pub(crate) fn parts_of<K: Kinds>(alloc: Global, net: &Net<K>) -> Result<Parts, AllocError>
     ensures { IfOk result (λ parts. network_of parts ≡ net.now) }
 {
     Ok(Parts {

@@ -43,7 +43,7 @@ pub struct PresetFault {
 ///
 /// Errors: the first file that has a fault, see [`FileFault`]. The parts have then what the files before it
 /// say.
-pub fn preset<K: Kinds>(
+pub(crate) fn preset<K: Kinds>(
     alloc: Global,
     parts: &mut Parts,
     files: &[TokenFile],
@@ -142,7 +142,7 @@ fn hold(parts: &mut Parts, channel: usize, tokens: Vec<Token>)
 
 /// Gives a network this budget, in entries of a history. Returns whether it may have it: at least 1, and no
 /// more than [`greatest_budget`]; if not, the network stays as it is.
-pub fn set_budget<K: Kinds>(parts: &mut Parts, budget: u64) -> bool
+pub(crate) fn set_budget<K: Kinds>(parts: &mut Parts, budget: u64) -> bool
     requires { IsValid K.signature (network_of parts.old) }
     ensures valid { IsValid K.signature (network_of parts.new) }
     ensures yes { IsTrue result → network_of parts.new ≡ record (network_of parts.old) { budget = budget } }
@@ -156,7 +156,7 @@ pub fn set_budget<K: Kinds>(parts: &mut Parts, budget: u64) -> bool
 }
 
 /// Returns the greatest budget of a network whose channels grow up to this capacity.
-pub fn greatest_budget(ceiling: usize) -> u64
+pub(crate) fn greatest_budget(ceiling: usize) -> u64
     ensures { result ≡ greatest_budget ceiling }
 {
     if ceiling <= CEILING as usize {

@@ -38,7 +38,7 @@ struct Judged {
 /// Returns what is told of a run that ended, with the stream of channel `show` in the report if it is given.
 ///
 /// Errors: memory was refused.
-pub fn told_of<K: Kinds>(
+pub(crate) fn told_of<K: Kinds>(
     alloc: Global,
     chronicle: &Chronicle<K>,
     show: Option<usize>,

@@ -1,0 +1,156 @@
+//! Runs described networks on tokens of files, tells how they ended, and writes what went through their
+//! channels.
+#![tactic(auto)]
+
+mod inputs;
+mod messages;
+mod outputs;
+
+ghost use Rattle.std.specs.Prelude.{◌≤◌};
+ghost use Rattle.hox_run.specs.Serving.{HasFewWorkers};
+
+use crate::inputs::{Pair, pairs_of, request_of};
+use crate::messages::{say_fault, say_no_memory, say_words_refused};
+use crate::outputs::write_told;
+use hox_args::{Choice, RunChoice, read_words};
+use hox_run::{AllKinds, Fault, Request, Told, prepare, serve};
+use kpn_front::{Fallible, Refused, Status, say_checked};
+use kpn_net::{Net, NetFault};
+use std::process::ExitCode;
+use std::rt::{Clock, Env, Files};
+use std::sync::Wait;
+use std::thread::Threads;
+use std::{env, fs, io};
+
+fn main(rt: HostRuntime) -> ExitCode {
+    ExitCode::from(status_of(&rt))
+}
+
+/// Reads the arguments, does what they ask for, and returns the exit status.
+fn status_of<R: Env + Files + Input + Print + Eprint + AllocGlobal + Wait + Clock + Threads + Sync>(
+    rt: &R,
+) -> u8 {
+    let Ok(arguments) = arguments_of(rt) else {
+        return say_no_memory(rt);
+    };
+    let Ok(texts) = texts_of(rt, &arguments) else {
+        return say_no_memory(rt);
+    };
+    match read_words(rt.alloc(), texts.as_slice()) {
+        Ok(Choice::Check { file, tokens }) => check(rt, file, tokens.as_slice()),
+        Ok(Choice::Run(run)) => run_asked(rt, &run),
+        Err(fault) => say_words_refused(rt, &fault),
+    }
+}
+
+/// Says whether the description in this file is a network with these tokens.
+fn check<R: Files + Input + Print + Eprint + AllocGlobal>(
+    rt: &R,
+    file: Option<&str>,
+    tokens: &[&str],
+) -> u8 {
+    let Ok(tokens) = pairs_of(rt, "tokens", tokens) else {
+        return Status::WrongArguments.code();
+    };
+    let outputs = Vec::new(rt.alloc());
+    let request = match request_of(rt, 1, None, None, tokens.as_slice(), &outputs) {
+        Ok(request) => request,
+        Err(status) => return status,
+    };
+    match prepare_file(rt, &request, file) {
+        Ok(net) => say_checked(&net, &mut Fallible::new(io::writer(rt))),
+        Err(fault) => say_fault(rt, &request, tokens.as_slice(), &fault),
+    }
+}
+
+/// Runs the network that is described as the arguments ask for.
+fn run_asked<R: Files + Input + Print + Eprint + AllocGlobal + Wait + Clock + Threads + Sync>(
+    rt: &R,
+    run: &RunChoice<'_>,
+) -> u8
+    requires { (1 ≤ run.now.workers) × (run.now.workers ≤ 16) }
+{
+    let (Ok(tokens), Ok(outputs)) = (
+        pairs_of(rt, "tokens", run.tokens.as_slice()),
+        pairs_of(rt, "out", run.outputs.as_slice()),
+    ) else {
+        return Status::WrongArguments.code();
+    };
+    let workers = run.workers;
+    let request = match request_of(
+        rt,
+        workers,
+        run.budget,
+        run.show,
+        tokens.as_slice(),
+        &outputs,
+    ) {
+        Ok(request) => request,
+        Err(status) => return status,
+    };
+    match serve_file(rt, &request, run.file) {
+        Ok(told) => write_told(rt, &told, outputs.as_slice(), run.quiet),
+        Err(fault) => say_fault(rt, &request, tokens.as_slice(), &fault),
+    }
+}
+
+/// Runs the network that a file describes, or standard input. A file that can't be opened counts as one
+/// that can't be read.
+fn serve_file<R: Files + Input + AllocGlobal + Wait + Clock + Threads + Sync>(
+    rt: &R,
+    request: &Request,
+    file: Option<&str>,
+) -> Result<Told, Fault>
+    requires { HasFewWorkers request.now }
+{
+    let alloc = rt.alloc();
+    match file {
+        None | Some("-") => {
+            let mut source = Fallible::new(rt.reader());
+            serve::<AllKinds, _, _>(rt, alloc, request, &mut source)
+        }
+        Some(path) => match fs::open(rt, path) {
+            Ok(file) => serve::<AllKinds, _, _>(rt, alloc, request, &mut Fallible::new(file)),
+            Err(_) => Err(unread(rt)),
+        },
+    }
+}
+
+/// The network that a file describes, or standard input.
+fn prepare_file<R: Files + Input + AllocGlobal>(
+    rt: &R,
+    request: &Request,
+    file: Option<&str>,
+) -> Result<Net<AllKinds>, Fault> {
+    let alloc = rt.alloc();
+    match file {
+        None | Some("-") => prepare(alloc, request, &mut Fallible::new(rt.reader())),
+        Some(path) => match fs::open(rt, path) {
+            Ok(file) => prepare(alloc, request, &mut Fallible::new(file)),
+            Err(_) => Err(unread(rt)),
+        },
+    }
+}
+
+/// The fault of a description that can't be read.
+fn unread<R: AllocGlobal>(rt: &R) -> Fault {
+    Fault::Description(Refused {
+        fault: NetFault::Input,
+        text: Vec::new(rt.alloc()),
+    })
+}
+
+/// The arguments, the first of which is the program's name.
+fn arguments_of<R: Env + AllocGlobal>(rt: &R) -> io::Result<Vec<String>> {
+    let arguments: Vec<String> = env::args(rt)?.collect(rt.alloc())?;
+    Ok(arguments)
+}
+
+/// The same as slices.
+fn texts_of<'a>(rt: &impl AllocGlobal, arguments: &'a Vec<String>) -> io::Result<Vec<&'a str>> {
+    let mut texts = Vec::with_capacity(rt.alloc(), arguments.len())?;
+    for argument in arguments {
+        texts.push(argument.as_str())?;
+    }
+    Ok(texts)
+}

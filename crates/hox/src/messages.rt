@@ -1,0 +1,145 @@
+//! What is said on standard error.
+use crate::inputs::Pair;
+use hox_args::WordsFault;
+use hox_run::{AllKinds, Fault, FileFault, KINDS, LONGEST_FILE, PresetFault, ReadFault, Request};
+use kpn_front::{Refused, Status};
+use kpn_message::message_of;
+use kpn_model::limits::{CEILING, GREATEST_HIGH_BUDGET, HIGH_CEILING};
+use kpn_tokens::LineFault;
+use std::str;
+
+/// Says why a request is not done, and returns the exit status.
+pub(crate) fn say_fault<R: Eprint + AllocGlobal>(
+    rt: &R,
+    request: &Request,
+    tokens: &[Pair<'_>],
+    fault: &Fault,
+) -> u8 {
+    let _ = match fault {
+        Fault::Description(refused) => {
+            say_refused(rt, refused);
+            Ok(())
+        }
+        Fault::Tokens(stop) => {
+            say_stop(rt, request, tokens, *stop);
+            Ok(())
+        }
+        Fault::Budget(greatest) => eprintln!(rt;
+            "hox: --budget must be 1 to {greatest}; in version 2 it may be {GREATEST_HIGH_BUDGET}"
+        ),
+        Fault::NoShown => match &request.show {
+            Some(name) => say_no_channel(rt, name.as_str()),
+            None => Ok(()),
+        },
+        Fault::NoOutput(output) => match request.outputs.as_slice().get(*output) {
+            Some(name) => say_no_channel(rt, name.as_str()),
+            None => Ok(()),
+        },
+        Fault::Memory => eprintln!(rt; "hox: memory was refused"),
+        Fault::Lost => eprintln!(rt;
+            "hox: a worker's answer was refused, and the run was given up"
+        ),
+    };
+    fault.status().code()
+}
+
+/// Says that no channel has a name.
+fn say_no_channel<R: Eprint>(rt: &R, name: &str) -> std::io::Result<()> {
+    eprintln!(rt; "hox: no channel has the name {name}")
+}
+
+/// Says why a description is refused.
+fn say_refused<R: Eprint + AllocGlobal>(rt: &R, refused: &Refused) {
+    let text = refused.text.as_slice();
+    let _ = match message_of::<AllKinds>(rt.alloc(), text, refused.fault, KINDS) {
+        Some(message) => eprintln!(rt; "hox: {message}"),
+        None => eprintln!(rt; "hox: {}", refused.fault),
+    };
+}
+
+/// Says why a file of tokens is refused.
+fn say_stop<R: Eprint>(rt: &R, request: &Request, tokens: &[Pair<'_>], stop: PresetFault) {
+    let Some(pair) = tokens.get(stop.file) else {
+        return;
+    };
+    let file = pair.file;
+    let _ = match stop.fault {
+        FileFault::NoChannel => say_no_channel(rt, pair.channel),
+        FileFault::NoText => eprintln!(rt; "hox: {file} is not UTF-8"),
+        FileFault::TooMany { most } if most == CEILING as usize => eprintln!(rt;
+            "hox: {file} has more than {most} tokens; version = 2 of the description allows {HIGH_CEILING}"
+        ),
+        FileFault::TooMany { most } => eprintln!(rt;
+            "hox: {file} has more than {most} tokens, and no channel may hold more"
+        ),
+        FileFault::Line { number, fault } => {
+            let text = match request.tokens.as_slice().get(stop.file) {
+                Some(file) => line_of(file.text.as_slice(), number),
+                None => "",
+            };
+            eprintln!(rt;
+                "hox: line {number} of {file}: {text:?} is {}",
+                needed(fault)
+            )
+        }
+        FileFault::Memory => eprintln!(rt; "hox: memory was refused"),
+    };
+}
+
+/// What a line is not, and what would do.
+fn needed(fault: LineFault) -> &'static str {
+    match fault {
+        LineFault::NotAWord => {
+            "no word: a word is a number up to 18446744073709551615, or hexadecimal after 0x"
+        }
+        LineFault::NotAFlag => "no flag: a flag is true or false",
+    }
+}
+
+/// The line of a text with this number, counted from 1.
+fn line_of(bytes: &[u8], number: usize) -> &str {
+    let Ok(text) = str::from_utf8(bytes) else {
+        return "";
+    };
+    let mut left = number;
+    for line in text.split('\n') {
+        if left <= 1 {
+            return line;
+        }
+        left -= 1;
+    }
+    ""
+}
+
+/// Says that a file of tokens could not be read.
+pub(crate) fn say_unread<R: Eprint>(rt: &R, file: &str, fault: ReadFault) {
+    let _ = match fault {
+        ReadFault::TooLong => { eprintln!(rt; "hox: {file} has more than {LONGEST_FILE} bytes") }
+        ReadFault::Failed => eprintln!(rt; "hox: {file} could not be read"),
+        ReadFault::Memory => eprintln!(rt; "hox: memory was refused"),
+    };
+}
+
+/// Says that a stream could not be written.
+pub(crate) fn say_unwritten<R: Eprint>(rt: &R, file: &str) {
+    let _ = eprintln!(rt; "hox: {file} could not be written");
+}
+
+/// Says that memory was refused, and returns the exit status.
+pub(crate) fn say_no_memory<R: Eprint>(rt: &R) -> u8 {
+    let _ = eprintln!(rt; "hox: memory was refused");
+    Status::MemoryRefused.code()
+}
+
+/// Writes help to standard output, and a fault of the arguments to standard error.
+pub(crate) fn say_words_refused<R: Print + Eprint>(rt: &R, fault: &WordsFault) -> u8 {
+    let said = if fault.asks_for_help() {
+        print!(rt; "{fault}")
+    } else {
+        eprint!(rt; "{fault}")
+    };
+    match said {
+        Ok(()) => fault.status().code(),
+        Err(_) => Status::WriteFailed.code(),
+    }
+}

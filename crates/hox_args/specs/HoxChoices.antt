@@ -1,0 +1,92 @@
+-- What the arguments of the command line ask for, and why they are refused.
+use Rattle.std.specs.Prelude.{◌≡◌, ◌<◌, ◌≤◌, ◌^◌, ℕ, Bool, false, codes, List, [], map, Option, Some, None, option_map, unwrap_or}
+use Rattle.std.specs.Option.{option_map_or}
+use Rattle.std.specs.Str.{bytes_eq}
+use Rattle.std.specs.Str.Parse.{IsNumeral, digits_value, without_leading_plus}
+use Rattle.clap.specs.Words.{HasKind, Row, Text, all_of, fault_of, first_of, kind_of, subcommand_of}
+use Rattle.kpn_args.specs.Choices.{IsRefusedWorkers, WorkersFrom, is_text_asked_for}
+use Rattle.hox_args.specs.declared.words.RunChoice.{RunChoice}
+use Rattle.hox_args.specs.declared.words.Choice.{Choice}
+use Rattle.hox_args.specs.declared.words.Choice.TheVariants.{Check, Run}
+use Rattle.hox_args.specs.declared.words.WordsFault.{WordsFault}
+use Rattle.hox_args.specs.declared.words.WordsFault.TheVariants.{Parser, Workers, Budget, Memory}
+use Rattle.hox_args.specs.HoxCommand.{hox}
+
+-- the text is read as a number of 64 bits
+abbrev pub ReadsNumber : Text → ℕ → Type 0
+ReadsNumber text n = IsNumeral 10 (without_leading_plus text) × (digits_value 10 (without_leading_plus text) ≡ n) × (n < 2 ^ 64)
+
+abbrev pub IsNumber : Text → Option ℕ → Type 0
+IsNumber text (Some n) = ReadsNumber text n
+IsNumber text None = (n : ℕ) → ReadsNumber text n → ⊥
+
+-- the budget that a text asks for, if there is a text
+abbrev pub BudgetFrom : Option Text → Option ℕ → Type 0
+BudgetFrom None budget = budget ≡ None
+BudgetFrom (Some text) None = ⊥
+BudgetFrom (Some text) (Some n) = ReadsNumber text n
+
+-- the text is no budget
+abbrev pub IsRefusedBudget : Option Text → Type 0
+IsRefusedBudget None = ⊥
+IsRefusedBudget (Some text) = IsNumber text None
+
+-- all texts of an option
+abbrev pub texts_of : Text → List Row → List Text
+texts_of id rows = unwrap_or (all_of id rows) []
+
+-- a flag is given
+abbrev pub is_given : Text → List Row → Bool
+is_given id rows = option_map_or (λ t. bytes_eq t (codes "true")) (first_of id rows) false
+
+-- what the entries of `run` ask for
+pub record IsRunOf (rows : List Row) (run : RunChoice) : Type 0 where
+  pub file : option_map (λ s. s.now) run.file ≡ first_of (codes "file") rows
+  pub tokens : map (λ s. s.now) run.tokens.items ≡ texts_of (codes "tokens") rows
+  pub outputs : map (λ s. s.now) run.outputs.items ≡ texts_of (codes "out") rows
+  pub show : option_map (λ s. s.now) run.show ≡ first_of (codes "show") rows
+  pub budget : BudgetFrom (first_of (codes "budget") rows) run.budget
+  pub workers : WorkersFrom (first_of (codes "workers") rows) run.workers
+  pub quiet : run.quiet ≡ is_given (codes "quiet") rows
+
+-- the choice is what a command and its entries ask for
+abbrev pub IsHoxChoiceOf : Option (Text × List Row) → Choice → Type 0
+IsHoxChoiceOf None choice = ⊥
+IsHoxChoiceOf (Some p) (Check file tokens) =
+    (p.0 ≡ codes "check") × (option_map (λ s. s.now) file ≡ first_of (codes "file") p.1) × (map (λ s. s.now) tokens.items ≡ texts_of (codes "tokens") p.1)
+IsHoxChoiceOf (Some p) (Run run) = (p.0 ≡ codes "run") × IsRunOf p.1 run
+
+-- the workers of a run are 1 to 16
+abbrev pub HasFewHoxWorkers : Choice → Type 0
+HasFewHoxWorkers (Check file tokens) = Unit {0}
+HasFewHoxWorkers (Run run) = (1 ≤ run.workers) × (run.workers ≤ 16)
+
+-- the command line accepts the arguments
+abbrev pub AreHoxTaken : List Text → Type 0
+AreHoxTaken words = fault_of hox words ≡ []
+
+abbrev pub IsHoxChoice : List Text → Choice → Type 0
+IsHoxChoice words choice = AreHoxTaken words × IsHoxChoiceOf (subcommand_of hox words) choice
+
+-- the text of `--workers` is no number of workers, or that of `--budget` no number, or memory was refused
+abbrev pub IsRunFault : List Row → WordsFault → Type 0
+IsRunFault rows (Parser e) = ⊥
+IsRunFault rows Workers = IsRefusedWorkers (first_of (codes "workers") rows)
+IsRunFault rows Budget = IsRefusedBudget (first_of (codes "budget") rows)
+IsRunFault rows Memory = Unit {0}
+
+abbrev pub IsFaultIn : Option (Text × List Row) → WordsFault → Type 0
+IsFaultIn None fault = ⊥
+IsFaultIn (Some p) fault = IsRunFault p.1 fault
+
+-- the command line refuses the arguments with this kind of error, or memory was refused; or it accepts them, and a text of an
+-- option is refused
+abbrev pub IsHoxFault : List Text → WordsFault → Type 0
+IsHoxFault words (Parser e) = HasKind (fault_of hox words) e
+IsHoxFault words Memory = Unit {0}
+IsHoxFault words fault = AreHoxTaken words × IsFaultIn (subcommand_of hox words) fault
+
+-- the arguments ask for the help or the version
+abbrev pub asks_for_hox_help : WordsFault → Bool
+asks_for_hox_help (Parser e) = is_text_asked_for (kind_of e)
+asks_for_hox_help _ = false

@@ -1,0 +1,12 @@
+-- The text for the user of a fault of the arguments.
+use Rattle.std.specs.Prelude.{codes, Option, Some, None}
+use Rattle.clap.specs.Words.{Text}
+use Rattle.hox_args.specs.declared.words.WordsFault.{WordsFault}
+use Rattle.hox_args.specs.declared.words.WordsFault.TheVariants.{Parser, Workers, Budget, Memory}
+
+-- the text for the user, if it is not clap's own
+abbrev pub text_of_hox_fault : WordsFault → Option Text
+text_of_hox_fault (Parser e) = None
+text_of_hox_fault Workers = Some (codes "error: --workers takes a number from 1 to 16\n\nFor more information, try 'hox run --help'.\n")
+text_of_hox_fault Budget = Some (codes "error: --budget takes a number\n\nFor more information, try 'hox run --help'.\n")
+text_of_hox_fault Memory = Some (codes "error: memory was refused\n")

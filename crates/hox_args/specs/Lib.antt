@@ -1,0 +1,3 @@
+pub mod HoxCommand
+pub mod HoxChoices
+pub mod HoxTexts
