@@ -4,8 +4,10 @@
 ghost use Rattle.kpn_drawing.specs.DrawChoices.{HasFewIfRun};
 
 use kpn_drawing::{Choice, Served, WordsFault, read_words, serve};
-use kpn_front::{Fallible, Status, say_refused};
+use kpn_execute::KINDS;
+use kpn_front::{Fallible, Sink, Source, Status, say_refused};
 use kpn_net::NetFault;
+use kpn_standard::Standard;
 use std::process::ExitCode;
 use std::rt::{Clock, Env, Files};
 use std::sync::Wait;
@@ -47,12 +49,12 @@ fn serve_choice<R: Files + Input + Print + AllocGlobal + Wait + Clock + Threads 
     let mut sink = Fallible::new(io::writer(rt));
     let Some(path) = choice.file else {
         let mut source = Fallible::new(rt.reader());
-        return serve(rt, rt.alloc(), choice.workers, &mut source, &mut sink);
+        return draw(rt, choice, &mut source, &mut sink);
     };
     match fs::open(rt, path) {
         Ok(file) => {
             let mut source = Fallible::new(file);
-            serve(rt, rt.alloc(), choice.workers, &mut source, &mut sink)
+            draw(rt, choice, &mut source, &mut sink)
         }
         Err(_) => Served {
             status: say_refused(&NetFault::Input, &mut sink),
@@ -60,6 +62,26 @@ fn serve_choice<R: Files + Input + Print + AllocGlobal + Wait + Clock + Threads 
             message: None,
         },
     }
+}
+
+/// Draws a description of a network of standard kinds.
+fn draw<I: Source, O: Sink, R: AllocGlobal + Wait + Clock + Threads + Sync>(
+    rt: &R,
+    choice: &Choice<'_>,
+    source: &mut I,
+    sink: &mut O,
+) -> Served
+    requires { HasFewIfRun choice.now.workers }
+{
+    serve::<Standard, _, _, _>(
+        rt,
+        rt.alloc(),
+        KINDS,
+        choice.direction,
+        choice.workers,
+        source,
+        sink,
+    )
 }
 
 /// Says on standard error why a description was refused.

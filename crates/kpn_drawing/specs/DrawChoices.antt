@@ -4,6 +4,7 @@ use Rattle.std.specs.Option.{option_map_or}
 use Rattle.std.specs.Str.{bytes_eq}
 use Rattle.clap.specs.Words.{HasKind, Row, Text, fault_of, first_of, kind_of, matches_of}
 use Rattle.kpn_args.specs.Choices.{IsRefusedWorkers, WorkersFrom, is_text_asked_for}
+use Rattle.kpn_picture.specs.declared.looks.Direction.TheVariants.{Right, Down}
 use Rattle.kpn_drawing.specs.declared.words.Choice.{Choice}
 use Rattle.kpn_drawing.specs.declared.words.WordsFault.{WordsFault}
 use Rattle.kpn_drawing.specs.declared.words.WordsFault.TheVariants.{Parser, Workers}
@@ -13,12 +14,17 @@ use Rattle.kpn_drawing.specs.DrawCommand.{kpn_draw}
 abbrev pub is_run : List Row → Bool
 is_run rows = option_map_or (λ t. bytes_eq t (codes "true")) (first_of (codes "run") rows) false
 
--- the choice is what the entries of the command line ask for: the file of the description, and the number of workers of its run,
--- if it is to be run
+-- the channels are to lead down
+abbrev pub is_down : List Row → Bool
+is_down rows = option_map_or (λ t. bytes_eq t (codes "true")) (first_of (codes "down") rows) false
+
+-- the choice is what the entries of the command line ask for: the file of the description, the direction of its channels, and the
+-- number of workers of its run, if it is to be run
 pub record IsDrawChoiceOf (rows : List Row) (choice : Choice) : Type 0 where
   pub file : option_map (λ s. s.now) choice.file ≡ first_of (codes "file") rows
   pub count : ℕ
   pub read : WorkersFrom (first_of (codes "workers") rows) count
+  pub direction : choice.direction ≡ (if is_down rows then Down else Right)
   pub workers : choice.workers ≡ (if is_run rows then Some count else None)
 
 -- the workers of a run are 1 to 16

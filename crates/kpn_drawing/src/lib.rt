@@ -7,4 +7,5 @@ mod running;
 mod words;
 
 pub use drawing::{Served, serve};
+pub use kpn_picture::Direction;
 pub use words::{Choice, WordsFault, read_words};

@@ -5,12 +5,14 @@ ghost use Rattle.std.specs.Str.{bytes_eq};
 ghost use Rattle.clap.specs.Words.{FailsBy, app_of, fault_of, first_of, found_of, matches_of, rows_of, rule_of};
 ghost use Rattle.clap.specs.declared.builder.command.Command.TheViews.{out-Command as fields_of};
 ghost use Rattle.kpn_args.specs.Choices.{IsRefusedWorkers, IsWorkers, WorkersFrom};
-ghost use Rattle.kpn_drawing.specs.DrawCommand.{kpn_draw, run_rule, draw_workers_rule, file_rule};
-ghost use Rattle.kpn_drawing.specs.DrawChoices.{AreDrawTaken, HasFewIfRun, IsDrawChoice, IsDrawChoiceOf, IsDrawFault, asks_for_draw_help, is_run};
+ghost use Rattle.kpn_picture.specs.declared.looks.Direction.TheVariants.{Right, Down};
+ghost use Rattle.kpn_drawing.specs.DrawCommand.{kpn_draw, flags, run_rule, down_rule, draw_workers_rule, file_rule};
+ghost use Rattle.kpn_drawing.specs.DrawChoices.{AreDrawTaken, HasFewIfRun, IsDrawChoice, IsDrawChoiceOf, IsDrawFault, asks_for_draw_help, is_run, is_down};
 
 use clap::error::ErrorKind;
 use clap::{Arg, ArgAction, ArgMatches, Command};
 use kpn_front::Status;
+use kpn_picture::Direction;
 use std::alloc::{AllocError, Global};
 use std::{error, fmt};
 
@@ -18,6 +20,7 @@ use std::{error, fmt};
 const STATUSES: &str = "\
 The description is TOML. The picture is a text for Graphviz:
   kpn-draw examples/parks.toml | dot -Tsvg > parks.svg
+Where nothing else stands at a channel, it carries words, has capacity 1 and is empty.
 
 Exit status:
   0  the picture was drawn, however the run ended, or help was asked for
@@ -29,10 +32,11 @@ Exit status:
 ";
 
 /// What the arguments ask for: the description in a file, or on standard input if no file is named, is
-/// drawn as described, or as a run by 1 to 16 workers left it.
+/// drawn as described, or as a run by 1 to 16 workers left it; its channels lead in the direction.
 #[derive(Debug, Drop)]
 pub struct Choice<'a> {
     pub workers: Option<usize>,
+    pub direction: Direction,
     pub file: Option<&'a str>,
 }
 
@@ -113,8 +117,13 @@ fn choice_of<'a>(matches: &ArgMatches<'a>) -> Result<Choice<'a>, WordsFault>
 {
     let count = workers_in(text_in(matches, "workers"))?;
     let workers = asked_for(is_run(matches), count);
+    let direction = direction_of(is_down(matches));
     let file = text_in(matches, "file");
-    Ok(Choice { workers, file })
+    Ok(Choice {
+        workers,
+        direction,
+        file,
+    })
 }
 
 /// The number of workers of a run, if one is asked for.
@@ -122,6 +131,24 @@ fn asked_for(is_run: bool, count: usize) -> Option<usize>
     ensures { result ≡ (if is_run then Some count else None) }
 {
     if is_run { Some(count) } else { None }
+}
+
+/// The direction, by whether that is to be down.
+fn direction_of(is_down: bool) -> Direction
+    ensures { result ≡ (if is_down then Down else Right) }
+{
+    if is_down {
+        Direction::Down
+    } else {
+        Direction::Right
+    }
+}
+
+/// Whether the channels are to lead down.
+fn is_down(matches: &ArgMatches<'_>) -> bool
+    ensures { result ≡ is_down (rows_of (found_of matches.now)) }
+{
+    is_true(text_in(matches, "down"))
 }
 
 /// Whether a run is asked for.
@@ -190,13 +217,19 @@ fn parse<'a>(alloc: Global, words: &'a [&'a str]) -> Result<ArgMatches<'a>, clap
 fn command<'a>(alloc: Global) -> Result<Command<'a>, AllocError>
     ensures { IfOk result (λ c. app_of c ≡ kpn_draw) }
 {
+    flags(alloc)?.arg(workers(alloc))?.arg(file(alloc))
+}
+
+/// The command line with its flags alone.
+fn flags<'a>(alloc: Global) -> Result<Command<'a>, AllocError>
+    ensures { IfOk result (λ c. app_of c ≡ flags) }
+{
     Command::new(alloc, "kpn-draw")
         .about("Draws a Kahn process network, or how a run left it, for Graphviz")
         .after_help(STATUSES)
         .version("0.1.0")
         .arg(run(alloc))?
-        .arg(workers(alloc))?
-        .arg(file(alloc))
+        .arg(down(alloc))
 }
 
 fn run<'a>(alloc: Global) -> Arg<'a>
@@ -207,6 +240,16 @@ fn run<'a>(alloc: Global) -> Arg<'a>
         .long("run")
         .action(ArgAction::SetTrue)
         .help("Runs the network, and draws how the run left it")
+}
+
+fn down<'a>(alloc: Global) -> Arg<'a>
+    ensures rule { rule_of result ≡ down_rule }
+    ensures local { result.global ≡ false }
+{
+    Arg::new(alloc, "down")
+        .long("down")
+        .action(ArgAction::SetTrue)
+        .help("Draws the channels downwards, and not to the right")
 }
 
 fn workers<'a>(alloc: Global) -> Arg<'a>

@@ -1,2 +1,3 @@
 pub mod Titles
+pub mod Caption
 pub mod Picture

@@ -1,53 +1,50 @@
 -- The text of a picture, in the language of Graphviz.
-use Rattle.std.specs.Prelude.{◌≢◌, All, ℕ, ◌==◌, zero, suc, Bool, true, false, not, if◌then◌else◌, codes, decimal, List, [], ◌++◌, length, take, slice_get, Option, Some, None}
-use Rattle.std.specs.List.{flat_map}
+use Rattle.std.specs.Prelude.{◌≢◌, All, ℕ, ◌/◌, ◌==◌, nat_lt, ◌&&◌, zero, suc, Bool, true, false, not, if◌then◌else◌, codes, decimal, List, [], ◌++◌, length, take, slice_get, Option, Some, None}
+use Rattle.std.specs.List.{flat_map, count_by}
 use Rattle.std.specs.Option.{option_map_or}
 use Rattle.kpn_model.specs.declared.token.Token.{Token}
 use Rattle.kpn_model.specs.declared.token.Sort.{Sort}
 use Rattle.kpn_model.specs.declared.token.Sort.TheVariants.{Words, Flags}
 use Rattle.kpn_model.specs.declared.kinds.Card.{Card}
+use Rattle.kpn_model.specs.declared.parts.Channel.{Channel}
 use Rattle.kpn_model.specs.declared.history.Place.{Place}
 use Rattle.kpn_model.specs.declared.history.Place.TheVariants.{Stopped, Reads, Writes}
 use Rattle.kpn_model.specs.declared.history.End.{End}
-use Rattle.kpn_model.specs.declared.history.End.TheVariants.{Terminated, Deadlock, Ceiling, Budget, Memory}
-use Rattle.kpn_model.specs.Network.{Network, card_of, channel_of}
+use Rattle.kpn_model.specs.Network.{Network, card_of, channel_of, in_of, out_of}
 use Rattle.kpn_model.specs.NamesAndLines.{process_name, channel_name, lines_upto}
 use Rattle.kpn_model.specs.Waits.{is_on_cycle, is_jammed}
+use Rattle.kpn_picture.specs.declared.looks.Direction.{Direction}
+use Rattle.kpn_picture.specs.declared.looks.Direction.TheVariants.{Right, Down}
+use Rattle.kpn_picture.specs.Caption.{caption}
+
+abbrev pub rankdir : Direction → List ℕ
+rankdir Right = codes "LR"
+rankdir Down = codes "TB"
 
 -- the lines above all processes
-abbrev pub head : List ℕ
-head =
-    codes "digraph kpn {\n  graph [rankdir=LR, nodesep=0.5, labelloc=t, fontname=\"Helvetica\", fontsize=16];\n"
+abbrev pub head : Direction → List ℕ
+head direction =
+    codes "digraph kpn {\n  graph [rankdir=" ++ rankdir direction ++ codes ", nodesep=0.4, ranksep=0.6, labelloc=t, fontname=\"Helvetica\", fontsize=16];\n"
     ++ codes "  node [shape=box, style=\"rounded,filled\", fillcolor=\"#eef3fa\", color=\"#44546a\", fontname=\"Helvetica\"];\n"
-    ++ codes "  edge [color=\"#44546a\", fontcolor=\"#44546a\", fontname=\"Helvetica\", fontsize=11];\n"
+    ++ codes "  edge [color=\"#44546a\", fontcolor=\"#44546a\", fontname=\"Helvetica\", fontsize=11, labelfontsize=9, labeldistance=1.5, labelangle=25];\n"
 
 -- a text that needs no escapes between quotes: it has no quote, no backslash and no line feed
 abbrev pub IsPlain : List ℕ → Type 0
 IsPlain text = All (λ b. (b ≢ 34) × (b ≢ 92) × (b ≢ 10)) text
 
--- how a run ended
-abbrev pub caption_text : End → List ℕ
-caption_text Terminated = codes "terminated"
-caption_text Deadlock = codes "deadlock"
-caption_text Ceiling = codes "a channel at the ceiling would have to grow"
-caption_text Budget = codes "budget spent"
-caption_text Memory = codes "memory refused"
-
--- the line of the end of a run, if there is one
-abbrev pub caption : Option End → List ℕ
-caption None = []
-caption (Some end) = codes "  label=\"" ++ caption_text end ++ codes "\";\n"
-
 abbrev pub argument_part : ℕ → List ℕ
 argument_part n = codes " " ++ decimal n
 
-abbrev pub sort_text : Sort → List ℕ
-sort_text Words = codes "words"
-sort_text Flags = codes "flags"
+-- a sort, where it isn't that of most channels; and a capacity, where it wasn't 1 or has grown
+abbrev pub sort_part : Sort → List ℕ
+sort_part Words = []
+sort_part Flags = codes "\\nflags"
 
--- the starting capacity of a channel, and the one that it grew to
 abbrev pub capacity_text : ℕ → ℕ → List ℕ
 capacity_text at_first last = if at_first == last then decimal last else decimal at_first ++ codes " -> " ++ decimal last
+
+abbrev pub capacity_part : ℕ → ℕ → List ℕ
+capacity_part at_first last = if (at_first == 1) && (last == 1) then [] else codes "\\ncapacity " ++ capacity_text at_first last
 
 -- how many tokens a channel holds, if it holds any
 abbrev pub held_part : ℕ → List ℕ
@@ -67,14 +64,16 @@ process_look true place = codes ", color=\"#c0392b\", penwidth=2"
 process_look false (Some Stopped) = codes ", fillcolor=\"#e3e3e3\""
 process_look false _ = []
 
--- how the line of a channel between processes with these names begins, and the label of a channel with this name
+-- the number of a port at this end of an edge, if the process has a second one
+abbrev pub port_part : List ℕ → ℕ → Option ℕ → List ℕ
+port_part end port None = []
+port_part end port (Some second) = codes ", " ++ end ++ codes "label=\"" ++ decimal port ++ codes "\""
+
+-- how the line of a channel between processes with these names begins
 abbrev pub arrow : List ℕ → List ℕ → List ℕ
 arrow writer reader = codes "  \"" ++ writer ++ codes "\" -> \"" ++ reader ++ codes "\" [label=\""
 
-abbrev pub label_opening : List ℕ → Sort → List ℕ
-label_opening name sort = name ++ codes "\\n" ++ sort_text sort ++ codes ", capacity "
-
--- how the line of a process with this name begins, up to its kind; and how each line ends, after the label
+-- how the line of a process with this name begins, up to its kind; and how it ends, after the label
 abbrev pub box_opening : List ℕ → List ℕ
 box_opening name = codes "  \"" ++ name ++ codes "\" [label=\"" ++ name ++ codes "\\n"
 
@@ -84,6 +83,18 @@ closing look = codes "\"" ++ look ++ codes "];\n"
 -- a kind, with the arguments that it takes
 abbrev pub kind_text : (ℕ → List ℕ × ℕ) → Card → List ℕ
 kind_text title card = let t = title card.kind in t.0 ++ flat_map argument_part (take t.1 card.args)
+
+-- the processes stand in rows of eight, in their order; a channel stays in a row if both its ends are there
+abbrev pub stays : Channel → Bool
+stays l = l.writer / 8 == l.reader / 8
+
+-- the picture has rows if there are more than twelve processes, and more than half of the channels stay in a row
+abbrev pub has_rows : Network → Bool
+has_rows net = nat_lt 12 (length net.processes) && nat_lt (length net.channels / 2) (count_by stays net.channels)
+
+-- the rows are laid out one below the other, each for itself: a channel to another row has no say in it
+abbrev pub row_part : Bool → Bool → List ℕ
+row_part rows staying = if rows && not staying then codes ", constraint=false" else []
 
 module _ (net : Network) where
   -- the place in which a run left a process
@@ -99,9 +110,16 @@ module _ (net : Network) where
         box_opening (process_name net p) ++ kind_text title (card_of net p) ++ option_map_or place_label (slice_get places p) []
         ++ closing (process_look (is_on_cycle net places p) (slice_get places p))
 
-  -- how the line of channel c begins, up to its capacity
+  -- how the line of channel c begins, up to its label
   abbrev pub edge_opening : ℕ → List ℕ
-  edge_opening c = let l = channel_of net c in arrow (process_name net l.writer) (process_name net l.reader) ++ label_opening (channel_name net c) l.sort
+  edge_opening c = let l = channel_of net c in arrow (process_name net l.writer) (process_name net l.reader)
+
+  -- the numbers of the ports at its ends, where the process has several: they are numbered from 0
+  abbrev pub tail_part : ℕ → List ℕ
+  tail_part c = let l = channel_of net c in port_part (codes "tail") l.out (out_of net l.writer 1)
+
+  abbrev pub head_part : ℕ → List ℕ
+  head_part c = let l = channel_of net c in port_part (codes "head") l.input (in_of net l.reader 1)
 
   module _ (places : List Place) (capacities : List ℕ) (rests : List (List Token)) where
     -- what channel c holds, and its capacity: at the end, if that is known, and else at first
@@ -114,14 +132,20 @@ module _ (net : Network) where
     abbrev pub has_grown : ℕ → Bool
     has_grown c = not ((channel_of net c).capacity == last_capacity c)
 
-    -- channel c, as an edge from its writer to its reader: its name, its sort, its capacity and what it holds
-    abbrev pub edge_line : ℕ → List ℕ
-    edge_line c =
-        edge_opening c ++ capacity_text (channel_of net c).capacity (last_capacity c) ++ held_part (held_tokens c)
-        ++ closing (edge_look (is_jammed net places c) (has_grown c))
+    -- the label of channel c: its name, and of its sort, its capacity and what it holds whatever isn't usual
+    abbrev pub edge_label : ℕ → List ℕ
+    edge_label c = channel_name net c ++ sort_part (channel_of net c).sort ++ capacity_part (channel_of net c).capacity (last_capacity c) ++ held_part (held_tokens c)
+
+    -- what follows its label: how it looks, and its ports
+    abbrev pub edge_attributes : Bool → ℕ → List ℕ
+    edge_attributes rows c = edge_look (is_jammed net places c) (has_grown c) ++ tail_part c ++ head_part c ++ row_part rows (stays (channel_of net c))
+
+    -- channel c, as an edge from its writer to its reader
+    abbrev pub edge_line : Bool → ℕ → List ℕ
+    edge_line rows c = edge_opening c ++ edge_label c ++ codes "\"" ++ edge_attributes rows c ++ codes "];\n"
 
 -- the picture of a network, and of a run with this end that left it like this
-abbrev pub picture : (ℕ → List ℕ × ℕ) → Network → Option End → List Place → List ℕ → List (List Token) → List ℕ
-picture title net end places capacities rests =
-    head ++ caption end ++ lines_upto (node_line net title places) (length net.processes)
-    ++ lines_upto (edge_line net places capacities rests) (length net.channels) ++ codes "}\n"
+abbrev pub picture : Direction → (ℕ → List ℕ × ℕ) → Network → Option End → List Place → List ℕ → List (List Token) → List ℕ
+picture direction title net end places capacities rests =
+    head direction ++ caption net places end ++ lines_upto (node_line net title places) (length net.processes)
+    ++ lines_upto (edge_line net places capacities rests (has_rows net)) (length net.channels) ++ codes "}\n"

@@ -1,12 +1,14 @@
 //! Channels, as edges.
 ghost use Rattle.std.specs.Prelude.{◌≡◌, ◌++◌, ◌<◌, OnOk, length, string_bytes};
+ghost use Rattle.kpn_model.specs.Network.{channel_of};
 ghost use Rattle.kpn_model.specs.Waits.{is_jammed};
 ghost use Rattle.kpn_model.specs.NamesAndLines.{process_name, channel_name, lines_upto};
-ghost use Rattle.kpn_picture.specs.Picture.{arrow, label_opening, edge_opening, edge_look, has_grown, capacity_text, held_part, held_tokens, last_capacity, edge_line};
+ghost use Rattle.kpn_picture.specs.Picture.{arrow, edge_opening, edge_look, has_grown, capacity_text, capacity_part, held_part, held_tokens, last_capacity, port_part, tail_part, head_part, has_rows, stays, edge_label, edge_attributes, edge_line};
 
-use crate::looks::{edge_look, push_closing, sort_text};
+use crate::looks::{edge_look, row_part, sort_part};
 use crate::picture::Left;
-use kpn_model::{Kinds, Sort};
+use crate::rows::{has_rows, stays};
+use kpn_model::Kinds;
 use kpn_network::Net;
 use kpn_verdict::is_jammed;
 use std::alloc::AllocError;
@@ -33,7 +35,7 @@ pub(crate) fn channel_name<K: Kinds>(net: &Net<K>, c: usize) -> &str
 }
 
 /// Appends the starting capacity of a channel, and the one that it grew to.
-fn push_capacity(out: &mut String, at_first: usize, last: usize) -> Result<(), AllocError>
+fn push_capacities(out: &mut String, at_first: usize, last: usize) -> Result<(), AllocError>
     ensures { OnOk result (string_bytes out.new ≡ string_bytes out.old ++ capacity_text at_first last) }
 {
     if at_first == last {
@@ -41,6 +43,17 @@ fn push_capacity(out: &mut String, at_first: usize, last: usize) -> Result<(), A
     } else {
         write!(out, "{at_first} -> {last}")
     }
+}
+
+/// Appends the capacity of a channel, if it wasn't 1 or has grown.
+fn push_capacity(out: &mut String, at_first: usize, last: usize) -> Result<(), AllocError>
+    ensures { OnOk result (string_bytes out.new ≡ string_bytes out.old ++ capacity_part at_first last) }
+{
+    if at_first == 1 && last == 1 {
+        return Ok(());
+    }
+    out.push_str("\\ncapacity ")?;
+    push_capacities(out, at_first, last)
 }
 
 /// Appends how many tokens a channel holds, if it holds any.
@@ -83,15 +96,7 @@ fn push_arrow(out: &mut String, writer: &str, reader: &str) -> Result<(), AllocE
     write!(out, "  \"{writer}\" -> \"{reader}\" [label=\"")
 }
 
-/// Appends how the label of a channel begins, up to its capacity.
-fn push_label(out: &mut String, name: &str, sort: Sort) -> Result<(), AllocError>
-    ensures { OnOk result (string_bytes out.new ≡ string_bytes out.old ++ label_opening name.now sort) }
-{
-    let sort = sort_text(sort);
-    write!(out, "{name}\\n{sort}, capacity ")
-}
-
-/// Appends how the line of a channel begins, up to its capacity.
+/// Appends how the line of a channel begins, up to its label.
 fn push_opening<K: Kinds>(out: &mut String, net: &Net<K>, c: usize) -> Result<(), AllocError>
     requires { c < length net.now.channels }
     ensures { OnOk result (string_bytes out.new ≡ string_bytes out.old ++ edge_opening net.now c) }
@@ -99,8 +104,23 @@ fn push_opening<K: Kinds>(out: &mut String, net: &Net<K>, c: usize) -> Result<()
     let ends = net.ends(c);
     let writer = process_name(net, ends.writer);
     let reader = process_name(net, ends.reader);
-    push_arrow(out, writer, reader)?;
-    push_label(out, channel_name(net, c), net.sort(c))?;
+    push_arrow(out, writer, reader)
+}
+
+/// Appends the label of a channel.
+fn push_label<K: Kinds>(
+    out: &mut String,
+    net: &Net<K>,
+    left: &Left<'_>,
+    c: usize,
+) -> Result<(), AllocError>
+    requires { c < length net.now.channels }
+    ensures { OnOk result (string_bytes out.new ≡ string_bytes out.old ++ edge_label net.now left.now.places.now left.now.capacities.now left.now.rests.now c) }
+{
+    out.push_str(channel_name(net, c))?;
+    out.push_str(sort_part(net.sort(c)))?;
+    push_capacity(out, net.capacity(c), last_capacity(net, left, c))?;
+    push_held(out, held_tokens(net, left, c))?;
     Ok(())
 }
 
@@ -113,20 +133,73 @@ fn look<K: Kinds>(net: &Net<K>, left: &Left<'_>, c: usize) -> &'static str
     edge_look(is_jammed(net, left.places, c), has_grown)
 }
 
+/// Appends the number of a port at an end of an edge, if the process has a second one.
+fn push_port(
+    out: &mut String,
+    end: &str,
+    port: usize,
+    second: Option<usize>,
+) -> Result<(), AllocError>
+    ensures { OnOk result (string_bytes out.new ≡ string_bytes out.old ++ port_part end.now port second) }
+{
+    match second {
+        Some(_) => write!(out, ", {end}label=\"{port}\""),
+        None => Ok(()),
+    }
+}
+
+/// Appends the number of the output from which a channel leads, if its writer has several.
+fn push_tail<K: Kinds>(out: &mut String, net: &Net<K>, c: usize) -> Result<(), AllocError>
+    requires { c < length net.now.channels }
+    ensures { OnOk result (string_bytes out.new ≡ string_bytes out.old ++ tail_part net.now c) }
+{
+    let ends = net.ends(c);
+    push_port(out, "tail", ends.out, net.out_of(ends.writer, 1))
+}
+
+/// Appends the number of the input to which a channel leads, if its reader has several.
+fn push_head<K: Kinds>(out: &mut String, net: &Net<K>, c: usize) -> Result<(), AllocError>
+    requires { c < length net.now.channels }
+    ensures { OnOk result (string_bytes out.new ≡ string_bytes out.old ++ head_part net.now c) }
+{
+    let ends = net.ends(c);
+    push_port(out, "head", ends.input, net.in_of(ends.reader, 1))
+}
+
+/// Appends what follows the label of a channel.
+fn push_attributes<K: Kinds>(
+    out: &mut String,
+    net: &Net<K>,
+    left: &Left<'_>,
+    has_rows: bool,
+    c: usize,
+) -> Result<(), AllocError>
+    requires { c < length net.now.channels }
+    ensures { OnOk result (string_bytes out.new ≡ string_bytes out.old ++ edge_attributes net.now left.now.places.now left.now.capacities.now left.now.rests.now has_rows c) }
+{
+    out.push_str(look(net, left, c))?;
+    push_tail(out, net, c)?;
+    push_head(out, net, c)?;
+    out.push_str(row_part(has_rows, stays(net, c)))?;
+    Ok(())
+}
+
 /// Appends the line of a channel.
 fn push_channel<K: Kinds>(
     out: &mut String,
     net: &Net<K>,
     left: &Left<'_>,
+    has_rows: bool,
     c: usize,
 ) -> Result<(), AllocError>
     requires { c < length net.now.channels }
-    ensures { OnOk result (string_bytes out.new ≡ string_bytes out.old ++ edge_line net.now left.now.places.now left.now.capacities.now left.now.rests.now c) }
+    ensures { OnOk result (string_bytes out.new ≡ string_bytes out.old ++ edge_line net.now left.now.places.now left.now.capacities.now left.now.rests.now has_rows c) }
 {
     push_opening(out, net, c)?;
-    push_capacity(out, net.capacity(c), last_capacity(net, left, c))?;
-    push_held(out, held_tokens(net, left, c))?;
-    push_closing(out, look(net, left, c))?;
+    push_label(out, net, left, c)?;
+    out.push_str("\"")?;
+    push_attributes(out, net, left, has_rows, c)?;
+    out.push_str("];\n")?;
     Ok(())
 }
 
@@ -136,10 +209,11 @@ pub(crate) fn push_channels<K: Kinds>(
     net: &Net<K>,
     left: &Left<'_>,
 ) -> Result<(), AllocError>
-    ensures { OnOk result (string_bytes out.new ≡ string_bytes out.old ++ lines_upto (edge_line net.now left.now.places.now left.now.capacities.now left.now.rests.now) (length net.now.channels)) }
+    ensures { OnOk result (string_bytes out.new ≡ string_bytes out.old ++ lines_upto (edge_line net.now left.now.places.now left.now.capacities.now left.now.rests.now (has_rows net.now)) (length net.now.channels)) }
 {
+    let has_rows = has_rows(net);
     for c in 0..net.channels() {
-        push_channel(out, net, left, c)?;
+        push_channel(out, net, left, has_rows, c)?;
     }
     Ok(())
 }

@@ -1,12 +1,15 @@
 //! Pictures of networks, in the language of Graphviz: of a description, and of the network after a run.
 #![tactic(auto)]
 
+mod caption;
 mod edges;
 mod looks;
 mod nodes;
 mod picture;
+mod rows;
 mod titles;
 
 pub use kpn_verdict::is_jammed;
+pub use looks::Direction;
 pub use picture::{Left, picture_of};
-pub use titles::Titled;
+pub use titles::{Titled, TitledFilters};

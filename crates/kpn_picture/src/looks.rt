@@ -1,10 +1,27 @@
 //! How processes and channels look.
 ghost use Rattle.std.specs.Prelude.{◌≡◌, ◌++◌, OnOk, string_bytes};
-ghost use Rattle.kpn_picture.specs.Picture.{closing, edge_look, process_look, caption_text, sort_text};
+ghost use Rattle.kpn_picture.specs.Picture.{rankdir, closing, edge_look, process_look, row_part, sort_part};
 
-use kpn_model::{End, Place, Sort};
+use kpn_model::{Place, Sort};
 use std::alloc::AllocError;
 use std::fmt::Write;
+
+/// Where the channels of a picture lead.
+#[derive(Clone, Copy, Debug, PartialEq, Eq)]
+pub enum Direction {
+    Right,
+    Down,
+}
+
+/// The direction, as Graphviz calls it.
+pub(crate) fn rankdir(direction: Direction) -> &'static str
+    ensures { result.now ≡ rankdir direction }
+{
+    match direction {
+        Direction::Right => "LR",
+        Direction::Down => "TB",
+    }
+}
 
 /// How an edge looks: one on a cycle of waits red and bold; one that grew blue, or with blue text.
 pub(crate) fn edge_look(is_jammed: bool, has_grown: bool) -> &'static str
@@ -29,29 +46,29 @@ pub(crate) fn process_look(is_on_cycle: bool, place: Option<Place>) -> &'static 
     }
 }
 
-/// How a run ended.
-pub(crate) fn caption_text(end: End) -> &'static str
-    ensures { result.now ≡ caption_text end }
-{
-    match end {
-        End::Terminated => "terminated",
-        End::Deadlock => "deadlock",
-        End::Ceiling => "a channel at the ceiling would have to grow",
-        End::Budget => "budget spent",
-        End::Memory => "memory refused",
-    }
-}
-
-pub(crate) fn sort_text(sort: Sort) -> &'static str
-    ensures { result.now ≡ sort_text sort }
+/// A sort, where it isn't that of most channels.
+pub(crate) fn sort_part(sort: Sort) -> &'static str
+    ensures { result.now ≡ sort_part sort }
 {
     match sort {
-        Sort::Words => "words",
-        Sort::Flags => "flags",
+        Sort::Words => "",
+        Sort::Flags => "\\nflags",
     }
 }
 
-/// Appends how each line ends, after its label.
+/// What an edge says to Graphviz of the rows of a picture: if it leads to another row, it has no say in
+/// where processes stand.
+pub(crate) fn row_part(has_rows: bool, stays: bool) -> &'static str
+    ensures { result.now ≡ row_part has_rows stays }
+{
+    if has_rows && !stays {
+        ", constraint=false"
+    } else {
+        ""
+    }
+}
+
+/// Appends how the line of a process ends, after its label.
 pub(crate) fn push_closing(out: &mut String, look: &str) -> Result<(), AllocError>
     ensures { OnOk result (string_bytes out.new ≡ string_bytes out.old ++ closing look.now) }
 {

@@ -1,33 +1,118 @@
 //! The titles of kinds.
-ghost use Rattle.kpn_picture.specs.Titles.{standard_title};
+ghost use Rattle.std.specs.Prelude.{◌≡◌, Some, IsSome};
+ghost use Rattle.kpn_standard.specs.Signatures.{named, signature};
+ghost use Rattle.kpn_signals.specs.Signatures.{number_named, ports};
+ghost use Rattle.kpn_compute.specs.Both.{is_first, own_card};
+ghost use Rattle.kpn_picture.specs.Titles.{standard_title, signals_title, both_title};
 
+use kpn_compute::{Both, Filtered, Filters};
 use kpn_model::{Card, Kinds};
+use kpn_signals::{Signal, Signals};
 use kpn_standard::{Kind, Standard};
 
 /// A family whose kinds have titles: the name by which a description calls each, and how many
 /// arguments it takes.
 pub trait Titled: Kinds {
-    ghost use Rattle.std.specs.Prelude.{◌≡◌, ℕ, List, Some, IsSome};
+    ghost use Rattle.std.specs.Prelude.{◌≡◌, ℕ, List, IsSome};
+    ghost use Rattle.kpn_picture.specs.Titles.{MeansKind};
+
+    ghost title: { ℕ → List ℕ × ℕ };
+
+    /// Returns the title of the kind of a card: its name and the number of its arguments. The name means
+    /// this kind; or it is refused in each description, as a name that two joined families have. The card
+    /// must have a signature.
+    fn title(card: &Card) -> (&'static str, usize)
+        requires { IsSome (Self.signature card.now) }
+        ensures name { result.0.now ≡ (title card.now.kind).0 }
+        ensures arity { result.1 ≡ (title card.now.kind).1 }
+        ensures named { MeansKind Self.signature (Self.named (title card.now.kind).0) (card.now.kind, (title card.now.kind).1) };
+}
+
+/// Filters whose kinds have titles, as `Titled` has them of a family.
+pub trait TitledFilters: Filters {
+    ghost use Rattle.std.specs.Prelude.{◌≡◌, ℕ, List, Some, true};
 
     ghost title: { ℕ → List ℕ × ℕ };
 
     /// Returns the title of the kind of a card: its name, which means this kind, and the number of its
-    /// arguments. The card must have a signature.
+    /// arguments. The card must be accepted.
     fn title(card: &Card) -> (&'static str, usize)
-        requires { IsSome (Self.signature card.now) }
+        requires { Self.accepts card.now ≡ true }
         ensures name { result.0.now ≡ (title card.now.kind).0 }
         ensures arity { result.1 ≡ (title card.now.kind).1 }
         ensures named { Self.named (title card.now.kind).0 ≡ Some (card.now.kind, (title card.now.kind).1) };
 }
 
+impl<F: TitledFilters> Titled for Filtered<F> {
+    ghost title = { F.title };
+
+    fn title(card: &Card) -> (&'static str, usize) {
+        F::title(card)
+    }
+}
+
 impl Titled for Standard {
     ghost title = { standard_title };
 
-    fn title(card: &Card) -> (&'static str, usize) {
+    /// Returns the title of the kind of a card. Its name means this kind.
+    fn title(card: &Card) -> (&'static str, usize)
+        requires { IsSome (signature card.now) }
+        ensures name { result.0.now ≡ (standard_title card.now.kind).0 }
+        ensures arity { result.1 ≡ (standard_title card.now.kind).1 }
+        ensures named { named (standard_title card.now.kind).0 ≡ Some (card.now.kind, (standard_title card.now.kind).1) }
+    {
         let Some(kind) = Kind::numbered(card.kind) else {
             unreachable!()
         };
         let row = kind.row();
         (row.name, row.arguments)
+    }
+}
+
+impl Titled for Signals {
+    ghost title = { signals_title };
+
+    /// Returns the title of the kind of a card. Its name means this kind.
+    fn title(card: &Card) -> (&'static str, usize)
+        requires { IsSome (ports card.now) }
+        ensures name { result.0.now ≡ (signals_title card.now.kind).0 }
+        ensures arity { result.1 ≡ (signals_title card.now.kind).1 }
+        ensures named { number_named (signals_title card.now.kind).0 ≡ Some (card.now.kind, (signals_title card.now.kind).1) }
+    {
+        let Some(signal) = Signal::numbered(card.kind) else {
+            unreachable!()
+        };
+        let found = signal.row();
+        (found.name, found.arguments)
+    }
+}
+
+/// Whether a card of two joined families is one of the first.
+fn is_first(card: &Card) -> bool
+    ensures { result ≡ is_first card.now }
+{
+    card.kind % 2 == 0
+}
+
+/// The card of the own family that a card of two joined families stands for.
+fn own_card(card: &Card) -> Card
+    ensures { result ≡ own_card card.now }
+{
+    Card {
+        kind: card.kind / 2,
+        args: card.args,
+    }
+}
+
+impl<A: Titled, B: Titled> Titled for Both<A, B> {
+    ghost title = { both_title A.title B.title };
+
+    fn title(card: &Card) -> (&'static str, usize) {
+        let own = own_card(card);
+        if is_first(card) {
+            A::title(&own)
+        } else {
+            B::title(&own)
+        }
     }
 }

@@ -7,6 +7,6 @@ mod verdict;
 mod waits;
 
 pub use kpn_model::Verdict;
-pub use text::verdict_text;
+pub use text::{push_verdict, verdict_text};
 pub use verdict::verdict_of;
 pub use waits::{is_jammed, is_on_cycle, place_at};

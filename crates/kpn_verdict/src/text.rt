@@ -23,13 +23,15 @@ pub fn verdict_text<K: Kinds>(
     ensures { IfOk result (λ text. string_bytes text ≡ verdict_line net.now places.now verdict) }
 {
     let mut out = String::from_str(alloc, "verdict ")?;
-    push_words(&mut out, net, places, verdict)?;
+    push_verdict(&mut out, net, places, verdict)?;
     out.push_str("\n")?;
     Ok(out)
 }
 
-/// Appends what follows the word `verdict`.
-fn push_words<K: Kinds>(
+/// Appends the words of a verdict, those that follow `verdict` in its line.
+///
+/// Errors: memory was refused.
+pub fn push_verdict<K: Kinds>(
     out: &mut String,
     net: &Net<K>,
     places: &[Place],

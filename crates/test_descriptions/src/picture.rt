@@ -1,15 +1,18 @@
 //! Worked pictures: of a counter, of a network with flags and start tokens, and of the ends of runs.
+use crate::checks::same;
+use kpn_compute::Both;
 use kpn_net::{Card, Check, End, Listed, Net, Place, Token, read_sketch};
-use kpn_picture::{Left, Titled, is_jammed, picture_of};
+use kpn_picture::{Direction, Left, Titled, is_jammed, picture_of};
+use kpn_signals::Signals;
 use kpn_standard::Standard;
 use std::alloc::{AllocError, Global};
 use std::test::Fail;
 
 /// The lines above all processes, in each picture.
 const HEAD: &str = r##"digraph kpn {
-  graph [rankdir=LR, nodesep=0.5, labelloc=t, fontname="Helvetica", fontsize=16];
+  graph [rankdir=LR, nodesep=0.4, ranksep=0.6, labelloc=t, fontname="Helvetica", fontsize=16];
   node [shape=box, style="rounded,filled", fillcolor="#eef3fa", color="#44546a", fontname="Helvetica"];
-  edge [color="#44546a", fontcolor="#44546a", fontname="Helvetica", fontsize=11];
+  edge [color="#44546a", fontcolor="#44546a", fontname="Helvetica", fontsize=11, labelfontsize=9, labeldistance=1.5, labelangle=25];
 "##;
 
 /// Draws a network of which nothing is known but how a run ended, if it did.
@@ -23,7 +26,7 @@ fn picture_of_start(
         capacities: &[],
         rests: &[],
     };
-    picture_of(alloc, net, end, &start)
+    picture_of(alloc, net, Direction::Right, end, &start)
 }
 
 pub(crate) fn net_of(alloc: Global, text: &str) -> Result<Net<Standard>, Fail> {
@@ -43,7 +46,7 @@ fn draws_a_description(rt: HostRuntime) -> Result<(), Fail> {
     let drawn = picture_of_start(alloc, &net, None)?;
     let worked = r#"  "src" [label="src\ncount 1 3"];
   "snk" [label="snk\nsink 3"];
-  "src" -> "snk" [label="c0\nwords, capacity 1"];
+  "src" -> "snk" [label="c0"];
 }
 "#;
     let whole = format!(in alloc; "{HEAD}{worked}")?;
@@ -81,11 +84,11 @@ fn draws_flags_and_start_tokens(rt: HostRuntime) -> Result<(), Fail> {
   "sw" [label="sw\nswitch"];
   "no" [label="no\nsink 2"];
   "yes" [label="yes\nsink 1"];
-  "a" -> "sw" [label="wa\nwords, capacity 1"];
-  "b" -> "even" [label="wb\nwords, capacity 1"];
-  "even" -> "sw" [label="f_1\nflags, capacity 3\nholds 2"];
-  "sw" -> "no" [label="w0\nwords, capacity 1"];
-  "sw" -> "yes" [label="w1\nwords, capacity 1"];
+  "a" -> "sw" [label="wa", headlabel="0"];
+  "b" -> "even" [label="wb"];
+  "even" -> "sw" [label="f_1\nflags\ncapacity 3\nholds 2", headlabel="1"];
+  "sw" -> "no" [label="w0", taillabel="0"];
+  "sw" -> "yes" [label="w1", taillabel="1"];
 }
 "#;
     let whole = format!(in alloc; "{HEAD}{worked}")?;
@@ -135,16 +138,16 @@ fn draws_a_deadlock_with_its_cycle(rt: HostRuntime) -> Result<(), Fail> {
         capacities: &[4, 1, 1, 1],
         rests: rests.as_slice(),
     };
-    let drawn = picture_of(alloc, &net, Some(End::Deadlock), &left)?;
-    let worked = r##"  label="deadlock";
+    let drawn = picture_of(alloc, &net, Direction::Right, Some(End::Deadlock), &left)?;
+    let worked = r##"  label="cycle ad c2 cp c1 (deadlock)";
   "src" [label="src\ncount 1 5\nended", fillcolor="#e3e3e3"];
   "ad" [label="ad\nadd\nwaits to read c1", color="#c0392b", penwidth=2];
   "cp" [label="cp\ncopy\nwaits to read c2", color="#c0392b", penwidth=2];
   "snk" [label="snk\nsink 5\nwaits to read c3"];
-  "src" -> "ad" [label="c0\nwords, capacity 1 -> 4\nholds 4", color="#1f6fb4", fontcolor="#1f6fb4", penwidth=2];
-  "cp" -> "ad" [label="c1\nwords, capacity 1", color="#c0392b", fontcolor="#c0392b", penwidth=3];
-  "ad" -> "cp" [label="c2\nwords, capacity 1", color="#c0392b", fontcolor="#c0392b", penwidth=3];
-  "cp" -> "snk" [label="c3\nwords, capacity 1"];
+  "src" -> "ad" [label="c0\ncapacity 1 -> 4\nholds 4", color="#1f6fb4", fontcolor="#1f6fb4", penwidth=2, headlabel="0"];
+  "cp" -> "ad" [label="c1", color="#c0392b", fontcolor="#c0392b", penwidth=3, taillabel="0", headlabel="1"];
+  "ad" -> "cp" [label="c2", color="#c0392b", fontcolor="#c0392b", penwidth=3];
+  "cp" -> "snk" [label="c3", taillabel="1"];
 }
 "##;
     let whole = format!(in alloc; "{HEAD}{worked}")?;
@@ -215,11 +218,14 @@ fn draws_each_end(rt: HostRuntime) -> Result<(), Fail> {
     let alloc = rt.alloc();
     let net = net_of(alloc, COUNTER)?;
     for (end, text) in [
-        (End::Terminated, "terminated"),
-        (End::Deadlock, "deadlock"),
-        (End::Ceiling, "a channel at the ceiling would have to grow"),
-        (End::Budget, "budget spent"),
-        (End::Memory, "memory refused"),
+        (End::Terminated, "finished (terminated)"),
+        (End::Deadlock, "ran dry (deadlock)"),
+        (
+            End::Ceiling,
+            "full (a channel at the ceiling would have to grow)",
+        ),
+        (End::Budget, "cut (budget spent)"),
+        (End::Memory, "memory (memory refused)"),
     ] {
         let drawn = picture_of_start(alloc, &net, Some(end))?;
         let line = format!(in alloc; "\n  label=\"{text}\";\n")?;
@@ -228,8 +234,10 @@ fn draws_each_end(rt: HostRuntime) -> Result<(), Fail> {
     Ok(())
 }
 
+/// The titles of cards of standard kinds, of kinds for signals, and of both as one family, in which kind k
+/// of the first is 2k, and of the second 2k + 1.
 #[test]
-fn knows_the_titles_of_the_standard_kinds(rt: HostRuntime) {
+fn knows_the_titles_of_kinds(rt: HostRuntime) {
     for (kind, args, title) in [
         (0, [1, 3, 0], ("count", 2)),
         (1, [3, 0, 0], ("sink", 1)),
@@ -237,6 +245,20 @@ fn knows_the_titles_of_the_standard_kinds(rt: HostRuntime) {
         (11, [0, 0, 0], ("select", 0)),
     ] {
         let found = Standard::title(&Card { kind, args });
-        assert_eq!(rt; found, title);
+        same(&rt, "standard", found, title);
+        let both = Card {
+            kind: 2 * kind,
+            args,
+        };
+        same(&rt, "first", Both::<Standard, Signals>::title(&both), title);
+    }
+    for (kind, args, title) in [(19, [3, 0, 0], ("low_pass", 1)), (20, [1, 9, 0], ("clip", 2))] {
+        let found = Signals::title(&Card { kind, args });
+        same(&rt, "signals", found, title);
+        let both = Card {
+            kind: 2 * kind + 1,
+            args,
+        };
+        same(&rt, "second", Both::<Standard, Signals>::title(&both), title);
     }
 }

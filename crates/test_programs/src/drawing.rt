@@ -2,8 +2,10 @@
 ghost use Rattle.kpn_drawing.specs.DrawChoices.{HasFewIfRun};
 
 use crate::checks::same;
-use kpn_drawing::{Choice, WordsFault, read_words, serve};
-use kpn_front::Fallible;
+use kpn_drawing::{Choice, Direction, Served, WordsFault, read_words, serve};
+use kpn_execute::KINDS;
+use kpn_front::{Fallible, Sink, Source};
+use kpn_standard::Standard;
 use std::alloc::{AllocError, Global};
 use std::io;
 use std::io::Write;
@@ -14,9 +16,9 @@ use std::thread::Threads;
 
 /// The lines above all processes, in each picture.
 const HEAD: &str = r##"digraph kpn {
-  graph [rankdir=LR, nodesep=0.5, labelloc=t, fontname="Helvetica", fontsize=16];
+  graph [rankdir=LR, nodesep=0.4, ranksep=0.6, labelloc=t, fontname="Helvetica", fontsize=16];
   node [shape=box, style="rounded,filled", fillcolor="#eef3fa", color="#44546a", fontname="Helvetica"];
-  edge [color="#44546a", fontcolor="#44546a", fontname="Helvetica", fontsize=11];
+  edge [color="#44546a", fontcolor="#44546a", fontname="Helvetica", fontsize=11, labelfontsize=9, labeldistance=1.5, labelangle=25];
 "##;
 
 const COUNTER: &str = r#"version = 1
@@ -47,6 +49,19 @@ fn first_line<R: AllocGlobal + Abort>(rt: &R, status: u8, number: u8) -> Vec<u8>
     line.into_bytes()
 }
 
+/// Draws a description of a network of standard kinds, to the right.
+fn draw<I: Source, O: Sink, R: AllocGlobal + Wait + Clock + Threads + Sync>(
+    rt: &R,
+    workers: Option<usize>,
+    source: &mut I,
+    sink: &mut O,
+) -> Served
+    requires { HasFewIfRun workers }
+{
+    let direction = Direction::Right;
+    serve::<Standard, _, _, _>(rt, rt.alloc(), KINDS, direction, workers, source, sink)
+}
+
 /// What is written of a description, after the exit status and the number of its fault.
 fn told<R: AllocGlobal + Wait + Clock + Threads + Abort + Sync>(
     rt: &R,
@@ -57,7 +72,7 @@ fn told<R: AllocGlobal + Wait + Clock + Threads + Abort + Sync>(
 {
     let mut source = text.as_bytes();
     let mut written = Vec::new(rt.alloc());
-    let served = serve(rt, rt.alloc(), workers, &mut source, &mut written);
+    let served = draw(rt, workers, &mut source, &mut written);
     let number = match served.fault {
         Some(fault) => fault.number(),
         None => 0,
@@ -89,7 +104,7 @@ fn drawn<R: AllocGlobal + Abort>(rt: &R, worked: &str) -> String {
 /// The counter's network.
 const COUNTER_LINES: &str = r#"  "src" [label="src\ncount 1 3"];
   "snk" [label="snk\nsink 3"];
-  "src" -> "snk" [label="c0\nwords, capacity 1"];
+  "src" -> "snk" [label="c0"];
 }
 "#;
 
@@ -100,15 +115,15 @@ fn draws_a_description(rt: HostRuntime) {
 }
 
 /// The loop's network after its run.
-const LOOP_LINES: &str = r##"  label="deadlock";
+const LOOP_LINES: &str = r##"  label="cycle ad c2 cp c1 (deadlock)";
   "src" [label="src\ncount 1 5\nended", fillcolor="#e3e3e3"];
   "ad" [label="ad\nadd\nwaits to read c1", color="#c0392b", penwidth=2];
   "cp" [label="cp\ncopy\nwaits to read c2", color="#c0392b", penwidth=2];
   "snk" [label="snk\nsink 5\nwaits to read c3"];
-  "src" -> "ad" [label="c0\nwords, capacity 1 -> 4\nholds 4", color="#1f6fb4", fontcolor="#1f6fb4", penwidth=2];
-  "cp" -> "ad" [label="c1\nwords, capacity 1", color="#c0392b", fontcolor="#c0392b", penwidth=3];
-  "ad" -> "cp" [label="c2\nwords, capacity 1", color="#c0392b", fontcolor="#c0392b", penwidth=3];
-  "cp" -> "snk" [label="c3\nwords, capacity 1"];
+  "src" -> "ad" [label="c0\ncapacity 1 -> 4\nholds 4", color="#1f6fb4", fontcolor="#1f6fb4", penwidth=2, headlabel="0"];
+  "cp" -> "ad" [label="c1", color="#c0392b", fontcolor="#c0392b", penwidth=3, taillabel="0", headlabel="1"];
+  "ad" -> "cp" [label="c2", color="#c0392b", fontcolor="#c0392b", penwidth=3];
+  "cp" -> "snk" [label="c3", taillabel="1"];
 }
 "##;
 
@@ -121,10 +136,10 @@ fn draws_a_deadlock_with_its_cycle(rt: HostRuntime) {
 }
 
 /// The counter's network after a run whose budget was spent.
-const SPENT_LINES: &str = r#"  label="budget spent";
+const SPENT_LINES: &str = r#"  label="cut (budget spent)";
   "src" [label="src\ncount 1 3"];
   "snk" [label="snk\nsink 3"];
-  "src" -> "snk" [label="c0\nwords, capacity 1"];
+  "src" -> "snk" [label="c0"];
 }
 "#;
 
@@ -188,7 +203,7 @@ fn fails_to_write<R: AllocGlobal + Wait + Clock + Threads + Abort + Sync>(
 {
     let mut source = text.as_bytes();
     let mut sink = Fallible::new(Failing { room: 5 });
-    let served = serve(rt, rt.alloc(), workers, &mut source, &mut sink);
+    let served = draw(rt, workers, &mut source, &mut sink);
     same(rt, text, served.status, 7);
 }
 
@@ -202,12 +217,21 @@ fn tells_a_failed_write_by_its_status(rt: HostRuntime) {
 /// What the arguments ask for, as a text.
 fn asked_for<R: Abort>(rt: &R, alloc: Global, words: &[&str]) -> String {
     let text = match read_words(alloc, words) {
-        Ok(Choice { workers, file }) => {
-            format!(in alloc; "{} {}", workers.unwrap_or(0), file.unwrap_or("-"))
-        }
+        Ok(choice) => choice_text(alloc, &choice),
         Err(fault) => refused_text(alloc, &fault),
     };
     text.expect(rt, "no memory")
+}
+
+/// The number of workers, the direction and the file.
+fn choice_text(alloc: Global, choice: &Choice<'_>) -> Result<String, AllocError> {
+    let workers = choice.workers.unwrap_or(0);
+    let direction = match choice.direction {
+        Direction::Right => "right",
+        Direction::Down => "down",
+    };
+    let file = choice.file.unwrap_or("-");
+    format!(in alloc; "{workers} {direction} {file}")
 }
 
 /// The exit status, whether help or the version is asked for, and whether it is because of the number of
@@ -218,18 +242,20 @@ fn refused_text(alloc: Global, fault: &WordsFault) -> Result<String, AllocError>
     format!(in alloc; "{status} {asks} {is_of_workers}")
 }
 
-/// Command lines, and what they ask for: the number of workers of a run (0 if nothing is run) and a
-/// file; or nothing, with the exit status, whether help or the version is asked for, and whether it is
+/// Command lines, and what they ask for: the number of workers of a run (0 if nothing is run), the
+/// direction and a file; or nothing, with the exit status, whether help or the version is asked for, and whether it is
 /// because of the number of workers.
-static WORDS: [(&str, &str); 16] = [
-    ("kpn-draw", "0 -"),
-    ("kpn-draw a.toml", "0 a.toml"),
-    ("kpn-draw --run", "1 -"),
-    ("kpn-draw --run a.toml", "1 a.toml"),
-    ("kpn-draw a.toml --run", "1 a.toml"),
-    ("kpn-draw --run --workers 16 a.toml", "16 a.toml"),
-    ("kpn-draw --workers=2 --run", "2 -"),
-    ("kpn-draw --workers 2 a.toml", "0 a.toml"),
+static WORDS: [(&str, &str); 18] = [
+    ("kpn-draw", "0 right -"),
+    ("kpn-draw a.toml", "0 right a.toml"),
+    ("kpn-draw --down a.toml", "0 down a.toml"),
+    ("kpn-draw --run", "1 right -"),
+    ("kpn-draw --run a.toml", "1 right a.toml"),
+    ("kpn-draw a.toml --run --down", "1 down a.toml"),
+    ("kpn-draw --run --workers 16 a.toml", "16 right a.toml"),
+    ("kpn-draw --workers=2 --run", "2 right -"),
+    ("kpn-draw --workers 2 a.toml", "0 right a.toml"),
+    ("kpn-draw --down --down", "1 false false"),
     ("kpn-draw --run --workers 17", "1 false true"),
     ("kpn-draw --run --workers 0", "1 false true"),
     ("kpn-draw --workers two", "1 false true"),

@@ -1,11 +1,11 @@
-use Rattle.std.proofs.Common.{string_bytes}
-use Rattle.kpn_picture.specs.Picture.{edge_opening, capacity_text, held_part, closing}
-use Rattle.kpn_picture.proofs.Parts.{pushed_four}
+use Rattle.std.proofs.Common.{codes, string_bytes}
+use Rattle.kpn_picture.specs.Picture.{edge_opening, edge_label, edge_attributes}
+use Rattle.kpn_picture.proofs.Parts.{pushed_five}
 use Rattle.kpn_picture.proofs.edges.push_channel.Goals as goal
 
 pub returns : goal.returns
 returns g c =
-    let pushed = pushed_four (string_bytes c.args.out.now) (string_bytes c.push_opening.new.out) (string_bytes c.push_capacity.new.out) (string_bytes c.push_held.new.out) (string_bytes c.push_closing.new.out)
-    (edge_opening c.args.net.now c.args.c) (capacity_text c.capacity.result c.last_capacity.result) (held_part c.held_tokens.result) (closing c.look.result.now)
-    c.in_ok-push_opening.ensures c.in_ok-push_capacity.ensures c.in_ok-push_held.ensures c.in_ok-push_closing.ensures in
-    rw (c.capacity.ensures, c.last_capacity.ensures, c.held_tokens.ensures, c.look.ensures) at pushed
+    let left = c.args.left.now in
+    pushed_five (string_bytes c.args.out.now) (string_bytes c.push_opening.new.out) (string_bytes c.push_label.new.out) (string_bytes c.push_str.new.self) (string_bytes c.push_attributes.new.out) (string_bytes c.push_str-2.new.self)
+    (edge_opening c.args.net.now c.args.c) (edge_label c.args.net.now left.places.now left.capacities.now left.rests.now c.args.c) (codes "\"") (edge_attributes c.args.net.now left.places.now left.capacities.now left.rests.now c.args.has_rows c.args.c) (codes "];\n")
+    c.in_ok-push_opening.ensures c.in_ok-push_label.ensures c.in_ok-push_str.ensures.bytes c.in_ok-push_attributes.ensures c.in_ok-push_str-2.ensures.bytes

@@ -1,0 +1,42 @@
+//! The rows of a large picture.
+ghost use Rattle.std.specs.Prelude.{◌≡◌, ◌<◌, length, count_by};
+ghost use Rattle.kpn_model.specs.Network.{channel_of};
+ghost use Rattle.kpn_picture.specs.Picture.{has_rows, stays};
+
+use kpn_model::Kinds;
+use kpn_network::Net;
+
+/// How many processes stand in a row.
+const ROW: usize = 8;
+
+/// A picture of so many processes has no rows.
+const ONE_ROW: usize = 12;
+
+/// Whether both ends of a channel stand in one row.
+pub(crate) fn stays<K: Kinds>(net: &Net<K>, c: usize) -> bool
+    requires { c < length net.now.channels }
+    ensures { result ≡ stays (channel_of net.now c) }
+{
+    let ends = net.ends(c);
+    ends.writer / ROW == ends.reader / ROW
+}
+
+/// How many channels stay in a row.
+fn staying<K: Kinds>(net: &Net<K>) -> usize
+    ensures count { result ≡ count_by stays net.now.channels }
+{
+    let mut staying = 0;
+    for c in 0..net.channels() {
+        if stays(net, c) {
+            staying += 1;
+        }
+    }
+    staying
+}
+
+/// Whether the processes of a picture stand in rows: there are many, and most channels stay in a row.
+pub(crate) fn has_rows<K: Kinds>(net: &Net<K>) -> bool
+    ensures { result ≡ has_rows net.now }
+{
+    net.processes() > ONE_ROW && net.channels() / 2 < staying(net)
+}
