@@ -1,6 +1,6 @@
 //! Reading a file of tokens to its end.
 ghost use Rattle.std.specs.Prelude.{◌≡◌, ◌≢◌, ◌<◌, ◌≤◌, ◌+◌, true, IfOk, IfSome, length};
-ghost use Rattle.kpn_front.specs.Loading.{ReadsAtMost};
+ghost use Rattle.kpn_front.specs.Loading.{ConsumesAtMost};
 
 use kpn_front::Source;
 use std::alloc::Global;
@@ -28,7 +28,7 @@ pub fn read_whole<S: Source>(alloc: Global, source: &mut S) -> Result<Vec<u8>, R
     ensures long { result ≡ Err ReadFault.TooLong → IfSome (S.remaining source.old) (λ text. LONGEST_FILE < length text) }
     ensures unfailed { result ≢ Err ReadFault.Failed → S.has_failed source.new ≡ S.has_failed source.old }
     ensures failed { result ≡ Err ReadFault.Failed → S.has_failed source.new ≡ true }
-    ensures taken { ReadsAtMost (LONGEST_FILE + 1) (S.remaining source.old) (S.remaining source.new) }
+    ensures taken { ConsumesAtMost (LONGEST_FILE + 1) (S.remaining source.old) (S.remaining source.new) }
 {
     let mut text = Vec::new(alloc);
     let mut chunk = [0; CHUNK];

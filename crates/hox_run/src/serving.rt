@@ -3,7 +3,7 @@ ghost use Rattle.std.specs.Prelude.{◌≡◌, ◌<◌, ◌+◌, ◌⊎◌, ℕ,
 ghost use Rattle.std.specs.List.{All};
 ghost use Rattle.kpn_model.specs.Network.{family_of, Network as NetworkV};
 ghost use Rattle.kpn_execute.specs.Execution.{number_of_channel};
-ghost use Rattle.kpn_front.specs.Loading.{ReadsAtMost, longest};
+ghost use Rattle.kpn_front.specs.Loading.{ConsumesAtMost, longest};
 ghost use Rattle.hox_run.specs.Presets.{PresetAll};
 ghost use Rattle.hox_run.specs.Serving.{AreNamed, GivesNet, GivesRun, HasFewWorkers, IsNamed, Serves};
 
@@ -33,7 +33,7 @@ pub fn serve<K: Computes, I: Source, R: Wait + Clock + Threads + Sync>(
 ) -> Result<Told, Fault>
     requires { HasFewWorkers request.now }
     ensures served { Serves K.named K.signature (GivesRun (family_of K.start K.answer_of) request.now) (I.remaining source.old) (I.has_failed source.old) (I.has_failed source.new) result }
-    ensures taken { ReadsAtMost (longest + 1) (I.remaining source.old) (I.remaining source.new) }
+    ensures taken { ConsumesAtMost (longest + 1) (I.remaining source.old) (I.remaining source.new) }
 {
     let loaded: Result<Net<K>, _> = load_or_refuse(alloc, source);
     match loaded {
@@ -52,7 +52,7 @@ pub fn prepare<K: Kinds, I: Source>(
     source: &mut I,
 ) -> Result<Net<K>, Fault>
     ensures served { Serves K.named K.signature (GivesNet request.now) (I.remaining source.old) (I.has_failed source.old) (I.has_failed source.new) result }
-    ensures taken { ReadsAtMost (longest + 1) (I.remaining source.old) (I.remaining source.new) }
+    ensures taken { ConsumesAtMost (longest + 1) (I.remaining source.old) (I.remaining source.new) }
 {
     let loaded: Result<Net<K>, _> = load_or_refuse(alloc, source);
     match loaded {
