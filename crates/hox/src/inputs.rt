@@ -37,6 +37,20 @@ pub(crate) fn pairs_of<'a, R: Eprint + AllocGlobal>(
     Ok(pairs)
 }
 
+/// Whether more than one of the description and the files of tokens is standard input.
+pub(crate) fn names_input_twice(file: Option<&str>, tokens: &[Pair<'_>]) -> bool {
+    let mut is_named = matches!(file, None | Some("-"));
+    for pair in tokens {
+        if pair.file == "-" {
+            if is_named {
+                return true;
+            }
+            is_named = true;
+        }
+    }
+    false
+}
+
 /// What is asked for, with the tokens of the files, which are read. If a file can't be read this is said, and
 /// the exit status is returned.
 pub(crate) fn request_of<R: Files + Input + Eprint + AllocGlobal>(

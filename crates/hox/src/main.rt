@@ -9,8 +9,8 @@ mod outputs;
 ghost use Rattle.std.specs.Prelude.{◌≤◌};
 ghost use Rattle.hox_run.specs.Serving.{HasFewWorkers};
 
-use crate::inputs::{Pair, pairs_of, request_of};
-use crate::messages::{say_fault, say_no_memory, say_words_refused};
+use crate::inputs::{names_input_twice, pairs_of, request_of};
+use crate::messages::{say_fault, say_input_named_twice, say_no_memory, say_words_refused};
 use crate::outputs::write_told;
 use hox_args::{Choice, RunChoice, read_words};
 use hox_run::{AllKinds, Fault, Request, Told, prepare, serve};
@@ -52,6 +52,9 @@ fn check<R: Files + Input + Print + Eprint + AllocGlobal>(
     let Ok(tokens) = pairs_of(rt, "tokens", tokens) else {
         return Status::WrongArguments.code();
     };
+    if names_input_twice(file, tokens.as_slice()) {
+        return say_input_named_twice(rt);
+    }
     let outputs = Vec::new(rt.alloc());
     let request = match request_of(rt, 1, None, None, tokens.as_slice(), &outputs) {
         Ok(request) => request,
@@ -59,7 +62,7 @@ fn check<R: Files + Input + Print + Eprint + AllocGlobal>(
     };
     match prepare_file(rt, &request, file) {
         Ok(net) => say_checked(&net, &mut Fallible::new(io::writer(rt))),
-        Err(fault) => say_fault(rt, &request, tokens.as_slice(), &fault),
+        Err(fault) => say_fault(rt, file, &request, tokens.as_slice(), &fault),
     }
 }
 
@@ -76,6 +79,9 @@ fn run_asked<R: Files + Input + Print + Eprint + AllocGlobal + Wait + Clock + Th
     ) else {
         return Status::WrongArguments.code();
     };
+    if names_input_twice(run.file, tokens.as_slice()) {
+        return say_input_named_twice(rt);
+    }
     let workers = run.workers;
     let request = match request_of(
         rt,
@@ -90,7 +96,7 @@ fn run_asked<R: Files + Input + Print + Eprint + AllocGlobal + Wait + Clock + Th
     };
     match serve_file(rt, &request, run.file) {
         Ok(told) => write_told(rt, &told, outputs.as_slice(), run.quiet),
-        Err(fault) => say_fault(rt, &request, tokens.as_slice(), &fault),
+        Err(fault) => say_fault(rt, run.file, &request, tokens.as_slice(), &fault),
     }
 }
 

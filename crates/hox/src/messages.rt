@@ -8,16 +8,17 @@ use kpn_model::limits::{CEILING, GREATEST_HIGH_BUDGET, HIGH_CEILING};
 use kpn_tokens::LineFault;
 use std::str;
 
-/// Says why a request is not done, and returns the exit status.
+/// Says why a request on the description in this file is not done, and returns the exit status.
 pub(crate) fn say_fault<R: Eprint + AllocGlobal>(
     rt: &R,
+    file: Option<&str>,
     request: &Request,
     tokens: &[Pair<'_>],
     fault: &Fault,
 ) -> u8 {
     let _ = match fault {
         Fault::Description(refused) => {
-            say_refused(rt, refused);
+            say_refused(rt, file, refused);
             Ok(())
         }
         Fault::Tokens(stop) => {
@@ -48,13 +49,22 @@ fn say_no_channel<R: Eprint>(rt: &R, name: &str) -> std::io::Result<()> {
     eprintln!(rt; "hox: no channel has the name {name}")
 }
 
-/// Says why a description is refused.
-fn say_refused<R: Eprint + AllocGlobal>(rt: &R, refused: &Refused) {
+/// Says why the description in this file, or on standard input, is refused.
+fn say_refused<R: Eprint + AllocGlobal>(rt: &R, file: Option<&str>, refused: &Refused) {
     let text = refused.text.as_slice();
-    let _ = match message_of::<AllKinds>(rt.alloc(), text, refused.fault, KINDS) {
-        Some(message) => eprintln!(rt; "hox: {message}"),
-        None => eprintln!(rt; "hox: {}", refused.fault),
+    let message = message_of::<AllKinds>(rt.alloc(), text, refused.fault, KINDS);
+    let _ = match (file, message) {
+        (None | Some("-"), Some(message)) => eprintln!(rt; "hox: {message}"),
+        (None | Some("-"), None) => eprintln!(rt; "hox: {}", refused.fault),
+        (Some(file), Some(message)) => eprintln!(rt; "hox: {file}: {message}"),
+        (Some(file), None) => eprintln!(rt; "hox: {file}: {}", refused.fault),
     };
+}
+
+/// Says that standard input is named more than once, and returns the exit status.
+pub(crate) fn say_input_named_twice<R: Eprint>(rt: &R) -> u8 {
+    let _ = eprintln!(rt; "hox: standard input can be read once, and is named twice; name a file");
+    Status::WrongArguments.code()
 }
 
 /// Says why a file of tokens is refused.

@@ -17,6 +17,9 @@ pub(crate) fn write_told<R: Files + Print + Eprint + AllocGlobal>(
     is_quiet: bool,
 ) -> u8 {
     let mut is_written = is_quiet || write_report(rt, told.report.as_str(), outputs);
+    if !is_written {
+        say_unwritten(rt, "the report");
+    }
     for (pair, text) in outputs.iter().zip(told.outputs.as_slice().iter()) {
         if !write_stream(rt, pair.file, text.as_str()) {
             say_unwritten(rt, pair.file);
@@ -39,10 +42,14 @@ fn write_report<R: Print + Eprint>(rt: &R, report: &str, outputs: &[Pair<'_>]) -
     }
 }
 
-/// Writes a stream to standard output or to a file. Returns whether it was written.
+/// Writes a stream to standard output or to a file. Returns whether it was written. What is there but no
+/// file, as a pipe or a device, is written as it stands.
 fn write_stream<R: Files + Print + AllocGlobal>(rt: &R, path: &str, text: &str) -> bool {
     if path == "-" {
         return print!(rt; "{text}").is_ok();
+    }
+    if is_no_file(rt, path) {
+        return write_file(rt, path, text).is_ok();
     }
     let Ok(beside) = beside(rt, path) else {
         return false;
@@ -53,6 +60,14 @@ fn write_stream<R: Files + Print + AllocGlobal>(rt: &R, path: &str, text: &str) 
         let _ = fs::remove_file(rt, beside.as_str());
     }
     is_written
+}
+
+/// Whether something is there that is no file.
+fn is_no_file<R: Files>(rt: &R, path: &str) -> bool {
+    match fs::metadata(rt, path) {
+        Ok(metadata) => !metadata.is_file(),
+        Err(_) => false,
+    }
 }
 
 /// The name of a file beside this one, which takes its place when it is whole.
