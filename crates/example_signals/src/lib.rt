@@ -6,6 +6,7 @@ pub mod gain;
 pub mod moving_sum;
 #[cfg(test)]
 mod tests;
+pub mod titles;
 
 pub use gain::Gains;
 pub use moving_sum::MovingSums;

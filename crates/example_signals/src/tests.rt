@@ -1,7 +1,8 @@
 //! The lines of gain; the first sums; and the names of both families.
 use crate::*;
 use kpn_compute::{Both, Computes, Filtered, Filters};
-use kpn_net::{Act, Answer, Card, Kinds, Token};
+use kpn_net::{Act, Answer, Card, Check, Kinds, Net, Token, read_sketch};
+use kpn_picture::{Direction, Left, picture_of};
 use std::process::Abort;
 use std::test::Fail;
 
@@ -85,5 +86,33 @@ fn both_answer_as_each(rt: HostRuntime) -> Result<(), Fail> {
         args: [0; 3],
     };
     assert!(rt; Signals::signature(&unknown).is_none());
+    Ok(())
+}
+
+/// Three times the sum of the words, for ever.
+const LOOP: &str = r#"version = 1
+process = [{ name = "g", kind = "gain", args = [3] }, { name = "m", kind = "moving_sum" }]
+channel = [{ name = "c0", from = "g", to = "m" }, { name = "c1", from = "m", to = "g" }]
+"#;
+
+#[test]
+fn both_are_drawn(rt: HostRuntime) -> Result<(), Fail> {
+    let alloc = rt.alloc();
+    let sketch = read_sketch(alloc, LOOP.as_bytes())?;
+    let net: Net<Signals> = Net::check(alloc, &sketch)?;
+    let start = Left {
+        places: &[],
+        capacities: &[],
+        rests: &[],
+    };
+    let drawn = picture_of(alloc, &net, Direction::Right, None, &start)?;
+    let worked = r#"
+  "g" [label="g\ngain 3"];
+  "m" [label="m\nmoving_sum"];
+  "g" -> "m" [label="c0"];
+  "m" -> "g" [label="c1"];
+}
+"#;
+    assert!(rt; drawn.ends_with(worked), "{drawn}");
     Ok(())
 }

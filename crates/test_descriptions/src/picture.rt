@@ -252,13 +252,21 @@ fn knows_the_titles_of_kinds(rt: HostRuntime) {
         };
         same(&rt, "first", Both::<Standard, Signals>::title(&both), title);
     }
-    for (kind, args, title) in [(19, [3, 0, 0], ("low_pass", 1)), (20, [1, 9, 0], ("clip", 2))] {
+    for (kind, args, title) in [
+        (19, [3, 0, 0], ("low_pass", 1)),
+        (20, [1, 9, 0], ("clip", 2)),
+    ] {
         let found = Signals::title(&Card { kind, args });
         same(&rt, "signals", found, title);
         let both = Card {
             kind: 2 * kind + 1,
             args,
         };
-        same(&rt, "second", Both::<Standard, Signals>::title(&both), title);
+        same(
+            &rt,
+            "second",
+            Both::<Standard, Signals>::title(&both),
+            title,
+        );
     }
 }
