@@ -20,4 +20,4 @@ unreachable-requires-in-Err g c =
 
 pub returns : goal.returns
 returns g c =
-    subst (λ (n : Network). IsFinish (family_of g.B.Kinds.Kinds.start g.B.Kinds.Kinds.answer_of) n c.in-Some-of.finish) (ap (λ m. m.network) c.in-Some-of.ensures.0 ∙ c.in-Ok.ensures.account.network) c.end.ensures.finish
+    subst (λ (n : Network). IsFinish (family_of g.B.Kinds.Kinds.start g.B.Kinds.Kinds.answer_of) n c.in-Some-of.finish) (ap (λ m. m.network) c.in-Some-of.ensures.0 ∙ c.in-Ok.ensures.closed.network) c.end.ensures.finish
