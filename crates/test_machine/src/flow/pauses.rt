@@ -1,6 +1,8 @@
 //! Flows that are fed and drained, and why each comes back.
 use crate::checks::same;
-use crate::flow::flows::{CardFlow, drain_buffer, drain_words, feed, feed_batch, feed_words, flow_of};
+use crate::flow::flows::{
+    CardFlow, drain_buffer, drain_words, feed, feed_batch, feed_words, flow_of,
+};
 use crate::flow::networks::{OUTPUT_AND_GROWTH, RUNNING_SUM, SCALE, SINK_OF_TWO};
 use kpn_flow::Pause;
 use kpn_net::{End, Place, Token};
