@@ -1,0 +1,161 @@
+//! Worked runs on tokens of files, and worked command lines of hox.
+ghost use Rattle.std.specs.Prelude.{◌≡◌, ◌≤◌};
+
+use crate::checks::same;
+use hox_args::{Choice, WordsFault, channel_and_file, read_words};
+use hox_run::{
+    AllKinds, Fault, FileFault, PresetFault, Request, TokenFile, execute, prepare, read_whole,
+    serve,
+};
+use kpn_net::{Listed, Net, Text};
+use std::alloc::Global;
+use std::process::Abort;
+use std::rt::Clock;
+use std::sync::Wait;
+use std::thread::Threads;
+
+/// Two words of a file go through.
+const COPY: &str = r#"version = 1
+budget = 100
+process = [{ name = "src", kind = "input" }, { name = "p", kind = "take", args = [2] }, { name = "snk", kind = "drain" }]
+channel = [{ name = "x", from = "src", to = "p" }, { name = "y", from = "p", to = "snk" }]
+"#;
+
+const COPY_LINES: &str = "end deadlock
+process src stopped steps 1
+process p stopped steps 5
+process snk reads y steps 2
+channel x put 0 left 0 capacity 2
+channel y put 2 left 0 capacity 1
+entries 8
+verdict ran dry
+";
+
+fn text_of<R: Abort>(rt: &R, alloc: Global, text: &str) -> Text {
+    Text::new(String::from_str(alloc, text).expect(rt, "no memory"))
+}
+
+/// What is asked for: channel x has these tokens, and channel y is wanted.
+fn asked<R: Abort>(rt: &R, alloc: Global, tokens: &str, workers: usize) -> Request
+    ensures { result.workers ≡ workers }
+{
+    let mut files = Vec::new(alloc);
+    let bytes = Vec::from_slice(alloc, tokens.as_bytes()).expect(rt, "no memory");
+    let file = TokenFile {
+        channel: text_of(rt, alloc, "x"),
+        text: Listed::new(bytes),
+    };
+    files.push(file).expect(rt, "no memory");
+    let mut outputs = Vec::new(alloc);
+    outputs
+        .push(text_of(rt, alloc, "y"))
+        .expect(rt, "no memory");
+    Request {
+        workers,
+        budget: None,
+        tokens: Listed::new(files),
+        show: None,
+        outputs: Listed::new(outputs),
+    }
+}
+
+/// Runs the network by so many workers, and compares what is told.
+fn tells<R: AllocGlobal + Wait + Clock + Threads + Abort + Sync>(rt: &R, workers: usize)
+    requires { (1 ≤ workers) × (workers ≤ 16) }
+{
+    let request = asked(rt, rt.alloc(), "1, first\n0x10", workers);
+    let mut source = COPY.as_bytes();
+    match serve::<AllKinds, _, _>(rt, rt.alloc(), &request, &mut source) {
+        Ok(told) => {
+            same(rt, "status", told.status.code(), 0);
+            same(rt, "report", told.report.as_str(), COPY_LINES);
+            let y = told.outputs.as_slice().first().expect(rt, "no output");
+            same(rt, "y", y.as_str(), "1\n16\n");
+        }
+        Err(fault) => same(rt, "refused", fault.status().code(), 0),
+    }
+}
+
+#[test]
+fn words_of_a_file_go_through(rt: HostRuntime) {
+    tells(&rt, 1);
+    tells(&rt, 2);
+}
+
+#[test]
+fn a_line_that_is_no_word_is_told(rt: HostRuntime) {
+    let request = asked(&rt, rt.alloc(), "1\n2x\n3\n", 1);
+    let mut source = COPY.as_bytes();
+    let net: Result<Net<AllKinds>, Fault> = prepare(rt.alloc(), &request, &mut source);
+    let (status, stop) = match net {
+        Err(Fault::Tokens(stop)) => (Fault::Tokens(stop).status().code(), Some(stop)),
+        _ => (0, None),
+    };
+    let due = PresetFault {
+        file: 0,
+        fault: FileFault::Line {
+            number: 2,
+            fault: kpn_tokens::LineFault::NotAWord,
+        },
+    };
+    same(&rt, "line", (status, stop), (2, Some(due)));
+}
+
+#[test]
+fn a_network_is_run_by_two(rt: HostRuntime) {
+    let request = asked(&rt, rt.alloc(), "5\n6\n7\n", 2);
+    let mut source = COPY.as_bytes();
+    let net: Result<Net<AllKinds>, Fault> = prepare(rt.alloc(), &request, &mut source);
+    let Ok(net) = net else {
+        return same(&rt, "refused", true, false);
+    };
+    match execute(&rt, rt.alloc(), net, 2, None, &[]) {
+        Ok(told) => same(&rt, "status", told.status.code(), 0),
+        Err(_) => same(&rt, "memory", true, false),
+    }
+}
+
+#[test]
+fn a_file_is_read_to_its_end(rt: HostRuntime) {
+    let mut source = "1\n2".as_bytes();
+    let read = read_whole(rt.alloc(), &mut source).expect(&rt, "no memory");
+    same(&rt, "bytes", read.as_slice(), b"1\n2");
+}
+
+#[test]
+fn words_are_read(rt: HostRuntime) {
+    let words = [
+        "hox", "run", "f.toml", "--out", "y=-", "--budget", "9", "--out", "z=a=b",
+    ];
+    let found = outputs_and_budget(rt.alloc(), &words);
+    same(&rt, "outputs and budget", found, (2, Some(9)));
+    same(&rt, "pair", channel_and_file("z=a=b"), Some(("z", "a=b")));
+    same(
+        &rt,
+        "no budget",
+        status_of(rt.alloc(), &["hox", "run", "--budget", "x"]),
+        1,
+    );
+    same(&rt, "help", status_of(rt.alloc(), &["hox", "--help"]), 0);
+}
+
+/// How many outputs the arguments ask for, and which budget.
+fn outputs_and_budget(alloc: Global, words: &[&str]) -> (usize, Option<u64>) {
+    let read = read_words(alloc, words);
+    match &read {
+        Ok(Choice::Run(run)) => (run.outputs.len(), run.budget),
+        _ => (0, None),
+    }
+}
+
+/// The exit status for arguments that are refused.
+fn status_of(alloc: Global, words: &[&str]) -> u8 {
+    match read_words(alloc, words) {
+        Ok(_) => 9,
+        Err(fault) => code_of(&fault),
+    }
+}
+
+fn code_of(fault: &WordsFault) -> u8 {
+    fault.status().code()
+}
