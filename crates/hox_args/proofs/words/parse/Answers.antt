@@ -1,6 +1,6 @@
 -- The command line is one of those whose parse clap's clauses determine.
-use Rattle.std.proofs.Common.{◌≡◌, true, map, subst, Result, IfOk}
-use Rattle.clap.specs.Words.{App, FailsBy, HasMatchesOf, app_of, fault_of, is_simple_and_free}
+use Rattle.std.proofs.Common.{◌≡◌, true, map, subst}
+use Rattle.clap.specs.Words.{App, FailsBy, fault_of, is_simple_and_free}
 use Rattle.hox_args.proofs.HoxSubcommands.{is_simple, matches_by}
 use Rattle.hox_args.proofs.words.parse.Goals as goal
 
