@@ -3,7 +3,7 @@ use crate::checks::same;
 use crate::picture::{COUNTER, LOOP, LOOP_PLACES, net_of};
 use kpn_net::{End, Net, Place};
 use kpn_standard::Standard;
-use kpn_verdict::{Verdict, verdict_of, verdict_text};
+use kpn_verdict::{Verdict, push_verdict, verdict_of, verdict_text};
 use std::alloc::{AllocError, Global};
 use std::test::Fail;
 
@@ -53,6 +53,16 @@ fn a_cycle_is_told_as_tokens_would_flow(rt: HostRuntime) -> Result<(), Fail> {
     let waits = [Place::Reads(2), Place::Reads(0), Place::Reads(1)];
     let line = line_of(alloc, &net, &waits, End::Deadlock)?;
     same(&rt, "ring", line.as_str(), "verdict cycle a ab b bd d da\n");
+    Ok(())
+}
+
+#[test]
+fn words_of_a_verdict_are_appended(rt: HostRuntime) -> Result<(), Fail> {
+    let alloc = rt.alloc();
+    let net = net_of(alloc, LOOP)?;
+    let mut title = String::from_str(alloc, "title: ")?;
+    push_verdict(&mut title, &net, &LOOP_PLACES, Verdict::Cycle(1))?;
+    same(&rt, "words", title.as_str(), "title: cycle ad c2 cp c1");
     Ok(())
 }
 
