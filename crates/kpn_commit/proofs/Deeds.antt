@@ -10,7 +10,7 @@ use Rattle.kpn_model.specs.declared.history.Deed.TheVariants.{Took, Put, Stopped
 use Rattle.kpn_model.specs.Network.{Network, Family, in_of, out_of}
 use Rattle.kpn_model.specs.Semantics.{State, tokens, capacity, IsPossible, IsDeed, after_deed}
 use Rattle.kpn_laws.proofs.States.{in_of-reader, out_of-writer}
-use Rattle.kpn_laws.proofs.Steps.{capacity_after}
+use Rattle.kpn_laws.proofs.Transitions.{capacity_after}
 use Rattle.kpn_state.specs.Standings.{partner}
 
 -- the deed is on channel c

@@ -13,7 +13,7 @@ use Rattle.kpn_model.specs.declared.history.Entry.TheVariants.{Did, Grew}
 use Rattle.kpn_model.specs.Network.{Network, Family}
 use Rattle.kpn_model.specs.Semantics.{State, tokens, capacity, with_channel, IsPossible, IsDeed, after_deed, Grows}
 use Rattle.kpn_laws.proofs.States.{tokens_set_same, capacity_set_same, capacity_set_other}
-use Rattle.kpn_laws.proofs.Steps.{capacity_after}
+use Rattle.kpn_laws.proofs.Transitions.{capacity_after}
 use Rattle.kpn_state.specs.StateAndHistory.{state_and_history, more}
 use Rattle.kpn_state.specs.declared.standing.Standing.{Standing}
 use Rattle.kpn_state.specs.declared.standing.Standing.TheVariants.{Parked}

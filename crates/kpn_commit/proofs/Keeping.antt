@@ -16,7 +16,7 @@ use Rattle.kpn_model.specs.Semantics.{State, Held, nothing_held, status, tokens,
 use Rattle.kpn_model.specs.Valid.{IsValid, IsOfSort, IsWellTyped}
 use Rattle.kpn_laws.proofs.WellTypedDeeds.{sorted_deed}
 use Rattle.kpn_laws.proofs.States.{in_of-reader, out_of-writer}
-use Rattle.kpn_laws.proofs.Steps.{after, processes_after, channels_after, live_within, status_after_same, status_after_other, capacity_after, done_wants_none}
+use Rattle.kpn_laws.proofs.Transitions.{after, processes_after, channels_after, live_within, status_after_same, status_after_other, capacity_after, done_wants_none}
 use Rattle.kpn_state.specs.declared.standing.Standing.{Standing}
 use Rattle.kpn_state.specs.declared.standing.Standing.TheVariants.{Ready, Out, Parked, Stopped}
 use Rattle.kpn_state.specs.Standings.{standing, standing_after, is_busy, partner, StandingsFit}

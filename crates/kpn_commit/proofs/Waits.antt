@@ -11,7 +11,7 @@ use Rattle.kpn_model.specs.declared.history.Deed.TheVariants.{Took, Put, Stopped
 use Rattle.kpn_model.specs.Network.{Family, Network, channel_of, in_of, out_of}
 use Rattle.kpn_model.specs.Semantics.{State, capacity, IsDeed, after_deed, IsPossible}
 use Rattle.kpn_laws.proofs.States.{in_of-reader, out_of-writer}
-use Rattle.kpn_laws.proofs.Steps.{capacity_after, took_read, put_write, stopped_stop}
+use Rattle.kpn_laws.proofs.Transitions.{capacity_after, took_read, put_write, stopped_stop}
 use Rattle.kpn_state.specs.declared.standing.Standing.{Standing}
 use Rattle.kpn_state.specs.declared.standing.Standing.TheVariants.{Ready, Parked, Stopped}
 use Rattle.kpn_state.specs.declared.waiting.Waiting.{Waiting}

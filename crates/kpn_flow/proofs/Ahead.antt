@@ -10,7 +10,7 @@ use Rattle.kpn_model.specs.Network.{Network, Family}
 use Rattle.kpn_model.specs.Semantics.{State, status, tokens, capacity, with_status, with_channel, answered, wants, IsDeed, after_deed, Does, Grows}
 use Rattle.kpn_model.specs.History.{put_on}
 use Rattle.kpn_laws.proofs.States.{out_of-writer, tokens_set_same, tokens_set_other, holds_within}
-use Rattle.kpn_laws.proofs.Steps.{took_read, put_write, stopped_stop, capacity_after}
+use Rattle.kpn_laws.proofs.Transitions.{took_read, put_write, stopped_stop, capacity_after}
 use Rattle.kpn_flow.specs.Events.{Event, Went, Fed, Drained, entries_of, fed}
 
 -- only the outside writes to the inputs, and only to them; only the outside reads from the outputs, and only from them

@@ -13,7 +13,7 @@ use Rattle.kpn_model.specs.declared.history.Status.TheVariants.{Live, Done}
 use Rattle.kpn_model.specs.Network.{Network, Family, no_process, card_of, channel_of}
 use Rattle.kpn_model.specs.Semantics.{State, status, answered, wants, IsDeed, after_deed, Does, start}
 use Rattle.kpn_laws.proofs.States.{in_of-reader, out_of-writer}
-use Rattle.kpn_laws.proofs.Steps.{after, done_wants_none, live_within, status_after_same, status_after_other, took_read, put_write}
+use Rattle.kpn_laws.proofs.Transitions.{after, done_wants_none, live_within, status_after_same, status_after_other, took_read, put_write}
 use Rattle.kpn_flow.specs.Events.{Event, Went, Fed, Drained, Flows}
 use Rattle.kpn_flow.specs.Preloaded.{StopsAtOnce, IsAtEnds}
 use Rattle.kpn_flow.proofs.Ahead.{Respects}

@@ -3,7 +3,7 @@ use Rattle.std.specs.Prelude.{◌≡◌, ℕ, ◌<◌, ◌==◌, if◌then◌els
 use Rattle.kpn_model.specs.declared.token.Token.{Token}
 use Rattle.kpn_model.specs.declared.history.Entry.{Entry}
 use Rattle.kpn_model.specs.Network.{Family, Network}
-use Rattle.kpn_model.specs.Semantics.{State, tokens, capacity, with_channel, Step}
+use Rattle.kpn_model.specs.Semantics.{State, tokens, capacity, with_channel, Transition}
 
 -- an entry; or a token that came into a channel from outside, or went out of one
 pub data Event : Type 0 where
@@ -14,7 +14,7 @@ pub data Event : Type 0 where
 module _ (kinds : Family) (net : Network) where
   -- a token comes in only where there is room, and goes out in the order in which they came
   abbrev pub Happens : State → Event → State → Type 0
-  Happens M (Went e) N = Step kinds net M e N
+  Happens M (Went e) N = Transition kinds net M e N
   Happens M (Fed c t) N = (c < length M.channels) × (length (tokens M c) < capacity M c) × (N ≡ with_channel M c (tokens M c ++ t ∷ []) (capacity M c))
   Happens M (Drained c t) N = ((rest : List Token) × (tokens M c ≡ t ∷ rest)) × (N ≡ with_channel M c (drop 1 (tokens M c)) (capacity M c))
 

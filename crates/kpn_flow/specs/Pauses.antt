@@ -43,14 +43,14 @@ module _ (kinds : Family) (net : Network) where
 
   module _ (inputs outputs : List ℕ) where
     -- a channel grows only where the outside can't help (after Parks 1995)
-    abbrev pub OpenStep : State → Entry → State → Type 0
-    OpenStep M (Did p d) N = Does kinds net M p d N
-    OpenStep M (Grew c to) N = Grows kinds net M c to N × NoneCanHelp inputs outputs M
+    abbrev pub OpenTransition : State → Entry → State → Type 0
+    OpenTransition M (Did p d) N = Does kinds net M p d N
+    OpenTransition M (Grew c to) N = Grows kinds net M c to N × NoneCanHelp inputs outputs M
 
-    -- the entries lead from M to N, one step each
+    -- the entries lead from M to N, one transition each
     abbrev pub OpenRun : State → List Entry → State → Type 0
     OpenRun M [] N = N ≡ M
-    OpenRun M (e ∷ es) N = (mid : State) × OpenStep M e mid × OpenRun mid es N
+    OpenRun M (e ∷ es) N = (mid : State) × OpenTransition M e mid × OpenRun mid es N
 
     -- nothing goes on in M: for want of a token in an input; or else for want of room in an output; or else it has stopped for this
     -- cause

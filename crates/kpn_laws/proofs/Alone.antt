@@ -15,7 +15,7 @@ use Rattle.kpn_laws.proofs.Lists.{push_split}
 use Rattle.kpn_laws.proofs.Views.{took_prefix}
 use Rattle.kpn_laws.proofs.Sequences.{begins_get, get_at, goes_on_with}
 use Rattle.kpn_laws.proofs.States.{in_of-reader}
-use Rattle.kpn_laws.proofs.Steps.{after}
+use Rattle.kpn_laws.proofs.Transitions.{after}
 use Rattle.kpn_laws.proofs.Follows.{replay_push, status_by, wants_by, Follows}
 
 -- the status after an answer and its deed, in both ways of saying it

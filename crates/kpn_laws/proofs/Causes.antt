@@ -6,7 +6,7 @@ use Rattle.kpn_model.specs.Semantics.{State, status, capacity, IsBlocked, IsQuie
 use Rattle.kpn_model.specs.Endings.{IsNatural, IsOver}
 use Rattle.kpn_model.specs.declared.history.End.{End}
 use Rattle.kpn_model.specs.declared.history.End.TheVariants.{Terminated, Deadlock, Ceiling, Budget, Memory}
-use Rattle.kpn_laws.proofs.Steps.{done_wants_none}
+use Rattle.kpn_laws.proofs.Transitions.{done_wants_none}
 
 module _ (kinds : Family) (net : Network) where
   -- at most one channel is chosen

@@ -7,7 +7,7 @@ use Rattle.kpn_model.specs.declared.history.Entry.{Entry}
 use Rattle.kpn_model.specs.declared.history.Entry.TheVariants.{Did, Grew}
 use Rattle.kpn_model.specs.History.{deeds}
 use Rattle.kpn_model.specs.Network.{Network, Family}
-use Rattle.kpn_model.specs.Semantics.{State, Step, Run}
+use Rattle.kpn_model.specs.Semantics.{State, Transition, Run}
 use Rattle.kpn_laws.proofs.Lists.{comparable_push}
 use Rattle.kpn_laws.proofs.Views.{deeds_push_same, deeds_push_other, deeds_push_grew}
 use Rattle.kpn_laws.proofs.Follows.{follows_same}
@@ -38,7 +38,7 @@ module _ (kinds : Family) (net : Network) where
     where
       comparable_step :
           (H : List Entry) (M : State) (e : Entry) (K : State) → Kept kinds net S H M → Kept kinds net S' F N
-          → ((q : ℕ) → ArePrefixComparable (deeds H q) (deeds F q)) → Step kinds net M e K → (q : ℕ) → ArePrefixComparable (deeds (H ++ e ∷ []) q) (deeds F q)
+          → ((q : ℕ) → ArePrefixComparable (deeds H q) (deeds F q)) → Transition kinds net M e K → (q : ℕ) → ArePrefixComparable (deeds (H ++ e ∷ []) q) (deeds F q)
       comparable_step H M (Grew c to) K k kf ih s q = subst (λ l. ArePrefixComparable l (deeds F q)) (sym (deeds_push_grew H c to q)) (ih q)
       comparable_step H M (Did p d) K k kf ih s q =
           let now = deed_follows kinds net S H M k p d s.answer s.wanted s.is_deed in

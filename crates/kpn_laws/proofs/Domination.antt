@@ -10,13 +10,13 @@ use Rattle.kpn_model.specs.declared.history.Entry.{Entry}
 use Rattle.kpn_model.specs.declared.history.Entry.TheVariants.{Did, Grew}
 use Rattle.kpn_model.specs.History.{deeds, growths}
 use Rattle.kpn_model.specs.Network.{Network, channel_of, Family}
-use Rattle.kpn_model.specs.Semantics.{State, tokens, capacity, answered, wants, IsDeed, Step, Run, IsBlocked, IsPossible, IsEnabled, IsQuiet, Does}
+use Rattle.kpn_model.specs.Semantics.{State, tokens, capacity, answered, wants, IsDeed, Transition, Run, IsBlocked, IsPossible, IsEnabled, IsQuiet, Does}
 use Rattle.kpn_model.specs.declared.kinds.Answer.{Answer}
 use Rattle.kpn_laws.proofs.Lists.{prefix_trans, prefix_of_push, prefix-length, prefix_cases, prefix_to_push}
 use Rattle.kpn_laws.specs.Alone.{puts, took}
 use Rattle.kpn_laws.proofs.Views.{deeds_push_grew, growths_push_did, growths_push_grew, puts_prefix, took_prefix}
 use Rattle.kpn_laws.proofs.States.{in_of-reader, out_of-writer}
-use Rattle.kpn_laws.proofs.Steps.{took_read, put_write, stopped_stop}
+use Rattle.kpn_laws.proofs.Transitions.{took_read, put_write, stopped_stop}
 use Rattle.kpn_laws.proofs.Follows.{status_by, follows_same}
 use Rattle.kpn_laws.proofs.Runs.{run_induction}
 use Rattle.kpn_laws.proofs.Kept.{IsFresh, Kept}
@@ -101,7 +101,7 @@ module _ (kinds : Family) (net : Network) where
       step :
           Kept kinds net S E M → (H : List Entry) (K : State) (e : Entry) (L : State) → Kept kinds net S' H K
           → ((p c : ℕ) → IsBlocked kinds net M p c → capacity K c ≤ capacity M c) → ((q : ℕ) → IsPrefixOf (deeds H q) (deeds E q))
-          → Step kinds net K e L → (q : ℕ) → IsPrefixOf (deeds (H ++ e ∷ []) q) (deeds E q)
+          → Transition kinds net K e L → (q : ℕ) → IsPrefixOf (deeds (H ++ e ∷ []) q) (deeds E q)
       step k H K (Grew c to) L j rm ih s q = subst (λ l. IsPrefixOf l (deeds E q)) (sym (deeds_push_grew H c to q)) (ih q)
       step k H K (Did p d) L j rm ih s q =
           let now = deed_follows kinds net S' H K j p d s.answer s.wanted s.is_deed in

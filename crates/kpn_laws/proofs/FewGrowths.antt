@@ -6,12 +6,12 @@ use Rattle.kpn_model.specs.declared.history.Entry.{Entry}
 use Rattle.kpn_model.specs.declared.history.Entry.TheVariants.{Did, Grew}
 use Rattle.kpn_model.specs.History.{growths}
 use Rattle.kpn_model.specs.Network.{Network, Family}
-use Rattle.kpn_model.specs.Semantics.{State, tokens, capacity, with_channel, start, Step, Grows}
+use Rattle.kpn_model.specs.Semantics.{State, tokens, capacity, with_channel, start, Transition, Grows}
 use Rattle.kpn_laws.specs.Sufficient.{Suffices}
 use Rattle.kpn_laws.specs.LeastRoom.{FewGrowths}
 use Rattle.kpn_laws.proofs.Views.{growths_push_did, growths_push_grew}
 use Rattle.kpn_laws.proofs.States.{capacity_set_same, capacity_set_other}
-use Rattle.kpn_laws.proofs.Steps.{capacity_after}
+use Rattle.kpn_laws.proofs.Transitions.{capacity_after}
 use Rattle.kpn_laws.proofs.Runs.{run_induction}
 use Rattle.kpn_laws.proofs.Kept.{fresh_start}
 use Rattle.kpn_laws.proofs.KeptByGrowths.{blocked_within}
@@ -68,7 +68,7 @@ module _ (kinds : Family) (net : Network) where
       let all = run_induction kinds net (λ H M. length (growths H) ≤ places b M) (start kinds net) (omega arith) step E M run in
       omega arith
     where
-      step : (H : List Entry) (M : State) (e : Entry) (N : State) → IsRun kinds net H M → length (growths H) ≤ places b M → Step kinds net M e N → length (growths (H ++ e ∷ [])) ≤ places b N
+      step : (H : List Entry) (M : State) (e : Entry) (N : State) → IsRun kinds net H M → length (growths H) ≤ places b M → Transition kinds net M e N → length (growths (H ++ e ∷ [])) ≤ places b N
       step H M (Did p d) N before ih t =
           let g = ap length (growths_push_did H p d) in
           let same = total_le kinds net (length net.channels) (λ c. min b (capacity M c)) (λ c. min b (capacity N c))

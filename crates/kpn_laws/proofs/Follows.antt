@@ -12,7 +12,7 @@ use Rattle.kpn_model.specs.declared.kinds.Answer.{Answer}
 use Rattle.kpn_laws.proofs.Lists.{same_next, comparable_after}
 use Rattle.kpn_laws.specs.Alone.{puts, took}
 use Rattle.kpn_laws.proofs.Views.{puts_comparable, puts_prefix}
-use Rattle.kpn_laws.proofs.Steps.{after}
+use Rattle.kpn_laws.proofs.Transitions.{after}
 
 module _ (kinds : Family) (net : Network) where
   -- the status that these deeds of p lead to

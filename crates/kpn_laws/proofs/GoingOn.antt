@@ -18,7 +18,7 @@ use Rattle.kpn_model.specs.Network.{Network, Family, in_of, out_of}
 use Rattle.kpn_model.specs.Semantics.{State, status, tokens, capacity, wants, with_channel, after_deed, IsDeed, IsPossible, IsEnabled, IsBlocked, IsQuiet, IsArtificial, IsChosen}
 use Rattle.kpn_model.specs.Endings.{IsOver}
 use Rattle.kpn_laws.specs.Completion.{CanGoOn, IsAbove, CanAlwaysGoOn}
-use Rattle.kpn_laws.proofs.Steps.{live_within}
+use Rattle.kpn_laws.proofs.Transitions.{live_within}
 use Rattle.kpn_laws.proofs.Search.{search_below, IsLeast, least_below}
 
 module _ (kinds : Family) (net : Network) (M : State) where

@@ -5,7 +5,7 @@ use Rattle.kpn_model.specs.declared.history.Entry.{Entry}
 use Rattle.kpn_model.specs.declared.history.Entry.TheVariants.{Did, Grew}
 use Rattle.kpn_model.specs.History.{growths}
 use Rattle.kpn_model.specs.Network.{Network, Family}
-use Rattle.kpn_model.specs.Semantics.{State, capacity, Step, Run, Grows}
+use Rattle.kpn_model.specs.Semantics.{State, capacity, Transition, Run, Grows}
 use Rattle.kpn_model.specs.Endings.{IsOver}
 use Rattle.kpn_model.specs.declared.history.End.{End}
 use Rattle.kpn_laws.proofs.Lists.{push_split, prefix_cases, prefix_to_push}
@@ -39,7 +39,7 @@ module _ (kinds : Family) (net : Network) where
 
       step :
           (H : List Entry) (M : State) (e : Entry) (N : State) → Run kinds net S H M
-          → ((gs : List (ℕ × ℕ)) (g : ℕ × ℕ) (rest : List (ℕ × ℕ)) → growths H ≡ gs ++ g ∷ rest → HasGrown S gs g) → Step kinds net M e N
+          → ((gs : List (ℕ × ℕ)) (g : ℕ × ℕ) (rest : List (ℕ × ℕ)) → growths H ≡ gs ++ g ∷ rest → HasGrown S gs g) → Transition kinds net M e N
           → (gs : List (ℕ × ℕ)) (g : ℕ × ℕ) (rest : List (ℕ × ℕ)) → growths (H ++ e ∷ []) ≡ gs ++ g ∷ rest → HasGrown S gs g
       step H M (Did p d) N before ih s gs g rest e = ih gs g rest (sym (growths_push_did H p d) ∙ e)
       step H M (Grew c to) N before ih s gs g rest e =
@@ -60,7 +60,7 @@ module _ (kinds : Family) (net : Network) where
       run_induction kinds net (λ H _. IsPrefixOf (growths H) (growths E)) S (growths E, refl) (λ H K e L before ih s. step H K e L before ih s)
     where
       step :
-          (H : List Entry) (K : State) (e : Entry) (L : State) → Run kinds net S H K → IsPrefixOf (growths H) (growths E) → Step kinds net K e L
+          (H : List Entry) (K : State) (e : Entry) (L : State) → Run kinds net S H K → IsPrefixOf (growths H) (growths E) → Transition kinds net K e L
           → IsPrefixOf (growths (H ++ e ∷ [])) (growths E)
       step H K (Did p d) L before ih s = subst (λ g. IsPrefixOf g (growths E)) (sym (growths_push_did H p d)) ih
       step H K (Grew c to) L before ih s =

@@ -15,7 +15,7 @@ use Rattle.kpn_laws.proofs.Lists.{push_split}
 use Rattle.kpn_laws.specs.Alone.{puts, took}
 use Rattle.kpn_laws.proofs.Views.{deeds-append, deeds_push_same, deeds_push_other, growths_push_did, puts_push_none, took_push_none, puts_push_same, took_push_same, puts_one, took_one, puts_other, took_other}
 use Rattle.kpn_laws.proofs.States.{in_of-reader, out_of-writer, holds_within, tokens_set_same, tokens_set_other}
-use Rattle.kpn_laws.proofs.Steps.{after, live_within, status_after_same, status_after_other, capacity_after, processes_after, channels_after, took_read, put_write, stopped_stop}
+use Rattle.kpn_laws.proofs.Transitions.{after, live_within, status_after_same, status_after_other, capacity_after, processes_after, channels_after, took_read, put_write, stopped_stop}
 use Rattle.kpn_laws.proofs.Follows.{replay_push, status_by, wants_by, Follows, follows_more}
 use Rattle.kpn_laws.proofs.Kept.{Kept}
 

@@ -6,12 +6,12 @@ use Rattle.kpn_model.specs.declared.history.Entry.{Entry}
 use Rattle.kpn_model.specs.declared.history.Entry.TheVariants.{Did, Grew}
 use Rattle.kpn_model.specs.History.{deeds, growths}
 use Rattle.kpn_model.specs.Network.{Network, channel_of, Family, resized}
-use Rattle.kpn_model.specs.Semantics.{State, tokens, capacity, answered, wants, with_channel, start, Step, Run, Grows, IsPossible, IsBlocked, IsQuiet, IsArtificial, IsChosen}
+use Rattle.kpn_model.specs.Semantics.{State, tokens, capacity, answered, wants, with_channel, start, Transition, Run, Grows, IsPossible, IsBlocked, IsQuiet, IsArtificial, IsChosen}
 use Rattle.kpn_laws.specs.Sufficient.{IsBoundedBy, EndsWithin, LastsWithin, Suffices}
 use Rattle.kpn_laws.specs.LeastRoom.{IsDominated, Dominates, ChosenHasFewer, GrowsBelow, StaysBelow, CeilingSuffices, LeastPossible}
 use Rattle.kpn_laws.proofs.Lists.{same_from_prefixes, prefix-length}
 use Rattle.kpn_laws.proofs.States.{capacity_set_same, capacity_set_other}
-use Rattle.kpn_laws.proofs.Steps.{capacity_after}
+use Rattle.kpn_laws.proofs.Transitions.{capacity_after}
 use Rattle.kpn_laws.proofs.Follows.{status_by}
 use Rattle.kpn_laws.proofs.Runs.{run_induction, run_split}
 use Rattle.kpn_laws.proofs.Kept.{IsFresh, fresh_start}
@@ -142,7 +142,7 @@ module _ (kinds : Family) (net : Network) where
     where
       step :
           (H : List Entry) (M : State) (e : Entry) (N : State) → IsRun kinds net H M
-          → ((c : ℕ) → (capacity M c ≡ (channel_of net c).capacity) ⊎ (capacity M c < b + net.step)) → Step kinds net M e N
+          → ((c : ℕ) → (capacity M c ≡ (channel_of net c).capacity) ⊎ (capacity M c < b + net.step)) → Transition kinds net M e N
           → (c : ℕ) → (capacity N c ≡ (channel_of net c).capacity) ⊎ (capacity N c < b + net.step)
       step H M (Did p d) N before ih t c =
           subst (λ n. (n ≡ (channel_of net c).capacity) ⊎ (n < b + net.step)) (sym (ap (λ x. capacity x c) t.leaves ∙ capacity_after kinds net M p c t.answer.next d)) (ih c)

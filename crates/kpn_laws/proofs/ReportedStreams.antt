@@ -8,13 +8,13 @@ use Rattle.kpn_model.specs.declared.history.Deed.TheVariants.{Took, Put, Stopped
 use Rattle.kpn_model.specs.declared.history.Entry.{Entry}
 use Rattle.kpn_model.specs.declared.history.Entry.TheVariants.{Did, Grew}
 use Rattle.kpn_model.specs.Network.{Family, Network, no_channel}
-use Rattle.kpn_model.specs.Semantics.{State, start, Step, Run}
+use Rattle.kpn_model.specs.Semantics.{State, start, Transition, Run}
 use Rattle.kpn_model.specs.History.{put_on, stream, each_channel}
 use Rattle.kpn_laws.specs.Alone.{BeginsWith}
 use Rattle.kpn_laws.specs.Equations.{IsLeastSolution, DigestIsLeastSolution, DigestIsBelow}
 use Rattle.kpn_laws.proofs.Views.{put_on-append}
 use Rattle.kpn_laws.proofs.States.{out_of-writer}
-use Rattle.kpn_laws.proofs.Steps.{put_write}
+use Rattle.kpn_laws.proofs.Transitions.{put_write}
 use Rattle.kpn_laws.proofs.Runs.{run_induction}
 use Rattle.kpn_laws.proofs.Kept.{fresh_start}
 use Rattle.kpn_laws.proofs.Solutions.{end_is_least, below_here}
@@ -25,7 +25,7 @@ module _ (kinds : Family) (net : Network) where
   none_past c past S =
       run_induction kinds net (λ H _. put_on H c ≡ []) S refl (λ H M e N before ih s. put_on-append H (e ∷ []) c ∙ ap (λ l. l ++ put_on (e ∷ []) c) ih ∙ step M e N s)
     where
-      step : (M : State) (e : Entry) (N : State) → Step kinds net M e N → put_on (e ∷ []) c ≡ []
+      step : (M : State) (e : Entry) (N : State) → Transition kinds net M e N → put_on (e ∷ []) c ≡ []
       step M (Grew b to) N s = refl
       step M (Did p Stopped) N s = refl
       step M (Did p (Took b t)) N s = refl

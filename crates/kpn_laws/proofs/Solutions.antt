@@ -8,7 +8,7 @@ use Rattle.kpn_model.specs.declared.history.Entry.{Entry}
 use Rattle.kpn_model.specs.declared.history.Entry.TheVariants.{Did, Grew}
 use Rattle.kpn_model.specs.History.{deeds, stream}
 use Rattle.kpn_model.specs.Network.{Network, channel_of, Family, resized}
-use Rattle.kpn_model.specs.Semantics.{State, tokens, start, Step, Run, IsBlocked, IsQuiet}
+use Rattle.kpn_model.specs.Semantics.{State, tokens, start, Transition, Run, IsBlocked, IsQuiet}
 use Rattle.kpn_laws.specs.Alone.{Streams, BeginsWith, puts, took, IsDeedAlone, DoesAlone}
 use Rattle.kpn_laws.specs.Equations.{streams_of, written, Obeys, IsLeastSolution, StreamsAreBelow, EndIsLeastSolution, EndIsLeastFromAny}
 use Rattle.kpn_laws.proofs.Lists.{prefix_cases, prefix_to_push}
@@ -48,7 +48,7 @@ module _ (kinds : Family) (net : Network) where
     where
       step :
           (H : List Entry) (M : State) (e : Entry) (N : State) → Kept kinds net S H M → ((p : ℕ) → DoesAlone kinds net T p (deeds H p))
-          → Step kinds net M e N → (q : ℕ) → DoesAlone kinds net T q (deeds (H ++ e ∷ []) q)
+          → Transition kinds net M e N → (q : ℕ) → DoesAlone kinds net T q (deeds (H ++ e ∷ []) q)
       step H M (Grew c to) N k ih s q = subst (λ l. DoesAlone kinds net T q l) (sym (deeds_push_grew H c to q)) (ih q)
       step H M (Did p d) N k ih s q =
           let now = deed_follows kinds net S H M k p d s.answer s.wanted s.is_deed in

@@ -6,11 +6,11 @@ use Rattle.kpn_model.specs.declared.history.Entry.{Entry}
 use Rattle.kpn_model.specs.declared.history.Entry.TheVariants.{Did, Grew}
 use Rattle.kpn_model.specs.History.{deeds, put_on, taken}
 use Rattle.kpn_model.specs.Network.{Network, channel_of, Family}
-use Rattle.kpn_model.specs.Semantics.{State, Step, Run}
+use Rattle.kpn_model.specs.Semantics.{State, Transition, Run}
 use Rattle.kpn_laws.specs.Alone.{puts, took}
 use Rattle.kpn_laws.proofs.Views.{put_on-append, taken-append, deeds_push_grew, puts_push_none, took_push_none, puts_push_same, took_push_same, puts_other, took_other}
 use Rattle.kpn_laws.proofs.States.{in_of-reader, out_of-writer}
-use Rattle.kpn_laws.proofs.Steps.{took_read, put_write}
+use Rattle.kpn_laws.proofs.Transitions.{took_read, put_write}
 use Rattle.kpn_laws.proofs.Runs.{run_induction}
 
 module _ (kinds : Family) (net : Network) where
@@ -26,7 +26,7 @@ module _ (kinds : Family) (net : Network) where
 
       step :
           (H : List Entry) (M : State) (e : Entry) (N : State) → ((c : ℕ) → put_on H c ≡ puts (deeds H (channel_of net c).writer) c)
-          → Step kinds net M e N → (c : ℕ) → put_on (H ++ e ∷ []) c ≡ puts (deeds (H ++ e ∷ []) (channel_of net c).writer) c
+          → Transition kinds net M e N → (c : ℕ) → put_on (H ++ e ∷ []) c ≡ puts (deeds (H ++ e ∷ []) (channel_of net c).writer) c
       step H M (Grew b to) N ih s c = same H (Grew b to) c refl (ap (λ l. puts l c) (deeds_push_grew H b to (channel_of net c).writer)) (ih c)
       step H M (Did p Stopped) N ih s c = same H (Did p Stopped) c refl (puts_push_none H p (channel_of net c).writer Stopped c refl) (ih c)
       step H M (Did p (Took b t)) N ih s c = same H (Did p (Took b t)) c refl (puts_push_none H p (channel_of net c).writer (Took b t) c refl) (ih c)
@@ -55,7 +55,7 @@ module _ (kinds : Family) (net : Network) where
 
       step :
           (H : List Entry) (M : State) (e : Entry) (N : State) → ((c : ℕ) → taken H c ≡ took (deeds H (channel_of net c).reader) c)
-          → Step kinds net M e N → (c : ℕ) → taken (H ++ e ∷ []) c ≡ took (deeds (H ++ e ∷ []) (channel_of net c).reader) c
+          → Transition kinds net M e N → (c : ℕ) → taken (H ++ e ∷ []) c ≡ took (deeds (H ++ e ∷ []) (channel_of net c).reader) c
       step H M (Grew b to) N ih s c = same H (Grew b to) c refl (ap (λ l. took l c) (deeds_push_grew H b to (channel_of net c).reader)) (ih c)
       step H M (Did p Stopped) N ih s c = same H (Did p Stopped) c refl (took_push_none H p (channel_of net c).reader Stopped c refl) (ih c)
       step H M (Did p (Put b t)) N ih s c = same H (Did p (Put b t)) c refl (took_push_none H p (channel_of net c).reader (Put b t) c refl) (ih c)

@@ -8,7 +8,7 @@ use Rattle.kpn_model.specs.declared.history.Entry.{Entry}
 use Rattle.kpn_model.specs.declared.history.Entry.TheVariants.{Did, Grew}
 use Rattle.kpn_model.specs.History.{deeds}
 use Rattle.kpn_model.specs.Network.{Network, no_channel, channel_of, Family, resize, resized}
-use Rattle.kpn_model.specs.Semantics.{State, tokens, capacity, start, Step, Run, IsBlocked}
+use Rattle.kpn_model.specs.Semantics.{State, tokens, capacity, start, Transition, Run, IsBlocked}
 use Rattle.kpn_laws.specs.Alone.{puts, took}
 use Rattle.kpn_laws.proofs.Lists.{prefix_trans, prefix_cases, prefix_to_push}
 use Rattle.kpn_laws.proofs.Views.{deeds_push_same, deeds_push_grew}
@@ -145,7 +145,7 @@ module _ (kinds : Family) (net : Network) where
       where
         step :
             (H : List Entry) (K : State) (e : Entry) (L : State) → Kept kinds net S' H K → length G + length (H ++ e ∷ []) ≤ n
-            → Ahead (length G + length H) (deeds G) (deeds H) → Step kinds net K e L → Ahead (length G + length (H ++ e ∷ [])) (deeds G) (deeds (H ++ e ∷ []))
+            → Ahead (length G + length H) (deeds G) (deeds H) → Transition kinds net K e L → Ahead (length G + length (H ++ e ∷ [])) (deeds G) (deeds (H ++ e ∷ []))
         step H K (Grew c to) L j h a s =
             record {
               history = a.history;

@@ -5,9 +5,9 @@ use Rattle.kpn_model.specs.declared.history.Entry.{Entry}
 use Rattle.kpn_model.specs.declared.history.Entry.TheVariants.{Did, Grew}
 use Rattle.kpn_model.specs.History.{deeds, growths}
 use Rattle.kpn_model.specs.Network.{Network, Family}
-use Rattle.kpn_model.specs.Semantics.{State, Step, Run}
+use Rattle.kpn_model.specs.Semantics.{State, Transition, Run}
 use Rattle.kpn_laws.proofs.Views.{deeds_push_same, deeds_push_other, deeds_push_grew, growths_push_did, growths_push_grew}
-use Rattle.kpn_laws.proofs.Steps.{live_within}
+use Rattle.kpn_laws.proofs.Transitions.{live_within}
 use Rattle.kpn_laws.proofs.Runs.{run_induction}
 use Rattle.kpn_laws.proofs.Kept.{IsFresh, Kept}
 use Rattle.kpn_laws.proofs.KeptByRuns.{kept_run}
@@ -56,7 +56,7 @@ module _ (kinds : Family) (net : Network) where
     where
       step :
           (H : List Entry) (M : State) (e : Entry) (N : State) → Kept kinds net S H M
-          → length H ≡ total (length net.processes) (λ p. length (deeds H p)) + length (growths H) → Step kinds net M e N
+          → length H ≡ total (length net.processes) (λ p. length (deeds H p)) + length (growths H) → Transition kinds net M e N
           → length (H ++ e ∷ []) ≡ total (length net.processes) (λ p. length (deeds (H ++ e ∷ []) p)) + length (growths (H ++ e ∷ []))
       step H M (Did p d) N k ih s =
           let within = live_within kinds net M p s.answer s.wanted in

@@ -8,11 +8,11 @@ use Rattle.kpn_model.specs.declared.kinds.Answer.{Answer}
 use Rattle.kpn_model.specs.declared.kinds.Card.{Card}
 use Rattle.kpn_model.specs.declared.kinds.Signature.{Signature}
 use Rattle.kpn_model.specs.Network.{Network, channel_of, Family, card_of, no_process}
-use Rattle.kpn_model.specs.Semantics.{State, status, wants, start, Step}
+use Rattle.kpn_model.specs.Semantics.{State, status, wants, start, Transition}
 use Rattle.kpn_model.specs.Determinacy.{IsRun}
 use Rattle.kpn_model.specs.Lawful.{read_by, CardFits, NamesPort, LeadsOn, AreLawful}
 use Rattle.kpn_model.specs.Valid.{IsValid, IsOfSort, IsWellTyped, StaysWellTyped}
-use Rattle.kpn_laws.proofs.Steps.{live_within}
+use Rattle.kpn_laws.proofs.Transitions.{live_within}
 use Rattle.kpn_laws.proofs.Runs.{run_induction}
 use Rattle.kpn_laws.proofs.Kept.{Kept, fresh_start}
 use Rattle.kpn_laws.proofs.KeptByGrowths.{blocked_within, tokens_grew}
@@ -38,7 +38,7 @@ module _ (signature : Card → Option Signature) (admits : Card → List ℕ →
         subst (λ (x : Answer). LeadsOn signature admits (card_of net p) x t) l.1.2 (laws.leads_on (card_of net p) l.0 l.1.0 t signed.0 signed.1 (well_typed.locals p l.0 l.1.0 l.1.1))
 
   -- each step leaves the state well-typed
-  sorted_step : (H : List Entry) (M : State) (e : Entry) (N : State) → Kept kinds net (start kinds net) H M → IsWellTyped admits net M → Step kinds net M e N → IsWellTyped admits net N
+  sorted_step : (H : List Entry) (M : State) (e : Entry) (N : State) → Kept kinds net (start kinds net) H M → IsWellTyped admits net M → Transition kinds net M e N → IsWellTyped admits net N
   sorted_step H M (Did p d) N k well_typed s =
       let within = live_within kinds net M p s.answer s.wanted in
       let signed = signed_at p (omega (arith, k.processes)) in

@@ -19,7 +19,7 @@ use Rattle.kpn_model.specs.Lawful.{sort_of, Fits, read_by, in_sort, out_sort, Na
 use Rattle.kpn_model.specs.Semantics.{State, status, tokens, with_status, answered, wants, IsDeed, after_deed, start}
 use Rattle.kpn_model.specs.Valid.{IsValid, IsOfSort, IsWellTyped}
 use Rattle.kpn_laws.proofs.States.{in_of-reader, out_of-writer, in_of-input, out_of-out, holds_within, tokens_set_same, tokens_set_other}
-use Rattle.kpn_laws.proofs.Steps.{after, live_within, status_after_same, status_after_other, took_read, put_write}
+use Rattle.kpn_laws.proofs.Transitions.{after, live_within, status_after_same, status_after_other, took_read, put_write}
 use Rattle.kpn_laws.proofs.Kept.{fresh_start}
 
 -- what holds of all of a list and of one more element holds of all of the longer list

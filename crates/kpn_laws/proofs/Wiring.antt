@@ -7,7 +7,7 @@ use Rattle.kpn_model.specs.declared.history.Entry.TheVariants.{Did, Grew}
 use Rattle.kpn_model.specs.Network.{Network, in_of, out_of, Family, card_of}
 use Rattle.kpn_model.specs.declared.history.Status.{Status}
 use Rattle.kpn_model.specs.declared.history.Status.TheVariants.{Done, Live}
-use Rattle.kpn_model.specs.Semantics.{State, status, capacity, answered, IsDeed, Step, Run, IsBlocked, IsPossible, IsEnabled, IsQuiet, IsChosen, IsArtificial}
+use Rattle.kpn_model.specs.Semantics.{State, status, capacity, answered, IsDeed, Transition, Run, IsBlocked, IsPossible, IsEnabled, IsQuiet, IsChosen, IsArtificial}
 use Rattle.kpn_model.specs.Endings.{IsOver}
 use Rattle.kpn_model.specs.declared.kinds.Act.{Act}
 use Rattle.kpn_model.specs.declared.kinds.Act.TheVariants.{Read, Write, Stop}
@@ -78,7 +78,7 @@ module _ (kinds : Family) where
   deed_alike a b w M p x d h = absurd h
 
   -- a step of one is a step of the other
-  step_alike : (a b : Network) → AreWiredAlike a b → (M : State) (e : Entry) (N : State) → Step kinds a M e N → Step kinds b M e N
+  step_alike : (a b : Network) → AreWiredAlike a b → (M : State) (e : Entry) (N : State) → Transition kinds a M e N → Transition kinds b M e N
   step_alike a b w M (Did p d) N s =
       record { answer = s.answer; wanted = sym (answered_alike a b w p (status M p)) ∙ s.wanted; is_deed = deed_alike a b w M p s.answer.act d s.is_deed; leaves = s.leaves }
   step_alike a b w M (Grew c to) N s =

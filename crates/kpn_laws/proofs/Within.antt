@@ -6,13 +6,13 @@ use Rattle.kpn_model.specs.declared.history.Deed.TheVariants.{Took, Put, Stopped
 use Rattle.kpn_model.specs.declared.history.Entry.{Entry}
 use Rattle.kpn_model.specs.declared.history.Entry.TheVariants.{Did, Grew}
 use Rattle.kpn_model.specs.Network.{Network, Family}
-use Rattle.kpn_model.specs.Semantics.{State, tokens, capacity, with_status, with_channel, IsDeed, after_deed, start, Step}
+use Rattle.kpn_model.specs.Semantics.{State, tokens, capacity, with_status, with_channel, IsDeed, after_deed, start, Transition}
 use Rattle.kpn_model.specs.declared.kinds.Answer.{Answer}
 use Rattle.kpn_model.specs.declared.history.Status.TheVariants.{Live}
 use Rattle.kpn_model.specs.Determinacy.{IsRun}
 use Rattle.kpn_model.specs.Moments.{IsWithin, AlwaysWithin}
 use Rattle.kpn_laws.proofs.States.{out_of-writer, holds_within, tokens_set_same, tokens_set_other, capacity_set_same, capacity_set_other}
-use Rattle.kpn_laws.proofs.Steps.{capacity_after, took_read, put_write}
+use Rattle.kpn_laws.proofs.Transitions.{capacity_after, took_read, put_write}
 use Rattle.kpn_laws.proofs.Runs.{run_induction}
 use Rattle.kpn_laws.proofs.Kept.{Kept, fresh_start}
 use Rattle.kpn_laws.proofs.KeptByGrowths.{blocked_within, tokens_grew}
@@ -77,7 +77,7 @@ module _ (kinds : Family) (net : Network) where
       (cases_eq b c)
 
   -- so does each step
-  within_step : (S : State) (H : List Entry) (M : State) (e : Entry) (N : State) → Kept kinds net S H M → IsWithin M → Step kinds net M e N → IsWithin N
+  within_step : (S : State) (H : List Entry) (M : State) (e : Entry) (N : State) → Kept kinds net S H M → IsWithin M → Transition kinds net M e N → IsWithin N
   within_step S H M (Did p d) N k w s = subst (λ x. IsWithin x) (sym s.leaves) (within_did S H M k w p d s.answer s.is_deed)
   within_step S H M (Grew c to) N k w s =
       subst (λ x. IsWithin x) (sym s.leaves) (within_grew S H M k w c to (blocked_within kinds net S H M k s.chosen.writer c s.chosen.blocked) (let is = s.to_is in let low = s.below in omega arith))

@@ -3,14 +3,14 @@ use Rattle.std.specs.Prelude.{◌⊎◌, ℕ, ◌+◌, ◌*◌, ◌<◌, ◌≤�
 use Rattle.kpn_model.specs.declared.history.Entry.{Entry}
 use Rattle.kpn_model.specs.declared.history.End.{End}
 use Rattle.kpn_model.specs.Network.{Family, Network}
-use Rattle.kpn_model.specs.Semantics.{State, capacity, IsArtificial, IsChosen, Step, Run}
+use Rattle.kpn_model.specs.Semantics.{State, capacity, IsArtificial, IsChosen, Transition, Run}
 use Rattle.kpn_model.specs.Endings.{IsNatural, IsOver}
 use Rattle.kpn_model.specs.Determinacy.{IsRun}
 use Rattle.kpn_laws.specs.Sufficient.{EndsWithin, LastsWithin}
 
 -- some entry can follow
 abbrev pub CanGoOn : Family → Network → State → Type 0
-CanGoOn kinds net M = (e : Entry) × ((N : State) × Step kinds net M e N)
+CanGoOn kinds net M = (e : Entry) × ((N : State) × Transition kinds net M e N)
 
 -- a state that is over because the run terminated or ended in a deadlock
 abbrev pub IsAtOwnEnd : Family → Network → State → Type 0

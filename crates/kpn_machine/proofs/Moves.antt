@@ -56,9 +56,9 @@ module _ (kinds : Family) (net : Network) where
   run_both M N O [] F r q = rw (← r) q
   run_both M N O (e ∷ E) F r q = (r.0, r.1, run_both r.0 N O E F r.2 q)
 
-  -- small steps that append this many entries: no process goes out, none comes back but p, and entries and waiting processes
+  -- small moves that append this many entries: no process goes out, none comes back but p, and entries and waiting processes
   -- together grow by one if p moves
-  pub record Steps (s : StateAndHistory) (l : List Standing) (p : Option ℕ) (n : ℕ) (t : StateAndHistory) (m : List Standing) : Type 0 where
+  pub record Moves (s : StateAndHistory) (l : List Standing) (p : Option ℕ) (n : ℕ) (t : StateAndHistory) (m : List Standing) : Type 0 where
     pub entries : List Entry
     pub history : t.history ≡ s.history ++ entries
     pub run : Run kinds net s.state entries t.state
@@ -69,13 +69,13 @@ module _ (kinds : Family) (net : Network) where
     pub stay : (q : ℕ) → p ≢ Some q → standing l q ≡ Out → standing m q ≡ Out
     pub counted : sum_by waits l + 1 ≤ n + sum_by waits m + waited l p
 
-  no_step : (s : StateAndHistory) (l : List Standing) → Steps s l None 0 s l
-  no_step s l = record { entries = []; history = rw (append-nil s.history); run = refl; count = refl; room = refl; size = refl; sent = λ q e. (λ f. cc, e); stay = λ q n e. e; counted = omega arith }
+  no_move : (s : StateAndHistory) (l : List Standing) → Moves s l None 0 s l
+  no_move s l = record { entries = []; history = rw (append-nil s.history); run = refl; count = refl; room = refl; size = refl; sent = λ q e. (λ f. cc, e); stay = λ q n e. e; counted = omega arith }
 
   -- one process moves on
   move :
       (s : StateAndHistory) (l : List Standing) (p : Option ℕ) (q : ℕ) (x : Standing) (es : List Entry) (t : StateAndHistory) → q < length l → waited l p ≡ waits (standing l q) → ((r : ℕ) → r ≢ q → p ≢ Some r) → (p ≢ Some q → standing l q ≢ Out)
-      → x ≢ Out → 1 ≤ length es + waits x → t.history ≡ s.history ++ es → t.room ≡ s.room → Run kinds net s.state es t.state → Steps s l p (length es) t (set l q x)
+      → x ≢ Out → 1 ≤ length es + waits x → t.history ≡ s.history ++ es → t.room ≡ s.room → Run kinds net s.state es t.state → Moves s l p (length es) t (set l q x)
   move s l p q x es t within same others was not_out some history room run =
       let n = moved_count waits l q x within in
       record {
@@ -93,16 +93,16 @@ module _ (kinds : Family) (net : Network) where
   -- p moves first, or a parked process does
   first :
       (s : StateAndHistory) (l : List Standing) (p : ℕ) (x : Standing) (es : List Entry) (t : StateAndHistory) → p < length l → x ≢ Out → 1 ≤ length es + waits x → t.history ≡ s.history ++ es → t.room ≡ s.room → Run kinds net s.state es t.state
-      → Steps s l (Some p) (length es) t (set l p x)
+      → Moves s l (Some p) (length es) t (set l p x)
   first s l p x es t within = move s l (Some p) p x es t within refl (λ r o e. o (cc)) (λ n. absurd (n refl))
 
   parked_one :
       (s : StateAndHistory) (l : List Standing) (q : ℕ) (a : Answer) (x : Standing) (es : List Entry) (t : StateAndHistory) → standing l q ≡ Parked a → x ≢ Out → 1 ≤ length es + waits x → t.history ≡ s.history ++ es → t.room ≡ s.room → Run kinds net s.state es t.state
-      → Steps s l None (length es) t (set l q x)
+      → Moves s l None (length es) t (set l q x)
   parked_one s l q a x es t parked = move s l None q x es t (standing_within l q (λ e. cc)) (rw parked) (λ r o e. cc) (λ n e. cc)
 
   -- more steps follow
-  pub then : {s t u : StateAndHistory} {l m r : List Standing} {p : Option ℕ} {n k : ℕ} → Steps s l p n t m → Steps t m None k u r → Steps s l p (n + k) u r
+  pub then : {s t u : StateAndHistory} {l m r : List Standing} {p : Option ℕ} {n k : ℕ} → Moves s l p n t m → Moves t m None k u r → Moves s l p (n + k) u r
   then {s = s} {t = t} {u = u} x y =
       record {
         entries = x.entries ++ y.entries;
@@ -117,24 +117,24 @@ module _ (kinds : Family) (net : Network) where
       }
 
   -- a deed
-  act_first : {s t : StateAndHistory} {l m : List Standing} {p : ℕ} {d : Deed} → p < length l → Acted kinds net s l p d t m → Steps s l (Some p) 1 t m
+  act_first : {s t : StateAndHistory} {l m : List Standing} {p : ℕ} {d : Deed} → p < length l → Acted kinds net s l p d t m → Moves s l (Some p) 1 t m
   act_first {s = s} {t = t} {l = l} {p = p} {d = d} within h =
       rw h.moves (first s l p (standing_after d) (Did p d ∷ []) t within (acted_not_out d) (omega arith) (rw h.entry) (rw h.entry) (t.state, h.does, refl))
 
-  act_parked : {s t : StateAndHistory} {l m : List Standing} {p : ℕ} {d : Deed} (a : Answer) → standing l p ≡ Parked a → Acted kinds net s l p d t m → Steps s l None 1 t m
+  act_parked : {s t : StateAndHistory} {l m : List Standing} {p : ℕ} {d : Deed} (a : Answer) → standing l p ≡ Parked a → Acted kinds net s l p d t m → Moves s l None 1 t m
   act_parked {s = s} {t = t} {l = l} {p = p} {d = d} a parked h =
       rw h.moves (parked_one s l p a (standing_after d) (Did p d ∷ []) t parked (acted_not_out d) (omega arith) (rw h.entry) (rw h.entry) (t.state, h.does, refl))
 
   -- a reaction's steps
-  pub reacts : (s : StateAndHistory) (l : List Standing) (p : ℕ) (a : Answer) (r : Reaction) (t : StateAndHistory) (m : List Standing) → p < length l → Reacts kinds net s l p a r t m → Steps s l (Some p) (acted_entries r) t m
+  pub reacts : (s : StateAndHistory) (l : List Standing) (p : ℕ) (a : Answer) (r : Reaction) (t : StateAndHistory) (m : List Standing) → p < length l → Reacts kinds net s l p a r t m → Moves s l (Some p) (acted_entries r) t m
   reacts s l p a Waits t m within h = rw (h.1, h.2) (first s l p (Parked a) [] s within (λ e. cc) (omega arith) (rw (append-nil s.history)) refl refl)
   reacts s l p a Acts t m within h = act_first within h.1
   reacts s l p a HandsOn t m within h = then (act_first within h.first) (act_parked h.wanted h.parked h.second)
 
   -- what follows it
-  pub settles : (s : StateAndHistory) (l : List Standing) (x : Settled) (t : StateAndHistory) (m : List Standing) → Settles kinds net s l x t m → Steps s l None (settled_entries x) t m
-  settles s l Busy t m h = rw (h.1, h.2) (no_step s l)
-  settles s l (Over end) t m h = rw (h.1, h.2) (no_step s l)
+  pub settles : (s : StateAndHistory) (l : List Standing) (x : Settled) (t : StateAndHistory) (m : List Standing) → Settles kinds net s l x t m → Moves s l None (settled_entries x) t m
+  settles s l Busy t m h = rw (h.1, h.2) (no_move s l)
+  settles s l (Over end) t m h = rw (h.1, h.2) (no_move s l)
   settles s l Enlarged t m h =
       let g = h.1 in
       let grew = Grew g.channel g.to in
@@ -147,6 +147,6 @@ entries_appended_is : (r : Reaction) (x : Settled) → entries_appended (outcome
 entries_appended_is r x = grind arith
 
 -- a commit's steps
-pub works : {kinds : Family} {net : Network} {s : StateAndHistory} {l : List Standing} {p : ℕ} {a : Answer} {o : Outcome} {t : StateAndHistory} {m : List Standing} {end : Option End} → p < length l → Works kinds net s l p a o t m end → Steps kinds net s l (Some p) (entries_appended o) t m
+pub works : {kinds : Family} {net : Network} {s : StateAndHistory} {l : List Standing} {p : ℕ} {a : Answer} {o : Outcome} {t : StateAndHistory} {m : List Standing} {end : Option End} → p < length l → Works kinds net s l p a o t m end → Moves kinds net s l (Some p) (entries_appended o) t m
 works {kinds = kinds} {net = net} {s = s} {l = l} {p = p} {a = a} {t = t} {m = m} within w =
     rw (w.outcome_is, entries_appended_is w.reaction w.settled) (then kinds net (reacts kinds net s l p a w.reaction w.between w.standings_between within w.reacts) (settles kinds net w.between w.standings_between w.settled t m w.settles))

@@ -122,11 +122,12 @@ module _ (kinds : Family) (net : Network) where
     pub to_is : to ≡ min (capacity M c + net.step) net.ceiling
     pub leaves : N ≡ with_channel M c (tokens M c) to
 
-  abbrev pub Step : State → Entry → State → Type 0
-  Step M (Did p d) N = Does M p d N
-  Step M (Grew c to) N = Grows M c to N
+  -- an entry leads from M to N: a deed, or a growth
+  abbrev pub Transition : State → Entry → State → Type 0
+  Transition M (Did p d) N = Does M p d N
+  Transition M (Grew c to) N = Grows M c to N
 
-  -- the entries lead from M to N, one step each
+  -- the entries lead from M to N, one transition each
   abbrev pub Run : State → List Entry → State → Type 0
   Run M [] N = N ≡ M
-  Run M (e ∷ es) N = (mid : State) × Step M e mid × Run mid es N
+  Run M (e ∷ es) N = (mid : State) × Transition M e mid × Run mid es N

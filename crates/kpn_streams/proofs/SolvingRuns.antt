@@ -7,7 +7,7 @@ use Rattle.kpn_model.specs.declared.history.Deed.{Deed}
 use Rattle.kpn_model.specs.declared.history.Entry.{Entry}
 use Rattle.kpn_model.specs.declared.history.Entry.TheVariants.{Did, Grew}
 use Rattle.kpn_model.specs.Network.{Family, Network, channel_of, resized}
-use Rattle.kpn_model.specs.Semantics.{State, start, Step, Run}
+use Rattle.kpn_model.specs.Semantics.{State, start, Transition, Run}
 use Rattle.kpn_model.specs.History.{deeds, stream}
 use Rattle.kpn_model.specs.Determinacy.{IsPrefixOf}
 use Rattle.kpn_laws.specs.Alone.{Streams, BeginsWith, DoesAlone}
@@ -85,7 +85,7 @@ module _ (kinds : Family) (net : Network) (A : ℕ → ℕ → List Token) (a : 
     where
       step :
           (H : List Entry) (M : State) (e : Entry) (N : State) → Kept kinds net S H M → (n : ℕ) × ((p : ℕ) → DoesAlone kinds net (as_streams (A n)) p (deeds H p))
-          → Step kinds net M e N → (n : ℕ) × ((p : ℕ) → DoesAlone kinds net (as_streams (A n)) p (deeds (H ++ e ∷ []) p))
+          → Transition kinds net M e N → (n : ℕ) × ((p : ℕ) → DoesAlone kinds net (as_streams (A n)) p (deeds (H ++ e ∷ []) p))
       step H M (Grew c to) N k ih s = (ih.0, λ q. subst (λ l. DoesAlone kinds net (as_streams (A ih.0)) q l) (sym (deeds_push_grew H c to q)) (ih.1 q))
       step H M (Did p d) N k ih s =
           let n = ih.0 in

@@ -9,7 +9,7 @@ use Rattle.kpn_model.specs.declared.history.Entry.{Entry}
 use Rattle.kpn_model.specs.declared.history.Entry.TheVariants.{Did, Grew}
 use Rattle.kpn_model.specs.declared.history.End.TheVariants.{Terminated}
 use Rattle.kpn_model.specs.Network.{Network}
-use Rattle.kpn_model.specs.Semantics.{State, start, tokens, with_channel, after_deed, IsDeed, Step, Run}
+use Rattle.kpn_model.specs.Semantics.{State, start, tokens, with_channel, after_deed, IsDeed, Transition, Run}
 use Rattle.kpn_model.specs.History.{Digest}
 use Rattle.kpn_model.specs.Moments.{IsWithin}
 use Rattle.kpn_standard.specs.Standard.{standard}
@@ -25,7 +25,7 @@ use Rattle.test_laws.proofs.WorkedNetworks.{has_counter_into_sink, has_counter_o
 different : (m n : ℕ) → m ≡ n → (m == n) ≡ false → ⊥
 different m n e f = let same = eq-eqb m n e in cc
 
-module _ (rule : State → Entry → State → Type 0) (net : Network) (allows : (M : State) (e : Entry) (N : State) → Step standard net M e N → rule M e N) where
+module _ (rule : State → Entry → State → Type 0) (net : Network) (allows : (M : State) (e : Entry) (N : State) → Transition standard net M e N → rule M e N) where
   -- a run is a run by any rule that allows its steps
   by_rule : (M : State) (E : List Entry) (N : State) → Run standard net M E N → RunBy rule M E N
   by_rule M [] N r = r
@@ -39,7 +39,7 @@ module _ (rule : State → Entry → State → Type 0) (net : Network) (allows :
   with_step M (f ∷ E) K e L F N r s q = (r.0, allows M f r.0 r.1, with_step r.0 E K e L F N r.2 s q)
 
 -- a growth that waits is one that need not
-early_allows : (net : Network) (M : State) (e : Entry) (N : State) → Step standard net M e N → EarlyGrowth net M e N
+early_allows : (net : Network) (M : State) (e : Entry) (N : State) → Transition standard net M e N → EarlyGrowth net M e N
 early_allows net M (Did p d) N s = s
 early_allows net M (Grew c to) N s = record { chosen = s.chosen; below = s.below; to_is = s.to_is; leaves = s.leaves }
 
@@ -52,12 +52,12 @@ anyway net M p (Write k w) (Took c t) h = absurd h
 anyway net M p (Write k w) Stopped h = absurd h
 
 -- a deed that finds room is one that need not
-full_allows : (net : Network) (M : State) (e : Entry) (N : State) → Step standard net M e N → PutIntoFull net M e N
+full_allows : (net : Network) (M : State) (e : Entry) (N : State) → Transition standard net M e N → PutIntoFull net M e N
 full_allows net M (Did p d) N s = record { answer = s.answer; wanted = s.wanted; is_deed = anyway net M p s.answer.act d s.is_deed; leaves = s.leaves }
 full_allows net M (Grew c to) N s = s
 
 -- the chosen channel is one of least capacity
-any_allows : (net : Network) (M : State) (e : Entry) (N : State) → Step standard net M e N → AnyOfEqual net M e N
+any_allows : (net : Network) (M : State) (e : Entry) (N : State) → Transition standard net M e N → AnyOfEqual net M e N
 any_allows net M (Did p d) N s = s
 any_allows net M (Grew c to) N s =
     record { artificial = s.artificial; writer = s.chosen.writer; blocked = s.chosen.blocked; no_smaller = s.chosen.no_smaller; below = s.below; to_is = s.to_is; leaves = s.leaves }

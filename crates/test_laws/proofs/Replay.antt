@@ -15,13 +15,13 @@ use Rattle.kpn_model.specs.declared.history.End.TheVariants.{Terminated, Deadloc
 use Rattle.kpn_model.specs.Network.{Family, Network, in_of, out_of}
 use Rattle.kpn_model.specs.declared.history.Status.{Status}
 use Rattle.kpn_model.specs.declared.history.Status.TheVariants.{Live, Done}
-use Rattle.kpn_model.specs.Semantics.{State, status, tokens, capacity, wants, start, IsPossible, IsQuiet, IsDeed, after_deed, with_channel, IsChosen, Step, Run, IsBlocked}
+use Rattle.kpn_model.specs.Semantics.{State, status, tokens, capacity, wants, start, IsPossible, IsQuiet, IsDeed, after_deed, with_channel, IsChosen, Transition, Run, IsBlocked}
 use Rattle.kpn_model.specs.Endings.{IsOver}
 use Rattle.kpn_model.specs.History.{Digest, digest}
 use Rattle.kpn_model.specs.Determinacy.{IsFinal}
 use Rattle.kpn_laws.specs.Digested.{HasDigest}
 use Rattle.test_laws.proofs.Schedule.{Turn, Go, Grow, first_taken, read_deed, write_deed, full_at, act_deed, answer_deed, act_full, answer_full, deed_of, full_of, all_still, comes_first, all_after, went, goes, grows_at, turned, entered, played_on, played, all_done, none_full, stuck_at, some_stuck, is_over, digested, digest_of}
-use Rattle.kpn_laws.proofs.Steps.{live_within, done_wants_none}
+use Rattle.kpn_laws.proofs.Transitions.{live_within, done_wants_none}
 use Rattle.kpn_laws.proofs.Digests.{one_digest}
 
 module _ (kinds : Family) (net : Network) where
@@ -147,19 +147,19 @@ module _ (kinds : Family) (net : Network) where
   -- what is computed of a deed is a step
   went_sound :
       (M : State) (p : ℕ) (a : Answer) (o : Option Deed) (r : Entry × State) → wants kinds net M p ≡ Some a → act_deed kinds net M p a.act ≡ o
-      → went kinds net M p a.next o ≡ Some r → Step kinds net M r.0 r.1
+      → went kinds net M p a.next o ≡ Some r → Transition kinds net M r.0 r.1
   went_sound M p a None r w e h = cc
   went_sound M p a (Some d) r w e h =
       let x : (Did p d, after_deed kinds net M p a.next d) ≡ r = cc in
-      subst (λ (y : Entry × State). Step kinds net M y.0 y.1) x (record { answer = a; wanted = w; is_deed = deed_sound M p a.act d e; leaves = refl })
+      subst (λ (y : Entry × State). Transition kinds net M y.0 y.1) x (record { answer = a; wanted = w; is_deed = deed_sound M p a.act d e; leaves = refl })
 
   -- what is computed of an answer is a step
-  goes_sound : (M : State) (p : ℕ) (o : Option Answer) (r : Entry × State) → wants kinds net M p ≡ o → goes kinds net M p o ≡ Some r → Step kinds net M r.0 r.1
+  goes_sound : (M : State) (p : ℕ) (o : Option Answer) (r : Entry × State) → wants kinds net M p ≡ o → goes kinds net M p o ≡ Some r → Transition kinds net M r.0 r.1
   goes_sound M p None r w h = cc
   goes_sound M p (Some a) r w h = went_sound M p a (act_deed kinds net M p a.act) r w refl h
 
   -- what is computed of a growth is a step
-  grows_sound : (M : State) (p : ℕ) (o : Option ℕ) (r : Entry × State) → full_of kinds net M p ≡ o → grows_at kinds net M o ≡ Some r → Step kinds net M r.0 r.1
+  grows_sound : (M : State) (p : ℕ) (o : Option ℕ) (r : Entry × State) → full_of kinds net M p ≡ o → grows_at kinds net M o ≡ Some r → Transition kinds net M r.0 r.1
   grows_sound M p None r f h = cc
   grows_sound M p (Some c) r f h = test (all_still kinds net M (length M.processes) && (all_after kinds net M c (length M.processes) && nat_lt (capacity M c) net.ceiling)) refl h
     where
@@ -167,14 +167,14 @@ module _ (kinds : Family) (net : Network) where
           (b : Bool)
           → (all_still kinds net M (length M.processes) && (all_after kinds net M c (length M.processes) && nat_lt (capacity M c) net.ceiling)) ≡ b
           → (if b then Some (Grew c (min (capacity M c + net.step) net.ceiling), with_channel M c (tokens M c) (min (capacity M c + net.step) net.ceiling)) else None) ≡ Some r
-          → Step kinds net M r.0 r.1
+          → Transition kinds net M r.0 r.1
       test false e h = cc
       test true e h =
           let x : (Grew c (min (capacity M c + net.step) net.ceiling), with_channel M c (tokens M c) (min (capacity M c + net.step) net.ceiling)) ≡ r = cc in
           let one = and_parts _ _ e in
           let two = and_parts _ _ one.1 in
           let b = full_sound M p c f in
-          subst (λ (y : Entry × State). Step kinds net M y.0 y.1) x
+          subst (λ (y : Entry × State). Transition kinds net M y.0 y.1) x
           (record {
             artificial = record { quiet = still_sound M one.0; writer = p; channel = c; blocked = b };
             chosen = chosen_sound M p c b two.0;
@@ -184,7 +184,7 @@ module _ (kinds : Family) (net : Network) where
           })
 
   -- what is computed of a turn is a step
-  turned_sound : (M : State) (t : Turn) (r : Entry × State) → turned kinds net M t ≡ Some r → Step kinds net M r.0 r.1
+  turned_sound : (M : State) (t : Turn) (r : Entry × State) → turned kinds net M t ≡ Some r → Transition kinds net M r.0 r.1
   turned_sound M (Go p) r h = goes_sound M p (wants kinds net M p) r refl h
   turned_sound M (Grow p) r h = grows_sound M p (full_of kinds net M p) r refl h
 
@@ -194,7 +194,7 @@ module _ (kinds : Family) (net : Network) where
   played_sound (t ∷ ts) M r h = on (turned kinds net M t) refl h (played_sound ts)
     where
       rest_on :
-          (s : Entry × State) → Step kinds net M s.0 s.1 → (o : Option (List Entry × State))
+          (s : Entry × State) → Transition kinds net M s.0 s.1 → (o : Option (List Entry × State))
           → ((q : List Entry × State) → o ≡ Some q → Run kinds net s.1 q.0 q.1) → entered s.0 o ≡ Some r → Run kinds net M r.0 r.1
       rest_on s st None ih h = cc
       rest_on s st (Some q) ih h =

@@ -1,6 +1,6 @@
 -- After the deed of a parked process it has no mark at its channel, which is no candidate any more.
 use Rattle.kpn_model.specs.Network.{family_of}
-use Rattle.kpn_laws.proofs.Steps.{capacity_after}
+use Rattle.kpn_laws.proofs.Transitions.{capacity_after}
 use Rattle.kpn_commit.proofs.Waits.{took_waiting, put_waiting, stopped_waiting}
 use Rattle.kpn_commit.proofs.react.resume.Goals as goal
 
