@@ -24,7 +24,7 @@ use Rattle.kpn_state.specs.Standings.{standing, is_busy, standing_after, partner
 use Rattle.kpn_state.proofs.Placed.{standing_within}
 use Rattle.kpn_commit.specs.Candidates.{awaited, IsSmallest}
 use Rattle.kpn_commit.specs.Waiting.{AreWaiting, partner_marked}
-use Rattle.kpn_commit.specs.Settling.{GrowsAndPuts}
+use Rattle.kpn_commit.specs.Resolving.{GrowsAndPuts}
 use Rattle.kpn_commit.proofs.Keeping.{keeps_all, keeps_grown}
 use Rattle.kpn_commit.proofs.Waits.{WaitsToWrite, waiting_writer, waiting_reader, is_writer, acted_waits_not, waiting_with, done_writing, others_blocked}
 use Rattle.kpn_commit.proofs.Idle.{awaits_blocked, smallest_chosen, smallest_artificial}
@@ -84,10 +84,10 @@ module _ {kinds : Family} {admits : Card → List ℕ → Option Token → Type 
       -- and the channel is no candidate any more
       pub waiting_after_put :
           (d : Deed) (fewer : CandidateList) → ((y : ℕ × ℕ) → Contains fewer.pairs y ↔ ((y ≢ (capacity M c, c)) × Contains w.candidates.pairs y))
-          → (Contains w.candidates.pairs (capacity M c, c) → length fewer.pairs + 1 ≡ length w.candidates.pairs) → fewer.room ≡ w.candidates.room
+          → (Contains w.candidates.pairs (capacity M c, c) → length fewer.pairs + 1 ≡ length w.candidates.pairs) → fewer.limit ≡ w.candidates.limit
           → AreWaiting net (after_deed kinds net grown p a.next d) (set l p (standing_after d)) (waiting_with fewer (mark_lists w.marks.readers (set w.marks.writers c false)))
-      waiting_after_put d fewer taken many room =
-          done_writing wait p (standing_after d) within (acted_waits_not net p d) (after_deed kinds net grown p a.next d) c fewer (λ b other. capacity_after kinds net grown p b a.next d ∙ capacity_set_other M c b (tokens M c) to other) waits (rw (parked, act)) taken many room
+      waiting_after_put d fewer taken many limit =
+          done_writing wait p (standing_after d) within (acted_waits_not net p d) (after_deed kinds net grown p a.next d) c fewer (λ b other. capacity_after kinds net grown p b a.next d ∙ capacity_set_other M c b (tokens M c) to other) waits (rw (parked, act)) taken many limit
 
     module _ (idle : list_any is_busy l ≡ false) (best : IsSmallest net M l (Some (c, p))) (below : capacity M c < net.ceiling) (to_is : to ≡ min (capacity M c + net.step) net.ceiling) where
       -- the growth is that of the definitions
@@ -96,10 +96,10 @@ module _ {kinds : Family} {admits : Card → List ℕ → Option Token → Type 
 
       -- and so is the put
       pub grows_and_puts :
-          (E : List Entry) (room : ℕ) (d : Deed) → IsDeed kinds net grown p a.act d
-          → GrowsAndPuts kinds net (state_and_history M E room) l (more (more (state_and_history M E room) grown (Grew c to)) (after_deed kinds net grown p a.next d) (Did p d)) (set l p (standing_after d))
-      grows_and_puts E room d is =
+          (E : List Entry) (limit : ℕ) (d : Deed) → IsDeed kinds net grown p a.act d
+          → GrowsAndPuts kinds net (state_and_history M E limit) l (more (more (state_and_history M E limit) grown (Grew c to)) (after_deed kinds net grown p a.next d) (Did p d)) (set l p (standing_after d))
+      grows_and_puts E limit d is =
           let put = deed_put d is in
-          let s = more (state_and_history M E room) grown (Grew c to) in
+          let s = more (state_and_history M E limit) grown (Grew c to) in
           rw put.1
           (record { channel = c; to = to; grown = grown; grows = growth; writer = p; wanted = a; parked = parked; token = put.0; puts = acted s l p a (Put c put.0) (k.wanted p a parked) (rw put.1 at is) refl refl })

@@ -179,7 +179,7 @@ module _ {net : Network} {M : State} {l : List Standing} {w : Waiting} (k : AreW
 
     module _ (idle : WaitsNowhere net p (standing l p)) where
       -- there is room for a process that is parked with a write
-      pub room_to_list : (a : Answer) → is_write a.act ≡ true → length w.candidates.pairs < w.candidates.room
+      pub room_to_list : (a : Answer) → is_write a.act ≡ true → length w.candidates.pairs < w.candidates.limit
       room_to_list a writes =
           let n = counted l p (Parked a) within in
           let z : weight (standing l p) ≡ 0 = let f = idle.not_counted in cc in
@@ -206,8 +206,8 @@ module _ {net : Network} {M : State} {l : List Standing} {w : Waiting} (k : AreW
       -- or for room, and the channel becomes a candidate
       pub waits_writing :
           (c : ℕ) (more : CandidateList) → c < length net.channels → awaited_by net p x ≡ Some c → expected_by net p x ≡ None → ((y : ℕ × ℕ) → Contains more.pairs y ↔ ((y ≡ (capacity M c, c)) ⊎ Contains w.candidates.pairs y))
-          → length more.pairs ≤ length w.candidates.pairs + 1 → more.room ≡ w.candidates.room → AreWaiting net M (set l p x) (waiting_with more (mark_lists w.marks.readers (set w.marks.writers c true)))
-      waits_writing c more there writes no_read put many room =
+          → length more.pairs ≤ length w.candidates.pairs + 1 → more.limit ≡ w.candidates.limit → AreWaiting net M (set l p x) (waiting_with more (mark_lists w.marks.readers (set w.marks.writers c true)))
+      waits_writing c more there writes no_read put many limit =
           let s = one_more_waits (awaited_by net) l p x within c idle.no_write writes in
           let n = counted l p x within in
           let z : weight (standing l p) ≡ 0 = let f = idle.not_counted in cc in
@@ -237,8 +237,8 @@ module _ {net : Network} {M : State} {l : List Standing} {w : Waiting} (k : AreW
       -- nor does one that waited for room, and its channel is no candidate any more
       pub done_writing :
           (N : State) (c : ℕ) (fewer : CandidateList) → ((d : ℕ) → d ≢ c → capacity N d ≡ capacity M d) → awaited_by net p (standing l p) ≡ Some c → expected_by net p (standing l p) ≡ None → ((y : ℕ × ℕ) → Contains fewer.pairs y ↔ ((y ≢ (capacity M c, c)) × Contains w.candidates.pairs y))
-          → (Contains w.candidates.pairs (capacity M c, c) → length fewer.pairs + 1 ≡ length w.candidates.pairs) → fewer.room ≡ w.candidates.room → AreWaiting net N (set l p x) (waiting_with fewer (mark_lists w.marks.readers (set w.marks.writers c false)))
-      done_writing N c fewer same written no_read taken many room =
+          → (Contains w.candidates.pairs (capacity M c, c) → length fewer.pairs + 1 ≡ length w.candidates.pairs) → fewer.limit ≡ w.candidates.limit → AreWaiting net N (set l p x) (waiting_with fewer (mark_lists w.marks.readers (set w.marks.writers c false)))
+      done_writing N c fewer same written no_read taken many limit =
           let alone : (q : ℕ) → awaited_by net q (standing l q) ≡ Some c → q ≡ p = λ q e. let u = is_writer net q c (standing l q) e in let v = is_writer net p c (standing l p) written in cc in
           let s = one_fewer_waits (awaited_by net) l p x within c written idle.no_write alone in
           let n = counted l p x within in
@@ -286,13 +286,13 @@ module _ (kinds : Family) {net : Network} {M : State} {l : List Standing} {w : W
   -- a write: the channel is no candidate any more
   pub put_waiting :
       (c : ℕ) (t : Token) (fewer : CandidateList) → IsDeed kinds net M p a.act (Put c t) → ((y : ℕ × ℕ) → Contains fewer.pairs y ↔ ((y ≢ (capacity M c, c)) × Contains w.candidates.pairs y))
-      → (Contains w.candidates.pairs (capacity M c, c) → length fewer.pairs + 1 ≡ length w.candidates.pairs) → fewer.room ≡ w.candidates.room
+      → (Contains w.candidates.pairs (capacity M c, c) → length fewer.pairs + 1 ≡ length w.candidates.pairs) → fewer.limit ≡ w.candidates.limit
       → AreWaiting net (after_deed kinds net M p a.next (Put c t)) (set l p Ready) (waiting_with fewer (mark_lists w.marks.readers (set w.marks.writers c false)))
-  put_waiting c t fewer is taken many room =
+  put_waiting c t fewer is taken many limit =
       let r = put_write kinds net M p c t a.act is in
       let written : awaited_by net p (standing l p) ≡ Some c = rw (parked, r.1) r.2 in
       let no_read : expected_by net p (standing l p) ≡ None = rw (parked, r.1) in
-      done_writing k p Ready within (acted_waits_not net p (Put c t)) (after_deed kinds net M p a.next (Put c t)) c fewer (λ d _. capacity_after kinds net M p d a.next (Put c t)) written no_read taken many room
+      done_writing k p Ready within (acted_waits_not net p (Put c t)) (after_deed kinds net M p a.next (Put c t)) c fewer (λ d _. capacity_after kinds net M p d a.next (Put c t)) written no_read taken many limit
 
   -- a stop
   pub stopped_waiting : IsDeed kinds net M p a.act DidStop → AreWaiting net (after_deed kinds net M p a.next DidStop) (set l p Stopped) w

@@ -17,10 +17,10 @@ use Rattle.kpn_state.specs.Standings.{standing, is_busy, standing_after, partner
 use Rattle.kpn_state.proofs.Placed.{standing_set_same, standing_set_other, acted_not_parked, busy_at}
 use Rattle.kpn_commit.specs.declared.react.Reaction.{Reaction}
 use Rattle.kpn_commit.specs.declared.react.Reaction.TheVariants.{Waits, Acts, HandsOn}
-use Rattle.kpn_commit.specs.declared.settle.Settled.{Settled}
-use Rattle.kpn_commit.specs.declared.settle.Settled.TheVariants.{Busy, Ended, Enlarged}
+use Rattle.kpn_commit.specs.declared.resolution.Resolution.{Resolution}
+use Rattle.kpn_commit.specs.declared.resolution.Resolution.TheVariants.{Busy, Ended, Enlarged}
 use Rattle.kpn_commit.specs.Reactions.{Acted, Handed, Reacts}
-use Rattle.kpn_commit.specs.Settling.{Settles}
+use Rattle.kpn_commit.specs.Resolving.{Resolves}
 use Rattle.kpn_commit.specs.Works.{end_after}
 
 -- a process whose deed has a process at its other end is ready afterwards
@@ -50,15 +50,15 @@ module _ {kinds : Family} {net : Network} where
 module _ (kinds : Family) (net : Network) (s : StateAndHistory) (l : List Standing) where
   -- if no process is ready or out after a reaction, the reaction appended at most one entry
   pub reaction_room :
-      (p : ℕ) (a : Answer) (r : Reaction) (t : StateAndHistory) (moved : List Standing) → p < length l → length s.history + 3 ≤ s.room → Reacts kinds net s l p a r t moved → list_any is_busy moved ≡ false
-      → length t.history + 2 ≤ t.room
+      (p : ℕ) (a : Answer) (r : Reaction) (t : StateAndHistory) (moved : List Standing) → p < length l → length s.history + 3 ≤ s.limit → Reacts kinds net s l p a r t moved → list_any is_busy moved ≡ false
+      → length t.history + 2 ≤ t.limit
   reaction_room p a Waits t moved within room h idle = rw h.1 (omega arith)
   reaction_room p a Acts t moved within room h idle = let n = length-append s.history (Did p h.0 ∷ []) in rw h.1.entry (omega arith)
   reaction_room p a HandsOn t moved within room h idle = let busy = handed_busy within h in cc
 
   -- a growth follows exactly when it is due, unless its memory is refused
   pub grows_exactly :
-      (x : Settled) (t : StateAndHistory) (moved : List Standing) (budget entries : ℕ) → Settles kinds net s l x t moved → end_after x budget entries ≢ Some Memory → (x ≡ Enlarged) ↔ ((list_any is_busy l ≡ false) × CanGrow kinds net s.state)
+      (x : Resolution) (t : StateAndHistory) (moved : List Standing) (budget entries : ℕ) → Resolves kinds net s l x t moved → end_after x budget entries ≢ Some Memory → (x ≡ Enlarged) ↔ ((list_any is_busy l ≡ false) × CanGrow kinds net s.state)
   grows_exactly Busy t moved budget entries h not = (λ e. cc, λ due. let busy = h.0 in let idle = due.0 in cc)
   grows_exactly (Ended end) t moved budget entries h not = (λ e. cc, λ due. over end h.3 not due.1)
     where

@@ -61,4 +61,4 @@ waits_to_write Stopped = false
 pub record AreCandidates (net : Network) (M : State) (standings : List Standing) (candidates : CandidateList) : Type 0 where
   pub each : (x : ℕ × ℕ) → Contains candidates.pairs x ↔ IsCandidate net M standings x
   pub few : length candidates.pairs ≤ count_by waits_to_write standings
-  pub room : length standings ≤ candidates.room
+  pub room : length standings ≤ candidates.limit

@@ -1,5 +1,5 @@
 pub mod Reactions
 pub mod Candidates
 pub mod Waiting
-pub mod Settling
+pub mod Resolving
 pub mod Works

@@ -8,12 +8,12 @@ use Rattle.kpn_state.specs.StateAndHistory.{StateAndHistory}
 use Rattle.kpn_state.specs.declared.standing.Standing.{Standing}
 use Rattle.kpn_commit.specs.declared.react.Reaction.{Reaction}
 use Rattle.kpn_commit.specs.declared.react.Reaction.TheVariants.{Waits, Acts, HandsOn}
-use Rattle.kpn_commit.specs.declared.settle.Settled.{Settled}
-use Rattle.kpn_commit.specs.declared.settle.Settled.TheVariants.{Busy, Ended, Enlarged}
+use Rattle.kpn_commit.specs.declared.resolution.Resolution.{Resolution}
+use Rattle.kpn_commit.specs.declared.resolution.Resolution.TheVariants.{Busy, Ended, Enlarged}
 use Rattle.kpn_commit.specs.declared.outcome.Outcome.{Outcome}
 use Rattle.kpn_commit.specs.declared.outcome.Outcome.TheVariants.{Done, Parked}
 use Rattle.kpn_commit.specs.Reactions.{Reacts}
-use Rattle.kpn_commit.specs.Settling.{Settles}
+use Rattle.kpn_commit.specs.Resolving.{Resolves}
 
 -- how many entries the reaction appends
 abbrev pub acted_entries : Reaction → ℕ
@@ -22,19 +22,19 @@ acted_entries Acts = 1
 acted_entries HandsOn = 2
 
 -- how many entries follow it
-abbrev pub settled_entries : Settled → ℕ
-settled_entries Busy = 0
-settled_entries (Ended end) = 0
-settled_entries Enlarged = 2
+abbrev pub resolution_entries : Resolution → ℕ
+resolution_entries Busy = 0
+resolution_entries (Ended end) = 0
+resolution_entries Enlarged = 2
 
 -- the outcome of the commit
-abbrev pub outcome_of : Reaction → Settled → Outcome
-outcome_of Waits settled = Parked (settled_entries settled)
-outcome_of Acts settled = Done (1 + settled_entries settled)
-outcome_of HandsOn settled = Done (2 + settled_entries settled)
+abbrev pub outcome_of : Reaction → Resolution → Outcome
+outcome_of Waits resolution = Parked (resolution_entries resolution)
+outcome_of Acts resolution = Done (1 + resolution_entries resolution)
+outcome_of HandsOn resolution = Done (2 + resolution_entries resolution)
 
 -- how the run ends: by the cause that was found; else by its budget, if it is spent
-abbrev pub end_after : Settled → ℕ → ℕ → Option End
+abbrev pub end_after : Resolution → ℕ → ℕ → Option End
 end_after Busy budget entries = if nat_le budget entries then Some Budget else None
 end_after (Ended end) budget entries = Some end
 end_after Enlarged budget entries = if nat_le budget entries then Some Budget else None
@@ -44,7 +44,7 @@ pub record Works (kinds : Family) (net : Network) (s : StateAndHistory) (standin
   pub between : StateAndHistory
   pub standings_between : List Standing
   pub reacts : Reacts kinds net s standings p a reaction between standings_between
-  pub settled : Settled
-  pub settles : Settles kinds net between standings_between settled t moved
-  pub outcome_is : outcome ≡ outcome_of reaction settled
-  pub end_is : end ≡ end_after settled net.budget (length t.history)
+  pub resolution : Resolution
+  pub resolves : Resolves kinds net between standings_between resolution t moved
+  pub outcome_is : outcome ≡ outcome_of reaction resolution
+  pub end_is : end ≡ end_after resolution net.budget (length t.history)

@@ -24,7 +24,7 @@ fn read<K: Kinds>(
 ) -> Option<Deed>
     requires process { process < length store.old.state.processes }
     requires channels { length store.old.state.channels ≡ length net.now.channels }
-    requires room { length store.old.history < store.old.room }
+    requires room { length store.old.history < store.old.limit }
     ensures is_deed { IfSome result (IsDeed (family_of K.start K.answer_of) net.now store.old.state process (Act.Read port)) }
     ensures entry { IfSome result (λ deed. store.new ≡ more store.old (after_deed (family_of K.start K.answer_of) net.now store.old.state process next deed) (Did process deed)) }
     ensures cannot { IfNone result (IsPossible (family_of K.start K.answer_of) net.now store.old.state process (Act.Read port) → ⊥) }
@@ -52,7 +52,7 @@ fn write<K: Kinds>(
 ) -> Option<Deed>
     requires process { process < length store.old.state.processes }
     requires channels { length store.old.state.channels ≡ length net.now.channels }
-    requires room { length store.old.history < store.old.room }
+    requires room { length store.old.history < store.old.limit }
     ensures is_deed { IfSome result (IsDeed (family_of K.start K.answer_of) net.now store.old.state process (Act.Write port token)) }
     ensures entry { IfSome result (λ deed. store.new ≡ more store.old (after_deed (family_of K.start K.answer_of) net.now store.old.state process next deed) (Did process deed)) }
     ensures cannot { IfNone result (IsPossible (family_of K.start K.answer_of) net.now store.old.state process (Act.Write port token) → ⊥) }
@@ -77,7 +77,7 @@ fn perform<K: Kinds>(
 ) -> Option<Deed>
     requires process { process < length store.old.state.processes }
     requires channels { length store.old.state.channels ≡ length net.now.channels }
-    requires room { length store.old.history < store.old.room }
+    requires room { length store.old.history < store.old.limit }
     ensures is_deed { IfSome result (IsDeed (family_of K.start K.answer_of) net.now store.old.state process answer.act) }
     ensures entry { IfSome result (λ deed. store.new ≡ more store.old (after_deed (family_of K.start K.answer_of) net.now store.old.state process answer.next deed) (Did process deed)) }
     ensures cannot { IfNone result (IsPossible (family_of K.start K.answer_of) net.now store.old.state process answer.act → ⊥) }
@@ -117,7 +117,7 @@ pub fn advance<K: Kinds>(
     requires keeps { StandingsFit (family_of K.start K.answer_of) K.admits net.now (Some process) store.old.state standings.old }
     requires process { process < length standings.old }
     requires wants { wants (family_of K.start K.answer_of) net.now store.old.state process ≡ Some answer }
-    requires room { length store.old.history < store.old.room }
+    requires room { length store.old.history < store.old.limit }
     ensures is_deed { IfSome result (IsDeed (family_of K.start K.answer_of) net.now store.old.state process answer.act) }
     ensures entry { IfSome result (λ deed. store.new ≡ more store.old (after_deed (family_of K.start K.answer_of) net.now store.old.state process answer.next deed) (Did process deed)) }
     ensures standing { IfSome result (λ deed. standings.new ≡ set standings.old process (standing_after deed)) }

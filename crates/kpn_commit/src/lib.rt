@@ -9,7 +9,7 @@ pub mod outcome;
 pub mod outside;
 pub mod parking;
 pub mod react;
-pub mod settle;
+pub mod resolution;
 pub mod work;
 
 pub use outcome::Outcome;

@@ -95,7 +95,7 @@ pub fn feed<K: Kinds>(
     requires sort { IsOfSort (channel_of net.now channel).sort token }
     requires space { length (tokens store.old.state channel) < capacity store.old.state channel }
     requires waiting { AreWaiting net.now store.old.state standings.old waiting.old }
-    ensures fed { store.new ≡ state_and_history (with_channel store.old.state channel (tokens store.old.state channel ++ token ∷ []) (capacity store.old.state channel)) store.old.history store.old.room }
+    ensures fed { store.new ≡ state_and_history (with_channel store.old.state channel (tokens store.old.state channel ++ token ∷ []) (capacity store.old.state channel)) store.old.history store.old.limit }
     ensures keeps { StandingsFit (family_of K.start K.answer_of) K.admits net.now None store.new.state standings.new }
     ensures none_sent { (p : ℕ) → standing standings.new p ≡ Out → standing standings.old p ≡ Out }
     ensures waiting { AreWaiting net.now store.new.state standings.new waiting.new }
@@ -120,7 +120,7 @@ pub fn drain<K: Kinds>(
     requires some { 0 < length (tokens store.old.state channel) }
     requires waiting { AreWaiting net.now store.old.state standings.old waiting.old }
     ensures token { tokens store.old.state channel ≡ result ∷ drop 1 (tokens store.old.state channel) }
-    ensures rest { store.new ≡ state_and_history (with_channel store.old.state channel (drop 1 (tokens store.old.state channel)) (capacity store.old.state channel)) store.old.history store.old.room }
+    ensures rest { store.new ≡ state_and_history (with_channel store.old.state channel (drop 1 (tokens store.old.state channel)) (capacity store.old.state channel)) store.old.history store.old.limit }
     ensures keeps { StandingsFit (family_of K.start K.answer_of) K.admits net.now None store.new.state standings.new }
     ensures none_sent { (p : ℕ) → standing standings.new p ≡ Out → standing standings.old p ≡ Out }
     ensures waiting { AreWaiting net.now store.new.state standings.new waiting.new }

@@ -42,7 +42,7 @@ pub fn react<K: Kinds>(
     requires process { process < length standings.old }
     requires wants { wants (family_of K.start K.answer_of) net.now store.old.state process ≡ Some answer }
     requires busy { is_busy (standing standings.old process) ≡ true }
-    requires room { length store.old.history + 2 ≤ store.old.room }
+    requires room { length store.old.history + 2 ≤ store.old.limit }
     requires waiting { AreWaiting net.now store.old.state standings.old waiting.old }
     ensures reacts { Reacts (family_of K.start K.answer_of) net.now store.old standings.old process answer result store.new standings.new }
     ensures keeps { StandingsFit (family_of K.start K.answer_of) K.admits net.now None store.new.state standings.new }
@@ -89,7 +89,7 @@ fn react_to<K: Kinds>(
     requires process { process < length standings.old }
     requires wants { wants (family_of K.start K.answer_of) net.now store.old.state process ≡ Some answer }
     requires busy { is_busy (standing standings.old process) ≡ true }
-    requires room { length store.old.history + 2 ≤ store.old.room }
+    requires room { length store.old.history + 2 ≤ store.old.limit }
     requires waiting { AreWaiting net.now store.old.state standings.old waiting.old }
     ensures reacts { Reacts (family_of K.start K.answer_of) net.now store.old standings.old process answer result store.new standings.new }
     ensures keeps { StandingsFit (family_of K.start K.answer_of) K.admits net.now None store.new.state standings.new }
@@ -125,7 +125,7 @@ fn resume<K: Kinds>(
     process: usize,
 ) -> bool
     requires keeps { StandingsFit (family_of K.start K.answer_of) K.admits net.now (Some process) store.old.state standings.old }
-    requires room { length store.old.history < store.old.room }
+    requires room { length store.old.history < store.old.limit }
     requires waiting { AreWaiting net.now store.old.state standings.old waiting.old }
     ensures resumes { IsTrue result → Resumes (family_of K.start K.answer_of) K.admits net.now store.old standings.old process store.new standings.new }
     ensures cannot { result ≡ false → (a : AnswerV) → standing standings.old process ≡ Parked a → IsPossible (family_of K.start K.answer_of) net.now store.old.state process a.act → ⊥ }

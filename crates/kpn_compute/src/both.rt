@@ -19,15 +19,15 @@ pub struct Both<A: Kinds, B: Kinds> {
     second: PhantomData<B>,
 }
 
-/// Whether a card is one of the first family.
-fn is_first(card: Card) -> bool
+/// Returns whether a card of two joined families is one of the first.
+pub fn is_first(card: Card) -> bool
     ensures { result ≡ is_first card }
 {
     card.kind % 2 == 0
 }
 
-/// The card of the own family that this card stands for.
-fn own_card(card: Card) -> Card
+/// Returns the card of its own family that a card of two joined families stands for.
+pub fn own_card(card: Card) -> Card
     ensures { result ≡ own_card card }
 {
     let Card { kind, args } = card;

@@ -28,17 +28,17 @@ ended_out e = cc
 module _ (kinds : Family) (admits : Card → List ℕ → Option Token → Type 0) (net : Network) (inputs unended outputs : List ℕ) where
   -- an event at an end leads on
   pub flowing_on :
-      (M N : State) (standings moved : List Standing) (cards : List Card) (room left : ℕ) (counts : Counts) (x : Event) → IsFlowing kinds admits (flow_view net M standings inputs unended outputs counts) cards room
-      → Happens kinds net M x N → IsAtEnds (is_among inputs) (is_among outputs) (x ∷ []) → entries_of (x ∷ []) ≡ [] → IsSettledIn kinds admits net N moved → left ≡ room → IsFlowing kinds admits (flow_view net N moved inputs unended outputs counts) cards left
-  flowing_on M N standings moved cards room left counts x f h e none s same =
-      record { ends = f.ends; unended = f.unended; reached = reached_by kinds net inputs outputs counts M N x f.reached h e none; fits = s; bodies = f.bodies; room_is = same ∙ f.room_is }
+      (M N : State) (standings moved : List Standing) (cards : List Card) (limit left : ℕ) (counts : Counts) (x : Event) → IsFlowing kinds admits (flow_view net M standings inputs unended outputs counts) cards limit
+      → Happens kinds net M x N → IsAtEnds (is_among inputs) (is_among outputs) (x ∷ []) → entries_of (x ∷ []) ≡ [] → IsSettledIn kinds admits net N moved → left ≡ limit → IsFlowing kinds admits (flow_view net N moved inputs unended outputs counts) cards left
+  flowing_on M N standings moved cards limit left counts x f h e none s same =
+      record { ends = f.ends; unended = f.unended; reached = reached_by kinds net inputs outputs counts M N x f.reached h e none; fits = s; bodies = f.bodies; limit_is = same ∙ f.limit_is }
 
   -- and so do entries
   pub flowing_run :
-      (ins outs : List ℕ) (M N : State) (standings moved : List Standing) (cards : List Card) (room left : ℕ) (before after : Counts) (E : List Entry) → IsFlowing kinds admits (flow_view net M standings inputs unended outputs before) cards room
-      → OpenRun kinds net ins outs M E N → after ≡ counted before E → IsSettledIn kinds admits net N moved → left ≡ room → IsFlowing kinds admits (flow_view net N moved inputs unended outputs after) cards left
-  flowing_run ins outs M N standings moved cards room left before after E f h count s same =
-      record { ends = f.ends; unended = f.unended; reached = reached_on kinds net inputs outputs ins outs before after M N E f.reached h count; fits = s; bodies = f.bodies; room_is = same ∙ f.room_is }
+      (ins outs : List ℕ) (M N : State) (standings moved : List Standing) (cards : List Card) (limit left : ℕ) (before after : Counts) (E : List Entry) → IsFlowing kinds admits (flow_view net M standings inputs unended outputs before) cards limit
+      → OpenRun kinds net ins outs M E N → after ≡ counted before E → IsSettledIn kinds admits net N moved → left ≡ limit → IsFlowing kinds admits (flow_view net N moved inputs unended outputs after) cards left
+  flowing_run ins outs M N standings moved cards limit left before after E f h count s same =
+      record { ends = f.ends; unended = f.unended; reached = reached_on kinds net inputs outputs ins outs before after M N E f.reached h count; fits = s; bodies = f.bodies; limit_is = same ∙ f.limit_is }
 
   -- a flow that was just opened
   pub flowing_start :
@@ -55,5 +55,5 @@ module _ (kinds : Family) (admits : Card → List ℕ → Option Token → Type 
           none_out = λ p e. ⊎_elim (λ within. ready_out (sym (ready_at n p within) ∙ e)) (λ past. ended_out (sym (ended_past n p past) ∙ e)) (cases_lt p n);
         };
         bodies = same;
-        room_is = refl;
+        limit_is = refl;
       }

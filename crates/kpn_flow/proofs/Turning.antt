@@ -24,12 +24,12 @@ use Rattle.kpn_state.specs.Standings.{standing, standing_after, is_busy, Standin
 use Rattle.kpn_state.proofs.Placed.{standing_within, parked_not_ended}
 use Rattle.kpn_commit.specs.declared.react.Reaction.{Reaction}
 use Rattle.kpn_commit.specs.declared.react.Reaction.TheVariants.{Waits, Acts, HandsOn}
-use Rattle.kpn_commit.specs.declared.settle.Settled.{Settled}
+use Rattle.kpn_commit.specs.declared.resolution.Resolution.{Resolution}
 use Rattle.kpn_commit.specs.Reactions.{Reacts}
-use Rattle.kpn_commit.specs.Settling.{Settles, GrowsAndPuts}
+use Rattle.kpn_commit.specs.Resolving.{Resolves, GrowsAndPuts}
 use Rattle.kpn_machine.specs.Opening.{cards_of}
 use Rattle.kpn_machine.proofs.Seats.{at_map, card_at}
-use Rattle.kpn_machine.proofs.Moves.{reacts, settles}
+use Rattle.kpn_machine.proofs.Moves.{reacts, resolves}
 use Rattle.kpn_machine.proofs.Finishing.{some_ready}
 use Rattle.kpn_flow.specs.Flows.{IsSettledIn}
 use Rattle.kpn_flow.specs.Pauses.{OpenRun, NoneCanHelp}
@@ -65,10 +65,10 @@ module _ (kinds : Family) (admits : Card → List ℕ → Option Token → Type 
     none_out = λ q e. none q ((reacts kinds net s standings p a r t moved within h).sent q e).1;
   }
 
-  pub settled_settled :
-      (s : StateAndHistory) (standings : List Standing) (x : Settled) (t : StateAndHistory) (moved : List Standing) → ((q : ℕ) → standing standings q ≢ Out)
-      → Settles kinds net s standings x t moved → StandingsFit kinds admits net None t.state moved → IsSettledIn kinds admits net t.state moved
-  settled_settled s standings x t moved none h k = record { keeps = k; none_out = λ q e. none q ((settles kinds net s standings x t moved h).sent q e).1 }
+  pub resolved_settled :
+      (s : StateAndHistory) (standings : List Standing) (x : Resolution) (t : StateAndHistory) (moved : List Standing) → ((q : ℕ) → standing standings q ≢ Out)
+      → Resolves kinds net s standings x t moved → StandingsFit kinds admits net None t.state moved → IsSettledIn kinds admits net t.state moved
+  resolved_settled s standings x t moved none h k = record { keeps = k; none_out = λ q e. none q ((resolves kinds net s standings x t moved h).sent q e).1 }
 
 module _ (kinds : Family) (net : Network) (inputs outputs : List ℕ) where
   -- the history has the entries of a turn alone: at most two, which lead on; and the turn either does something or parks a process

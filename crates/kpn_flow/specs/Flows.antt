@@ -68,13 +68,13 @@ pub record IsSettledIn (kinds : Family) (admits : Card → List ℕ → Option T
   pub keeps : StandingsFit kinds admits net None M standings
   pub none_out : (p : ℕ) → standing standings p ≢ Out
 
-pub record IsFlowing (kinds : Family) (admits : Card → List ℕ → Option Token → Type 0) (s : FlowView) (cards : List Card) (room : ℕ) : Type 0 where
+pub record IsFlowing (kinds : Family) (admits : Card → List ℕ → Option Token → Type 0) (s : FlowView) (cards : List Card) (limit : ℕ) : Type 0 where
   pub ends : AreEnds kinds s.network s.inputs s.outputs
   pub unended : (c : ℕ) → is_among s.unended c ≡ true → is_among s.inputs c ≡ true
   pub reached : IsReached kinds s.network s.inputs s.outputs s.counts s.state
   pub fits : IsSettledIn kinds admits s.network s.state s.standings
   pub bodies : cards ≡ cards_of s.network.processes
-  pub room_is : room ≡ 2
+  pub limit_is : limit ≡ 2
 
 -- the channel is an input that has not ended, and the token has its sort
 pub record MayFeed (s : FlowView) (c : ℕ) (t : Token) : Type 0 where

@@ -56,7 +56,7 @@ impl<B: Body> Model for Flow<B> {
 
     ghost view = { λ m. flow_view m.net m.store.state m.standings m.inputs.items m.unended.items m.outputs.items m.counts };
 
-    ghost invariant = { λ m. IsFlowing (family_of B.Kinds.start B.Kinds.answer_of) B.Kinds.admits (flow_view m.net m.store.state m.standings m.inputs.items m.unended.items m.outputs.items m.counts) (map B.card m.bodies.items) m.store.room × AreWaiting m.net m.store.state m.standings m.waiting };
+    ghost invariant = { λ m. IsFlowing (family_of B.Kinds.start B.Kinds.answer_of) B.Kinds.admits (flow_view m.net m.store.state m.standings m.inputs.items m.unended.items m.outputs.items m.counts) (map B.card m.bodies.items) m.store.limit × AreWaiting m.net m.store.state m.standings m.waiting };
 }
 
 /// Why a flow was not opened, with the network and the bodies handed back.

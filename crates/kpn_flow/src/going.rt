@@ -28,11 +28,11 @@ pub(crate) fn go_on<B: Body>(
 ) -> Pause
     requires fits { IsSettledIn (family_of B.Kinds.start B.Kinds.answer_of) B.Kinds.admits net.now store.old.state standings.old }
     requires cards { map B.card bodies.now ≡ cards_of net.now.processes }
-    requires room { 2 ≤ store.old.room }
+    requires room { 2 ≤ store.old.limit }
     requires waiting { AreWaiting net.now store.old.state standings.old waiting.old }
     ensures fits { IsSettledIn (family_of B.Kinds.start B.Kinds.answer_of) B.Kinds.admits net.now store.new.state standings.new }
     ensures waiting { AreWaiting net.now store.new.state standings.new waiting.new }
-    ensures room { store.new.room ≡ store.old.room }
+    ensures limit { store.new.limit ≡ store.old.limit }
     ensures advances { Advances (family_of B.Kinds.start B.Kinds.answer_of) net.now inputs.now outputs.now counts.old counts.new store.old.state store.new.state most result }
     ensures told { TellWants (family_of B.Kinds.start B.Kinds.answer_of) net.now store.new.state standings.new result }
 {

@@ -15,7 +15,7 @@ use crate::pause::Pause;
 use crate::waits::{any_holds_up, any_starves};
 use kpn_body::Body;
 use kpn_commit::react::react;
-use kpn_commit::settle::{Settled, settle};
+use kpn_commit::resolution::{Resolution, resolve};
 use kpn_model::{Act, Kinds, Status};
 use kpn_network::Net;
 use kpn_state::{Roster, Store, Waiting};
@@ -36,12 +36,12 @@ fn rest<K: Kinds>(
     requires fits { IsSettledIn (family_of K.start K.answer_of) K.admits net.now store.old.state standings.old }
     requires idle { list_any is_busy standings.old ≡ false }
     requires waiting { AreWaiting net.now store.old.state standings.old waiting.old }
-    requires room { 2 ≤ store.old.room }
+    requires room { 2 ≤ store.old.limit }
     requires emptied { store.old.history ≡ [] }
     requires counts { grown.old + 1 < 2 ^ 64 }
     ensures fits { IsSettledIn (family_of K.start K.answer_of) K.admits net.now store.new.state standings.new }
     ensures waiting { AreWaiting net.now store.new.state standings.new waiting.new }
-    ensures room { store.new.room ≡ store.old.room }
+    ensures limit { store.new.limit ≡ store.old.limit }
     ensures run { OpenRun (family_of K.start K.answer_of) net.now inputs.now outputs.now store.old.state store.new.history store.new.state }
     ensures few { length store.new.history ≤ 2 }
     ensures rests { IfSome result (IsRest (family_of K.start K.answer_of) net.now inputs.now outputs.now store.new.state) }
@@ -56,13 +56,13 @@ fn rest<K: Kinds>(
     if any_holds_up(net, standings.as_slice(), outputs) {
         return Some(Pause::Blocked);
     }
-    match settle(net, store, standings, waiting) {
-        Settled::Ended(end) => Some(Pause::Over(end)),
-        Settled::Enlarged => {
+    match resolve(net, store, standings, waiting) {
+        Resolution::Ended(end) => Some(Pause::Over(end)),
+        Resolution::Enlarged => {
             *grown += 1;
             None
         }
-        Settled::Busy => unreachable!(),
+        Resolution::Busy => unreachable!(),
     }
 }
 
@@ -96,13 +96,13 @@ pub(crate) fn turn<B: Body>(
 ) -> Option<Pause>
     requires fits { IsSettledIn (family_of B.Kinds.start B.Kinds.answer_of) B.Kinds.admits net.now store.old.state standings.old }
     requires cards { map B.card bodies.now ≡ cards_of net.now.processes }
-    requires room { 2 ≤ store.old.room }
+    requires room { 2 ≤ store.old.limit }
     requires waiting { AreWaiting net.now store.old.state standings.old waiting.old }
     requires counts { grown.old + 1 < 2 ^ 64 }
     requires again { IfSome again.old (λ p. standing standings.old p ≡ Ready) }
     ensures fits { IsSettledIn (family_of B.Kinds.start B.Kinds.answer_of) B.Kinds.admits net.now store.new.state standings.new }
     ensures waiting { AreWaiting net.now store.new.state standings.new waiting.new }
-    ensures room { store.new.room ≡ store.old.room }
+    ensures limit { store.new.limit ≡ store.old.limit }
     ensures run { OpenRun (family_of B.Kinds.start B.Kinds.answer_of) net.now inputs.now outputs.now store.old.state store.new.history store.new.state }
     ensures few { length store.new.history ≤ 2 }
     ensures rests { IfSome result (IsRest (family_of B.Kinds.start B.Kinds.answer_of) net.now inputs.now outputs.now store.new.state) }

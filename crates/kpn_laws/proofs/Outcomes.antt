@@ -1,6 +1,6 @@
 -- Whatever the starting capacities: one outcome, and all runs are prefix-comparable.
 use Rattle.std.proofs.Common.{◌≡◌, List, ◌++◌, sym, ap, ◌∙◌, ℕ, subst}
-use Rattle.kpn_model.specs.Determinacy.{IsPrefixOf, ArePrefixComparable, AreAllPrefixComparable, IsRun, IsFinal, HaveSameOutcome, OneOutcome, AllPrefixComparable}
+use Rattle.kpn_model.specs.Determinacy.{IsPrefixOf, ArePrefixComparable, AreAllPrefixComparable, IsRun, IsFinal, AgreeInTheEnd, OneOutcome, AllPrefixComparable}
 use Rattle.kpn_model.specs.Endings.{IsNatural}
 use Rattle.kpn_model.specs.declared.history.Entry.{Entry}
 use Rattle.kpn_model.specs.History.{deeds, put_on, stream, place_of}
@@ -48,7 +48,7 @@ module _ (kinds : Family) (net : Network) (sizes : ℕ → ℕ) where
   -- each of two such runs has all that is done in the other, so they have done the same
   one_outcome_here :
       (E F : List Entry) (M N : State) (a b : End) → IsFinal kinds net E M a → IsNatural a → IsFinal kinds (resized net sizes) F N b → IsNatural b
-      → HaveSameOutcome kinds net (resized net sizes) E F M N
+      → AgreeInTheEnd kinds net (resized net sizes) E F M N
   one_outcome_here E F M N a b x n y m =
       let S = start kinds net in
       let S' = start kinds (resized net sizes) in

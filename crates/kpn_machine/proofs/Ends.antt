@@ -15,11 +15,11 @@ use Rattle.kpn_state.specs.declared.standing.Standing.{Standing}
 use Rattle.kpn_state.specs.declared.standing.Standing.TheVariants.{Ready}
 use Rattle.kpn_state.specs.Standings.{standing, is_busy}
 use Rattle.kpn_state.proofs.Placed.{standing_set_same, standing_within, busy_at}
-use Rattle.kpn_commit.specs.declared.settle.Settled.{Settled}
-use Rattle.kpn_commit.specs.declared.settle.Settled.TheVariants.{Busy, Ended, Enlarged}
+use Rattle.kpn_commit.specs.declared.resolution.Resolution.{Resolution}
+use Rattle.kpn_commit.specs.declared.resolution.Resolution.TheVariants.{Busy, Ended, Enlarged}
 use Rattle.kpn_commit.specs.declared.outcome.Outcome.{Outcome}
 use Rattle.kpn_commit.specs.declared.outcome.Outcome.TheVariants.{Done, Parked as Parks, LaidBack}
-use Rattle.kpn_commit.specs.Settling.{Settles, GrowsAndPuts}
+use Rattle.kpn_commit.specs.Resolving.{Resolves, GrowsAndPuts}
 use Rattle.kpn_commit.specs.Works.{end_after}
 use Rattle.kpn_machine.specs.MachineView.{MachineView, state_and_history_of}
 use Rattle.kpn_machine.specs.Commits.{EndsAs, WorksOn, Commits}
@@ -45,7 +45,7 @@ module _ (kinds : Family) (net : Network) where
       busy_at m g.writer (cc)
 
   pub left :
-      (s : StateAndHistory) (l : List Standing) (x : Settled) (t : StateAndHistory) (m : List Standing) (entries : ℕ) (end : Option End) → Settles kinds net s l x t m → end ≡ end_after x net.budget entries → Left kinds net t.state entries m end
+      (s : StateAndHistory) (l : List Standing) (x : Resolution) (t : StateAndHistory) (m : List Standing) (entries : ℕ) (end : Option End) → Resolves kinds net s l x t m → end ≡ end_after x net.budget entries → Left kinds net t.state entries m end
   left s l Busy t m entries end h e = rw e (by_budget t.state entries m _ refl (rw h.2 h.0))
   left s l (Ended cause) t m entries end h e = Over cause e (rw h.1 h.3) (rw h.2 h.0)
   left s l Enlarged t m entries end h e = rw e (by_budget t.state entries m _ refl (grown_busy h.1))
@@ -91,7 +91,7 @@ module _ (kinds : Family) where
   commits_end s i o t h none = by_outcome o h
     where
       works : (o : Outcome) → WorksOn kinds s i o t → EndsAs kinds t
-      works o h = ends_as kinds s.network t h.network (left kinds s.network h.works.between h.works.standings_between h.works.settled (state_and_history_of t) t.standings (length t.history) t.end h.works.settles h.works.end_is)
+      works o h = ends_as kinds s.network t h.network (left kinds s.network h.works.between h.works.standings_between h.works.resolution (state_and_history_of t) t.standings (length t.history) t.end h.works.resolves h.works.end_is)
 
       by_outcome : (o : Outcome) → Commits kinds s i o t → EndsAs kinds t
       by_outcome (Done n) h = works (Done n) h

@@ -17,12 +17,12 @@ use Rattle.kpn_state.specs.Standings.{standing, standing_after}
 use Rattle.kpn_state.proofs.Placed.{acted_not_out, standing_within}
 use Rattle.kpn_commit.specs.declared.react.Reaction.{Reaction}
 use Rattle.kpn_commit.specs.declared.react.Reaction.TheVariants.{Waits, Acts, HandsOn}
-use Rattle.kpn_commit.specs.declared.settle.Settled.{Settled}
-use Rattle.kpn_commit.specs.declared.settle.Settled.TheVariants.{Busy, Ended as Over, Enlarged}
+use Rattle.kpn_commit.specs.declared.resolution.Resolution.{Resolution}
+use Rattle.kpn_commit.specs.declared.resolution.Resolution.TheVariants.{Busy, Ended as Over, Enlarged}
 use Rattle.kpn_commit.specs.declared.outcome.Outcome.{Outcome}
 use Rattle.kpn_commit.specs.Reactions.{Acted, Reacts}
-use Rattle.kpn_commit.specs.Settling.{Settles}
-use Rattle.kpn_commit.specs.Works.{Works, acted_entries, settled_entries, outcome_of}
+use Rattle.kpn_commit.specs.Resolving.{Resolves}
+use Rattle.kpn_commit.specs.Works.{Works, acted_entries, resolution_entries, outcome_of}
 use Rattle.kpn_commit.proofs.Keeping.{each_set}
 use Rattle.kpn_machine.specs.MachineView.{waits, stays_in}
 use Rattle.kpn_machine.specs.Commits.{entries_appended}
@@ -63,27 +63,27 @@ module _ (kinds : Family) (net : Network) where
     pub history : t.history ≡ s.history ++ entries
     pub run : Run kinds net s.state entries t.state
     pub count : length entries ≡ n
-    pub room : t.room ≡ s.room
+    pub limit : t.limit ≡ s.limit
     pub size : length m ≡ length l
     pub sent : (q : ℕ) → standing m q ≡ Out → (p ≢ Some q) × (standing l q ≡ Out)
     pub stay : (q : ℕ) → p ≢ Some q → standing l q ≡ Out → standing m q ≡ Out
     pub counted : sum_by waits l + 1 ≤ n + sum_by waits m + waited l p
 
   no_move : (s : StateAndHistory) (l : List Standing) → Moves s l None 0 s l
-  no_move s l = record { entries = []; history = rw (append-nil s.history); run = refl; count = refl; room = refl; size = refl; sent = λ q e. (λ f. cc, e); stay = λ q n e. e; counted = omega arith }
+  no_move s l = record { entries = []; history = rw (append-nil s.history); run = refl; count = refl; limit = refl; size = refl; sent = λ q e. (λ f. cc, e); stay = λ q n e. e; counted = omega arith }
 
   -- one process moves on
   move :
       (s : StateAndHistory) (l : List Standing) (p : Option ℕ) (q : ℕ) (x : Standing) (es : List Entry) (t : StateAndHistory) → q < length l → waited l p ≡ waits (standing l q) → ((r : ℕ) → r ≢ q → p ≢ Some r) → (p ≢ Some q → standing l q ≢ Out)
-      → x ≢ Out → 1 ≤ length es + waits x → t.history ≡ s.history ++ es → t.room ≡ s.room → Run kinds net s.state es t.state → Moves s l p (length es) t (set l q x)
-  move s l p q x es t within same others was not_out some history room run =
+      → x ≢ Out → 1 ≤ length es + waits x → t.history ≡ s.history ++ es → t.limit ≡ s.limit → Run kinds net s.state es t.state → Moves s l p (length es) t (set l q x)
+  move s l p q x es t within same others was not_out some history limit run =
       let n = moved_count waits l q x within in
       record {
         entries = es;
         history = history;
         run = run;
         count = refl;
-        room = room;
+        limit = limit;
         size = length-set l q x;
         sent = each_set (λ r (y : Standing). y ≡ Out → (p ≢ Some r) × (standing l r ≡ Out)) l q x Stopped within (λ e. absurd (not_out e)) (λ r o e. (others r o, e));
         stay = each_set (λ r (y : Standing). p ≢ Some r → standing l r ≡ Out → y ≡ Out) l q x Stopped within (λ n e. absurd (was n e)) (λ r o n e. e);
@@ -92,12 +92,12 @@ module _ (kinds : Family) (net : Network) where
 
   -- p moves first, or a parked process does
   first :
-      (s : StateAndHistory) (l : List Standing) (p : ℕ) (x : Standing) (es : List Entry) (t : StateAndHistory) → p < length l → x ≢ Out → 1 ≤ length es + waits x → t.history ≡ s.history ++ es → t.room ≡ s.room → Run kinds net s.state es t.state
+      (s : StateAndHistory) (l : List Standing) (p : ℕ) (x : Standing) (es : List Entry) (t : StateAndHistory) → p < length l → x ≢ Out → 1 ≤ length es + waits x → t.history ≡ s.history ++ es → t.limit ≡ s.limit → Run kinds net s.state es t.state
       → Moves s l (Some p) (length es) t (set l p x)
   first s l p x es t within = move s l (Some p) p x es t within refl (λ r o e. o (cc)) (λ n. absurd (n refl))
 
   parked_one :
-      (s : StateAndHistory) (l : List Standing) (q : ℕ) (a : Answer) (x : Standing) (es : List Entry) (t : StateAndHistory) → standing l q ≡ Parked a → x ≢ Out → 1 ≤ length es + waits x → t.history ≡ s.history ++ es → t.room ≡ s.room → Run kinds net s.state es t.state
+      (s : StateAndHistory) (l : List Standing) (q : ℕ) (a : Answer) (x : Standing) (es : List Entry) (t : StateAndHistory) → standing l q ≡ Parked a → x ≢ Out → 1 ≤ length es + waits x → t.history ≡ s.history ++ es → t.limit ≡ s.limit → Run kinds net s.state es t.state
       → Moves s l None (length es) t (set l q x)
   parked_one s l q a x es t parked = move s l None q x es t (standing_within l q (λ e. cc)) (rw parked) (λ r o e. cc) (λ n e. cc)
 
@@ -109,7 +109,7 @@ module _ (kinds : Family) (net : Network) where
         history = rw (y.history, x.history) (append_assoc s.history x.entries y.entries);
         run = run_both s.state t.state u.state x.entries y.entries x.run y.run;
         count = omega (arith, length-append x.entries y.entries);
-        room = y.room ∙ x.room;
+        limit = y.limit ∙ x.limit;
         size = y.size ∙ x.size;
         sent = λ q e. x.sent q (y.sent q e).1;
         stay = λ q n e. y.stay q (λ f. cc) (x.stay q n e);
@@ -132,10 +132,10 @@ module _ (kinds : Family) (net : Network) where
   reacts s l p a HandsOn t m within h = then (act_first within h.first) (act_parked h.wanted h.parked h.second)
 
   -- what follows it
-  pub settles : (s : StateAndHistory) (l : List Standing) (x : Settled) (t : StateAndHistory) (m : List Standing) → Settles kinds net s l x t m → Moves s l None (settled_entries x) t m
-  settles s l Busy t m h = rw (h.1, h.2) (no_move s l)
-  settles s l (Over end) t m h = rw (h.1, h.2) (no_move s l)
-  settles s l Enlarged t m h =
+  pub resolves : (s : StateAndHistory) (l : List Standing) (x : Resolution) (t : StateAndHistory) (m : List Standing) → Resolves kinds net s l x t m → Moves s l None (resolution_entries x) t m
+  resolves s l Busy t m h = rw (h.1, h.2) (no_move s l)
+  resolves s l (Over end) t m h = rw (h.1, h.2) (no_move s l)
+  resolves s l Enlarged t m h =
       let g = h.1 in
       let grew = Grew g.channel g.to in
       let put = Did g.writer (Put g.channel g.token) in
@@ -143,10 +143,10 @@ module _ (kinds : Family) (net : Network) where
       (parked_one s l g.writer g.wanted Ready (grew ∷ put ∷ []) t g.parked (λ e. cc) (omega arith) (rw g.puts.entry (append_assoc s.history (grew ∷ []) (put ∷ []))) (rw g.puts.entry) (g.grown, g.grows, (t.state, g.puts.does, refl)))
 
 -- an outcome's number is that of both
-entries_appended_is : (r : Reaction) (x : Settled) → entries_appended (outcome_of r x) ≡ acted_entries r + settled_entries x
+entries_appended_is : (r : Reaction) (x : Resolution) → entries_appended (outcome_of r x) ≡ acted_entries r + resolution_entries x
 entries_appended_is r x = grind arith
 
 -- a commit's steps
 pub works : {kinds : Family} {net : Network} {s : StateAndHistory} {l : List Standing} {p : ℕ} {a : Answer} {o : Outcome} {t : StateAndHistory} {m : List Standing} {end : Option End} → p < length l → Works kinds net s l p a o t m end → Moves kinds net s l (Some p) (entries_appended o) t m
 works {kinds = kinds} {net = net} {s = s} {l = l} {p = p} {a = a} {t = t} {m = m} within w =
-    rw (w.outcome_is, entries_appended_is w.reaction w.settled) (then kinds net (reacts kinds net s l p a w.reaction w.between w.standings_between within w.reacts) (settles kinds net w.between w.standings_between w.settled t m w.settles))
+    rw (w.outcome_is, entries_appended_is w.reaction w.resolution) (then kinds net (reacts kinds net s l p a w.reaction w.between w.standings_between within w.reacts) (resolves kinds net w.between w.standings_between w.resolution t m w.resolves))

@@ -75,7 +75,7 @@ module _ (signature : Card → Option Signature) (admits : Card → List ℕ →
       record {
         run = refl;
         keeps = keeps_start;
-        room_is = refl;
+        limit_is = refl;
         many_bodies = many;
         has_bodies = λ p within n. rw (seated p (omega arith), same, card_at net.processes p);
         few = omega arith;

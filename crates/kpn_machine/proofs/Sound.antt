@@ -23,11 +23,11 @@ use Rattle.kpn_state.specs.Standings.{standing, is_busy, parked_answer, Standing
 use Rattle.kpn_state.proofs.Placed.{standing_set_same, standing_set_other, standing_within, busy_at}
 use Rattle.kpn_commit.specs.declared.react.Reaction.{Reaction}
 use Rattle.kpn_commit.specs.declared.react.Reaction.TheVariants.{Waits, Acts, HandsOn}
-use Rattle.kpn_commit.specs.declared.settle.Settled.{Settled}
+use Rattle.kpn_commit.specs.declared.resolution.Resolution.{Resolution}
 use Rattle.kpn_commit.specs.declared.outcome.Outcome.{Outcome}
 use Rattle.kpn_commit.specs.Reactions.{Reacts, Acted}
-use Rattle.kpn_commit.specs.Settling.{Settles}
-use Rattle.kpn_commit.specs.Works.{Works, settled_entries, outcome_of}
+use Rattle.kpn_commit.specs.Resolving.{Resolves}
+use Rattle.kpn_commit.specs.Works.{Works, resolution_entries, outcome_of}
 use Rattle.kpn_commit.proofs.Keeping.{each_set, keeps_busy}
 use Rattle.kpn_commit.proofs.Idle.{enabled_busy}
 use Rattle.kpn_commit.proofs.Working.{handed_busy, grows_exactly}
@@ -44,13 +44,13 @@ use Rattle.kpn_machine.proofs.Seats.{slot_at}
 
 module _ (kinds : Family) (net : Network) where
   -- what follows a reaction appends no entry, or two if no process was ready or out
-  settled_few : (s : StateAndHistory) (l : List Standing) (x : Settled) (t : StateAndHistory) (m : List Standing) → Settles kinds net s l x t m → (settled_entries x ≡ 0) ⊎ ((settled_entries x ≡ 2) × (list_any is_busy l ≡ false))
-  settled_few s l x t m h = grind arith
+  resolution_few : (s : StateAndHistory) (l : List Standing) (x : Resolution) (t : StateAndHistory) (m : List Standing) → Resolves kinds net s l x t m → (resolution_entries x ≡ 0) ⊎ ((resolution_entries x ≡ 2) × (list_any is_busy l ≡ false))
+  resolution_few s l x t m h = grind arith
 
   -- done with 1 to 3 entries if the process could go on, parked with 0 or 2 if it couldn't
   tells :
-      (v : MachineView) (s : StateAndHistory) (p : ℕ) (a : Answer) (r : Reaction) (x : Settled) (t : StateAndHistory) (m : List Standing) → v.network ≡ net → v.state ≡ s.state → p < length v.standings → Reacts kinds net s v.standings p a r t m
-      → (settled_entries x ≡ 0) ⊎ ((settled_entries x ≡ 2) × (list_any is_busy m ≡ false)) → TellsEnabled kinds v p (outcome_of r x)
+      (v : MachineView) (s : StateAndHistory) (p : ℕ) (a : Answer) (r : Reaction) (x : Resolution) (t : StateAndHistory) (m : List Standing) → v.network ≡ net → v.state ≡ s.state → p < length v.standings → Reacts kinds net s v.standings p a r t m
+      → (resolution_entries x ≡ 0) ⊎ ((resolution_entries x ≡ 2) × (list_any is_busy m ≡ false)) → TellsEnabled kinds v p (outcome_of r x)
   tells v s p a Waits x t m n same within h few = rw (n, same) (h.0, ⊎_elim (λ e. inl e) (λ e. inr e.0) few)
   tells v s p a Acts x t m n same within h few = rw (n, same) ((enabled_can_do kinds net s.state p).1 (h.0, (t.state, h.1.does)), omega arith, omega arith)
   tells v s p a HandsOn x t m n same within h few =
@@ -83,9 +83,9 @@ module _ {kinds : Family} {admits : Card → List ℕ → Option Token → Type 
   idle_wants k p x e idle = grind (arith, k.wanted p, k.stopped p)
 
   pub sound_faithful :
-      (signature : Card → Option Signature) (s : MachineView) (room : ℕ) (bodies : List (Option Card)) → IsValid signature s.network → StaysWithin signature kinds → StaysWellTyped signature admits kinds
-      → IsSound kinds admits s room bodies → IsFaithful kinds admits s
-  sound_faithful signature s room bodies valid within well_typed h =
+      (signature : Card → Option Signature) (s : MachineView) (limit : ℕ) (bodies : List (Option Card)) → IsValid signature s.network → StaysWithin signature kinds → StaysWellTyped signature admits kinds
+      → IsSound kinds admits s limit bodies → IsFaithful kinds admits s
+  sound_faithful signature s limit bodies valid within well_typed h =
       let most = in_within s.standings in
       let many = h.keeps.one_each in
       let laid = h.laid in
@@ -102,7 +102,7 @@ module _ {kinds : Family} {admits : Card → List ℕ → Option Token → Type 
         few_commits = omega arith;
       }
 
-  module _ {net : Network} {M : State} {E : List Entry} {l : List Standing} {end : Option End} {answers room : ℕ} {bodies : List (Option Card)} (h : IsSound kinds admits (machine_view net M E l end answers) room bodies) where
+  module _ {net : Network} {M : State} {E : List Entry} {l : List Standing} {end : Option End} {answers limit : ℕ} {bodies : List (Option Card)} (h : IsSound kinds admits (machine_view net M E l end answers) limit bodies) where
     -- there are at most as many commits as entries and processes
     pub commits_fit : answers ≤ length E + length net.processes
     commits_fit = let a = in_within l in let b = h.keeps.one_each in let c = h.laid in omega arith
@@ -111,7 +111,7 @@ module _ {kinds : Family} {admits : Card → List ℕ → Option Token → Type 
     keeps_moved : (p : ℕ) (x : Standing) → is_busy (standing l p) ≡ true → is_busy x ≡ true → StandingsFit kinds admits net None M (set l p x)
     keeps_moved p x before after = keeps_busy h.keeps p x (standing_within l p (λ e. cc)) (λ q o f. cc) after (λ e. let ended = h.keeps.done p e in cc)
 
-    pub sound_taken : (p : ℕ) → end ≡ None → standing l p ≡ Ready → IsSound kinds admits (machine_view net M E (set l p Out) end answers) room (set bodies p None)
+    pub sound_taken : (p : ℕ) → end ≡ None → standing l p ≡ Ready → IsSound kinds admits (machine_view net M E (set l p Out) end answers) limit (set bodies p None)
     sound_taken p none ready =
         let within : p < length l = standing_within l p (λ e. cc) in
         let now : standing (set l p Out) p ≡ Out = standing_set_same l p Out within in
@@ -124,7 +124,7 @@ module _ {kinds : Family} {admits : Card → List ℕ → Option Token → Type 
         record {
           run = h.run;
           keeps = keeps_moved p Out (rw ready) refl;
-          room_is = h.room_is;
+          limit_is = h.limit_is;
           many_bodies = length-set bodies p None ∙ h.many_bodies;
           has_bodies = each_set (λ q (b : Option Card). q < length net.processes → standing (set l p Out) q ≢ Out → b ≡ Some (card_of net q)) bodies p None None (omega arith) (λ there n. absurd (n now))
               (λ q o there n. h.has_bodies q there (λ e. n (standing_set_other l p q Out o ∙ e)));
@@ -143,7 +143,7 @@ module _ {kinds : Family} {admits : Card → List ℕ → Option Token → Type 
       out_bodies : i.process < length bodies
       out_bodies = let a = out_within in let b = h.many_bodies in let c = h.keeps.one_each in omega arith
 
-      pub sound_back : end ≢ None → IsSound kinds admits (machine_view net M E (set l i.process Ready) end (answers + 1)) room (set bodies i.process (Some i.card))
+      pub sound_back : end ≢ None → IsSound kinds admits (machine_view net M E (set l i.process Ready) end (answers + 1)) limit (set bodies i.process (Some i.card))
       sound_back over =
           let count = moved_count stays_in l i.process Ready out_within in
           let was : stays_in (standing l i.process) ≡ 0 = rw out.out in
@@ -151,7 +151,7 @@ module _ {kinds : Family} {admits : Card → List ℕ → Option Token → Type 
           record {
             run = h.run;
             keeps = keeps_moved i.process Ready (rw out.out) refl;
-            room_is = h.room_is;
+            limit_is = h.limit_is;
             many_bodies = length-set bodies i.process (Some i.card) ∙ h.many_bodies;
             has_bodies = bodies_back net l (set l i.process Ready) bodies i.process i.card out_bodies out.card h.has_bodies (λ q o e. standing_set_other l i.process q Ready o ∙ e);
             few = h.few;
@@ -172,15 +172,15 @@ module _ {kinds : Family} {admits : Card → List ℕ → Option Token → Type 
         pub sound : IsSound kinds admits t left (set bodies i.process (Some i.card))
 
       pub worked :
-          end ≡ None → (o : Outcome) (N : State) (F : List Entry) (m : List Standing) (stop : Option End) (rest : ℕ) → Works kinds net (state_and_history M E room) l i.process (answer_to kinds i) o (state_and_history N F rest) m stop
+          end ≡ None → (o : Outcome) (N : State) (F : List Entry) (m : List Standing) (stop : Option End) (rest : ℕ) → Works kinds net (state_and_history M E limit) l i.process (answer_to kinds i) o (state_and_history N F rest) m stop
           → StandingsFit kinds admits net None N m → Worked o (machine_view net N F m stop (answers + 1)) rest
       worked none o N F m stop rest w k =
           let goes = works out_within w in
-          let v = rw (goes.room, h.room_is) at w in
+          let v = rw (goes.limit, h.limit_is) at w in
           let told : TellsEnabled kinds (machine_view net M E l end answers) i.process o = rw w.outcome_is
-          (tells kinds net (machine_view net M E l end answers) (state_and_history M E room) i.process (answer_to kinds i) w.reaction w.settled w.between w.standings_between refl refl out_within w.reacts
-          (settled_few kinds net w.between w.standings_between w.settled (state_and_history N F rest) m w.settles)) in
-          let ended = left kinds net w.between w.standings_between w.settled (state_and_history N F rest) m (length F) stop w.settles w.end_is in
+          (tells kinds net (machine_view net M E l end answers) (state_and_history M E limit) i.process (answer_to kinds i) w.reaction w.resolution w.between w.standings_between refl refl out_within w.reacts
+          (resolution_few kinds net w.between w.standings_between w.resolution (state_and_history N F rest) m w.resolves)) in
+          let ended = left kinds net w.between w.standings_between w.resolution (state_and_history N F rest) m (length F) stop w.resolves w.end_is in
           let longer : length F ≡ length E + length goes.entries = ap length goes.history ∙ length-append E goes.entries in
           let before : length E < net.budget = rw none at h.ends in
           let most = few_entries kinds (machine_view net M E l end answers) i.process o told in
@@ -190,7 +190,7 @@ module _ {kinds : Family} {admits : Card → List ℕ → Option Token → Type 
           let few : length F ≤ net.budget + 2 = omega arith in
           record {
             commits = commits_of kinds (machine_view net M E l end answers) i o (machine_view net N F m stop (answers + 1)) none told
-                (record { before = none; network = refl; commits = refl; works = v; grows = λ not. grows_exactly kinds net v.between v.standings_between v.settled (state_and_history N F (net.budget + 2)) m net.budget (length F) v.settles (λ e. not (v.end_is ∙ e)) });
+                (record { before = none; network = refl; commits = refl; works = v; grows = λ not. grows_exactly kinds net v.between v.standings_between v.resolution (state_and_history N F (net.budget + 2)) m net.budget (length F) v.resolves (λ e. not (v.end_is ∙ e)) });
             appends = record { entries = goes.entries; history = goes.history; run = goes.run; count = goes.count };
             tells = told;
             back = λ e. (goes.sent i.process e).0 refl;
@@ -198,7 +198,7 @@ module _ {kinds : Family} {admits : Card → List ℕ → Option Token → Type 
             sound = record {
               run = rw goes.history (run_both kinds net (start kinds net) M N E goes.entries h.run goes.run);
               keeps = k;
-              room_is = goes.room ∙ h.room_is;
+              limit_is = goes.limit ∙ h.limit_is;
               many_bodies = length-set bodies i.process (Some i.card) ∙ h.many_bodies;
               has_bodies = bodies_back net l m bodies i.process i.card out_bodies out.card h.has_bodies (λ q o e. goes.stay q (λ f. o (cc)) e);
               few = few;
@@ -232,25 +232,25 @@ module _ (kinds : Family) (net : Network) where
   works_out :
       (s : StateAndHistory) (l : List Standing) (p : ℕ) (a : Answer) (o : Outcome) (t : StateAndHistory) (m : List Standing) (end : Option End) → Works kinds net s l p a o t m end → Works kinds net s (set l p Out) p a o t m end
   works_out s l p a o t m end w =
-      record { reaction = w.reaction; between = w.between; standings_between = w.standings_between; reacts = reacts_out s l p a w.reaction w.between w.standings_between w.reacts; settled = w.settled; settles = w.settles; outcome_is = w.outcome_is; end_is = w.end_is }
+      record { reaction = w.reaction; between = w.between; standings_between = w.standings_between; reacts = reacts_out s l p a w.reaction w.between w.standings_between w.reacts; resolution = w.resolution; resolves = w.resolves; outcome_is = w.outcome_is; end_is = w.end_is }
 
 -- a round keeps the invariant, and is one of the definitions
-pub record Round (kinds : Family) (admits : Card → List ℕ → Option Token → Type 0) (s t : MachineView) (room : ℕ) (bodies : List (Option Card)) : Type 0 where
-  pub sound : IsSound kinds admits t room bodies
+pub record Round (kinds : Family) (admits : Card → List ℕ → Option Token → Type 0) (s t : MachineView) (limit : ℕ) (bodies : List (Option Card)) : Type 0 where
+  pub sound : IsSound kinds admits t limit bodies
   pub goes : GoesRound kinds s t
 
 pub goes_round :
-    {kinds : Family} {admits : Card → List ℕ → Option Token → Type 0} {net : Network} {M : State} {E : List Entry} {l : List Standing} {end : Option End} {commits room : ℕ} {bodies : List (Option Card)} → IsSound kinds admits (machine_view net M E l end commits) room bodies → (p : ℕ) (a : Answer) → end ≡ None → standing l p ≡ Ready → wants kinds net M p ≡ Some a
-    → (o : Outcome) (N : State) (F : List Entry) (m : List Standing) (stop : Option End) (rest : ℕ) → Works kinds net (state_and_history M E room) l p a o (state_and_history N F rest) m stop → StandingsFit kinds admits net None N m
+    {kinds : Family} {admits : Card → List ℕ → Option Token → Type 0} {net : Network} {M : State} {E : List Entry} {l : List Standing} {end : Option End} {commits limit : ℕ} {bodies : List (Option Card)} → IsSound kinds admits (machine_view net M E l end commits) limit bodies → (p : ℕ) (a : Answer) → end ≡ None → standing l p ≡ Ready → wants kinds net M p ≡ Some a
+    → (o : Outcome) (N : State) (F : List Entry) (m : List Standing) (stop : Option End) (rest : ℕ) → Works kinds net (state_and_history M E limit) l p a o (state_and_history N F rest) m stop → StandingsFit kinds admits net None N m
     → Round kinds admits (machine_view net M E l end commits) (machine_view net N F m stop (commits + 1)) rest bodies
-goes_round {kinds = kinds} {net = net} {M = M} {E = E} {l = l} {end = end} {commits = commits} {room = room} {bodies = bodies} h p a none ready wanted o N F m stop rest works k =
+goes_round {kinds = kinds} {net = net} {M = M} {E = E} {l = l} {end = end} {commits = commits} {limit = limit} {bodies = bodies} h p a none ready wanted o N F m stop rest works k =
     let within : p < length l = standing_within l p (λ e. cc) in
     let live = live_of kinds net p (status M p) a wanted in
     let i : Input = input p (card_of net p) live.0 live.1.0 in
     let out : IsOutAt net M (set l p Out) i = record { out = standing_set_same l p Out within; card = refl; live = live.1.1 } in
     let one = h.keeps.one_each in
     let has = h.has_bodies p (omega arith) (λ e. cc) in
-    let w = worked (sound_taken h p none ready) i out none o N F m stop rest (rw live.1.2 (works_out kinds net (state_and_history M E room) l p a o (state_and_history N F rest) m stop works)) k in
+    let w = worked (sound_taken h p none ready) i out none o N F m stop rest (rw live.1.2 (works_out kinds net (state_and_history M E limit) l p a o (state_and_history N F rest) m stop works)) k in
     let seated : set (set bodies p None) p (Some (card_of net p)) ≡ bodies = rw (set-set, ← has) (set-get_or bodies p None) in
     record {
       sound = rw seated at w.sound;
@@ -259,8 +259,8 @@ goes_round {kinds = kinds} {net = net} {M = M} {E = E} {l = l} {end = end} {comm
 
 -- what the body of a ready process answers is what the process wants
 pub body_wants :
-    {kinds : Family} {admits : Card → List ℕ → Option Token → Type 0} {X : Type 0} (card : X → Card) {net : Network} {M : State} {E : List Entry} {l : List Standing} {end : Option End} {commits room : ℕ} (bodies : List (Option X))
-    → IsSound kinds admits (machine_view net M E l end commits) room (map (option_map card) bodies) → (p : ℕ) → p < length l → standing l p ≡ Ready
+    {kinds : Family} {admits : Card → List ℕ → Option Token → Type 0} {X : Type 0} (card : X → Card) {net : Network} {M : State} {E : List Entry} {l : List Standing} {end : Option End} {commits limit : ℕ} (bodies : List (Option X))
+    → IsSound kinds admits (machine_view net M E l end commits) limit (map (option_map card) bodies) → (p : ℕ) → p < length l → standing l p ≡ Ready
     → (slot : Option X) (b : X) → slot ≡ get_or bodies p slot → slot ≡ Some b → (s : Status) (local : List ℕ) (last : Option Token) → s ≡ status M p → s ≡ Live local last
     → (a : Answer) → a ≡ kinds.answer (card b) local last → wants kinds net M p ≡ Some a
 body_wants card {net = net} bodies h p below ready slot b at some s local last is live a e =

@@ -9,7 +9,7 @@ use Rattle.kpn_model.specs.Semantics.{Run, IsEnabled}
 use Rattle.kpn_model.specs.Endings.{CanGrow, IsOver, has_report}
 use Rattle.kpn_body.specs.Input.{Input, answer_to}
 use Rattle.kpn_state.specs.declared.standing.Standing.TheVariants.{Ready, Out}
-use Rattle.kpn_commit.specs.declared.settle.Settled.TheVariants.{Enlarged}
+use Rattle.kpn_commit.specs.declared.resolution.Resolution.TheVariants.{Enlarged}
 use Rattle.kpn_commit.specs.declared.outcome.Outcome.{Outcome}
 use Rattle.kpn_commit.specs.declared.outcome.Outcome.TheVariants.{Done, Parked, LaidBack}
 use Rattle.kpn_state.specs.Standings.{standing, is_busy}
@@ -44,7 +44,7 @@ pub record WorksOn (kinds : Family) (s : MachineView) (i : Input) (o : Outcome) 
   pub network : t.network ≡ s.network
   pub commits : t.commits ≡ s.commits + 1
   pub works : Works kinds s.network (state_and_history_of s) s.standings i.process (answer_to kinds i) o (state_and_history_of t) t.standings t.end
-  pub grows : t.end ≢ Some Memory → (works.settled ≡ Enlarged) ↔ ((list_any is_busy works.standings_between ≡ false) × CanGrow kinds s.network works.between.state)
+  pub grows : t.end ≢ Some Memory → (works.resolution ≡ Enlarged) ↔ ((list_any is_busy works.standings_between ≡ false) × CanGrow kinds s.network works.between.state)
 
 -- the run had ended, and the process is ready again; or the answer was worked on
 abbrev pub Commits : Family → MachineView → Input → Outcome → MachineView → Type 0

@@ -57,9 +57,9 @@ abbrev pub HasBodies : Network → List Standing → List (Option Card) → Type
 HasBodies net standings bodies = (p : ℕ) → p < length net.processes → standing standings p ≢ Out → get_or bodies p None ≡ Some (card_of net p)
 
 -- the emptied vector of the bodies has capacity for all of them
-pub record HasSpareCapacity {X : Type 0} (net : Network) (spare : List X) (room : ℕ) : Type 0 where
+pub record HasSpareCapacity {X : Type 0} (net : Network) (spare : List X) (capacity : ℕ) : Type 0 where
   pub emptied : spare ≡ []
-  pub enough : length net.processes ≤ room
+  pub enough : length net.processes ≤ capacity
 
 -- 1 for a process that is parked
 abbrev pub waits : Standing → ℕ
@@ -77,10 +77,10 @@ stays_in Stopped = 1
 
 -- the history is a run to the state, and all else fits; at most as many answers were taken as there are entries and waiting
 -- processes, and once the run has ended one more for each process that is not out
-pub record IsSound (kinds : Family) (admits : Card → List ℕ → Option Token → Type 0) (s : MachineView) (room : ℕ) (bodies : List (Option Card)) : Type 0 where
+pub record IsSound (kinds : Family) (admits : Card → List ℕ → Option Token → Type 0) (s : MachineView) (limit : ℕ) (bodies : List (Option Card)) : Type 0 where
   pub run : IsRun kinds s.network s.history s.state
   pub keeps : StandingsFit kinds admits s.network None s.state s.standings
-  pub room_is : room ≡ s.network.budget + 2
+  pub limit_is : limit ≡ s.network.budget + 2
   pub many_bodies : length bodies ≡ length s.network.processes
   pub has_bodies : HasBodies s.network s.standings bodies
   pub few : length s.history ≤ s.network.budget + 2

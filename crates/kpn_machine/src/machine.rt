@@ -57,7 +57,7 @@ impl<B: Body> Model for Machine<B> {
 
     ghost view = { λ m. machine_view m.net m.store.state m.store.history m.standings m.end m.commits };
 
-    ghost invariant = { λ m. IsSound (family_of B.Kinds.start B.Kinds.answer_of) B.Kinds.admits (machine_view m.net m.store.state m.store.history m.standings m.end m.commits) m.store.room (map (option_map B.card) m.bodies.items) × HasSpareCapacity m.net m.spare.items (vec_capacity m.spare) × AreWaiting m.net m.store.state m.standings m.waiting };
+    ghost invariant = { λ m. IsSound (family_of B.Kinds.start B.Kinds.answer_of) B.Kinds.admits (machine_view m.net m.store.state m.store.history m.standings m.end m.commits) m.store.limit (map (option_map B.card) m.bodies.items) × HasSpareCapacity m.net m.spare.items (vec_capacity m.spare) × AreWaiting m.net m.store.state m.standings m.waiting };
 }
 
 /// Why a machine was not opened, with the network and the bodies handed back.

@@ -105,11 +105,11 @@ fn start_store<K: Kinds>(alloc: Global, net: &Net<K>) -> Result<Store, AllocErro
     ensures admitted { OnOk result ((p : ℕ) → p < length net.now.processes → K.admits (card_of net.now p) (K.start (card_of net.now p)) None) }
 {
     net.assure_valid();
-    let room = net.budget() as usize + 2;
+    let limit = net.budget() as usize + 2;
     let statuses = start_statuses(alloc, net)?;
     let rings = start_rings(alloc, net)?;
-    let history = Vec::with_capacity(alloc, room)?;
-    Ok(Store::new(statuses, rings, history, room))
+    let history = Vec::with_capacity(alloc, limit)?;
+    Ok(Store::new(statuses, rings, history, limit))
 }
 
 /// An empty slot for each body.

@@ -37,7 +37,7 @@ NoneLonger kinds =
     → IsFinal kinds net E M a → IsRun kinds net F N → length F ≤ length E
 
 -- what two runs that are over have in common, whatever the capacities
-pub record HaveSameOutcome (kinds : Family) (net other : Network) (E F : List Entry) (M N : State) : Type 0 where
+pub record AgreeInTheEnd (kinds : Family) (net other : Network) (E F : List Entry) (M N : State) : Type 0 where
   pub deeds : (p : ℕ) → deeds E p ≡ deeds F p
   pub streams : (c : ℕ) → stream net E c ≡ stream other F c
   pub places : (p : ℕ) → place_of net p (wants kinds net M p) ≡ place_of other p (wants kinds other N p)
@@ -47,7 +47,7 @@ abbrev pub OneOutcome : Family → Type 0
 OneOutcome kinds =
     (net : Network) (sizes : ℕ → ℕ) (E F : List Entry) (M N : State) (a b : End)
     → IsFinal kinds net E M a → IsNatural a → IsFinal kinds (resized net sizes) F N b → IsNatural b
-    → HaveSameOutcome kinds net (resized net sizes) E F M N
+    → AgreeInTheEnd kinds net (resized net sizes) E F M N
 
 -- in two histories the deeds of each process are prefix-comparable, and so are the streams of each channel
 pub record AreAllPrefixComparable (net other : Network) (E F : List Entry) : Type 0 where

@@ -2,9 +2,9 @@
 ghost use Rattle.std.specs.Prelude.{◌≡◌, Some, IsSome};
 ghost use Rattle.kpn_standard.specs.Signatures.{named, signature};
 ghost use Rattle.kpn_signals.specs.Signatures.{number_named, ports};
-ghost use Rattle.kpn_compute.specs.Both.{is_first, own_card};
 ghost use Rattle.kpn_picture.specs.Titles.{standard_title, signals_title, both_title};
 
+use kpn_compute::both::{is_first, own_card};
 use kpn_compute::{Both, Filtered, Filters};
 use kpn_model::{Card, Kinds};
 use kpn_signals::{Signal, Signals};
@@ -87,29 +87,12 @@ impl Titled for Signals {
     }
 }
 
-/// Whether a card of two joined families is one of the first.
-fn is_first(card: &Card) -> bool
-    ensures { result ≡ is_first card.now }
-{
-    card.kind % 2 == 0
-}
-
-/// The card of the own family that a card of two joined families stands for.
-fn own_card(card: &Card) -> Card
-    ensures { result ≡ own_card card.now }
-{
-    Card {
-        kind: card.kind / 2,
-        args: card.args,
-    }
-}
-
 impl<A: Titled, B: Titled> Titled for Both<A, B> {
     ghost title = { both_title A.title B.title };
 
     fn title(card: &Card) -> (&'static str, usize) {
-        let own = own_card(card);
-        if is_first(card) {
+        let own = own_card(*card);
+        if is_first(*card) {
             A::title(&own)
         } else {
             B::title(&own)

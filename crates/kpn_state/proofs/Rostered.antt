@@ -147,11 +147,11 @@ standing_past [] p e = refl
 standing_past (y ∷ ys) zero e = absurd (omega arith)
 standing_past (y ∷ ys) (suc p) e = standing_past ys p (omega arith)
 
-pub kept_none : (room : ℕ) → Agrees [] [] room 0 0
-kept_none room = record { queued = λ p. refl; ready = refl; room_for_all = omega arith; out_is = refl; live_is = refl }
+pub kept_none : (capacity : ℕ) → Agrees [] [] capacity 0 0
+kept_none capacity = record { queued = λ p. refl; ready = refl; room_for_all = omega arith; out_is = refl; live_is = refl }
 
-pub kept_more : (standings : List Standing) (queue : List ℕ) (room out live : ℕ) → (n : ℕ) → n ≡ length standings → Agrees standings queue room out live → n < room → Agrees (standings ++ Ready ∷ []) (queue_after queue n Ready) room out (live + 1)
-kept_more standings queue room out live n is k below =
+pub kept_more : (standings : List Standing) (queue : List ℕ) (capacity out live : ℕ) → (n : ℕ) → n ≡ length standings → Agrees standings queue capacity out live → n < capacity → Agrees (standings ++ Ready ∷ []) (queue_after queue n Ready) capacity out (live + 1)
+kept_more standings queue capacity out live n is k below =
     record {
       queued = λ p. times_push queue n p ∙ ⊎_elim
           (λ (e : p ≡ n).
@@ -171,7 +171,7 @@ kept_more standings queue room out live n is k below =
       live_is = let c = sum_by_push (weight is_live) standings Ready in let o = k.live_is in omega arith;
     }
 
-module _ (standings : List Standing) (queue : List ℕ) (room out live : ℕ) (k : Agrees standings queue room out live) where
+module _ (standings : List Standing) (queue : List ℕ) (capacity out live : ℕ) (k : Agrees standings queue capacity out live) where
   -- a process that is out is counted
   pub out_within : (p : ℕ) → p < length standings → weight is_out (standing standings p) ≤ out
   out_within p within = let o = k.out_is in let l = get_or-le-sum_by (weight is_out) standings p Stopped within in omega arith
@@ -198,7 +198,7 @@ module _ (standings : List Standing) (queue : List ℕ) (room out live : ℕ) (k
 
   module _ (p : ℕ) (within : p < length standings) (idle : standing standings p ≢ Ready) where
     -- there is room in the queue for a process that isn't ready
-    pub queue_room : length queue < room
+    pub queue_room : length queue < capacity
     queue_room =
         let c = counted is_ready standings p Ready within in
         let w : weight is_ready (standing standings p) ≡ 0 = ap one_if (not_ready (standing standings p) idle) in
@@ -238,7 +238,7 @@ module _ (standings : List Standing) (queue : List ℕ) (room out live : ℕ) (k
     -- moving it keeps the invariant
     pub kept_moved :
         (x : Standing) (out_new live_new : ℕ) → out_new + weight is_out (standing standings p) ≡ out + weight is_out x → live_new + weight has_stopped x ≡ live + weight has_stopped (standing standings p)
-        → Agrees (set standings p x) (queue_after queue p x) room out_new live_new
+        → Agrees (set standings p x) (queue_after queue p x) capacity out_new live_new
     kept_moved x out_new live_new o s = record {
       queued = queued_moved x (is_ready x) refl;
       ready =
@@ -267,7 +267,7 @@ module _ (standings : List Standing) (queue : List ℕ) (room out live : ℕ) (k
   pub front_within : (p : ℕ) → slice_get queue 0 ≡ Some p → p < length standings
   front_within p e = standing_within standings p (λ f. ready_not_ended (sym (front_ready p e) ∙ f))
 
-  pub kept_sent : (p : ℕ) → slice_get queue 0 ≡ Some p → Agrees (set standings p Out) (drop 1 queue) room (out + 1) live
+  pub kept_sent : (p : ℕ) → slice_get queue 0 ≡ Some p → Agrees (set standings p Out) (drop 1 queue) capacity (out + 1) live
   kept_sent p e =
       let ready = front_ready p e in
       let within = front_within p e in
@@ -306,10 +306,10 @@ module _ (standings : List Standing) (queue : List ℕ) (room out live : ℕ) (k
       }
 
   -- the process at the head of the queue goes to its end
-  pub turn_room : (p : ℕ) → slice_get queue 0 ≡ Some p → length (drop 1 queue) < room
+  pub turn_room : (p : ℕ) → slice_get queue 0 ≡ Some p → length (drop 1 queue) < capacity
   turn_room p e = let l = head_length queue p e in let f = queue_few in let m = k.room_for_all in omega arith
 
-  pub kept_turned : (p : ℕ) → slice_get queue 0 ≡ Some p → Agrees standings (queue_after (drop 1 queue) p Ready) room out live
+  pub kept_turned : (p : ℕ) → slice_get queue 0 ≡ Some p → Agrees standings (queue_after (drop 1 queue) p Ready) capacity out live
   kept_turned p e = record {
     queued = λ q. let c = head_times queue p e q in let t = times_push (drop 1 queue) p q in let b = k.queued q in omega arith;
     ready = let l = head_length queue p e in let a = length-append (drop 1 queue) (p ∷ []) in let r = k.ready in omega arith;
@@ -327,7 +327,7 @@ module _ (standings : List Standing) (queue : List ℕ) (room out live : ℕ) (k
     one_live = let l = live_within p within in let w : weight is_live (standing standings p) ≡ 1 = ap (weight is_live) ready in omega arith
 
     -- it leaves the queue when it is no longer ready
-    pub kept_left : (x : Standing) (out_new live_new : ℕ) → x ≢ Ready → out_new ≡ out + weight is_out x → live_new + weight has_stopped x ≡ live → Agrees (set standings p x) (without p queue) room out_new live_new
+    pub kept_left : (x : Standing) (out_new live_new : ℕ) → x ≢ Ready → out_new ≡ out + weight is_out x → live_new + weight has_stopped x ≡ live → Agrees (set standings p x) (without p queue) capacity out_new live_new
     kept_left x out_new live_new not o s = record {
       queued = λ q. ⊎_elim
           (λ (e : q ≡ p).

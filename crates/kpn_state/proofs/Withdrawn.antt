@@ -131,8 +131,8 @@ back_same queue p x i h e s =
     filter_more (other p) queue i 0 h ∙ ap (λ b. without p (take i queue) ++ cond b (get_or queue i 0 ∷ []) []) (is_same p (get_or queue i 0) (e ∙ s)) ∙ append-nil (without p (take i queue))
 
 -- a queue that fits keeps all when it is put back into
-pub all_kept : (queue : List ℕ) (room : ℕ) → length queue ≤ room → drop (length queue - room) queue ≡ queue
-all_kept queue room few = let none : length queue - room ≡ 0 = omega arith in ap (λ n. drop n queue) none
+pub all_kept : (queue : List ℕ) (capacity : ℕ) → length queue ≤ capacity → drop (length queue - capacity) queue ≡ queue
+all_kept queue capacity few = let none : length queue - capacity ≡ 0 = omega arith in ap (λ n. drop n queue) none
 
 -- what is left and what has been put back are no more than there was
 pub few_left : (queue : List ℕ) (p i : ℕ) → i < length queue → length (drop (i + 1) queue ++ without p (take i queue)) < length queue

@@ -12,7 +12,7 @@ IsInOrder pairs = (i j : ℕ) (d : ℕ × ℕ) → i < j → j < length pairs �
 -- the pairs, in order, and how many there may be
 pub record CandidateList : Type 0 where
   pub pairs : List (ℕ × ℕ)
-  pub room : ℕ
+  pub limit : ℕ
 
 abbrev pub candidate_list : List (ℕ × ℕ) → ℕ → CandidateList
-candidate_list pairs room = record { pairs = pairs; room = room }
+candidate_list pairs limit = record { pairs = pairs; limit = limit }

@@ -9,10 +9,10 @@ times queue p = count_by (λ q. nat_eq q p) queue
 
 -- each ready process is in the queue once, and no other is; the queue has room for all; `out` processes are out, and `live` have
 -- not stopped
-pub record Agrees (standings : List Standing) (queue : List ℕ) (room out live : ℕ) : Type 0 where
+pub record Agrees (standings : List Standing) (queue : List ℕ) (capacity out live : ℕ) : Type 0 where
   pub queued : (p : ℕ) → times queue p ≡ if is_ready (standing standings p) then 1 else 0
   pub ready : length queue ≡ count_by is_ready standings
-  pub room_for_all : length standings ≤ room
+  pub room_for_all : length standings ≤ capacity
   pub out_is : out ≡ count_by is_out standings
   pub live_is : live ≡ count_by is_live standings
 

@@ -15,11 +15,11 @@ held tokens capacity = record { tokens = tokens; capacity = capacity }
 pub record StateAndHistory : Type 0 where
   pub state : State
   pub history : List Entry
-  pub room : ℕ
+  pub limit : ℕ
 
 abbrev pub state_and_history : State → List Entry → ℕ → StateAndHistory
-state_and_history M E room = record { state = M; history = E; room = room }
+state_and_history M E limit = record { state = M; history = E; limit = limit }
 
 -- the state and history after one more entry
 abbrev pub more : StateAndHistory → State → Entry → StateAndHistory
-more s M e = state_and_history M (s.history ++ e ∷ []) s.room
+more s M e = state_and_history M (s.history ++ e ∷ []) s.limit

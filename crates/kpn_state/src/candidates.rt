@@ -11,7 +11,7 @@ use std::marker::Model;
 #[derive(Drop)]
 pub struct Candidates {
     pairs: Vec<(usize, usize)>,
-    room: usize,
+    limit: usize,
 }
 
 impl Model for Candidates {
@@ -21,18 +21,18 @@ impl Model for Candidates {
 
     ghost Value = { CandidateList };
 
-    ghost view = { λ c. candidate_list c.pairs.items c.room };
+    ghost view = { λ c. candidate_list c.pairs.items c.limit };
 
-    ghost invariant = { λ c. (IsInOrder c.pairs.items) × (c.room ≤ vec_capacity c.pairs) };
+    ghost invariant = { λ c. (IsInOrder c.pairs.items) × (c.limit ≤ vec_capacity c.pairs) };
 }
 
 impl Candidates {
-    /// Makes an empty list with room for `room` pairs. Fails if memory was refused.
-    pub fn new(alloc: Global, room: usize) -> Result<Candidates, AllocError>
-        ensures { IfOk result (λ c. c ≡ candidate_list [] room) }
+    /// Makes an empty list with room for `limit` pairs. Fails if memory was refused.
+    pub fn new(alloc: Global, limit: usize) -> Result<Candidates, AllocError>
+        ensures { IfOk result (λ c. c ≡ candidate_list [] limit) }
     {
-        let pairs = Vec::with_capacity(alloc, room)?;
-        Ok(Candidates { pairs, room })
+        let pairs = Vec::with_capacity(alloc, limit)?;
+        Ok(Candidates { pairs, limit })
     }
 
     /// Returns the first pair: the capacity and the channel that grows before all others; `None` if
@@ -47,10 +47,10 @@ impl Candidates {
     /// Inserts a channel of this capacity at its place; if it is there already, nothing changes. There
     /// must be room. Takes no memory.
     pub fn insert(&mut self, capacity: usize, channel: usize)
-        requires { length self.old.pairs < self.old.room }
+        requires { length self.old.pairs < self.old.limit }
         ensures pairs { (x : ℕ × ℕ) → Contains self.new.pairs x ↔ ((x ≡ (capacity, channel)) ⊎ Contains self.old.pairs x) }
         ensures many { length self.new.pairs ≤ length self.old.pairs + 1 }
-        ensures room { self.new.room ≡ self.old.room }
+        ensures limit { self.new.limit ≡ self.old.limit }
     {
         let pair = (capacity, channel);
         let place = place_of(self.pairs.as_slice(), pair);
@@ -66,7 +66,7 @@ impl Candidates {
     pub fn remove(&mut self, capacity: usize, channel: usize)
         ensures pairs { (x : ℕ × ℕ) → Contains self.new.pairs x ↔ ((x ≢ (capacity, channel)) × Contains self.old.pairs x) }
         ensures many { Contains self.old.pairs (capacity, channel) → length self.new.pairs + 1 ≡ length self.old.pairs }
-        ensures room { self.new.room ≡ self.old.room }
+        ensures limit { self.new.limit ≡ self.old.limit }
     {
         let pair = (capacity, channel);
         let place = place_of(self.pairs.as_slice(), pair);

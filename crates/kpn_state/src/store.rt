@@ -19,7 +19,7 @@ pub struct Store {
     statuses: Vec<Status>,
     rings: Vec<Ring>,
     history: Vec<Entry>,
-    room: usize,
+    limit: usize,
 }
 
 impl Model for Store {
@@ -29,23 +29,23 @@ impl Model for Store {
 
     ghost Value = { StateAndHistory };
 
-    ghost view = { λ s. state_and_history (state s.statuses.items s.rings.items) s.history.items s.room };
+    ghost view = { λ s. state_and_history (state s.statuses.items s.rings.items) s.history.items s.limit };
 
-    ghost invariant = { λ s. s.room ≤ vec_capacity s.history };
+    ghost invariant = { λ s. s.limit ≤ vec_capacity s.history };
 }
 
 impl Store {
-    /// Makes a store of these processes, channels and entries. The history may have up to `room`
+    /// Makes a store of these processes, channels and entries. The history may have up to `limit`
     /// entries, and its vector must have that capacity.
-    pub fn new(statuses: Vec<Status>, rings: Vec<Ring>, history: Vec<Entry>, room: usize) -> Self
-        requires { room ≤ vec_capacity history }
-        ensures { result ≡ state_and_history (state statuses.items rings.items) history.items room }
+    pub fn new(statuses: Vec<Status>, rings: Vec<Ring>, history: Vec<Entry>, limit: usize) -> Self
+        requires { limit ≤ vec_capacity history }
+        ensures { result ≡ state_and_history (state statuses.items rings.items) history.items limit }
     {
         Store {
             statuses,
             rings,
             history,
-            room,
+            limit,
         }
     }
 
@@ -78,13 +78,13 @@ impl Store {
     /// Forgets the entries so far: what is told goes on from the state that they led to, and there is room
     /// for as many entries as at the start.
     pub fn forget(&mut self)
-        ensures { self.new ≡ state_and_history self.old.state [] self.old.room }
+        ensures { self.new ≡ state_and_history self.old.state [] self.old.limit }
     {
         self.history.clear();
     }
 
     fn note(&mut self, entry: Entry)
-        requires { length self.old.history < self.old.room }
+        requires { length self.old.history < self.old.limit }
         ensures { self.new ≡ more self.old self.old.state entry }
     {
         self.history.push_reserved(entry);
@@ -95,7 +95,7 @@ impl Store {
     /// Stops a process, and appends the entry. There must be room for it.
     pub fn stop(&mut self, process: usize)
         requires process { process < length self.old.state.processes }
-        requires room { length self.old.history < self.old.room }
+        requires room { length self.old.history < self.old.limit }
         ensures { self.new ≡ more self.old (with_status self.old.state process Done) (Did process Stopped) }
     {
         self.statuses[process] = Status::Done;
@@ -113,7 +113,7 @@ impl Store {
         requires process { process < length self.old.state.processes }
         requires channel { channel < length self.old.state.channels }
         requires some { 0 < length (tokens self.old.state channel) }
-        requires room { length self.old.history < self.old.room }
+        requires room { length self.old.history < self.old.limit }
         ensures token { tokens self.old.state channel ≡ result ∷ drop 1 (tokens self.old.state channel) }
         ensures entry { self.new ≡ more self.old (with_channel (with_status self.old.state process (Live next (Some result))) channel (drop 1 (tokens self.old.state channel)) (capacity self.old.state channel)) (Did process (Took channel result)) }
     {
@@ -138,7 +138,7 @@ impl Store {
         requires process { process < length self.old.state.processes }
         requires channel { channel < length self.old.state.channels }
         requires space { length (tokens self.old.state channel) < capacity self.old.state channel }
-        requires room { length self.old.history < self.old.room }
+        requires room { length self.old.history < self.old.limit }
         ensures { self.new ≡ more self.old (with_channel (with_status self.old.state process (Live next None)) channel (tokens self.old.state channel ++ token ∷ []) (capacity self.old.state channel)) (Did process (Put channel token)) }
     {
         let ring = &mut self.rings[channel];
@@ -158,7 +158,7 @@ impl Store {
     pub fn feed(&mut self, channel: usize, token: Token)
         requires channel { channel < length self.old.state.channels }
         requires space { length (tokens self.old.state channel) < capacity self.old.state channel }
-        ensures { self.new ≡ state_and_history (with_channel self.old.state channel (tokens self.old.state channel ++ token ∷ []) (capacity self.old.state channel)) self.old.history self.old.room }
+        ensures { self.new ≡ state_and_history (with_channel self.old.state channel (tokens self.old.state channel ++ token ∷ []) (capacity self.old.state channel)) self.old.history self.old.limit }
     {
         let fed = &mut self.rings[channel];
         fed.put(token);
@@ -170,7 +170,7 @@ impl Store {
         requires channel { channel < length self.old.state.channels }
         requires some { 0 < length (tokens self.old.state channel) }
         ensures token { tokens self.old.state channel ≡ result ∷ drop 1 (tokens self.old.state channel) }
-        ensures rest { self.new ≡ state_and_history (with_channel self.old.state channel (drop 1 (tokens self.old.state channel)) (capacity self.old.state channel)) self.old.history self.old.room }
+        ensures rest { self.new ≡ state_and_history (with_channel self.old.state channel (drop 1 (tokens self.old.state channel)) (capacity self.old.state channel)) self.old.history self.old.limit }
     {
         let drained = &mut self.rings[channel];
         drained.take()
@@ -182,7 +182,7 @@ impl Store {
     pub fn grow(&mut self, channel: usize, to: usize) -> Result<(), AllocError>
         requires channel { channel < length self.old.state.channels }
         requires within { length (tokens self.old.state channel) ≤ to }
-        requires room { length self.old.history < self.old.room }
+        requires room { length self.old.history < self.old.limit }
         ensures ok { OnOk result (self.new ≡ more self.old (with_channel self.old.state channel (tokens self.old.state channel) to) (Grew channel to)) }
         ensures err { OnErr result (self.new ≡ self.old) }
     {

@@ -7,12 +7,12 @@ use Rattle.kpn_model.specs.declared.history.Status.TheVariants.{Live}
 use Rattle.kpn_model.specs.Network.{Family}
 use Rattle.kpn_compute.specs.Both.{is_first, own_card, both_family}
 use Rattle.kpn_streams.specs.Fed.{written_in}
-use Rattle.kpn_streams.specs.Families.{OneOutcome, WriteAsTheirOwn}
-use Rattle.kpn_streams.proofs.Fed.{one_outcome}
+use Rattle.kpn_streams.specs.Families.{AreFunctions, WriteAsTheirOwn}
+use Rattle.kpn_streams.proofs.Fed.{one_writing}
 
 -- what a process writes is a function of what it is fed with
-pub each_one_outcome : (kinds : Family) → OneOutcome kinds
-each_one_outcome kinds card ins outs others same v w = one_outcome kinds card (Live (kinds.start card) None) ins outs others same v w
+pub each_is_a_function : (kinds : Family) → AreFunctions kinds
+each_is_a_function kinds card ins outs others same v w = one_writing kinds card (Live (kinds.start card) None) ins outs others same v w
 
 module _ (first second : Family) (card : Card) where
   abbrev own : Family

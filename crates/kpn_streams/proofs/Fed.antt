@@ -20,10 +20,10 @@ chosen_else test a b e = ap (λ (x : Bool). if x then a else b) e
 
 module _ (kinds : Family) (card : Card) where
   -- what it writes to as many outputs is the same each time
-  pub one_outcome :
+  pub one_writing :
       (s : Status) (ins outs others : List (List Token)) → length outs ≡ length others → WritesFrom kinds card s ins outs
       → WritesFrom kinds card s ins others → outs ≡ others
-  one_outcome s ins outs others same v w =
+  one_writing s ins outs others same v w =
       let n = v.enough + w.enough in
       sym (v.written n (omega arith)) ∙ ap (λ k. written_in kinds card k n s ins) same ∙ w.written n (omega arith)
 

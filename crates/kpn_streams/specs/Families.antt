@@ -7,8 +7,8 @@ use Rattle.kpn_compute.specs.Both.{is_first, own_card, both_family}
 use Rattle.kpn_streams.specs.Fed.{Writes}
 
 -- what a process writes to its outputs is a function of what it is fed with
-abbrev pub OneOutcome : Family → Type 0
-OneOutcome kinds =
+abbrev pub AreFunctions : Family → Type 0
+AreFunctions kinds =
     (card : Card) (ins outs others : List (List Token)) → length outs ≡ length others → Writes kinds card ins outs → Writes kinds card ins others
     → outs ≡ others
 

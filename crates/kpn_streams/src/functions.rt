@@ -4,7 +4,7 @@ ghost use Rattle.kpn_model.specs.declared.kinds.Card.{Card};
 ghost use Rattle.kpn_model.specs.Network.{Family};
 ghost use Rattle.kpn_streams.specs.Kinds.{CountWrites, SinkWrites, TakeWrites, CopyWrites, PrefixWrites, AddWrites, ScaleWrites, WeaveWrites, MergeWrites, DividesWrites, SwitchWrites, SelectWrites, WeaveTakesTurns, MergeIsUnion};
 ghost use Rattle.kpn_streams.specs.Filters.{FiltersScan};
-ghost use Rattle.kpn_streams.specs.Families.{OneOutcome, WriteAsTheirOwn};
+ghost use Rattle.kpn_streams.specs.Families.{AreFunctions, WriteAsTheirOwn};
 
 use kpn_compute::Filters;
 
@@ -55,9 +55,9 @@ pub fn filter_function_of<F: Filters>()
 
 /// Ghost lemmas that hold of every family of kinds.
 ///
-/// `one_outcome`: what a process writes is a function of what it is fed with. `joined`: a process of two
+/// `functions`: what a process writes is a function of what it is fed with. `joined`: a process of two
 /// families that are joined into one, as by `kpn_compute::Both`, writes what it writes in its own.
 pub fn family_functions()
-    ensures one_outcome { (kinds : Family) → OneOutcome kinds }
+    ensures functions { (kinds : Family) → AreFunctions kinds }
     ensures joined { (first second : Family) → WriteAsTheirOwn first second }
 {}

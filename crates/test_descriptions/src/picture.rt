@@ -1,6 +1,7 @@
 //! Worked pictures: of a counter, of a network with flags and start tokens, and of the ends of runs.
 use crate::checks::same;
 use kpn_compute::Both;
+use kpn_compute::both::{is_first, own_card};
 use kpn_net::{Card, Check, End, Listed, Net, Place, Token, read_sketch};
 use kpn_picture::{Direction, Left, Titled, is_jammed, picture_of};
 use kpn_signals::Signals;
@@ -251,6 +252,8 @@ fn knows_the_titles_of_kinds(rt: HostRuntime) {
             args,
         };
         same(&rt, "first", Both::<Standard, Signals>::title(&both), title);
+        same(&rt, "is first", is_first(both), true);
+        same(&rt, "own", own_card(both), Card { kind, args });
     }
     for (kind, args, title) in [
         (19, [3, 0, 0], ("low_pass", 1)),
@@ -268,5 +271,6 @@ fn knows_the_titles_of_kinds(rt: HostRuntime) {
             Both::<Standard, Signals>::title(&both),
             title,
         );
+        same(&rt, "is second", is_first(both), false);
     }
 }

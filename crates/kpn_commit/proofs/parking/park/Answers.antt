@@ -39,7 +39,7 @@ returns-clause-waiting g c =
           let no_read : expected_by net p x ≡ None = rw w.in-Write.is in
           rw (w.waiting-is, w.note_writer.ensures)
           (waits_writing k p x c.requires.process idle w.in-Some-out_of.channel w.insert.new.self w.in-Some-out_of.ensures.within writes no_read
-          (rw w.tokens_and_capacity-capacity.ensures.capacity at w.insert.ensures.pairs) w.insert.ensures.many w.insert.ensures.room)
+          (rw w.tokens_and_capacity-capacity.ensures.capacity at w.insert.ensures.pairs) w.insert.ensures.many w.insert.ensures.limit)
       | in-Write+in_default-out_of w ↦
           let no_write : awaited_by net p x ≡ None = rw (w.in-Write.is, ← w.from-in-Write.ensures, ← w.out_of.ensures.is) w.in_default-out_of.is in
           let no_read : expected_by net p x ≡ None = rw w.in-Write.is in

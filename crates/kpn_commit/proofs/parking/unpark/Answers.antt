@@ -36,7 +36,7 @@ returns-clause-waiting g c =
           let no_read : expected_by net p was ≡ None = rw (parked, w.in-Write.is) in
           rw (w.waiting-is, w.note_writer.ensures)
           (done_writing k p Ready c.requires.process idle _ w.in-Some-out_of.written w.remove.new.self (λ d _. refl) written no_read
-          (rw w.tokens_and_capacity-capacity.ensures.capacity at w.remove.ensures.pairs) (rw w.tokens_and_capacity-capacity.ensures.capacity at w.remove.ensures.many) w.remove.ensures.room)
+          (rw w.tokens_and_capacity-capacity.ensures.capacity at w.remove.ensures.pairs) (rw w.tokens_and_capacity-capacity.ensures.capacity at w.remove.ensures.many) w.remove.ensures.limit)
       | in-Write+in_default-out_of w ↦ absurd (none_some _ (rw (← w.from-in-Write.ensures, ← w.out_of.ensures.is, w.in_default-out_of.is) at (rw w.in-Write.is at c.requires.possible).1))
       | in-Stop w ↦
           let no_write : awaited_by net p was ≡ None = rw (parked, w.in-Stop.is) in

@@ -28,7 +28,7 @@ loop-done-preserved g c =
     record {
       fits = c.turn.ensures.fits;
       waiting = c.turn.ensures.waiting;
-      room = c.turn.ensures.room ∙ c.loop-done.invariant.room;
+      limit = c.turn.ensures.limit ∙ c.loop-done.invariant.limit;
       few = rw c.history.ensures (omega arith);
       counts = c.loop-done.invariant.counts;
       few_grown = rw c.history.ensures (omega arith);

@@ -14,7 +14,7 @@ abbrev pub invariant-loop-done : goal.invariant-loop-done
 invariant-loop-done g l = record {
   fits : IsSettledIn (family_of g.B.Kinds.Kinds.start g.B.Kinds.Kinds.answer_of) g.B.Kinds.Kinds.admits l.net l.store.state l.standings;
   waiting : AreWaiting l.net l.store.state l.standings l.waiting;
-  room : l.store.room ≡ l.initial.store.room;
+  limit : l.store.limit ≡ l.initial.store.limit;
   few : l.done ≤ l.most;
   counts : l.counts ≡ l.initial.counts;
   few_grown : l.grown ≤ l.done;

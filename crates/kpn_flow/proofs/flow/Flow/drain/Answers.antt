@@ -17,8 +17,8 @@ invariant_of-self g c =
     let flow = c.self.invariant.0 in
     let output : is_among outputs c.args.channel ≡ true = rw (← c.self.view_is) at c.requires in
     let leaves : c.drain-token.new.store.state ≡ with_channel M c.args.channel (drop 1 (tokens M c.args.channel)) (capacity M c.args.channel) = ap (λ (x : StateAndHistory). x.state) c.drain-token.ensures.rest in (
-      flowing_on kinds g.B.Kinds.Kinds.admits net c.self.inside.inputs.items c.self.inside.unended.items outputs M c.drain-token.new.store.state c.self.inside.standings c.drain-token.new.standings (map g.B.Body.card c.self.inside.bodies.items) c.self.inside.store.room c.drain-token.new.store.room c.self.inside.counts (Drained c.args.channel c.drain-token.result) flow
-          ((drop 1 (tokens M c.args.channel), c.drain-token.ensures.token), leaves) (output, tt) refl (record { keeps = c.drain-token.ensures.keeps; none_out = λ q e. flow.fits.none_out q (c.drain-token.ensures.none_sent q e) }) (ap (λ (x : StateAndHistory). x.room) c.drain-token.ensures.rest),
+      flowing_on kinds g.B.Kinds.Kinds.admits net c.self.inside.inputs.items c.self.inside.unended.items outputs M c.drain-token.new.store.state c.self.inside.standings c.drain-token.new.standings (map g.B.Body.card c.self.inside.bodies.items) c.self.inside.store.limit c.drain-token.new.store.limit c.self.inside.counts (Drained c.args.channel c.drain-token.result) flow
+          ((drop 1 (tokens M c.args.channel), c.drain-token.ensures.token), leaves) (output, tt) refl (record { keeps = c.drain-token.ensures.keeps; none_out = λ q e. flow.fits.none_out q (c.drain-token.ensures.none_sent q e) }) (ap (λ (x : StateAndHistory). x.limit) c.drain-token.ensures.rest),
       c.drain-token.ensures.waiting,
     )
 

@@ -11,7 +11,7 @@ invariant_of-self g c =
         reached = f.reached;
         fits = f.fits;
         bodies = f.bodies;
-        room_is = f.room_is;
+        limit_is = f.limit_is;
       },
       c.self.invariant.1,
     )

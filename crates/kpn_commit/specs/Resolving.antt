@@ -11,8 +11,8 @@ use Rattle.kpn_model.specs.Endings.{NothingGoesOn}
 use Rattle.kpn_state.specs.StateAndHistory.{StateAndHistory, more}
 use Rattle.kpn_state.specs.declared.standing.Standing.{Standing}
 use Rattle.kpn_state.specs.declared.standing.Standing.TheVariants.{Parked}
-use Rattle.kpn_commit.specs.declared.settle.Settled.{Settled}
-use Rattle.kpn_commit.specs.declared.settle.Settled.TheVariants.{Busy, Ended, Enlarged}
+use Rattle.kpn_commit.specs.declared.resolution.Resolution.{Resolution}
+use Rattle.kpn_commit.specs.declared.resolution.Resolution.TheVariants.{Busy, Ended, Enlarged}
 use Rattle.kpn_state.specs.Standings.{standing, is_busy}
 use Rattle.kpn_commit.specs.Reactions.{Acted}
 
@@ -29,7 +29,7 @@ pub record GrowsAndPuts (kinds : Family) (net : Network) (s : StateAndHistory) (
   pub puts : Acted kinds net (more s grown (Grew channel to)) standings writer (Put channel token) t moved
 
 -- some process is ready or out; or none is, and the run ends, or the chosen channel grows
-abbrev pub Settles : Family → Network → StateAndHistory → List Standing → Settled → StateAndHistory → List Standing → Type 0
-Settles kinds net s standings Busy t moved = (list_any is_busy standings ≡ true) × (t ≡ s) × (moved ≡ standings)
-Settles kinds net s standings (Ended end) t moved = (list_any is_busy standings ≡ false) × (t ≡ s) × (moved ≡ standings) × NothingGoesOn kinds net s.state end
-Settles kinds net s standings Enlarged t moved = (list_any is_busy standings ≡ false) × GrowsAndPuts kinds net s standings t moved
+abbrev pub Resolves : Family → Network → StateAndHistory → List Standing → Resolution → StateAndHistory → List Standing → Type 0
+Resolves kinds net s standings Busy t moved = (list_any is_busy standings ≡ true) × (t ≡ s) × (moved ≡ standings)
+Resolves kinds net s standings (Ended end) t moved = (list_any is_busy standings ≡ false) × (t ≡ s) × (moved ≡ standings) × NothingGoesOn kinds net s.state end
+Resolves kinds net s standings Enlarged t moved = (list_any is_busy standings ≡ false) × GrowsAndPuts kinds net s standings t moved

@@ -4,7 +4,7 @@ ghost use Rattle.kpn_model.specs.Network.{family_of};
 ghost use Rattle.std.specs.List.{list_any};
 ghost use Rattle.kpn_state.specs.Standings.{StandingsFit, is_busy};
 ghost use Rattle.kpn_commit.specs.Waiting.{AreWaiting};
-ghost use Rattle.kpn_commit.specs.Settling.{Settles};
+ghost use Rattle.kpn_commit.specs.Resolving.{Resolves};
 
 use crate::act::advance;
 use crate::choose::choose;
@@ -16,7 +16,7 @@ use kpn_state::{Roster, Store, Waiting};
 /// How the run goes on. `Busy`: some process is ready or out. `Ended`: none is, and the run ended.
 /// `Enlarged`: none was, a channel grew, and its writer's token was put.
 #[derive(Clone, Copy, Debug, PartialEq, Eq)]
-pub enum Settled {
+pub enum Resolution {
     Busy,
     Ended(End),
     Enlarged,
@@ -38,66 +38,66 @@ fn enlarged(capacity: usize, step: usize, ceiling: usize) -> usize
 /// growth is refused memory.
 #[cold]
 #[inline(never)]
-fn settle_idle<K: Kinds>(
+fn resolve_idle<K: Kinds>(
     net: &Net<K>,
     store: &mut Store,
     standings: &mut Roster,
     waiting: &mut Waiting,
-) -> Settled
+) -> Resolution
     requires keeps { StandingsFit (family_of K.start K.answer_of) K.admits net.now None store.old.state standings.old }
     requires idle { list_any is_busy standings.old ≡ false }
-    requires room { length store.old.history + 2 ≤ store.old.room }
+    requires room { length store.old.history + 2 ≤ store.old.limit }
     requires waiting { AreWaiting net.now store.old.state standings.old waiting.old }
-    ensures settles { Settles (family_of K.start K.answer_of) net.now store.old standings.old result store.new standings.new }
+    ensures resolves { Resolves (family_of K.start K.answer_of) net.now store.old standings.old result store.new standings.new }
     ensures keeps { StandingsFit (family_of K.start K.answer_of) K.admits net.now None store.new.state standings.new }
     ensures waiting { AreWaiting net.now store.new.state standings.new waiting.new }
 {
     net.assure_valid();
     if standings.all_stopped() {
-        return Settled::Ended(End::Terminated);
+        return Resolution::Ended(End::Terminated);
     }
     let Some((channel, writer)) = choose(net, &waiting.candidates) else {
-        return Settled::Ended(End::Deadlock);
+        return Resolution::Ended(End::Deadlock);
     };
     let (_, capacity) = store.tokens_and_capacity(channel);
     if capacity >= net.ceiling() {
-        return Settled::Ended(End::Ceiling);
+        return Resolution::Ended(End::Ceiling);
     }
     let Some(answer) = parked(standings.as_slice(), writer) else {
         unreachable!()
     };
     let to = enlarged(capacity, net.step(), net.ceiling());
     let Ok(()) = store.grow(channel, to) else {
-        return Settled::Ended(End::Memory);
+        return Resolution::Ended(End::Memory);
     };
     waiting.candidates.remove(capacity, channel);
     waiting.marks.note_writer(channel, false);
     let Some(_) = advance(net, store, standings, writer, answer) else {
         unreachable!()
     };
-    Settled::Enlarged
+    Resolution::Enlarged
 }
 
 /// If no process is ready or out, ends the run, or lets the chosen channel grow and its writer put its
 /// token (Parks 1995). The run also ends if the growth is refused memory. In this case the history must
 /// have room for two entries.
 #[inline(always)]
-pub fn settle<K: Kinds>(
+pub fn resolve<K: Kinds>(
     net: &Net<K>,
     store: &mut Store,
     standings: &mut Roster,
     waiting: &mut Waiting,
-) -> Settled
+) -> Resolution
     requires keeps { StandingsFit (family_of K.start K.answer_of) K.admits net.now None store.old.state standings.old }
-    requires room { list_any is_busy standings.old ≡ false → length store.old.history + 2 ≤ store.old.room }
+    requires room { list_any is_busy standings.old ≡ false → length store.old.history + 2 ≤ store.old.limit }
     requires waiting { AreWaiting net.now store.old.state standings.old waiting.old }
-    ensures settles { Settles (family_of K.start K.answer_of) net.now store.old standings.old result store.new standings.new }
+    ensures resolves { Resolves (family_of K.start K.answer_of) net.now store.old standings.old result store.new standings.new }
     ensures keeps { StandingsFit (family_of K.start K.answer_of) K.admits net.now None store.new.state standings.new }
     ensures waiting { AreWaiting net.now store.new.state standings.new waiting.new }
 {
     if standings.any_busy() {
-        Settled::Busy
+        Resolution::Busy
     } else {
-        settle_idle(net, store, standings, waiting)
+        resolve_idle(net, store, standings, waiting)
     }
 }

@@ -6,15 +6,15 @@ use Rattle.kpn_commit.proofs.Waits.{waiting_writer}
 use Rattle.kpn_commit.proofs.Candidates.{candidate_within, chosen}
 use Rattle.kpn_commit.proofs.Idle.{idle_quiet, some_live, all_done, none_blocked, smallest_artificial, smallest_chosen}
 use Rattle.kpn_commit.proofs.Enlarging.{growth, grows_and_puts, keeps_enlarged, keeps_after_put, waiting_after_put, put_possible}
-use Rattle.kpn_commit.proofs.settle.settle_idle.Goals as goal
+use Rattle.kpn_commit.proofs.resolution.resolve_idle.Goals as goal
 
-pub returns-then-all_stopped-clause-settles : goal.returns-then-all_stopped-clause-settles
-returns-then-all_stopped-clause-settles g c =
+pub returns-then-all_stopped-clause-resolves : goal.returns-then-all_stopped-clause-resolves
+returns-then-all_stopped-clause-resolves g c =
     let k = c.requires.keeps in
     (c.requires.idle, refl, refl, (idle_quiet k c.requires.idle, all_done k (sym c.all_stopped.ensures ∙ c.if-all_stopped.true)))
 
-pub returns-in_default-clause-settles : goal.returns-in_default-clause-settles
-returns-in_default-clause-settles g c =
+pub returns-in_default-clause-resolves : goal.returns-in_default-clause-resolves
+returns-in_default-clause-resolves g c =
     let k = c.requires.keeps in (
       c.requires.idle,
       refl,
@@ -26,16 +26,16 @@ returns-in_default-clause-settles g c =
       ),
     )
 
-pub returns-then-capacity-ceiling-clause-settles : goal.returns-then-capacity-ceiling-clause-settles
-returns-then-capacity-ceiling-clause-settles g c =
+pub returns-then-capacity-ceiling-clause-resolves : goal.returns-then-capacity-ceiling-clause-resolves
+returns-then-capacity-ceiling-clause-resolves g c =
     let idle = c.requires.idle in
     let k = c.requires.keeps in
     let best = chosen c.requires.waiting.candidates c.in-Some.ensures.ordered _ c.in-Some.ensures.first in
     let most = k.greatest c.in-Some.channel in
     (idle, refl, refl, (smallest_artificial k idle c.in-Some.channel c.in-Some.writer best, (c.in-Some.channel, smallest_chosen k idle c.in-Some.channel c.in-Some.writer best, omega arith)))
 
-pub returns-in_default-grow-clause-settles : goal.returns-in_default-grow-clause-settles
-returns-in_default-grow-clause-settles g c =
+pub returns-in_default-grow-clause-resolves : goal.returns-in_default-grow-clause-resolves
+returns-in_default-grow-clause-resolves g c =
     let idle = c.requires.idle in
     let k = c.requires.keeps in
     let best = chosen c.requires.waiting.candidates c.in-Some.ensures.ordered _ c.in-Some.ensures.first in
@@ -70,15 +70,15 @@ unreachable-requires-in_default-advance g c =
     (put_possible c.requires.keeps c.in-Some.channel c.in-Some.writer c.enlarged-to.result best.0 c.in-Some-parked.answer parked
     (omega (arith, c.assure_valid.ensures.valid.some_step, c.enlarged-to.ensures, c.tokens_and_capacity-capacity.ensures.capacity, c.tokens_and_capacity-capacity.ensures.within, c.tokens_and_capacity-capacity.ensures.tokens))))
 
-pub returns-clause-settles : goal.returns-clause-settles
-returns-clause-settles g c =
+pub returns-clause-resolves : goal.returns-clause-resolves
+returns-clause-resolves g c =
     let did = c.in-Some-advance.ensures in
     let best = chosen c.requires.waiting.candidates c.in-Some.ensures.ordered _ c.in-Some.ensures.first in
     let parked = rw c.as_slice.ensures.value at c.in-Some-parked.ensures.some in
     let to_is : c.enlarged-to.result ≡ min (capacity c.args.store.now.state c.in-Some.channel + c.args.net.now.step) c.args.net.now.ceiling = rw (← c.tokens_and_capacity-capacity.ensures.capacity, ← c.step.ensures, ← c.ceiling-2.ensures) c.enlarged-to.ensures in (
       c.requires.idle,
       rw (did.entry, did.standing, c.in-Ok.ensures.ok)
-          (grows_and_puts c.requires.keeps c.in-Some.channel c.in-Some.writer c.enlarged-to.result best.0 c.in-Some-parked.answer parked c.requires.idle best (omega arith) to_is c.args.store.now.history c.args.store.now.room c.in-Some-advance.field-0 (rw c.in-Ok.ensures.ok at did.is_deed)),
+          (grows_and_puts c.requires.keeps c.in-Some.channel c.in-Some.writer c.enlarged-to.result best.0 c.in-Some-parked.answer parked c.requires.idle best (omega arith) to_is c.args.store.now.history c.args.store.now.limit c.in-Some-advance.field-0 (rw c.in-Ok.ensures.ok at did.is_deed)),
     )
 
 pub returns-clause-keeps : goal.returns-clause-keeps
@@ -97,4 +97,4 @@ returns-clause-waiting g c =
     let parked = rw c.as_slice.ensures.value at c.in-Some-parked.ensures.some in
     rw (did.entry, did.standing, c.in-Ok.ensures.ok, c.note_writer.ensures)
     (waiting_after_put c.requires.keeps c.in-Some.channel c.in-Some.writer c.enlarged-to.result best.0 c.in-Some-parked.answer parked c.requires.waiting c.in-Some-advance.field-0 c.remove.new.self
-    (rw c.tokens_and_capacity-capacity.ensures.capacity at c.remove.ensures.pairs) (rw c.tokens_and_capacity-capacity.ensures.capacity at c.remove.ensures.many) c.remove.ensures.room)
+    (rw c.tokens_and_capacity-capacity.ensures.capacity at c.remove.ensures.pairs) (rw c.tokens_and_capacity-capacity.ensures.capacity at c.remove.ensures.many) c.remove.ensures.limit)
