@@ -3,8 +3,9 @@ use crate::inputs::Pair;
 use hox_args::WordsFault;
 use hox_run::{AllKinds, Fault, FileFault, KINDS, LONGEST_FILE, PresetFault, ReadFault, Request};
 use kpn_front::{Refused, Status};
-use kpn_message::message_of;
+use kpn_message::{further_messages_of, message_of};
 use kpn_model::limits::{CEILING, GREATEST_HIGH_BUDGET, HIGH_CEILING};
+use kpn_net::NetFault;
 use kpn_tokens::LineFault;
 use std::str;
 
@@ -49,15 +50,32 @@ fn say_no_channel<R: Eprint>(rt: &R, name: &str) -> std::io::Result<()> {
     eprintln!(rt; "hox: no channel has the name {name}")
 }
 
-/// Says why the description in this file, or on standard input, is refused.
+/// Says why the description in this file, or on standard input, is refused, and what else is wrong with it.
 fn say_refused<R: Eprint + AllocGlobal>(rt: &R, file: Option<&str>, refused: &Refused) {
     let text = refused.text.as_slice();
-    let message = message_of::<AllKinds>(rt.alloc(), text, refused.fault, KINDS);
-    let _ = match (file, message) {
-        (None | Some("-"), Some(message)) => eprintln!(rt; "hox: {message}"),
-        (None | Some("-"), None) => eprintln!(rt; "hox: {}", refused.fault),
-        (Some(file), Some(message)) => eprintln!(rt; "hox: {file}: {message}"),
-        (Some(file), None) => eprintln!(rt; "hox: {file}: {}", refused.fault),
+    match message_of::<AllKinds>(rt.alloc(), text, refused.fault, KINDS) {
+        Some(message) => say_of(rt, file, message.as_str()),
+        None => say_plain(rt, file, refused.fault),
+    }
+    let further = further_messages_of::<AllKinds>(rt.alloc(), text, refused.fault, KINDS);
+    for message in &further {
+        say_of(rt, file, message.as_str());
+    }
+}
+
+/// Says this of the description in this file, or on standard input.
+fn say_of<R: Eprint>(rt: &R, file: Option<&str>, message: &str) {
+    let _ = match file {
+        None | Some("-") => eprintln!(rt; "hox: {message}"),
+        Some(file) => eprintln!(rt; "hox: {file}: {message}"),
+    };
+}
+
+/// Says the fault of the description in this file, or on standard input.
+fn say_plain<R: Eprint>(rt: &R, file: Option<&str>, fault: NetFault) {
+    let _ = match file {
+        None | Some("-") => eprintln!(rt; "hox: {fault}"),
+        Some(file) => eprintln!(rt; "hox: {file}: {fault}"),
     };
 }
 

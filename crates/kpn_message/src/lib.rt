@@ -9,6 +9,7 @@
 #![tactic(auto)]
 
 mod channels;
+mod further;
 mod keys;
 mod lines;
 pub mod location;
@@ -16,6 +17,7 @@ mod message;
 mod processes;
 mod quoted;
 
+pub use further::{MOST_MESSAGES, further_messages_of};
 pub use lines::line_of_table;
 pub use location::{Location, locate};
 pub use message::message_of;

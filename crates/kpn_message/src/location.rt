@@ -58,7 +58,8 @@ fn first_channel<K: Kinds>(sketch: &Sketch, fault: NetFault) -> Option<usize>
     None
 }
 
-fn process_has_fault<K: Kinds>(sketch: &Sketch, fault: NetFault, p: usize) -> bool
+/// Whether process `p` has the fault.
+pub(crate) fn process_has_fault<K: Kinds>(sketch: &Sketch, fault: NetFault, p: usize) -> bool
     ensures { result ≡ process_has_fault K.named K.signature sketch.now fault p }
 {
     let processes = sketch.processes.as_slice();
@@ -76,7 +77,8 @@ fn process_has_fault<K: Kinds>(sketch: &Sketch, fault: NetFault, p: usize) -> bo
     }
 }
 
-fn channel_has_fault<K: Kinds>(sketch: &Sketch, fault: NetFault, c: usize) -> bool
+/// Whether channel `c` has the fault.
+pub(crate) fn channel_has_fault<K: Kinds>(sketch: &Sketch, fault: NetFault, c: usize) -> bool
     ensures { result ≡ channel_has_fault K.named K.signature sketch.now fault c }
 {
     let channels = sketch.channels.as_slice();

@@ -1,5 +1,5 @@
 //! The message of a refused description.
-ghost use Rattle.std.specs.Prelude.{◌≡◌, ◌≢◌, ◌⊎◌, ◌<◌, [], true, length, slice_index_or, IfSome, string_bytes};
+ghost use Rattle.std.specs.Prelude.{◌≡◌, ◌≢◌, ◌⊎◌, [], true, option_map, slice_get, IfSome, string_bytes};
 
 use crate::channels::push_channel;
 use crate::keys::push_misfit;
@@ -42,7 +42,7 @@ pub fn message_of<K: Kinds>(
         },
         _ => {
             let sketch = read_sketch(alloc, text).ok()?;
-            push_fault::<K>(&mut out, &sketch, fault, kinds).ok()?;
+            return message_at::<K>(alloc, &sketch, fault, locate::<K>(&sketch, fault), kinds);
         }
     }
     unless_empty(out)
@@ -86,21 +86,39 @@ fn line_and_column(before: &[u8]) -> (usize, usize) {
     (line, column)
 }
 
-/// What is wrong with a sketch that has the fault.
-fn push_fault<K: Kinds>(
+/// What is wrong at a place of a sketch that has the fault there, on one line that no line feed ends.
+/// There is no message where memory is refused.
+pub(crate) fn message_at<K: Kinds>(
+    alloc: Global,
+    sketch: &Sketch,
+    fault: NetFault,
+    place: Location,
+    kinds: &str,
+) -> Option<String>
+    ensures said { IfSome result (λ message. string_bytes message ≢ []) }
+{
+    let mut out = String::new(alloc);
+    push_place::<K>(&mut out, sketch, fault, place, kinds).ok()?;
+    unless_empty(out)
+}
+
+/// What is wrong at a place of a sketch that has the fault there.
+fn push_place<K: Kinds>(
     out: &mut String,
     sketch: &Sketch,
     fault: NetFault,
+    place: Location,
     kinds: &str,
 ) -> Result<(), AllocError> {
-    match locate::<K>(sketch, fault) {
-        Location::Process(p) => {
-            push_process::<K>(out, sketch, process_at(sketch, p), fault, kinds)
-        }
+    match place {
+        Location::Process(p) => match process_at(sketch, p) {
+            Some(process) => push_process::<K>(out, sketch, process, fault, kinds),
+            None => Ok(()),
+        },
         Location::Channel(c) => {
-            let (earlier, rest) = sketch.channels.as_slice().split_at(c);
-            match rest.first() {
-                Some(channel) => push_channel::<K>(out, sketch, earlier, channel, fault),
+            let channels = sketch.channels.as_slice();
+            match channels.get(c) {
+                Some(channel) => push_channel::<K>(out, sketch, &channels[..c], channel, fault),
                 None => Ok(()),
             }
         }
@@ -108,12 +126,11 @@ fn push_fault<K: Kinds>(
     }
 }
 
-// The process of this number.
-fn process_at(sketch: &Sketch, p: usize) -> &ProcessSketch
-    requires { p < length sketch.now.processes }
-    ensures { result.now ≡ slice_index_or sketch.now.processes p result.now }
+/// The process of this number.
+fn process_at(sketch: &Sketch, p: usize) -> Option<&ProcessSketch>
+    ensures { option_map (λ process. process.now) result ≡ slice_get sketch.now.processes p }
 {
-    &sketch.processes.as_slice()[p]
+    sketch.processes.as_slice().get(p)
 }
 
 /// What is wrong with a description as a whole.

@@ -1,6 +1,6 @@
 //! The faults of a sketch: the first of them, and the conditions by which each is found.
 ghost use Rattle.std.specs.Prelude.{◌≡◌};
-ghost use Rattle.kpn_net.specs.Faults.{first_fault};
+ghost use Rattle.kpn_net.specs.Faults.{first_fault, has_fault};
 
 use crate::limits::{
     has_channel_with_wrong_tokens, has_wrong_budget, has_wrong_capacities, has_wrong_counts,
@@ -53,5 +53,28 @@ pub(crate) fn first_fault<K: Kinds>(sketch: &Sketch) -> Option<NetFault>
         Some(NetFault::Step)
     } else {
         None
+    }
+}
+
+/// Returns whether the condition of a fault holds of a sketch. No condition of `NotToml`, `Keys`, `Memory` and
+/// `Input` does.
+pub fn has_fault<K: Kinds>(sketch: &Sketch, fault: NetFault) -> bool
+    ensures { result ≡ has_fault K.named K.signature sketch.now fault }
+{
+    match fault {
+        NetFault::Version => has_wrong_version::<K>(sketch),
+        NetFault::Counts => has_wrong_counts::<K>(sketch),
+        NetFault::Name => has_wrong_names::<K>(sketch),
+        NetFault::Kind => has_unknown_kinds::<K>(sketch),
+        NetFault::Args => has_process_with_wrong_args::<K>(sketch),
+        NetFault::NoEnd => has_channel_without_end::<K>(sketch),
+        NetFault::Twice => shares_port::<K>(sketch),
+        NetFault::Unused => has_unused_ports::<K>(sketch),
+        NetFault::Sorts => has_wrong_sorts::<K>(sketch),
+        NetFault::Capacity => has_wrong_capacities::<K>(sketch),
+        NetFault::Budget => has_wrong_budget::<K>(sketch),
+        NetFault::Tokens => has_channel_with_wrong_tokens::<K>(sketch),
+        NetFault::Step => has_wrong_step::<K>(sketch),
+        NetFault::NotToml | NetFault::Keys | NetFault::Memory | NetFault::Input => false,
     }
 }

@@ -1,6 +1,7 @@
 //! Edits of a description, each with the number of its fault and its message.
 use crate::checks::same;
-use kpn_message::{Location, line_of_table, locate, message_of};
+use kpn_message::{Location, further_messages_of, line_of_table, locate, message_of};
+use kpn_net::faults::has_fault;
 use kpn_net::{Check, Net, NetFault, read_sketch};
 use kpn_standard::Standard;
 use std::alloc::Global;
@@ -514,4 +515,41 @@ fn locates_a_process_a_channel_and_neither(rt: HostRuntime) {
         Location::Description,
     ];
     assert!(rt; found == due);
+}
+
+/// A description with five faults that stand by themselves: of what follows from the unknown kind, as that
+/// c0 begins at no output, nothing is told.
+const FAULTY: &str = "version = 2
+budget = 0
+step = 0
+process = [{ name = \"src\", kind = \"cuont\", args = [1, 3] }, { name = \"snk\", kind = \"sink\" }]
+channel = [{ name = \"c0\", from = \"src\", to = \"snk\", capacity = 0 }]
+";
+
+/// What is told of it beside its first fault.
+static FURTHER: [&str; 4] = [
+    "process \"snk\": args has length 0; kind \"sink\" takes 1",
+    "channel \"c0\": capacity 0; it must be 1 to 1000000",
+    "budget 0; it must be 1 to 2000000",
+    "step 0; it must be 1 to 1024",
+];
+
+#[test]
+fn faults_that_stand_by_themselves_are_all_told(rt: HostRuntime) {
+    let alloc = rt.alloc();
+    let text = FAULTY.as_bytes();
+    let further = further_messages_of::<Standard>(alloc, text, NetFault::Kind, KINDS);
+    same(&rt, "how many", further.len(), FURTHER.len());
+    for (message, due) in further.as_slice().iter().zip(FURTHER.iter()) {
+        same(&rt, due, message.as_str(), *due);
+    }
+}
+
+#[test]
+fn a_fault_is_found_by_its_condition(rt: HostRuntime) {
+    let sketch = read_sketch(rt.alloc(), FAULTY.as_bytes()).expect(&rt, "a sketch");
+    let found = has_fault::<Standard>(&sketch, NetFault::Step);
+    same(&rt, "step", found, true);
+    let found = has_fault::<Standard>(&sketch, NetFault::Twice);
+    same(&rt, "twice", found, false);
 }
