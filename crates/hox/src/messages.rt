@@ -1,9 +1,9 @@
 //! What is said on standard error.
 use crate::inputs::Pair;
 use hox_args::WordsFault;
-use hox_run::{AllKinds, Fault, FileFault, KINDS, LONGEST_FILE, PresetFault, ReadFault, Request};
+use hox_run::{AllKinds, Fault, FileFault, KINDS, LONGEST_FILE, PresetFault, ReadFault, Request, sketch_by_ports};
 use kpn_front::{Refused, Status};
-use kpn_message::{further_messages_of, message_of};
+use kpn_message::{message_of, messages_of_sketch};
 use kpn_model::limits::{CEILING, GREATEST_HIGH_BUDGET, HIGH_CEILING};
 use kpn_net::NetFault;
 use kpn_tokens::LineFault;
@@ -50,15 +50,25 @@ fn say_no_channel<R: Eprint>(rt: &R, name: &str) -> std::io::Result<()> {
     eprintln!(rt; "hox: no channel has the name {name}")
 }
 
-/// Says why the description in this file, or on standard input, is refused, and what else is wrong with it.
+/// Says all that is wrong with the description in this file, or on standard input.
 fn say_refused<R: Eprint + AllocGlobal>(rt: &R, file: Option<&str>, refused: &Refused) {
+    let alloc = rt.alloc();
     let text = refused.text.as_slice();
-    match message_of::<AllKinds>(rt.alloc(), text, refused.fault, KINDS) {
+    if let Some(sketch) = sketch_by_ports::<AllKinds>(alloc, text) {
+        let messages = messages_of_sketch::<AllKinds>(alloc, &sketch, KINDS);
+        if !messages.is_empty() {
+            return say_each(rt, file, messages.as_slice());
+        }
+    }
+    match message_of::<AllKinds>(alloc, text, refused.fault, KINDS) {
         Some(message) => say_of(rt, file, message.as_str()),
         None => say_plain(rt, file, refused.fault),
     }
-    let further = further_messages_of::<AllKinds>(rt.alloc(), text, refused.fault, KINDS);
-    for message in &further {
+}
+
+/// Says each of these of the description in this file, or on standard input.
+fn say_each<R: Eprint>(rt: &R, file: Option<&str>, messages: &[String]) {
+    for message in messages {
         say_of(rt, file, message.as_str());
     }
 }

@@ -1,3 +1,4 @@
+pub mod Ports
 pub mod Presets
 pub mod Statuses
 pub mod Telling

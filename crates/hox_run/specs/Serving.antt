@@ -6,11 +6,12 @@ use Rattle.kpn_model.specs.declared.kinds.Card.{Card}
 use Rattle.kpn_model.specs.declared.kinds.Signature.{Signature}
 use Rattle.kpn_model.specs.Network.{Family, Network}
 use Rattle.kpn_execute.specs.Execution.{number_of_channel}
-use Rattle.kpn_front.specs.Loading.{Loads}
+use Rattle.kpn_front.specs.Loading.{LoadsChanged}
 use Rattle.hox_run.specs.declared.request.Request.{Request}
 use Rattle.hox_run.specs.declared.request.Fault.{Fault}
 use Rattle.hox_run.specs.declared.request.Fault.TheVariants.{Description, Tokens, Budget, NoShown, NoOutput, Memory, Lost}
 use Rattle.hox_run.specs.declared.telling.Told.{Told}
+use Rattle.hox_run.specs.Ports.{by_ports}
 use Rattle.hox_run.specs.Presets.{PresetAll, Stops, greatest_budget, with_budget}
 use Rattle.hox_run.specs.Telling.{TellsRun}
 
@@ -79,10 +80,10 @@ abbrev pub GivesLoaded : {X : Type 0} → (Network → Result X Fault → Type 0
 GivesLoaded gives (Ok net) result = gives net result
 GivesLoaded gives (Err fault) result = MatchResult result (λ x. ⊥) (λ e. refusal e ≡ Some fault)
 
--- the input is loaded, and this comes of it; known of the input are its bytes, if they are known at all, and whether a read had
+-- the input is loaded, with the sorts of its channels' ports, and this comes of it; known of the input are its bytes, if they are known at all, and whether a read had
 -- failed before and after
 pub record Serves {X : Type 0} (named : List ℕ → Option (ℕ × ℕ)) (signature : Card → Option Signature) (gives : Network → Result X Fault → Type 0) (input : Option (List ℕ)) (failed_before failed_after : Bool) (result : Result X Fault) : Type 0 where
   pub loaded : Result Network NetFault
-  pub loads : failed_before ≡ false → IfSome input (λ text. Loads named signature failed_after text loaded)
+  pub loads : failed_before ≡ false → IfSome input (λ text. LoadsChanged (by_ports named signature) named signature failed_after text loaded)
   pub failed : failed_before ≡ false → failed_after ≡ true → loaded ≡ Err Input
   pub comes : GivesLoaded gives loaded result

@@ -2,6 +2,7 @@
 //! bytes.
 #![tactic(auto)]
 
+mod described;
 mod family;
 mod parts;
 mod presets;
@@ -11,6 +12,7 @@ mod running;
 mod serving;
 mod telling;
 
+pub use described::sketch_by_ports;
 pub use family::{AllKinds, KINDS};
 pub use presets::{FileFault, PresetFault};
 pub use reading::{LONGEST_FILE, ReadFault, read_whole};

@@ -7,13 +7,14 @@ ghost use Rattle.kpn_front.specs.Loading.{ConsumesAtMost, longest};
 ghost use Rattle.hox_run.specs.Presets.{PresetAll};
 ghost use Rattle.hox_run.specs.Serving.{AreNamed, GivesNet, GivesRun, HasFewWorkers, IsNamed, Serves};
 
+use crate::described::load_by_ports;
 use crate::parts::parts_of;
 use crate::presets::{greatest_budget, preset, set_budget};
 use crate::request::{Fault, Request};
 use crate::running::{RunFault, execute};
 use crate::telling::Told;
 use kpn_compute::Computes;
-use kpn_front::{Source, load_or_refuse};
+use kpn_front::Source;
 use kpn_model::{Kinds, Text};
 use kpn_network::Net;
 use std::alloc::Global;
@@ -22,7 +23,8 @@ use std::sync::Wait;
 use std::thread::Threads;
 
 /// Reads a description from the source, gives its channels the tokens of the request's files and its
-/// network the request's budget, and runs it. Returns what is told of the run.
+/// network the request's budget, and runs it. Returns what is told of the run. A channel has the sort of its two
+/// ports, so that the description need not say it.
 ///
 /// Errors: see [`Fault`].
 pub fn serve<K: Computes, I: Source, R: Wait + Clock + Threads + Sync>(
@@ -35,7 +37,7 @@ pub fn serve<K: Computes, I: Source, R: Wait + Clock + Threads + Sync>(
     ensures served { Serves K.named K.signature (GivesRun (family_of K.start K.answer_of) request.now) (I.remaining source.old) (I.has_failed source.old) (I.has_failed source.new) result }
     ensures taken { ConsumesAtMost (longest + 1) (I.remaining source.old) (I.remaining source.new) }
 {
-    let loaded: Result<Net<K>, _> = load_or_refuse(alloc, source);
+    let loaded: Result<Net<K>, _> = load_by_ports(alloc, source);
     match loaded {
         Ok(net) => serve_net(rt, alloc, request, &net),
         Err(refused) => Err(Fault::Description(refused)),
@@ -54,7 +56,7 @@ pub fn prepare<K: Kinds, I: Source>(
     ensures served { Serves K.named K.signature (GivesNet request.now) (I.remaining source.old) (I.has_failed source.old) (I.has_failed source.new) result }
     ensures taken { ConsumesAtMost (longest + 1) (I.remaining source.old) (I.remaining source.new) }
 {
-    let loaded: Result<Net<K>, _> = load_or_refuse(alloc, source);
+    let loaded: Result<Net<K>, _> = load_by_ports(alloc, source);
     match loaded {
         Ok(net) => prepare_net(alloc, request, &net),
         Err(refused) => Err(Fault::Description(refused)),

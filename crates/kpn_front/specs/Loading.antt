@@ -30,24 +30,29 @@ without_text (Err refused) = Err refused.fault
 abbrev pub IsTextOf : List ℕ → Refused → Type 0
 IsTextOf text refused = (refused.text.items ≡ text) ⊎ ((refused.text.items ≡ []) × ((refused.fault ≡ Input) ⊎ (refused.fault ≡ Memory)))
 
-module _ (named : List ℕ → Option (ℕ × ℕ)) (signature : Card → Option Signature) (failed : Bool) (text : List ℕ) where
-  -- no read failed, and the text is no longer than a description may be
-  abbrev pub IsWhole : Type 0
-  IsWhole = (failed ≡ false) × (length text ≤ longest)
+-- no read failed, and the text is no longer than a description may be
+abbrev pub IsWhole : Bool → List ℕ → Type 0
+IsWhole failed text = (failed ≡ false) × (length text ≤ longest)
 
+-- `change` is what is made of a sketch before it is checked
+module _ (change : Sketch → Sketch) (named : List ℕ → Option (ℕ × ℕ)) (signature : Card → Option Signature) (failed : Bool) (text : List ℕ) where
   -- the text describes a sketch without a fault, and the network is that sketch's
-  abbrev pub IsNet : Network → Type 0
-  IsNet net = IsWhole × ((sketch : Sketch) × Describes text sketch × (first_fault named signature sketch ≡ None) × (net ≡ net_of named sketch))
+  abbrev pub IsNetOf : Network → Type 0
+  IsNetOf net = IsWhole failed text × ((sketch : Sketch) × Describes text sketch × (first_fault named signature (change sketch) ≡ None) × (net ≡ net_of named (change sketch)))
 
   -- nothing is made if a read failed or the text is too long; any other text has a fault of reading, or the sketch that it
   -- describes has a fault
   abbrev pub IsLoadFault : NetFault → Type 0
   IsLoadFault Memory = failed ≡ false
   IsLoadFault Input = (failed ≡ true) ⊎ (longest < length text)
-  IsLoadFault NotToml = IsWhole × IsReadFault text NotToml
-  IsLoadFault Keys = IsWhole × IsReadFault text Keys
-  IsLoadFault e = IsWhole × ((sketch : Sketch) × Describes text sketch × (first_fault named signature sketch ≡ Some e))
+  IsLoadFault NotToml = IsWhole failed text × IsReadFault text NotToml
+  IsLoadFault Keys = IsWhole failed text × IsReadFault text Keys
+  IsLoadFault e = IsWhole failed text × ((sketch : Sketch) × Describes text sketch × (first_fault named signature (change sketch) ≡ Some e))
 
   -- what is loaded of a source with this text, given whether a read failed
-  abbrev pub Loads : Result Network NetFault → Type 0
-  Loads result = MatchResult result IsNet IsLoadFault
+  abbrev pub LoadsChanged : Result Network NetFault → Type 0
+  LoadsChanged result = MatchResult result IsNetOf IsLoadFault
+
+-- the same, of the sketch as the text describes it
+abbrev pub Loads : (List ℕ → Option (ℕ × ℕ)) → (Card → Option Signature) → Bool → List ℕ → Result Network NetFault → Type 0
+Loads = LoadsChanged (λ sketch. sketch)

@@ -62,8 +62,11 @@ fn net_of_text<K: Kinds>(alloc: Global, text: &[u8]) -> Result<Net<K>, NetFault>
     Net::check(alloc, &sketch)
 }
 
-/// The bytes of a source, if a description may have that many.
-fn read_text<S: Source>(alloc: Global, source: &mut S) -> Result<Vec<u8>, NetFault>
+/// Returns the bytes of a source, read to its end, if a description may have that many: 1 MiB.
+///
+/// Errors: `Input` if a read fails or there are more bytes; `Memory` if memory was refused. What was read has
+/// then been consumed from the source.
+pub fn read_text<S: Source>(alloc: Global, source: &mut S) -> Result<Vec<u8>, NetFault>
     ensures ok { IfOk result (λ t. (length t.items ≤ longest) × IfSome (S.remaining source.old) (λ text. t.items ≡ text)) }
     ensures input { result ≡ Err NetFault.Input → (S.has_failed source.new ≡ true) ⊎ IfSome (S.remaining source.old) (λ text. longest < length text) }
     ensures fault { IfErr result (λ e. (e ≡ NetFault.Input) ⊎ (e ≡ NetFault.Memory)) }

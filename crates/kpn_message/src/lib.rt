@@ -9,7 +9,7 @@
 #![tactic(auto)]
 
 mod channels;
-mod further;
+mod every_fault;
 mod keys;
 mod lines;
 pub mod location;
@@ -17,7 +17,7 @@ mod message;
 mod processes;
 mod quoted;
 
-pub use further::{MOST_MESSAGES, further_messages_of};
+pub use every_fault::{MOST_MESSAGES, messages_of_sketch};
 pub use lines::line_of_table;
 pub use location::{Location, locate};
 pub use message::message_of;

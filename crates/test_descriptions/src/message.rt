@@ -1,6 +1,6 @@
 //! Edits of a description, each with the number of its fault and its message.
 use crate::checks::same;
-use kpn_message::{Location, further_messages_of, line_of_table, locate, message_of};
+use kpn_message::{Location, line_of_table, locate, message_of, messages_of_sketch};
 use kpn_net::faults::has_fault;
 use kpn_net::{Check, Net, NetFault, read_sketch};
 use kpn_standard::Standard;
@@ -526,8 +526,9 @@ process = [{ name = \"src\", kind = \"cuont\", args = [1, 3] }, { name = \"snk\"
 channel = [{ name = \"c0\", from = \"src\", to = \"snk\", capacity = 0 }]
 ";
 
-/// What is told of it beside its first fault.
-static FURTHER: [&str; 4] = [
+/// What is told of it, first the fault that it is refused for.
+static MESSAGES: [&str; 5] = [
+    "process \"src\": kind \"cuont\" is unknown; the kinds are count and sink",
     "process \"snk\": args has length 0; kind \"sink\" takes 1",
     "channel \"c0\": capacity 0; it must be 1 to 1000000",
     "budget 0; it must be 1 to 2000000",
@@ -536,18 +537,12 @@ static FURTHER: [&str; 4] = [
 
 #[test]
 fn faults_that_stand_by_themselves_are_all_told(rt: HostRuntime) {
-    let alloc = rt.alloc();
-    let text = FAULTY.as_bytes();
-    let further = further_messages_of::<Standard>(alloc, text, NetFault::Kind, KINDS);
-    same(&rt, "how many", further.len(), FURTHER.len());
-    for (message, due) in further.as_slice().iter().zip(FURTHER.iter()) {
+    let sketch = read_sketch(rt.alloc(), FAULTY.as_bytes()).expect(&rt, "a sketch");
+    let messages = messages_of_sketch::<Standard>(rt.alloc(), &sketch, KINDS);
+    same(&rt, "how many", messages.len(), MESSAGES.len());
+    for (message, due) in messages.as_slice().iter().zip(MESSAGES.iter()) {
         same(&rt, due, message.as_str(), *due);
     }
-}
-
-#[test]
-fn a_fault_is_found_by_its_condition(rt: HostRuntime) {
-    let sketch = read_sketch(rt.alloc(), FAULTY.as_bytes()).expect(&rt, "a sketch");
     let found = has_fault::<Standard>(&sketch, NetFault::Step);
     same(&rt, "step", found, true);
     let found = has_fault::<Standard>(&sketch, NetFault::Twice);

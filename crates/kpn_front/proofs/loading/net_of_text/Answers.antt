@@ -5,5 +5,5 @@ use Rattle.kpn_front.proofs.loading.net_of_text.Goals as goal
 
 pub returns : goal.returns
 returns g c =
-    loads_from g.K.Kinds.named g.K.Kinds.signature false c.args.text.now c.in_ok-sketch.sketch c.check.result
+    loads_from g.K.Kinds.named g.K.Kinds.signature (λ sketch. sketch) false c.args.text.now c.in_ok-sketch.sketch c.check.result
     (refl, c.requires) c.in_ok-sketch.ensures.ok c.check.ensures.ok c.check.ensures.fault

@@ -1,11 +1,11 @@
-//! What else is wrong with a description than the fault that it is refused for.
+//! All that is wrong with a sketch.
 ghost use Rattle.std.specs.Prelude.{◌≢◌, ◌≤◌, [], length, string_bytes};
 ghost use Rattle.std.specs.List.{All};
 
 use crate::location::{Location, channel_has_fault, locate, process_has_fault};
 use crate::message::message_at;
 use kpn_net::faults::{has_fault, has_unknown_kind};
-use kpn_net::{Kinds, NetFault, Sketch, read_sketch};
+use kpn_net::{Kinds, NetFault, Sketch};
 use std::alloc::Global;
 
 /// How many messages are told at most.
@@ -28,45 +28,27 @@ const FAULTS: [NetFault; 13] = [
     NetFault::Step,
 ];
 
-/// Why a sketch is refused, and which place was told of; and the names of the kinds, for messages.
-#[derive(Clone, Copy)]
-struct Refusal<'a> {
-    fault: NetFault,
-    told: Location,
-    kinds: &'a str,
-}
-
-/// Returns what else is wrong with the text of a description that is refused for this fault: for each fault
-/// that stands by itself, each process and each channel that has it, on a line of its own that no line feed
-/// ends, at most `MOST_MESSAGES` of them. What may only follow from another fault is not told: an end that is
-/// missing, or an unused port, where a name, a kind or an argument is wrong; or a capacity where the version
-/// is. `kinds` names the kinds that there are.
+/// Returns what is wrong with a sketch: for each fault that stands by itself, in the order of their numbers,
+/// each process and each channel that has it, on a line of its own that no line feed ends; at most
+/// `MOST_MESSAGES` of them. So the first is of the fault that the sketch is refused for. What may only follow
+/// from another fault is not told: an end that is missing, or an unused port, where a name, a kind or an
+/// argument is wrong; or a capacity where the version is. `kinds` names the kinds that there are.
 ///
-/// There are none where the text is no TOML or its keys are wrong. Where memory is refused some may lack.
+/// Where memory is refused some messages may lack.
 ///
 /// ```text
-/// for message in further_messages_of::<AllKinds>(rt.alloc(), text, refused.fault, KINDS) {
-///     say_line(rt, file, message.as_str());
+/// for message in &messages_of_sketch::<AllKinds>(rt.alloc(), &sketch, KINDS) {
+///     say_of(rt, file, message.as_str());
 /// }
 /// ```
-pub fn further_messages_of<K: Kinds>(
-    alloc: Global,
-    text: &[u8],
-    fault: NetFault,
-    kinds: &str,
-) -> Vec<String>
+pub fn messages_of_sketch<K: Kinds>(alloc: Global, sketch: &Sketch, kinds: &str) -> Vec<String>
     ensures few { length result.items ≤ MOST_MESSAGES }
     ensures said { All (λ message. string_bytes message ≢ []) result.items }
 {
     let mut messages = Vec::new(alloc);
-    let Ok(sketch) = read_sketch(alloc, text) else {
-        return messages;
-    };
-    let told = locate::<K>(&sketch, fault);
-    let refusal = Refusal { fault, told, kinds };
-    for other in FAULTS {
-        if has_fault::<K>(&sketch, other) && stands_alone::<K>(&sketch, other) {
-            push_places::<K>(alloc, &mut messages, &sketch, &refusal, other);
+    for fault in FAULTS {
+        if has_fault::<K>(sketch, fault) && stands_alone::<K>(sketch, fault) {
+            push_places::<K>(alloc, &mut messages, sketch, fault, kinds);
         }
     }
     messages
@@ -77,14 +59,12 @@ fn stands_alone<K: Kinds>(sketch: &Sketch, fault: NetFault) -> bool {
     match fault {
         NetFault::NoEnd | NetFault::Twice => !has_wrong_process::<K>(sketch),
         NetFault::Unused | NetFault::Sorts => {
-            !has_wrong_process::<K>(sketch)
-                && !has_fault::<K>(sketch, NetFault::NoEnd)
-                && !has_fault::<K>(sketch, NetFault::Twice)
+            !has_wrong_process::<K>(sketch) && !has_wrong_end::<K>(sketch)
         }
+        NetFault::Capacity | NetFault::Budget => !has_fault::<K>(sketch, NetFault::Version),
         NetFault::Tokens => {
             !has_fault::<K>(sketch, NetFault::Version) && !has_fault::<K>(sketch, NetFault::Sorts)
         }
-        NetFault::Capacity | NetFault::Budget => !has_fault::<K>(sketch, NetFault::Version),
         _ => true,
     }
 }
@@ -96,13 +76,18 @@ fn has_wrong_process<K: Kinds>(sketch: &Sketch) -> bool {
         || has_fault::<K>(sketch, NetFault::Args)
 }
 
+/// Whether a channel lacks an end, or shares one.
+fn has_wrong_end<K: Kinds>(sketch: &Sketch) -> bool {
+    has_fault::<K>(sketch, NetFault::NoEnd) || has_fault::<K>(sketch, NetFault::Twice)
+}
+
 /// The messages of a fault, of each place that has it.
 fn push_places<K: Kinds>(
     alloc: Global,
     messages: &mut Vec<String>,
     sketch: &Sketch,
-    refusal: &Refusal<'_>,
     fault: NetFault,
+    kinds: &str,
 )
     requires few { length messages.old.items ≤ MOST_MESSAGES }
     requires said { All (λ message. string_bytes message ≢ []) messages.old.items }
@@ -110,10 +95,10 @@ fn push_places<K: Kinds>(
     ensures said { All (λ message. string_bytes message ≢ []) messages.new.items }
 {
     if locate::<K>(sketch, fault) == Location::Description {
-        push_place::<K>(alloc, messages, sketch, refusal, fault, Location::Description);
+        push_place::<K>(alloc, messages, sketch, fault, Location::Description, kinds);
     }
-    push_processes::<K>(alloc, messages, sketch, refusal, fault);
-    push_channels::<K>(alloc, messages, sketch, refusal, fault);
+    push_processes::<K>(alloc, messages, sketch, fault, kinds);
+    push_channels::<K>(alloc, messages, sketch, fault, kinds);
 }
 
 /// The messages of the processes that have a fault. Of a process whose kind is unknown nothing is said of
@@ -122,8 +107,8 @@ fn push_processes<K: Kinds>(
     alloc: Global,
     messages: &mut Vec<String>,
     sketch: &Sketch,
-    refusal: &Refusal<'_>,
     fault: NetFault,
+    kinds: &str,
 )
     requires few { length messages.old.items ≤ MOST_MESSAGES }
     requires said { All (λ message. string_bytes message ≢ []) messages.old.items }
@@ -134,7 +119,7 @@ fn push_processes<K: Kinds>(
     for p in 0..processes.len() {
         let is_unknown = fault == NetFault::Args && has_unknown_kind::<K>(&processes[p]);
         if !is_unknown && process_has_fault::<K>(sketch, fault, p) {
-            push_place::<K>(alloc, messages, sketch, refusal, fault, Location::Process(p));
+            push_place::<K>(alloc, messages, sketch, fault, Location::Process(p), kinds);
         }
     }
 }
@@ -144,8 +129,8 @@ fn push_channels<K: Kinds>(
     alloc: Global,
     messages: &mut Vec<String>,
     sketch: &Sketch,
-    refusal: &Refusal<'_>,
     fault: NetFault,
+    kinds: &str,
 )
     requires few { length messages.old.items ≤ MOST_MESSAGES }
     requires said { All (λ message. string_bytes message ≢ []) messages.old.items }
@@ -154,29 +139,29 @@ fn push_channels<K: Kinds>(
 {
     for c in 0..sketch.channels.as_slice().len() {
         if channel_has_fault::<K>(sketch, fault, c) {
-            push_place::<K>(alloc, messages, sketch, refusal, fault, Location::Channel(c));
+            push_place::<K>(alloc, messages, sketch, fault, Location::Channel(c), kinds);
         }
     }
 }
 
-/// The message of a fault at a place, unless that is the one that was told, or there is no room for more.
+/// The message of a fault at a place, if there is room for one more.
 fn push_place<K: Kinds>(
     alloc: Global,
     messages: &mut Vec<String>,
     sketch: &Sketch,
-    refusal: &Refusal<'_>,
     fault: NetFault,
     place: Location,
+    kinds: &str,
 )
     requires few { length messages.old.items ≤ MOST_MESSAGES }
     requires said { All (λ message. string_bytes message ≢ []) messages.old.items }
     ensures few { length messages.new.items ≤ MOST_MESSAGES }
     ensures said { All (λ message. string_bytes message ≢ []) messages.new.items }
 {
-    if messages.len() >= MOST_MESSAGES || (fault == refusal.fault && place == refusal.told) {
+    if messages.len() >= MOST_MESSAGES {
         return;
     }
-    if let Some(message) = message_at::<K>(alloc, sketch, fault, place, refusal.kinds) {
+    if let Some(message) = message_at::<K>(alloc, sketch, fault, place, kinds) {
         let _ = messages.push(message);
     }
 }
