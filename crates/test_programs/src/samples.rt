@@ -5,9 +5,9 @@ use crate::checks::same;
 use hox_args::{Choice, WordsFault, channel_and_file, read_words};
 use hox_run::{
     AllKinds, Fault, FileFault, PresetFault, Request, TokenFile, execute, prepare, read_whole,
-    serve,
+    serve, sketch_by_ports,
 };
-use kpn_net::{Listed, Net, Text};
+use kpn_net::{Listed, Net, Sort, Text};
 use std::alloc::Global;
 use std::process::Abort;
 use std::rt::Clock;
@@ -113,6 +113,23 @@ fn a_network_is_run_by_two(rt: HostRuntime) {
         Ok(told) => same(&rt, "status", told.status.code(), 0),
         Err(_) => same(&rt, "memory", true, false),
     }
+}
+
+/// A channel of flags, of which nothing says so but its ports.
+const BARE: &str = r#"version = 1
+process = [{ name = "src", kind = "input_flags" }, { name = "snk", kind = "drain_flags" }]
+channel = [{ name = "f", from = "src", to = "snk" }]
+"#;
+
+#[test]
+fn a_channel_has_the_sort_of_its_ports(rt: HostRuntime) {
+    let sketch = sketch_by_ports::<AllKinds>(rt.alloc(), BARE.as_bytes());
+    let channels = match &sketch {
+        Some(sketch) => sketch.channels.as_slice(),
+        None => &[],
+    };
+    let sort = channels.first().map(|channel| channel.sort);
+    same(&rt, "sort", sort, Some(Sort::Flags));
 }
 
 #[test]

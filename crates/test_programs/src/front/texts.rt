@@ -4,7 +4,7 @@ ghost use Rattle.std.specs.Str.{bytes_eq};
 
 use crate::checks::same;
 use kpn_execute::{load, say_checked, say_refused};
-use kpn_front::{Fallible, Refused, Source, Status, load_or_refuse, say_lost};
+use kpn_front::{Fallible, Refused, Source, Status, load_or_refuse, read_text, say_lost};
 use kpn_net::{Act, Answer, Card, Kinds, Local, Net, NetFault, Signature, Sort, Token};
 use std::alloc::Global;
 use std::fmt::Write as _;
@@ -528,4 +528,11 @@ fn compare_refused<R: Abort>(rt: &R, alloc: Global, text: &[u8]) {
 fn hands_back_a_refused_text(rt: HostRuntime) {
     let text = "version = 1\nprocess = []\n".as_bytes();
     compare_refused(&rt, rt.alloc(), text);
+}
+
+#[test]
+fn a_description_is_read_to_its_end(rt: HostRuntime) {
+    let mut source = "version = 1\n".as_bytes();
+    let read = read_text(rt.alloc(), &mut source).expect(&rt, "a text");
+    same(&rt, "bytes", read.as_slice(), b"version = 1\n");
 }
