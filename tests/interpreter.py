@@ -14,6 +14,7 @@ import re
 import sys
 import tomllib
 from collections import deque
+from contextlib import contextmanager
 
 from toml_1_1 import as_1_0
 
@@ -250,6 +251,18 @@ SIGNALS = {
 def bring(kinds):
     """Adds kinds to those that descriptions may use."""
     KINDS.update(kinds)
+
+
+@contextmanager
+def brought(kinds):
+    """Has descriptions use these kinds too, meanwhile."""
+    others = dict(KINDS)
+    bring(kinds)
+    try:
+        yield
+    finally:
+        KINDS.clear()
+        bring(others)
 
 
 def args_fit(kind, args):

@@ -34,8 +34,14 @@ def args_of(choices, kind):
         return [word(choices), length(choices)]
     if kind in ("sink", "take"):
         return [length(choices)]
-    if kind in ("prefix", "scale"):
+    if kind in ("prefix", "scale", "constant", "hold"):
         return [word(choices)]
+    if kind in ("shift", "left", "low_pass"):
+        return [choices.randint(*pick(choices, ((0, 4), 4), ((0, 63), 1)))]
+    if kind in ("decimate", "repeat", "delay"):
+        return [choices.randint(1, 4)]
+    if kind == "clip":
+        return sorted([word(choices), word(choices)])
     if kind == "weave":
         return [choices.randint(1, 4), choices.randint(1, 4)]
     if kind == "divides":
@@ -58,6 +64,14 @@ class Growing:
         self.choices = choices
         self.processes, self.channels = [], []
         self.outs, self.ins = {"w": [], "f": []}, {"w": [], "f": []}
+
+    def source(self):
+        """A kind that gives words: its own, or where kinds for signals may be used those of a file."""
+        return "input" if "input" in KINDS and self.choices.random() < 0.6 else "count"
+
+    def end(self):
+        """A kind that takes words."""
+        return "drain" if "drain" in KINDS and self.choices.random() < 0.6 else "sink"
 
     def add(self, kind, joined):
         """Adds a process. With this probability each input is joined to an open output before it."""
@@ -94,24 +108,34 @@ class Growing:
                 self.add("divides", joined)
         while len(self.outs["w"]) != len(self.ins["w"]):
             if len(self.outs["w"]) > len(self.ins["w"]):
-                self.add(pick(self.choices, ("sink", 5), ("add", 1), ("merge", 1), ("weave", 1)), joined)
+                self.add(pick(self.choices, (self.end(), 5), ("add", 1), ("merge", 1), ("weave", 1)), joined)
             else:
-                self.add("count", joined)
+                self.add(self.source(), joined)
         for sort in "wf":
             while self.outs[sort]:
                 self.join(self.any_of(self.outs[sort]), self.any_of(self.ins[sort]), sort)
+
+
+# Kinds that write for ever: a network with one seldom comes to its own end.
+ENDLESS = ("constant", "count_up")
+
+
+def kinds_of(choices):
+    """The kinds of a network."""
+    kinds = [it for it in sorted(KINDS) if it not in ENDLESS or choices.random() < 0.1]
+    return choices.sample(kinds, choices.randint(2, len(kinds)))
 
 
 def ports_fitted(choices):
     """Processes and channels, without capacities yet."""
     size = choices.randint(*pick(choices, ((1, 5), 12), ((4, 12), 6), ((10, 24), 3), ((24, 50), 1)))
     joined = pick(choices, (1.0, 4), (0.9, 6), (0.7, 2), (0.0, 1))
-    kinds = ["take"] if choices.random() < 0.2 else choices.sample(sorted(KINDS), choices.randint(2, len(KINDS)))
+    kinds = ["take"] if choices.random() < 0.2 else kinds_of(choices)
     growing = Growing(choices)
     for _ in range(size):
         open_outs = sum(map(len, growing.outs.values()))
         ends = open_outs > 4 and choices.random() < 0.4
-        growing.add("sink" if ends else "count" if not open_outs else choices.choice(kinds), joined)
+        growing.add(growing.end() if ends else growing.source() if not open_outs else choices.choice(kinds), joined)
     growing.close(joined)
     return growing
 
@@ -119,7 +143,7 @@ def ports_fitted(choices):
 def chain(choices):
     """A source, processes that pass tokens on, and a sink."""
     growing = Growing(choices)
-    growing.add("count", 1)
+    growing.add(growing.source(), 1)
     for _ in range(choices.randint(0, pick(choices, (6, 5), (PROCESSES - 2, 1)))):
         growing.add(choices.choice(["scale", "take", "prefix"]), 1)
     growing.close(1)

@@ -7,7 +7,8 @@ import sys
 TOP = os.path.dirname(os.path.dirname(os.path.abspath(__file__)))
 PROGRAM = f"{TOP}/crates/kpn/out/kpn"
 DRAWER = f"{TOP}/crates/kpn_draw/out/kpn_draw"
-BRINGS = "`./kpn --help` (`./kpn-draw --help`), which brings it"
+HOX = f"{TOP}/crates/hox/out/hox"
+BRINGS = "`./kpn --help` (`./kpn-draw --help`, `./hox --help`), which brings it"
 SECONDS = 60  # that one run may take
 
 
@@ -23,20 +24,24 @@ class Program:
     def __init__(self, path):
         need(path, BRINGS)
         self.path = path
-        self.input, self.output = os.memfd_create("input"), os.memfd_create("output")
-        self.nothing = os.open(os.devnull, os.O_WRONLY)
+        self.files = [os.memfd_create(name) for name in ("input", "output", "errors")]
 
     def run(self, words, text):
         """What it writes on standard output, and its exit status. A signal is a negative status."""
-        for file in (self.input, self.output):
+        output, _, status = self.run_and_hear(words, text)
+        return output, status
+
+    def run_and_hear(self, words, text):
+        """The same, with what it writes on standard error between them."""
+        for file in self.files:
             os.ftruncate(file, 0)
             os.lseek(file, 0, os.SEEK_SET)
-        os.write(self.input, text)
-        os.lseek(self.input, 0, os.SEEK_SET)
-        files = [(os.POSIX_SPAWN_DUP2, it, n) for n, it in enumerate((self.input, self.output, self.nothing))]
-        process = os.posix_spawn(self.path, [self.path, *words], os.environ, file_actions=files)
-        status = self.wait(process)
-        return os.pread(self.output, os.fstat(self.output).st_size, 0), status
+        os.write(self.files[0], text)
+        os.lseek(self.files[0], 0, os.SEEK_SET)
+        actions = [(os.POSIX_SPAWN_DUP2, it, n) for n, it in enumerate(self.files)]
+        status = self.wait(os.posix_spawn(self.path, [self.path, *words], os.environ, file_actions=actions))
+        output, errors = (os.pread(it, os.fstat(it).st_size, 0) for it in self.files[1:])
+        return output, errors, status
 
     def wait(self, process):
         watch = os.pidfd_open(process)

@@ -1,0 +1,217 @@
+"""Random runs of `hox`, for tests/fuzz: networks of the standard kinds and those for signals, with files of tokens, outputs
+and budgets."""
+import os
+import random
+import re
+
+import hox_rules
+import networks
+from hox_rules import MOST_TOKENS, Request, Written, check_of, outcomes, prepared
+from interpreter import CEILING, GREATEST_BUDGET, SIGNALS, WORD, Network, brought, token_text
+from networks import pick, tables
+from program import Program
+from toml_texts import toml_text
+
+DESCRIPTION = "network.toml"
+BLANKS = ("", "", "", " ", "\t", "  ")
+NO_WORDS = ("0x", "1x", "-1", "+1", "1_0", "1 2", "1.0", "0xg", "true", "x", "é", str(WORD), hex(WORD), "0X1")
+NO_FLAGS = ("True", "truefalse", "1", "0", "x", "é", "true false")
+
+
+# Files of tokens.
+
+def word(choices):
+    return pick(choices, (networks.word(choices), 6), (WORD - 1 - choices.randint(0, 9), 1), (choices.randrange(WORD), 1))
+
+
+def word_text(choices, value):
+    return choices.choice([str(value), str(value), str(value), hex(value), f"0x{value:X}", f"00{value}", f"0x0{value:x}"])
+
+
+def line_of(choices, token):
+    """A line that says the token."""
+    text = token_text(token) if type(token) is bool else word_text(choices, token)
+    after = pick(choices, ("", 6), (",", 1), (", 2, three", 1), ("# so", 1), (" , # 7", 1))
+    return choices.choice(BLANKS) + text + choices.choice(BLANKS) + after
+
+
+def file_of(choices, tokens):
+    """A text that says these tokens."""
+    is_plain = choices.random() < 0.3
+    lines = []
+    for token in tokens:
+        while not is_plain and choices.random() < 0.1:
+            lines.append(choices.choice(["", "# nothing", "  ", "\t#1", ",1", " , "]))
+        lines.append(token_text(token) if is_plain else line_of(choices, token))
+    end = "\n" if is_plain else choices.choice(["\n", "\n", "\r\n"])
+    return (end.join(lines) + choices.choice([end, ""])).encode()
+
+
+def length(choices):
+    return choices.randint(*pick(choices, ((0, 3), 4), ((2, 12), 6), ((8, 60), 3), ((60, 400), 1)))
+
+
+def tokens_for(choices, sort):
+    return [choices.random() < 0.5 if sort == "flags" else word(choices) for _ in range(length(choices))]
+
+
+def spoiled(choices, text, sort):
+    """A text of tokens that is refused."""
+    how = choices.random()
+    if how < 0.1:
+        return b"1 # \xe9\n" + text
+    if how < 0.15:
+        return (b"true\n" if sort == "flags" else b"7\n") * (CEILING[1] + choices.randint(1, 3))
+    lines = text.decode().split("\n")
+    lines.insert(choices.randrange(len(lines) + 1), choices.choice(NO_FLAGS if sort == "flags" else NO_WORDS))
+    return "\n".join(lines).encode()
+
+
+# Requests.
+
+def is_name(name):
+    return type(name) is str and re.fullmatch("[a-z][a-z0-9_]*", name)
+
+
+def with_tokens(choices, request, network):
+    """Gives channels of the network tokens from files: nearly each that a process begins for which they are meant."""
+    kinds = {it.get("name"): it.get("kind") for it in tables(network, "process") if is_name(it.get("name"))}
+    often = choices.choice([0, 0.2, 0.6])
+    for it in tables(network, "channel"):
+        is_input = is_name(it.get("from")) and kinds.get(it["from"]) in ("input", "input_flags")
+        if is_name(it.get("name")) and choices.random() < (0.9 if is_input else often):
+            file = f"in{len(request.tokens)}" + choices.choice(["", ".txt", ".csv"])
+            text = file_of(choices, tokens_for(choices, it.get("sort")))
+            request.files[file] = spoiled(choices, text, it.get("sort")) if choices.random() < 0.01 else text
+            request.tokens.append((it["name"], file))
+    if choices.random() < 0.01:
+        request.files["in"] = b"1\n"
+        request.tokens.append(("nowhere", "in"))
+    choices.shuffle(request.tokens)
+    if request.tokens and request.description != "-" and choices.random() < 0.2:
+        name, file = request.tokens[0]
+        request.tokens[0] = name, "-"
+        request.files["-"] = request.files.pop(file)
+
+
+def with_outputs(choices, request, network):
+    """Asks for streams of the network: in files, at most one on standard output, and one in the report."""
+    names = [it["name"] for it in tables(network, "channel") if is_name(it.get("name"))]
+    chosen = names if choices.random() < 0.4 else choices.sample(names, choices.randint(0, min(len(names), 4)))
+    request.outputs = [(name, f"out{n}") for n, name in enumerate(chosen[:12])]
+    if request.outputs and choices.random() < 0.4:
+        n = choices.randrange(len(request.outputs))
+        request.outputs[n] = request.outputs[n][0], "-"
+    if choices.random() < 0.01:
+        request.outputs.append(("nowhere", "out"))
+    if names and choices.random() < 0.6:
+        request.show = choices.choice(names) if choices.random() < 0.99 else "nowhere"
+    request.quiet = choices.random() < 0.15
+
+
+def with_budget(choices, request, versions):
+    """A budget near the entries of the run, or fewer, if these are few."""
+    how = choices.random()
+    if how < 0.6:
+        return
+    if how < 0.61:
+        request.budget = choices.choice([0, *(it + 1 for it in GREATEST_BUDGET.values())])
+        return
+    try:
+        net = Network(prepared(request, versions), choices.random())
+    except hox_rules.Stopped:
+        return
+    net.run(1500)
+    near = net.entries + choices.randint(-3, 3)
+    request.budget = max(1, near if how < 0.8 else choices.randint(1, max(1, net.entries)))
+
+
+def full_request(choices, versions):
+    """A channel that a file fills up to its ceiling, or nearly, and that would have to grow past it."""
+    ceiling, more = CEILING[1], choices.randint(0, 4)
+    source = {"name": "src", "kind": "count", "args": [choices.randint(0, 9), choices.randint(more, 9)]}
+    end = {"name": "snk", "kind": "sink", "args": [choices.randint(0, 3)]}
+    network = {"version": 1, "process": [source, end], "channel": [{"name": "c0", "from": "src", "to": "snk"}]}
+    text = "".join(f"{choices.randint(0, 9)}\n" for _ in range(ceiling - more)).encode()
+    return Request(networks.plain(network), tokens=[("c0", "in")], files={"in": text}, outputs=[("c0", "out")])
+
+
+def request_of(choices, versions):
+    """A request, and what was done to its network."""
+    if choices.random() < 0.004 and 1 in versions:
+        return full_request(choices, versions), "full"
+    if choices.random() < 0.02:
+        return Request(toml_text(choices)), "toml"
+    network = networks.network(choices, versions)
+    if choices.random() < 0.5:
+        network["budget"] = 4000
+    how = pick(choices, ("valid", 18), ("edited", 1), ("bytes", 1))
+    if how == "edited":
+        network = networks.edited(choices, network)
+    text = networks.plain(network) if choices.random() < 0.4 else networks.odd(choices, network)
+    if how == "bytes":
+        text = networks.edited_text(choices, text)
+    request = Request(text, description=choices.choice(["-", DESCRIPTION]))
+    with_tokens(choices, request, network)
+    with_outputs(choices, request, network)
+    with_budget(choices, request, versions)
+    return request, how
+
+
+class Runner:
+    """The program, in a folder of its own, where it finds and leaves files."""
+
+    def __init__(self, path, folder):
+        self.program = Program(path)
+        os.chdir(folder)
+
+    def run(self, request, command, workers):
+        for file in os.listdir():
+            os.remove(file)
+        for file, text in {DESCRIPTION: request.text, **request.files}.items():
+            if file != "-":
+                with open(file, "wb") as out:
+                    out.write(text)
+        before = set(os.listdir())
+        output, errors, status = self.program.run_and_hear(request.words(command, workers), request.input())
+        return Written(output, errors, status, {file: read(file) for file in os.listdir() if file not in before})
+
+
+def read(file):
+    with open(file, "rb") as it:
+        return it.read()
+
+
+class HoxCase:
+    program = "hox"
+
+    def __init__(self, choices, versions):
+        self.seed, self.versions = choices.random(), versions
+        with brought(SIGNALS):
+            self.request, self.how = request_of(choices, versions)
+        self.text = self.request.text
+
+    def differences(self, runner, text, all_workers, repeats=1):
+        """What the program writes, if it is nothing that may be written, and the runs made."""
+        request = Request(**{**vars(self.request), "text": text})
+        with brought(SIGNALS):
+            expected, checked = outcomes(request, self.seed, self.versions), check_of(request, self.versions)
+        choices = random.Random(text)
+        runs = [("run", workers, expected) for workers in all_workers]
+        if isinstance(expected[0], hox_rules.Stopped):
+            runs = [choices.choice(runs), ("check", 1, [checked])]
+        elif choices.random() < 0.1:
+            runs.append(("check", 1, [checked]))
+        found, made = [], 0
+        for command, workers, may_be in runs * repeats:
+            made += 1
+            written = runner.run(request, command, workers)
+            faults = [it.fault(request, written) for it in may_be]
+            if None not in faults:
+                found.append((request.words(command, workers), f"{written}: {' or '.join(faults)}"))
+        return [it.kind() for it in expected], found, made
+
+    def said(self, expected):
+        """The case for the eyes."""
+        files = "".join(f"# {file}: {text[:2000]}\n" for file, text in self.request.files.items())
+        return f"# hox {' '.join(self.request.words('run', 1))}  ({self.how}: {' or '.join(expected)})\n{files}"

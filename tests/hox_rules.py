@@ -1,0 +1,247 @@
+"""What `hox run` and `hox check` may write, by tests/interpreter.py and docs/signals.md: files of tokens, the verdict on a
+run, and what goes where. It shares nothing with the engine."""
+import re
+from collections import namedtuple
+from dataclasses import dataclass, field
+
+from interpreter import CEILING, GREATEST_BUDGET, STATUS, WORD, Network, Refused, load, text_of, token_text
+
+MOST_TOKENS = 1000000
+VERDICTS = {"terminated": "finished", "budget": "cut", "ceiling": "full"}
+
+# What the program wrote on standard output and standard error, its exit status, and the files that were there afterwards.
+Written = namedtuple("Written", "output errors status files")
+
+
+@dataclass
+class Request:
+    """What the program is asked for. A file is given by its name, and `-` stands for standard input or output."""
+    text: bytes  # the description
+    description: str = "-"
+    tokens: list = field(default_factory=list)  # a channel and a file, for each file of tokens
+    outputs: list = field(default_factory=list)  # a channel and a file, for each stream that is written
+    files: dict = field(default_factory=dict)  # the texts of the files of tokens
+    show: str = None
+    budget: int = None
+    quiet: bool = False
+
+    def words(self, command, workers):
+        words = [command, self.description]
+        words += [it for channel, file in self.tokens for it in ("--tokens", f"{channel}={file}")]
+        if command == "check":
+            return words
+        words += [it for channel, file in self.outputs for it in ("--out", f"{channel}={file}")]
+        words += ["--show", self.show] if self.show is not None else []
+        words += ["--budget", str(self.budget)] if self.budget is not None else []
+        return [*words, "--workers", str(workers), *["--quiet"] * self.quiet]
+
+    def input(self):
+        return self.text if self.description == "-" else self.files.get("-", b"")
+
+
+class Stopped(Exception):
+    """A request that is not done: the exit status, and how the line on standard error begins."""
+
+    def __init__(self, status, said=""):
+        super().__init__(status, said)
+        self.status, self.said = status, f"hox: {said}".encode()
+
+    def kind(self):
+        return f"hox {self.status}: {self.said[5:24].decode(errors='replace')}"
+
+    def fault(self, request, written):
+        if written.status != self.status or written.output or written.files or not written.errors.startswith(self.said):
+            return f"expected status {self.status}, {self.said} on standard error, and no file"
+        return None
+
+
+# Files of tokens.
+
+def token_of(cell, sort):
+    """The token that a text stands for, or none."""
+    if sort == "flags":
+        return {"true": True, "false": False}.get(cell)
+    decimal, hexadecimal = re.fullmatch("[0-9]+", cell), re.fullmatch("0x([0-9a-fA-F]+)", cell)
+    value = int(cell) if decimal else int(hexadecimal[1], 16) if hexadecimal else WORD
+    return value if value < WORD else None
+
+
+def tokens_of(file, text, sort, most):
+    """The tokens of a file: one on each line, in front of a comma or a comment; lines without one count for nothing."""
+    try:
+        lines = text.decode().split("\n")
+    except UnicodeDecodeError:
+        raise Stopped(2, f"{file} is not UTF-8") from None
+    tokens = []
+    for number, line in enumerate(lines, 1):
+        cell = line.partition("#")[0].partition(",")[0].strip()
+        if cell:
+            tokens.append(token_of(cell, sort))
+            if tokens[-1] is None:
+                raise Stopped(2, f"line {number} of {file}: ")
+    if len(tokens) > most:
+        raise Stopped(2, f"{file} has more than {most} tokens")
+    return tokens
+
+
+def channel_named(sketch, name):
+    for it in sketch["channel"]:
+        if it["name"] == name:
+            return it
+    raise Stopped(1, f"no channel has the name {name}")
+
+
+def prepared(request, versions):
+    """The description, with the tokens of the files in its channels."""
+    try:
+        sketch = load(request.text, versions)
+    except Refused:
+        raise Stopped(2, "" if request.description == "-" else f"{request.description}: ") from None
+    for name, file in request.tokens:
+        channel = channel_named(sketch, name)
+        channel["tokens"] = tokens_of(file, request.files[file], channel["sort"], min(CEILING[sketch["version"]], MOST_TOKENS))
+        channel["capacity"] = max(channel["capacity"], len(channel["tokens"]))
+    return sketch
+
+
+# The verdict.
+
+def next_of(process):
+    """The process that this one waits for."""
+    channel = process.channel()
+    return channel.writer if process.wants[0] == "reads" else channel.reader
+
+
+def circle_of(first):
+    """The names on the cycle of waits on which this process is: itself, the channel at which another waits for it, that one,
+    and so on; none if it is on no cycle."""
+    names, seen, process = [], set(), first
+    while not process.done and process not in seen:
+        seen.add(process)
+        other = next_of(process)
+        names = [other.name, process.channel().name, *names]
+        if other is first:
+            return names
+        process = other
+    return []
+
+
+def verdict_of(net, cause):
+    if cause != "deadlock":
+        return VERDICTS[cause]
+    circles = [it for it in map(circle_of, net.processes) if it]
+    return " ".join(["cycle", *circles[0]]) if circles else "ran dry"
+
+
+# The run.
+
+def stream_of(net, name):
+    channel = next(it for it in net.channels if it.name == name)
+    return channel.begins_with + channel.put
+
+
+def due(request, report, streams):
+    """What is written where, of a report and the text of the stream of each output."""
+    to_output = b"".join(streams[name] for name, file in request.outputs if file == "-")
+    files = {file: streams[name] for name, file in request.outputs if file != "-"}
+    has_output = any(file == "-" for _, file in request.outputs)
+    report = b"" if request.quiet else report
+    return (to_output, report, files) if has_output else (report, b"", files)
+
+
+class Ended:
+    """A run that came to its own end: what is written is the same for all schedules."""
+
+    def __init__(self, request, net, cause):
+        self.verdict = verdict_of(net, cause)
+        self.status = 0 if self.verdict == "ran dry" else STATUS[cause]
+        report = net.report(cause, request.show) + f"verdict {self.verdict}\n".encode()
+        streams = {name: text_of(map(token_text, stream_of(net, name))) for name, _ in request.outputs}
+        self.due = due(request, report, streams)
+
+    def kind(self):
+        return f"hox {self.verdict.split(' ')[0]}"
+
+    def fault(self, request, written):
+        output, errors, files = self.due
+        if written != Written(output, errors, self.status, files):
+            return f"expected status {self.status}, {output} on standard output, {errors} on standard error, and {files}"
+        return None
+
+
+class Cut:
+    """A run that its budget cut: of each stream and that of the interpreter's own run, which is longer, one begins with the
+    other; and the streams have as many tokens as so many entries have that are no reads."""
+
+    def __init__(self, request, net, budget):
+        self.net, self.budget = net, budget
+        net.run(4 * budget + 100)
+
+    def kind(self):
+        return "hox cut"
+
+    def fault(self, request, written):
+        texts = {name: written.files.get(file, b"") for name, file in request.outputs if file != "-"}
+        texts.update({name: written.output for name, file in request.outputs if file == "-"})
+        output, errors, files = due(request, b"end budget\nverdict cut\n", texts)
+        if written != Written(output, errors, STATUS["budget"], files):
+            return f"expected status 3, {output} on standard output, {errors} on standard error, and the files {sorted(files)}"
+        return next(filter(None, (self.fault_of(name, text) for name, text in texts.items())), self.fault_of_count(texts))
+
+    def fault_of(self, name, text):
+        whole = list(map(token_text, stream_of(self.net, name)))
+        lines = text.decode().split("\n")
+        common = min(len(whole), len(lines) - 1)
+        if lines[-1] or lines[:common] != whole[:common]:
+            return f"expected that one of {name} and {' '.join(whole)} begins with the other"
+        return None
+
+    def fault_of_count(self, texts):
+        """Each entry is a put, or a take, of which there are no more than tokens, or a growth, of which there are no more than
+        puts, or a process's stop."""
+        held = {it.name: len(it.begins_with) for it in self.net.channels}
+        put = sum(text.count(b"\n") - held[name] for name, text in texts.items())
+        least = self.budget if len(texts) == len(held) else 0
+        if put > self.budget + 2 or 3 * put + sum(held.values()) + len(self.net.processes) < least:
+            return f"{put} tokens put in {self.budget} to {self.budget + 2} entries"
+        return None
+
+
+def outcomes(request, seed, versions):
+    """What a run may come to: with exactly as many entries as its budget it may be cut."""
+    try:
+        sketch = prepared(request, versions)
+        budget = sketch["budget"] if request.budget is None else request.budget
+        if not 1 <= budget <= GREATEST_BUDGET[sketch["version"]]:
+            raise Stopped(1, "--budget must be 1 to ")
+        for name in [request.show] * (request.show is not None) + [name for name, _ in request.outputs]:
+            channel_named(sketch, name)
+    except Stopped as stopped:
+        return [stopped]
+    net = Network(sketch, seed)
+    cause = net.run(budget)
+    if cause == "budget":
+        return [Cut(request, net, budget)]
+    ended = Ended(request, net, cause)
+    return [ended, Cut(request, net, budget)] if net.entries == budget and cause != "terminated" else [ended]
+
+
+class Checked:
+    """A description that is accepted."""
+
+    def __init__(self, sketch):
+        self.line = f"ok {len(sketch['process'])} processes {len(sketch['channel'])} channels\n".encode()
+
+    def kind(self):
+        return "hox ok"
+
+    def fault(self, request, written):
+        return None if written == Written(self.line, b"", 0, {}) else f"expected {self.line}"
+
+
+def check_of(request, versions):
+    """What a check comes to."""
+    try:
+        return Checked(prepared(request, versions))
+    except Stopped as stopped:
+        return stopped
