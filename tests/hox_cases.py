@@ -136,6 +136,11 @@ def full_request(choices, versions):
     return Request(networks.plain(network), tokens=[("c0", "in")], files={"in": text}, outputs=[("c0", "out")])
 
 
+def without_sorts(network):
+    """The network, of whose channels nothing says which sort they are but their ports."""
+    return {**network, "channel": [{key: it[key] for key in it if key != "sort"} for it in network["channel"]]}
+
+
 def request_of(choices, versions):
     """A request, and what was done to its network."""
     if choices.random() < 0.004 and 1 in versions:
@@ -148,7 +153,8 @@ def request_of(choices, versions):
     how = pick(choices, ("valid", 18), ("edited", 1), ("bytes", 1))
     if how == "edited":
         network = networks.edited(choices, network)
-    text = networks.plain(network) if choices.random() < 0.4 else networks.odd(choices, network)
+    shown = without_sorts(network) if how == "valid" and choices.random() < 0.5 else network
+    text = networks.plain(shown) if choices.random() < 0.4 else networks.odd(choices, shown)
     if how == "bytes":
         text = networks.edited_text(choices, text)
     request = Request(text, description=choices.choice(["-", DESCRIPTION]))

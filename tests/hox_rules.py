@@ -4,7 +4,7 @@ import re
 from collections import namedtuple
 from dataclasses import dataclass, field
 
-from interpreter import CEILING, GREATEST_BUDGET, STATUS, WORD, Network, Refused, load, text_of, token_text
+from interpreter import CEILING, GREATEST_BUDGET, KINDS, SORTS, STATUS, WORD, Network, Refused, load, text_of, token_text
 
 MOST_TOKENS = 1000000
 VERDICTS = {"terminated": "finished", "budget": "cut", "ceiling": "full"}
@@ -91,10 +91,26 @@ def channel_named(sketch, name):
     raise Stopped(1, f"no channel has the name {name}")
 
 
+def port_sort(processes, name, direction, number):
+    """The sort of a port of the first process of this name, if there is one."""
+    kinds = [it["kind"] for it in processes if it["name"] == name]
+    sorts = KINDS[kinds[0]][2 if direction == "in" else 3] if kinds and kinds[0] in KINDS else ""
+    return SORTS[sorts[number]] if 0 <= number < len(sorts) else None
+
+
+def by_ports(sketch):
+    """The description, in which each channel has the sort of its ports where these agree."""
+    for it in sketch["channel"]:
+        sorts = {port_sort(sketch["process"], it["from"], "out", it["out"]), port_sort(sketch["process"], it["to"], "in", it["in"])}
+        if len(sorts) == 1 and None not in sorts:
+            it["sort"] = sorts.pop()
+    return sketch
+
+
 def prepared(request, versions):
     """The description, with the tokens of the files in its channels."""
     try:
-        sketch = load(request.text, versions)
+        sketch = load(request.text, versions, by_ports)
     except Refused:
         raise Stopped(2, "" if request.description == "-" else f"{request.description}: ") from None
     for name, file in request.tokens:

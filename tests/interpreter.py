@@ -462,8 +462,9 @@ def first_fault(sketch, versions):
     return None
 
 
-def load(text, versions):
-    sketch = read_sketch(document(text), versions)
+def load(text, versions, change=lambda sketch: sketch):
+    """What a text describes, as `change` has it."""
+    sketch = change(read_sketch(document(text), versions))
     number = first_fault(sketch, versions)
     if number:
         raise Refused(number)

@@ -15,14 +15,26 @@ pub enum Line<'a> {
 
 /// What the line says; `None` if nothing that is known.
 pub fn read_line(line: &str) -> Option<Line<'_>> {
-    if let Ok(word) = line.parse::<u64>() {
-        return Some(Line::Word(word));
+    match line.parse::<u64>() {
+        Ok(word) => Some(Line::Word(word)),
+        Err(_) => read_words(line),
     }
+}
+
+/// What the words of a line say.
+fn read_words(line: &str) -> Option<Line<'_>> {
     let mut words = line.split_whitespace();
-    let (verb, first) = (words.next()?, words.next()?);
+    match (words.next(), words.next()) {
+        (Some(verb), Some(first)) => said(verb, first, words.next().unwrap_or("")),
+        _ => None,
+    }
+}
+
+/// What a verb says of a word and of what follows it.
+fn said<'a>(verb: &str, first: &'a str, rest: &str) -> Option<Line<'a>> {
     match verb {
         "feed" => Some(Line::Feed(first)),
-        "drain" => Some(Line::Drain(first, words.next()?.parse().ok()?)),
+        "drain" => Some(Line::Drain(first, rest.parse().ok()?)),
         "advance" => Some(Line::Advance(first.parse().ok()?)),
         "end" => Some(Line::End(first)),
         _ => None,

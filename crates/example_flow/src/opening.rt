@@ -19,23 +19,34 @@ pub struct Description {
 /// Reads the lines of a description, and the two that follow.
 pub fn read_description<S: BufRead>(alloc: Global, source: &mut S) -> Result<Description> {
     let mut text = String::new(alloc);
+    let inputs = read_text(alloc, source, &mut text)?;
+    let mut outputs = String::new(alloc);
+    source.read_line(&mut outputs)?;
+    Ok(Description {
+        text,
+        inputs,
+        outputs,
+    })
+}
+
+/// Appends the lines of a description to a text, and returns the one after them, which begins with `inputs`.
+fn read_text<S: BufRead>(alloc: Global, source: &mut S, text: &mut String) -> Result<String> {
     for _ in 0..u64::MAX {
-        let mut line = String::new(alloc);
-        if source.read_line(&mut line)? == 0 {
-            bail!("no line that begins with `inputs`");
-        }
+        let line = next_line(alloc, source)?;
         if line.starts_with("inputs") {
-            let mut outputs = String::new(alloc);
-            source.read_line(&mut outputs)?;
-            return Ok(Description {
-                text,
-                inputs: line,
-                outputs,
-            });
+            return Ok(line);
         }
         text.push_str(line.as_str())?;
     }
     bail!("the description does not end");
+}
+
+fn next_line<S: BufRead>(alloc: Global, source: &mut S) -> Result<String> {
+    let mut line = String::new(alloc);
+    match source.read_line(&mut line)? {
+        0 => bail!("no line that begins with `inputs`"),
+        _ => Ok(line),
+    }
 }
 
 /// Opens a flow of the network that is described.

@@ -43,28 +43,13 @@ impl Piped {
     /// Does what a line says, and writes what comes of it.
     pub fn obey<W: Write>(&mut self, alloc: Global, line: &str, sink: &mut W) -> Result<()> {
         match read_line(line) {
-            Some(Line::Word(word)) => self.pour(word, sink)?,
-            Some(Line::Feed(name)) => {
-                let fed = self.feed(alloc, name, line)?;
-                writeln!(sink, "fed {fed}")?;
-            }
-            Some(Line::Drain(name, most)) => {
-                let Some(port) = self.outputs.iter().find(|port| port.name.as_str() == name) else {
-                    bail!("no output {name}");
-                };
-                write_output(&mut self.flow, port, most, sink)?;
-            }
-            Some(Line::Advance(most)) => {
-                let pause = self.flow.advance(most);
-                write_pause(&self.flow, pause, sink)?;
-            }
-            Some(Line::End(name)) => {
-                let channel = self.input_named(name)?;
-                self.flow.end_input(channel);
-            }
+            Some(Line::Word(word)) => self.pour(word, sink),
+            Some(Line::Feed(name)) => self.feed(alloc, name, line, sink),
+            Some(Line::Drain(name, most)) => self.drain(name, most, sink),
+            Some(Line::Advance(most)) => self.advance(most, sink),
+            Some(Line::End(name)) => self.end(name),
             None => bail!("a line that says nothing: {line}"),
         }
-        Ok(())
     }
 
     fn input_named(&self, name: &str) -> Result<usize> {
@@ -74,14 +59,38 @@ impl Piped {
         }
     }
 
-    /// Feeds the tokens that a line names after its first two words, and returns for how many there was room.
-    fn feed(&mut self, alloc: Global, name: &str, line: &str) -> Result<usize> {
+    /// Feeds the tokens that a line names after its first two words, and writes for how many there was room.
+    fn feed<W: Write>(
+        &mut self,
+        alloc: Global,
+        name: &str,
+        line: &str,
+        sink: &mut W,
+    ) -> Result<()> {
         let channel = self.input_named(name)?;
         let batch = read_tokens(alloc, line)?;
-        if !self.flow.may_feed_all(channel, batch.as_slice()) {
-            bail!("{name} has ended, or a token is of another sort");
+        match offer_all(&mut self.flow, channel, batch.as_slice()) {
+            Some(fed) => Ok(writeln!(sink, "fed {fed}")?),
+            None => bail!("{name} has ended, or a token is of another sort"),
         }
-        Ok(self.flow.feed_all(channel, batch.as_slice()))
+    }
+
+    fn drain<W: Write>(&mut self, name: &str, most: usize, sink: &mut W) -> Result<()> {
+        match self.outputs.iter().find(|port| port.name.as_str() == name) {
+            Some(port) => Ok(write_output(&mut self.flow, port, most, sink)?),
+            None => bail!("no output {name}"),
+        }
+    }
+
+    fn advance<W: Write>(&mut self, most: u64, sink: &mut W) -> Result<()> {
+        let pause = self.flow.advance(most);
+        Ok(write_pause(&self.flow, pause, sink)?)
+    }
+
+    fn end(&mut self, name: &str) -> Result<()> {
+        let channel = self.input_named(name)?;
+        self.flow.end_input(channel);
+        Ok(())
     }
 
     /// Feeds a word into the first input. Where that is full, the flow goes on until there is room.
@@ -135,6 +144,14 @@ impl Piped {
         }
         Ok(())
     }
+}
+
+/// Feeds tokens, and returns for how many there was room; `None` if the input takes none of them.
+fn offer_all(flow: &mut CardFlow, channel: usize, batch: &[Token]) -> Option<usize> {
+    if !flow.may_feed_all(channel, batch) {
+        return None;
+    }
+    Some(flow.feed_all(channel, batch))
 }
 
 /// Feeds a token, and returns whether there was room.
