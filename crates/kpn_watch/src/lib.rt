@@ -18,8 +18,6 @@ mod board;
 mod counting;
 mod progress;
 mod rule;
-#[cfg(test)]
-mod tests;
 
 pub use board::{Board, MOST_WATCHERS, Publisher, WatchFault, Watcher};
 pub use counting::CountingPublisher;

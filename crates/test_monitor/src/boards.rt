@@ -1,0 +1,152 @@
+//! Boards: how many watchers there may be, and histories whose words were worked out by hand.
+ghost use Rattle.std.specs.Prelude.{◌≡◌, ◌+◌, ◌^◌, ◌<◌, ◌%◌, ◌++◌, [], length};
+ghost use Rattle.kpn_watch.specs.Phases.{phase_of};
+
+use crate::checks::same;
+use kpn_model::{Deed, End, Entry, Token};
+use kpn_watch::{Board, CountingPublisher, Phase, Progress, Publisher, Watcher};
+use std::alloc::Global;
+use std::process::Abort;
+
+fn progress(entries: u32, growths: u32, phase: Phase) -> Progress {
+    Progress {
+        entries,
+        growths,
+        phase,
+    }
+}
+
+// How many watchers a board allows.
+fn watchers(board: &Board, publisher: &mut Publisher) -> usize
+    requires { publisher.old.board ≡ board.now }
+{
+    let mut made = 0;
+    for tried in 0..100usize {
+        if let Ok(watcher) = board.split(publisher) {
+            board.join(watcher, publisher);
+            made += 1;
+        }
+    }
+    made
+}
+
+#[test]
+fn there_are_64_watchers(rt: HostRuntime) {
+    let (board, mut publisher) = Board::new(rt.alloc()).expect(&rt, "no memory");
+    same(&rt, "watchers", watchers(&board, &mut publisher), 64);
+}
+
+/// A board with a watcher, and the history that is shown on it.
+#[derive(Drop)]
+struct Display {
+    board: Board,
+    publisher: CountingPublisher,
+    watcher: Watcher,
+    history: Vec<Entry>,
+    ghost published: { publisher.board ≡ board },
+    ghost watched: { watcher.board ≡ board },
+}
+
+/// What a look must return, and the word from which it is read.
+#[derive(Clone, Copy)]
+struct Due {
+    progress: Progress,
+    word: u64,
+    ghost size: { word < 2 ^ 47 },
+    ghost phase: { word % 8 < 6 },
+}
+
+fn shown(entries: u32, growths: u32, phase: Phase, word: u64) -> Due
+    requires size { word < 2 ^ 47 }
+    requires phase { word % 8 < 6 }
+{
+    Due {
+        progress: progress(entries, growths, phase),
+        word,
+    }
+}
+
+impl Display {
+    fn new<R: Abort>(rt: &R, alloc: Global) -> Display
+        ensures { (result.publisher.entries ≡ result.history.items) × (result.publisher.phase ≡ Phase.Running) × (result.history.items ≡ []) }
+    {
+        let (board, publisher) = Board::new(alloc).expect(rt, "no memory");
+        let mut publisher = CountingPublisher::new(publisher);
+        let watcher = publisher.watch(&board).expect(rt, "no watcher");
+        Display {
+            board,
+            publisher,
+            watcher,
+            history: Vec::new(alloc),
+        }
+    }
+
+    fn look(&mut self) -> Progress
+        ensures publisher { self.new.publisher ≡ self.old.publisher }
+        ensures history { self.new.history ≡ self.old.history }
+    {
+        self.board.look(&mut self.watcher)
+    }
+
+    /// Publishes the history with these entries appended, and compares a look.
+    fn append<R: Abort>(&mut self, rt: &R, more: &[Entry], ended: Option<End>, due: Due)
+        requires shown { (self.old.publisher.entries ≡ self.old.history.items) × (self.old.publisher.phase ≡ Phase.Running) }
+        requires short { length self.old.history.items + length more.now < 100 }
+        ensures shown { (self.new.publisher.entries ≡ self.new.history.items) × (self.new.publisher.phase ≡ phase_of ended) }
+        ensures history { self.new.history.items ≡ self.old.history.items ++ more.now }
+    {
+        self.history.extend_from_slice(more).expect(rt, "no memory");
+        self.publisher
+            .publish(&self.board, self.history.as_slice(), ended);
+        same(rt, "look", self.look(), due.progress);
+        same(rt, "word", Progress::of_word(due.word), due.progress);
+    }
+}
+
+fn put(number: u64) -> Entry {
+    Entry::Did {
+        process: 0,
+        deed: Deed::Put {
+            channel: 0,
+            token: Token::Word(number),
+        },
+    }
+}
+
+fn stopped(process: usize) -> Entry {
+    Entry::Did {
+        process,
+        deed: Deed::Stopped,
+    }
+}
+
+/// A counter of three into a sink of one: the channel of capacity one grows to two.
+#[test]
+fn each_commit_has_its_word(rt: HostRuntime) {
+    let mut display = Display::new(&rt, rt.alloc());
+    let running = Phase::Running;
+    same(&rt, "nothing", display.look(), progress(0, 0, running));
+    let took = Entry::Did {
+        process: 1,
+        deed: Deed::Took {
+            channel: 0,
+            token: Token::Word(1),
+        },
+    };
+    display.append(&rt, &[put(1)], None, shown(1, 0, running, 33_554_432));
+    display.append(&rt, &[took], None, shown(2, 0, running, 67_108_864));
+    display.append(&rt, &[put(2)], None, shown(3, 0, running, 100_663_296));
+    display.append(&rt, &[stopped(1)], None, shown(4, 0, running, 134_217_728));
+    let grew = Entry::Grew { channel: 0, to: 2 };
+    let grown = shown(6, 1, running, 201_326_600);
+    display.append(&rt, &[grew, put(3)], None, grown);
+    let last = shown(7, 1, Phase::Terminated, 234_881_033);
+    display.append(&rt, &[stopped(0)], Some(End::Terminated), last);
+    let Display {
+        board,
+        mut publisher,
+        watcher,
+        history: _,
+    } = display;
+    same(&rt, "left", publisher.join(&board, watcher), last.progress);
+}
