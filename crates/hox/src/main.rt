@@ -2,6 +2,7 @@
 //! channels.
 #![tactic(auto)]
 
+mod hints;
 mod inputs;
 mod messages;
 mod outputs;

@@ -1,4 +1,5 @@
 //! What is said on standard error.
+use crate::hints::wants_version_2;
 use crate::inputs::Pair;
 use hox_args::WordsFault;
 use hox_run::{AllKinds, Fault, FileFault, KINDS, LONGEST_FILE, PresetFault, ReadFault, Request, sketch_by_ports};
@@ -50,19 +51,28 @@ fn say_no_channel<R: Eprint>(rt: &R, name: &str) -> std::io::Result<()> {
     eprintln!(rt; "hox: no channel has the name {name}")
 }
 
-/// Says all that is wrong with the description in this file, or on standard input.
+/// Says all that is wrong with the description in this file, or on standard input, and whether version 2 would
+/// do.
 fn say_refused<R: Eprint + AllocGlobal>(rt: &R, file: Option<&str>, refused: &Refused) {
-    let alloc = rt.alloc();
     let text = refused.text.as_slice();
+    say_wrong(rt, file, text, refused.fault);
+    if wants_version_2(rt.alloc(), text, refused.fault) {
+        say_of(rt, file, "version = 2 in place of version = 1 would allow it");
+    }
+}
+
+/// Says all that is wrong with this text.
+fn say_wrong<R: Eprint + AllocGlobal>(rt: &R, file: Option<&str>, text: &[u8], fault: NetFault) {
+    let alloc = rt.alloc();
     if let Some(sketch) = sketch_by_ports::<AllKinds>(alloc, text) {
         let messages = messages_of_sketch::<AllKinds>(alloc, &sketch, KINDS);
         if !messages.is_empty() {
             return say_each(rt, file, messages.as_slice());
         }
     }
-    match message_of::<AllKinds>(alloc, text, refused.fault, KINDS) {
+    match message_of::<AllKinds>(alloc, text, fault, KINDS) {
         Some(message) => say_of(rt, file, message.as_str()),
-        None => say_plain(rt, file, refused.fault),
+        None => say_plain(rt, file, fault),
     }
 }
 
