@@ -1,6 +1,10 @@
 //! What would do for a refused description.
-use hox_run::{AllKinds, sketch_by_ports};
-use kpn_net::{Check, Net, NetFault, read_sketch};
+ghost use Rattle.std.specs.Prelude.{◌≤◌, length};
+
+use hox_run::{AllKinds, KINDS, sketch_by_ports};
+use kpn_model::Kinds;
+use kpn_net::faults::process_named;
+use kpn_net::{Check, Net, NetFault, Sketch, read_sketch};
 use std::alloc::Global;
 use std::str;
 
@@ -33,4 +37,81 @@ fn fault_of(alloc: Global, text: &[u8]) -> Option<NetFault> {
     };
     let checked: Result<Net<AllKinds>, NetFault> = Net::check(alloc, &sketch);
     checked.err()
+}
+
+/// Says which kind was likely meant by each unknown one, and which process by each name of none.
+pub(crate) fn say_meant<R: Eprint>(rt: &R, file: Option<&str>, sketch: &Sketch) {
+    for process in sketch.processes.as_slice() {
+        say_kind_meant(rt, file, process.kind.as_str());
+    }
+    for channel in sketch.channels.as_slice() {
+        say_process_meant(rt, file, sketch, channel.from.as_str());
+        say_process_meant(rt, file, sketch, channel.to.as_str());
+    }
+}
+
+/// Says which kind was likely meant, if this is the name of none.
+fn say_kind_meant<R: Eprint>(rt: &R, file: Option<&str>, name: &str) {
+    if AllKinds::named(name).is_some() {
+        return;
+    }
+    for kind in KINDS.split_whitespace() {
+        let kind = kind.trim_end_matches(',');
+        if is_near(name.as_bytes(), kind.as_bytes()) {
+            return say_near(rt, file, name, kind);
+        }
+    }
+}
+
+/// Says which process was likely meant, if this is the name of none.
+fn say_process_meant<R: Eprint>(rt: &R, file: Option<&str>, sketch: &Sketch, name: &str) {
+    let processes = sketch.processes.as_slice();
+    if process_named(processes, name).is_some() {
+        return;
+    }
+    for process in processes {
+        if is_near(name.as_bytes(), process.name.as_str().as_bytes()) {
+            return say_near(rt, file, name, process.name.as_str());
+        }
+    }
+}
+
+/// Says which name was likely meant.
+fn say_near<R: Eprint>(rt: &R, file: Option<&str>, name: &str, near: &str) {
+    let _ = match file {
+        None | Some("-") => eprintln!(rt; "hox: did you mean {near} by {name}?"),
+        Some(file) => eprintln!(rt; "hox: {file}: did you mean {near} by {name}?"),
+    };
+}
+
+/// Whether one name becomes the other when a letter is put in, left out or changed, or two neighbours change
+/// places.
+fn is_near(name: &[u8], other: &[u8]) -> bool {
+    let front = common_front(name, other);
+    let (a, b) = (&name[front..], &other[front..]);
+    match (a, b) {
+        ([], rest) | (rest, []) => rest.len() <= 1,
+        ([x, xs @ ..], [y, ys @ ..]) => {
+            xs == ys || xs == b || a == ys || is_turned(*x, xs, *y, ys)
+        }
+    }
+}
+
+/// Whether the first two bytes have changed places, and the others are the same.
+fn is_turned(x: u8, xs: &[u8], y: u8, ys: &[u8]) -> bool {
+    match (xs, ys) {
+        ([p, ps @ ..], [q, qs @ ..]) => x == *q && y == *p && ps == qs,
+        _ => false,
+    }
+}
+
+/// How many bytes at the front are the same.
+fn common_front(a: &[u8], b: &[u8]) -> usize
+    ensures { (result ≤ length a.now) × (result ≤ length b.now) }
+{
+    let mut front = 0;
+    while front < a.len() && front < b.len() && a[front] == b[front] {
+        front += 1;
+    }
+    front
 }

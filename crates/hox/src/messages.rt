@@ -1,5 +1,5 @@
 //! What is said on standard error.
-use crate::hints::wants_version_2;
+use crate::hints::{say_meant, wants_version_2};
 use crate::inputs::Pair;
 use hox_args::WordsFault;
 use hox_run::{AllKinds, Fault, FileFault, KINDS, LONGEST_FILE, PresetFault, ReadFault, Request, sketch_by_ports};
@@ -67,7 +67,8 @@ fn say_wrong<R: Eprint + AllocGlobal>(rt: &R, file: Option<&str>, text: &[u8], f
     if let Some(sketch) = sketch_by_ports::<AllKinds>(alloc, text) {
         let messages = messages_of_sketch::<AllKinds>(alloc, &sketch, KINDS);
         if !messages.is_empty() {
-            return say_each(rt, file, messages.as_slice());
+            say_each(rt, file, messages.as_slice());
+            return say_meant(rt, file, &sketch);
         }
     }
     match message_of::<AllKinds>(alloc, text, fault, KINDS) {
@@ -84,7 +85,7 @@ fn say_each<R: Eprint>(rt: &R, file: Option<&str>, messages: &[String]) {
 }
 
 /// Says this of the description in this file, or on standard input.
-fn say_of<R: Eprint>(rt: &R, file: Option<&str>, message: &str) {
+pub(crate) fn say_of<R: Eprint>(rt: &R, file: Option<&str>, message: &str) {
     let _ = match file {
         None | Some("-") => eprintln!(rt; "hox: {message}"),
         Some(file) => eprintln!(rt; "hox: {file}: {message}"),
