@@ -1,4 +1,4 @@
--- If the command line accepts the arguments, they name one of its two subcommands.
+-- If the command line accepts the arguments, they name one of its four subcommands.
 use Rattle.std.proofs.Common.{◌≡◌, ◌⊎◌, inl, inr, Bool, true, false, cond, List, [], ◌∷◌, Option, Some, None, IfSome, IsSomeAnd, is_some, option_map, codes, refl, subst, Result, Ok, Err, IfOk}
 use Rattle.std.specs.Str.{bytes_eq}
 use Rattle.clap.specs.Words.{App, HasMatchesOf, Row, Text, built, is_simple_and_free, subcommand_of, subcommand_rows_of}
@@ -26,19 +26,22 @@ has_one rows false h = cc
 
 -- the name is that of a subcommand
 abbrev pub IsCommand : Text × List Row → Type 0
-IsCommand p = (p.0 ≡ codes "check") ⊎ (p.0 ≡ codes "run")
+IsCommand p = (p.0 ≡ codes "check") ⊎ ((p.0 ≡ codes "run") ⊎ ((p.0 ≡ codes "draw") ⊎ (p.0 ≡ codes "stream")))
 
--- the shape found by name among the two is one of the two
-found_is : (words : List Text) (check run : Shape) (first second : Bool) → check.name ≡ codes "check" → run.name ≡ codes "run"
-    → IfSome (option_map (λ s. rows_at s words) (cond first (Some check) (cond second (Some run) None))) IsCommand
-found_is words check run true second c r = inl c
-found_is words check run false true c r = inr r
-found_is words check run false false c r = tt
+-- the shape found by name among the four is one of the four
+found_is : (words : List Text) (check run draw stream : Shape) (first second third fourth : Bool)
+    → check.name ≡ codes "check" → run.name ≡ codes "run" → draw.name ≡ codes "draw" → stream.name ≡ codes "stream"
+    → IfSome (option_map (λ s. rows_at s words) (cond first (Some check) (cond second (Some run) (cond third (Some draw) (cond fourth (Some stream) None))))) IsCommand
+found_is words check run draw stream true second third fourth c r d s = inl c
+found_is words check run draw stream false true third fourth c r d s = inr (inl r)
+found_is words check run draw stream false false true fourth c r d s = inr (inr (inl d))
+found_is words check run draw stream false false false true c r d s = inr (inr (inr s))
+found_is words check run draw stream false false false false c r d s = tt
 
--- a subcommand that was entered is one of the two
+-- a subcommand that was entered is one of the four
 entered_is : (stop : Option (Text × List Text)) → IfSome (entered (built hox) stop) IsCommand
 entered_is None = tt
-entered_is (Some p) = found_is p.1 _ _ _ _ refl refl
+entered_is (Some p) = found_is p.1 _ _ _ _ _ _ _ _ refl refl refl refl
 
 -- a level whose parse succeeds has a subcommand
 level_has_one : (names : Names) (h : Held) (words : List Text) (has : Bool) (below : Kinds) → level_fault (built hox).top names h words has below ≡ [] → has ≡ true
@@ -64,7 +67,7 @@ some_is : (p : Option (Text × List Row)) → is_some p ≡ true → IfSome p Is
 some_is None some is = cc
 some_is (Some p) some is = is
 
--- arguments that are accepted name one of the two subcommands
+-- arguments that are accepted name one of the four subcommands
 pub names_command : (words : List Text) → AreHoxTaken words → IsSomeAnd (subcommand_of hox words) IsCommand
 names_command words h =
     let stop = (walk (built hox).top.rules (names_of (built hox)) nothing_held (argument_words hox words)).stopped in
@@ -80,16 +83,29 @@ at_none : (r : Option (Text × List Row)) → None ≡ r → IsSomeAnd r IsComma
 at_none None e is = is
 at_none (Some q) e is = cc
 
--- a subcommand has one of the two names
-other_is : (p : Text × List Row) → bytes_eq p.0 (codes "check") ≡ false → bytes_eq p.0 (codes "run") ≡ false → IsCommand p → ⊥
-other_is p check run is = elim is [
-  | inl e ↦ let bad : bytes_eq (codes "check") (codes "check") ≡ false = subst (λ t. bytes_eq t (codes "check") ≡ false) e check in cc
-  | inr e ↦ let bad : bytes_eq (codes "run") (codes "run") ≡ false = subst (λ t. bytes_eq t (codes "run") ≡ false) e run in cc
+-- a text that was found to differ from a name is not that name
+is_not : (text name : Text) → bytes_eq name name ≡ true → bytes_eq text name ≡ false → text ≡ name → ⊥
+is_not text name same other e = let bad : bytes_eq name name ≡ false = subst (λ t. bytes_eq t name ≡ false) e other in cc
+
+-- a subcommand has one of the four names
+other_is : (p : Text × List Row) → bytes_eq p.0 (codes "check") ≡ false → bytes_eq p.0 (codes "run") ≡ false → bytes_eq p.0 (codes "draw") ≡ false → bytes_eq p.0 (codes "stream") ≡ false
+    → IsCommand p → ⊥
+other_is p check run draw stream is = elim is [
+  | inl e ↦ is_not p.0 (codes "check") refl check e
+  | inr rest ↦ elim rest [
+    | inl e ↦ is_not p.0 (codes "run") refl run e
+    | inr last ↦ elim last [
+      | inl e ↦ is_not p.0 (codes "draw") refl draw e
+      | inr e ↦ is_not p.0 (codes "stream") refl stream e
+    ]
+  ]
 ]
 
 -- arguments that are accepted name no other subcommand
-pub names_no_other : (words : List Text) (p : Text × List Row) → AreHoxTaken words → Some p ≡ subcommand_of hox words → bytes_eq p.0 (codes "check") ≡ false → bytes_eq p.0 (codes "run") ≡ false → ⊥
-names_no_other words p taken e check run = other_is p check run (at_some (subcommand_of hox words) p e (names_command words taken))
+pub names_no_other :
+    (words : List Text) (p : Text × List Row) → AreHoxTaken words → Some p ≡ subcommand_of hox words
+    → bytes_eq p.0 (codes "check") ≡ false → bytes_eq p.0 (codes "run") ≡ false → bytes_eq p.0 (codes "draw") ≡ false → bytes_eq p.0 (codes "stream") ≡ false → ⊥
+names_no_other words p taken e check run draw stream = other_is p check run draw stream (at_some (subcommand_of hox words) p e (names_command words taken))
 
 -- arguments that are accepted name some subcommand
 pub names_some : (words : List Text) → AreHoxTaken words → None ≡ subcommand_of hox words → ⊥

@@ -1,15 +1,18 @@
 -- What the arguments of the command line ask for, and why they are refused.
-use Rattle.std.specs.Prelude.{◌≡◌, ◌<◌, ◌≤◌, ◌^◌, ℕ, Bool, false, codes, List, [], map, Option, Some, None, option_map, unwrap_or}
+use Rattle.std.specs.Prelude.{◌≡◌, ◌<◌, ◌≤◌, ◌^◌, ℕ, Bool, false, codes, List, [], map, Option, Some, None, IfSome, if◌then◌else◌, option_map, unwrap_or}
 use Rattle.std.specs.Option.{option_map_or}
 use Rattle.std.specs.Str.{bytes_eq}
 use Rattle.std.specs.Str.Parse.{IsNumeral, digits_value, without_leading_plus}
 use Rattle.clap.specs.Words.{HasKind, Row, Text, all_of, fault_of, first_of, kind_of, subcommand_of}
 use Rattle.kpn_args.specs.Choices.{IsRefusedWorkers, WorkersFrom, is_text_asked_for}
-use Rattle.hox_args.specs.declared.words.RunChoice.{RunChoice}
-use Rattle.hox_args.specs.declared.words.Choice.{Choice}
-use Rattle.hox_args.specs.declared.words.Choice.TheVariants.{Check, Run}
-use Rattle.hox_args.specs.declared.words.WordsFault.{WordsFault}
-use Rattle.hox_args.specs.declared.words.WordsFault.TheVariants.{Parser, Workers, Budget, Memory}
+use Rattle.kpn_picture.specs.declared.looks.Direction.TheVariants.{Right, Down}
+use Rattle.hox_args.specs.declared.arguments.RunChoice.{RunChoice}
+use Rattle.hox_args.specs.declared.arguments.DrawChoice.{DrawChoice}
+use Rattle.hox_args.specs.declared.arguments.StreamChoice.{StreamChoice}
+use Rattle.hox_args.specs.declared.arguments.Choice.{Choice}
+use Rattle.hox_args.specs.declared.arguments.Choice.TheVariants.{Check, Run, Draw, Stream}
+use Rattle.hox_args.specs.declared.arguments.WordsFault.{WordsFault}
+use Rattle.hox_args.specs.declared.arguments.WordsFault.TheVariants.{Parser, Workers, Budget, Memory}
 use Rattle.hox_args.specs.HoxCommand.{hox}
 
 -- the text is read as a number of 64 bits
@@ -47,7 +50,24 @@ pub record IsRunOf (rows : List Row) (run : RunChoice) : Type 0 where
   pub show : option_map (λ s. s.now) run.show ≡ first_of (codes "show") rows
   pub budget : BudgetFrom (first_of (codes "budget") rows) run.budget
   pub workers : WorkersFrom (first_of (codes "workers") rows) run.workers
+  pub progress : run.progress ≡ is_given (codes "progress") rows
   pub quiet : run.quiet ≡ is_given (codes "quiet") rows
+
+-- what the entries of `draw` ask for: the number of workers is read in any case, and is that of the run, if there is to be one
+pub record IsDrawOf (rows : List Row) (draw : DrawChoice) : Type 0 where
+  pub file : option_map (λ s. s.now) draw.file ≡ first_of (codes "file") rows
+  pub tokens : map (λ s. s.now) draw.tokens.items ≡ texts_of (codes "tokens") rows
+  pub direction : draw.direction ≡ (if is_given (codes "down") rows then Down else Right)
+  pub count : ℕ
+  pub read : WorkersFrom (first_of (codes "workers") rows) count
+  pub workers : draw.workers ≡ (if is_given (codes "run") rows then Some count else None)
+
+-- what the entries of `stream` ask for
+pub record IsStreamOf (rows : List Row) (stream : StreamChoice) : Type 0 where
+  pub file : option_map (λ s. s.now) stream.file ≡ first_of (codes "file") rows
+  pub inputs : map (λ s. s.now) stream.inputs.items ≡ texts_of (codes "in") rows
+  pub outputs : map (λ s. s.now) stream.outputs.items ≡ texts_of (codes "out") rows
+  pub quiet : stream.quiet ≡ is_given (codes "quiet") rows
 
 -- the choice is what a command and its entries ask for
 abbrev pub IsHoxChoiceOf : Option (Text × List Row) → Choice → Type 0
@@ -55,11 +75,15 @@ IsHoxChoiceOf None choice = ⊥
 IsHoxChoiceOf (Some p) (Check file tokens) =
     (p.0 ≡ codes "check") × (option_map (λ s. s.now) file ≡ first_of (codes "file") p.1) × (map (λ s. s.now) tokens.items ≡ texts_of (codes "tokens") p.1)
 IsHoxChoiceOf (Some p) (Run run) = (p.0 ≡ codes "run") × IsRunOf p.1 run
+IsHoxChoiceOf (Some p) (Draw draw) = (p.0 ≡ codes "draw") × IsDrawOf p.1 draw
+IsHoxChoiceOf (Some p) (Stream stream) = (p.0 ≡ codes "stream") × IsStreamOf p.1 stream
 
 -- the workers of a run are 1 to 16
 abbrev pub HasFewHoxWorkers : Choice → Type 0
 HasFewHoxWorkers (Check file tokens) = Unit {0}
 HasFewHoxWorkers (Run run) = (1 ≤ run.workers) × (run.workers ≤ 16)
+HasFewHoxWorkers (Draw draw) = IfSome draw.workers (λ n. (1 ≤ n) × (n ≤ 16))
+HasFewHoxWorkers (Stream stream) = Unit {0}
 
 -- the command line accepts the arguments
 abbrev pub AreHoxTaken : List Text → Type 0

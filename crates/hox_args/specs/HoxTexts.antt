@@ -1,8 +1,8 @@
 -- The text for the user of a fault of the arguments.
 use Rattle.std.specs.Prelude.{codes, Option, Some, None}
 use Rattle.clap.specs.Words.{Text}
-use Rattle.hox_args.specs.declared.words.WordsFault.{WordsFault}
-use Rattle.hox_args.specs.declared.words.WordsFault.TheVariants.{Parser, Workers, Budget, Memory}
+use Rattle.hox_args.specs.declared.arguments.WordsFault.{WordsFault}
+use Rattle.hox_args.specs.declared.arguments.WordsFault.TheVariants.{Parser, Workers, Budget, Memory}
 
 -- the text for the user, if it is not clap's own
 abbrev pub text_of_hox_fault : WordsFault → Option Text

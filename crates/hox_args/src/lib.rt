@@ -1,6 +1,12 @@
 //! The arguments of the program `hox`.
 #![tactic(auto)]
 
-mod words;
+mod arguments;
+mod command;
+mod help;
 
-pub use words::{Choice, MAX_WORKERS, RunChoice, WordsFault, channel_and_file, read_words};
+pub use arguments::{
+    Choice, DrawChoice, MAX_WORKERS, RunChoice, StreamChoice, WordsFault, channel_and_file,
+    read_words,
+};
+pub use kpn_picture::Direction;

@@ -2,7 +2,7 @@
 use Rattle.std.proofs.Common.{◌≡◌, List, [], map, Option, Some, None, unwrap_or, ap, ◌∙◌}
 use Rattle.clap.specs.Words.{Text, all_of, found_of, rows_of}
 use Rattle.clap.proofs.WalkLemmas.{raw_values-rows}
-use Rattle.hox_args.proofs.words.texts_in.Goals as goal
+use Rattle.hox_args.proofs.arguments.texts_in.Goals as goal
 
 pub returns-in-Ok-clause-ok : goal.returns-in-Ok-clause-ok
 returns-in-Ok-clause-ok c =

@@ -1,0 +1,16 @@
+-- The number of workers is the one that is read, also where nothing is run.
+use Rattle.std.proofs.Common.{refl}
+use Rattle.hox_args.proofs.arguments.draw_choice.Goals as goal
+
+pub returns-clause-ok : goal.returns-clause-ok
+returns-clause-ok c = (
+  refl,
+  record {
+    file = c.text_in-file.ensures;
+    tokens = c.in_ok-tokens.ensures.ok;
+    direction = rw c.has_flag.ensures at c.direction_of-direction.ensures;
+    count = c.in_ok-count.count;
+    read = rw c.text_in.ensures at c.in_ok-count.ensures.ok;
+    workers = rw c.has_flag-2.ensures at c.asked_for-workers.ensures;
+  },
+)

@@ -1,0 +1,91 @@
+//! The texts with which help ends.
+
+/// How the help ends: an example, and the statuses with which the program exits.
+pub(crate) const STATUSES: &str = "\
+Example, in which channel x gets a token of each line of noisy.txt and channel y is written to smooth.txt:
+  hox run low_pass.toml --tokens x=noisy.txt --out y=smooth.txt
+
+Exit status:
+  0  the run finished or ran dry, the description was accepted, the picture was drawn, or help was asked for
+  1  the words were refused, or no channel has a name that they give
+  2  the description or a file of tokens was refused
+  3  the budget of entries was spent: the run was cut
+  4  memory was refused
+  5  processes wait for one another in a circle
+  6  a channel would have grown past its ceiling: it is full
+  7  writing failed
+  8  a worker's answer was refused, and the run was given up
+";
+
+/// How a description and a file of tokens are written, as the help of the subcommands tells it.
+pub(crate) const KINDS_AND_FILES: &str = "\
+A file of tokens has one a line: a word in decimal, or in hexadecimal after 0x, up to 2^64 - 1; a flag as true
+or false. What stands after a comma or after # counts for nothing, and so does a line without a token. There may
+be 1,000,000 tokens, and in version 1 of the description 65,535. The channel's capacity is at least their number.
+
+The description is TOML. Its keys, and in brackets what holds if one is absent:
+  version         1 or 2
+  budget          how many entries a run may have [10000]
+  step            how much a growth adds to a capacity, in version 2 [1]
+  [[process]]
+    name, kind    texts; a name has 1 to 16 of a to z, 0 to 9 and _, the first a letter
+    args          the arguments of the kind, integers [none]
+  [[channel]]
+    name          as of a process
+    from, to      the names of two processes
+    out, in       the port of from and of to [0]
+    sort          \"words\" or \"flags\" [\"words\"]
+    capacity      how many tokens it may hold [1]
+    tokens        what it holds at first, in version 2 [nothing]
+
+Kinds of processes, with their arguments and their ports, inputs -> outputs (w a word, f a flag):
+  count FROM N    -> w        writes FROM, FROM + 1, .. (N words), then stops
+  sink N          w ->        reads N words, then stops
+  take N          w -> w      copies N words, then stops
+  copy            w -> w w    writes each word to both outputs
+  prefix V        w -> w      writes V, then copies
+  add             w w -> w    writes the sums
+  scale K         w -> w      writes the products by K
+  weave A B       w w -> w    copies A words of input 0, then B of input 1, and so on
+  merge           w w -> w    makes one stream in order of two, equal words once
+  divides M       w -> f      writes whether M divides the word
+  switch          w f -> w w  writes to output 1 if the flag is true, else to output 0
+  select          w w f -> w  reads input 1 if the flag is true, else input 0
+  input           -> w        stops at once; its channel's words come from a file
+  input_flags     -> f        stops at once; its channel's flags come from a file
+  drain           w ->        reads for ever
+  drain_flags     f ->        reads for ever
+  constant V      -> w        writes V for ever
+  count_up        -> w        writes 0, 1, 2, .. modulo 2^64 for ever
+  sub             w w -> w    writes the words of input 0 minus those of input 1, modulo 2^64
+  mul             w w -> w    writes the products modulo 2^64
+  shift K         w -> w      writes each word / 2^K, rounded down, signed; K from 0 to 63
+  left K          w -> w      writes each word * 2^K, modulo 2^64; K from 0 to 63
+  less            w w -> f    writes whether the word of input 0 is less, signed
+  equal           w w -> f    writes whether the two words are equal
+  not             f -> f      writes the other flag
+  and             f f -> f    writes whether both flags are true
+  or              f f -> f    writes whether one of the flags is true
+  decimate N      w -> w      of each N words writes the first; N at least 1
+  repeat N        w -> w      writes each word N times; N at least 1
+  hold V          w f -> w    writes the word if the flag is true, else the one that it wrote last, V at first
+  delay N         w -> w      writes N zeros, then copies; N from 1 to 4
+  low_pass K      w -> w      y += (x - y) / 2^K, rounded down, signed, from y = 0: writes y; K from 0 to 63
+  clip LO HI      w -> w      writes the nearest word from LO to HI, signed
+Signed: a word is a number in two's complement, from 2^63 on itself less 2^64.
+";
+
+/// What the help of `draw` says of pictures.
+pub(crate) const PICTURES: &str = "\
+The picture is a text for Graphviz:
+  hox draw --run examples/parks.toml | dot -Tsvg > parks.svg
+Where nothing else stands at a channel, it carries words, has capacity 1 and is empty. The exit status is 0
+however the run ended. How a description and a file of tokens are written, hox run --help says.
+";
+
+/// What the help of `stream` says of streams.
+pub(crate) const STREAMS: &str = "\
+Example, in a pipe:
+  generator | hox stream low_pass.toml --in x=- --out y=- | plot
+How a description and a file of tokens are written, hox run --help says.
+";
