@@ -34,7 +34,7 @@ The description is TOML. Its keys, and in brackets what holds if one is absent:
     name          as of a process
     from, to      the names of two processes
     out, in       the port of from and of to [0]
-    sort          \"words\" or \"flags\" [\"words\"]
+    sort          \"words\" or \"flags\" [that of its two ports]
     capacity      how many tokens it may hold [1]
     tokens        what it holds at first, in version 2 [nothing]
 
