@@ -1,5 +1,5 @@
 -- The sorts of channels, which their ports say.
-use Rattle.std.specs.Prelude.{ℕ, List, Option, Some, None, map}
+use Rattle.std.specs.Prelude.{ℕ, List, Option, Some, map}
 use Rattle.kpn_model.specs.declared.token.Sort.{Sort}
 use Rattle.kpn_model.specs.declared.token.Sort.TheVariants.{Words, Flags}
 use Rattle.kpn_model.specs.declared.kinds.Card.{Card}

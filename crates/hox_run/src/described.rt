@@ -1,8 +1,7 @@
 //! Descriptions that need not say of which sort a channel is.
-ghost use Rattle.std.specs.Prelude.{◌≡◌, ◌×◌, ◌≤◌, ◌+◌, false, true, IfOk, IfErr, IfSome, length, map};
+ghost use Rattle.std.specs.Prelude.{◌≡◌, ◌≤◌, ◌+◌, false, true, IfOk, IfErr, IfSome, length, map};
 ghost use Rattle.kpn_sketch.specs.declared.sketch.Sketch.{Sketch as SketchV};
 ghost use Rattle.kpn_sketch.specs.Description.{Describes};
-ghost use Rattle.kpn_net.specs.Faults.{sketched_out_sort, sketched_in_sort};
 ghost use Rattle.kpn_front.specs.Loading.{ConsumesAtMost, LoadsChanged, longest, without_text};
 ghost use Rattle.hox_run.specs.Ports.{agreed, by_ports, channel_by_ports};
 
