@@ -185,9 +185,16 @@ class Ended:
         return None
 
 
+def places_of(process):
+    """How a cut may leave a process."""
+    ends = [("reads", process.inputs), ("writes", process.outputs)]
+    return ["ready", "stopped", *(f"{verb} {channel.name}" for verb, channels in ends for channel in channels.values())]
+
+
 class Cut:
     """A run that its budget cut: of each stream and that of the interpreter's own run, which is longer, one begins with the
-    other; and the streams have as many tokens as so many entries have that are no reads."""
+    other; and the streams have as many tokens as so many entries have that are no reads. The report says of each process
+    that it was ready, has stopped or waits at a channel of its own, and then the stream so far."""
 
     def __init__(self, request, net, budget):
         self.net, self.budget = net, budget
@@ -199,18 +206,26 @@ class Cut:
     def fault(self, request, written):
         texts = {name: written.files.get(file, b"") for name, file in request.outputs if file != "-"}
         texts.update({name: written.output for name, file in request.outputs if file == "-"})
-        output, errors, files = due(request, b"end budget\nverdict cut\n", texts)
+        report = written.errors if "-" in dict(request.outputs).values() else written.output
+        output, errors, files = due(request, report, texts)
         if written != Written(output, errors, STATUS["budget"], files):
             return f"expected status 3, {output} on standard output, {errors} on standard error, and the files {sorted(files)}"
-        return next(filter(None, (self.fault_of(name, text) for name, text in texts.items())), self.fault_of_count(texts))
+        shown = {} if request.quiet else self.shown_in(request, report.decode())
+        if shown is None:
+            return f"expected a report of a run that was cut, and not {report}"
+        streams = [*((name, text.decode().splitlines(keepends=True)) for name, text in texts.items()), *shown.items()]
+        return next(filter(None, (self.fault_of(name, lines) for name, lines in streams)), self.fault_of_count(texts))
 
-    def fault_of(self, name, text):
-        whole = list(map(token_text, stream_of(self.net, name)))
-        lines = text.decode().split("\n")
-        common = min(len(whole), len(lines) - 1)
-        if lines[-1] or lines[:common] != whole[:common]:
-            return f"expected that one of {name} and {' '.join(whole)} begins with the other"
-        return None
+    def shown_in(self, request, report):
+        """The stream that a report shows, by the name of its channel; none if it is no report of a run that was cut."""
+        lines = "".join(f"process {it.name} (?:{'|'.join(places_of(it))})\n" for it in self.net.processes)
+        shown = re.fullmatch(f"end budget\nverdict cut\n{lines}" + (f"prefix {request.show}((?: .+)?)\n" if request.show else "()"), report)
+        return shown and ({request.show: [f"{it}\n" for it in shown[1].split()]} if request.show else {})
+
+    def fault_of(self, name, lines):
+        whole = [f"{token_text(it)}\n" for it in stream_of(self.net, name)]
+        common = min(len(whole), len(lines))
+        return None if lines[:common] == whole[:common] else f"expected that one of {name} and {whole} begins with the other"
 
     def fault_of_count(self, texts):
         """Each entry is a put, or a take, of which there are no more than tokens, or a growth, of which there are no more than

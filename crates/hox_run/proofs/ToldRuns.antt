@@ -26,6 +26,8 @@ use Rattle.kpn_report.specs.Text.{end_line, digest_text, report_text}
 use Rattle.kpn_verdict.specs.VerdictText.{verdict_line}
 use Rattle.kpn_tokens.specs.TokenLines.{token_line}
 use Rattle.hox_run.specs.declared.telling.Told.{Told}
+use Rattle.hox_run.specs.Cuts.{after_verdict, left_at}
+use Rattle.hox_run.proofs.Cutting.{follows_from, leaves_of, nothing_after, nothing_follows}
 use Rattle.hox_run.specs.Telling.{TellsOf, TellsRun, places_in, status_of_verdict, stream_text}
 
 -- what is said of a network, a history and places is said of equal ones
@@ -67,7 +69,9 @@ module _ (kinds : Family) (net : Network) where
         record {
           judged = subst (λ (d : Digest). IsVerdict net d.places d.cause verdict) same tells.judged;
           status_is = tells.status_is;
-          report_is = tells.report_is ∙ ap (λ t. t ++ verdict_line net (places_in kinds net M) verdict) texts ∙ ap (λ (p : List Place). report_text kinds net b F N show ++ verdict_line net p verdict) places;
+          after = tells.after;
+          follows = nothing_follows kinds net show F N b tells.after f.over (nothing_after kinds net show E M cause tells.after e.over tells.follows);
+          report_is = tells.report_is ∙ ap (λ t. t ++ verdict_line net (places_in kinds net M) verdict ++ tells.after) texts ∙ ap (λ (p : List Place). report_text kinds net b F N show ++ verdict_line net p verdict ++ tells.after) places;
           outputs_are = tells.outputs_are ∙ ap (λ (o : ℕ → List ℕ). map o outputs) outs;
         }
 
@@ -77,18 +81,22 @@ pub told_so :
     → IsFaithful kinds admits s → TakesLeastRoom kinds s.network s.history s.state → ApproachLeastSolution kinds s.network s.history s.state → AllPrefixComparable kinds → OneDigest kinds
     → s.end ≡ Some cause → places ≡ each_process s.network (λ p. place_of s.network p (parked_answer (standing s.standings p)))
     → IsVerdict s.network places cause verdict → told.status ≡ status_of_verdict verdict
-    → ((has_report cause ≡ true → places ≡ places_in kinds s.network s.state) → string_bytes told.report ≡ report_text kinds s.network cause s.history s.state show ++ verdict_line s.network places verdict)
+    → ((has_report cause ≡ true → places ≡ places_in kinds s.network s.state) → string_bytes told.report ≡ report_text kinds s.network cause s.history s.state show ++ verdict_line s.network places verdict ++ after_verdict s.network cause s.history (left_at s.standings places) show)
     → told.outputs.items ≡ map (stream_text s.network s.history) outputs → TellsRun kinds s.network show outputs told
 told_so kinds admits s cause places verdict show outputs told faithful room streams comparable one ended places_are judged status_is report outputs_are =
     let net = s.network in
     let here = places_in kinds net s.state in
     let same : has_report cause ≡ true → places ≡ here = λ has. places_are ∙ at_rest kinds admits s cause faithful ended has in
     let both = judged_anyhow net places here cause verdict same judged in
+    let left = left_at s.standings places in
+    let after = after_verdict net cause s.history left show in
     let justified = justified_by kinds admits s cause faithful ended in
     let tells : TellsOf kinds net show outputs told cause s.history s.state verdict = record {
       judged = both.0;
       status_is = status_is;
-      report_is = report same ∙ ap (λ (l : List ℕ). report_text kinds net cause s.history s.state show ++ l) both.1;
+      after = after;
+      follows = follows_from kinds net show cause s.history s.state left (leaves_of kinds admits s places faithful places_are);
+      report_is = report same ∙ ap (λ (l : List ℕ). report_text kinds net cause s.history s.state show ++ l ++ after) both.1;
       outputs_are = outputs_are;
     } in
     record {

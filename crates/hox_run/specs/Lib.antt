@@ -1,5 +1,6 @@
 pub mod Ports
 pub mod Presets
 pub mod Statuses
+pub mod Cuts
 pub mod Telling
 pub mod Serving

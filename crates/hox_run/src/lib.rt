@@ -2,6 +2,7 @@
 //! bytes.
 #![tactic(auto)]
 
+mod cut;
 mod described;
 mod family;
 mod parts;

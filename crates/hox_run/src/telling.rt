@@ -7,20 +7,24 @@ ghost use Rattle.kpn_model.specs.Endings.{has_report};
 ghost use Rattle.kpn_model.specs.Verdicts.{IsVerdict};
 ghost use Rattle.kpn_report.specs.Text.{report_text};
 ghost use Rattle.kpn_verdict.specs.VerdictText.{verdict_line};
+ghost use Rattle.hox_run.specs.Cuts.{after_verdict, left_at};
 ghost use Rattle.hox_run.specs.Telling.{TellsRun, places_in, status_of_verdict, stream_text};
 
+use crate::cut::push_after_verdict;
 use kpn_front::Status;
 use kpn_laws::{determinacy_of, least_room_of, least_solution_of};
 use kpn_machine::Chronicle;
 use kpn_model::{End, Entry, Kinds, Place, Text, Verdict};
 use kpn_network::Net;
 use kpn_report::{places_of, stream_of, text_of};
+use kpn_state::Standing;
 use kpn_tokens::tokens_text;
 use kpn_verdict::{verdict_of, verdict_text};
 use std::alloc::{AllocError, Global};
 
 /// What is told of a run: the exit status, the report with the line of the verdict, and for each channel
-/// that was asked for its stream, one token a line.
+/// that was asked for its stream, one token a line. The report on a run that was cut says too where it left each
+/// process, and what went so far through the channel to show.
 #[derive(Drop)]
 pub struct Told {
     pub status: Status,
@@ -56,8 +60,9 @@ pub(crate) fn told_of<K: Kinds>(
     least_solution_of::<K>();
     let net = chronicle.net();
     let history = chronicle.history();
-    let places = places_of(alloc, net, chronicle.standings())?;
-    let judged = judge(alloc, net, history, places.as_slice(), end, show)?;
+    let standings = chronicle.standings();
+    let places = places_of(alloc, net, standings)?;
+    let judged = judge(alloc, net, history, standings, places.as_slice(), end, show)?;
     Ok(Told {
         status: status_of(judged.verdict),
         report: judged.report,
@@ -70,17 +75,28 @@ fn judge<K: Kinds>(
     alloc: Global,
     net: &Net<K>,
     history: &[Entry],
+    standings: &[Standing],
     places: &[Place],
     end: End,
     show: Option<usize>,
 ) -> Result<Judged, AllocError>
     ensures verdict { IfOk result (λ judged. IsVerdict net.now places.now end judged.verdict) }
-    ensures report { IfOk result (λ judged. (kinds : Family) (M : State) → (has_report end ≡ true → places.now ≡ places_in kinds net.now M) → string_bytes judged.report ≡ report_text kinds net.now end history.now M show ++ verdict_line net.now places.now judged.verdict) }
+    ensures report { IfOk result (λ judged. (kinds : Family) (M : State) → (has_report end ≡ true → places.now ≡ places_in kinds net.now M) → string_bytes judged.report ≡ report_text kinds net.now end history.now M show ++ verdict_line net.now places.now judged.verdict ++ after_verdict net.now end history.now (left_at standings.now places.now) show) }
 {
     let verdict = verdict_of(net, places, end);
     let line = verdict_text(alloc, net, places, verdict)?;
     let mut report = text_of(alloc, net, history, places, end, show)?;
     report.push_str(line.as_str())?;
+    push_after_verdict(
+        alloc,
+        &mut report,
+        net,
+        history,
+        standings,
+        places,
+        end,
+        show,
+    )?;
     Ok(Judged { verdict, report })
 }
 

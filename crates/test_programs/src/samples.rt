@@ -31,6 +31,19 @@ entries 8
 verdict ran dry
 ";
 
+/// One process, which goes on for ever: it is cut after three entries, a put, a take and a put.
+const LOOP: &str = r#"version = 1
+budget = 3
+process = [{ name = "p", kind = "prefix", args = [7] }]
+channel = [{ name = "a", from = "p", to = "p" }]
+"#;
+
+const LOOP_LINES: &str = "end budget
+verdict cut
+process p ready
+prefix a 7 7
+";
+
 fn text_of<R: Abort>(rt: &R, alloc: Global, text: &str) -> Text {
     Text::new(String::from_str(alloc, text).expect(rt, "no memory"))
 }
@@ -80,6 +93,25 @@ fn tells<R: AllocGlobal + Wait + Clock + Threads + Abort + Sync>(rt: &R, workers
 fn words_of_a_file_go_through(rt: HostRuntime) {
     tells(&rt, 1);
     tells(&rt, 2);
+}
+
+#[test]
+fn a_run_that_is_cut_tells_what_it_has(rt: HostRuntime) {
+    let request = Request {
+        workers: 1,
+        budget: None,
+        tokens: Listed::new(Vec::new(rt.alloc())),
+        show: Some(text_of(&rt, rt.alloc(), "a")),
+        outputs: Listed::new(Vec::new(rt.alloc())),
+    };
+    let mut source = LOOP.as_bytes();
+    match serve::<AllKinds, _, _>(&rt, rt.alloc(), &request, &mut source) {
+        Ok(told) => {
+            same(&rt, "status", told.status.code(), 3);
+            same(&rt, "report", told.report.as_str(), LOOP_LINES);
+        }
+        Err(fault) => same(&rt, "refused", fault.status().code(), 3),
+    }
 }
 
 #[test]

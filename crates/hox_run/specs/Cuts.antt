@@ -1,0 +1,50 @@
+-- What is told of a run that was cut: where it left each process, and the stream so far.
+use Rattle.std.specs.Prelude.{◌≡◌, ◌<◌, ℕ, codes, List, [], ◌++◌, if◌then◌else◌, length, slice_index_or, Option, Some, None, IfSome}
+use Rattle.std.specs.List.{flat_map}
+use Rattle.kpn_model.specs.declared.token.Token.{Token}
+use Rattle.kpn_model.specs.declared.history.Entry.{Entry}
+use Rattle.kpn_model.specs.declared.history.End.{End}
+use Rattle.kpn_model.specs.declared.history.End.TheVariants.{Budget}
+use Rattle.kpn_model.specs.declared.history.Place.{Place}
+use Rattle.kpn_model.specs.declared.history.Place.TheVariants.{Stopped}
+use Rattle.kpn_model.specs.Network.{Family, Network}
+use Rattle.kpn_model.specs.NamesAndLines.{process_name, channel_name, lines_upto}
+use Rattle.kpn_model.specs.Semantics.{State, wants, IsEnabled}
+use Rattle.kpn_model.specs.History.{each_channel, place_of, stream}
+use Rattle.kpn_state.specs.declared.standing.Standing.{Standing}
+use Rattle.kpn_state.specs.Standings.{standing, is_busy}
+use Rattle.kpn_report.specs.Text.{place_text, token_part}
+
+-- a cut left each process so: no place is told of one that was ready, as each is that can go on, and else the place at which it
+-- waits, or that it has stopped
+pub record Leaves (kinds : Family) (net : Network) (M : State) (left : ℕ → Option Place) : Type 0 where
+  pub ready : (p : ℕ) → IsEnabled kinds net M p → left p ≡ None
+  pub placed : (p : ℕ) → p < length net.processes → IfSome (left p) (λ place. place ≡ place_of net p (wants kinds net M p))
+
+-- what the standings and the places tell of process p
+abbrev pub left_at : List Standing → List Place → ℕ → Option Place
+left_at standings places p = if is_busy (standing standings p) then None else Some (slice_index_or places p Stopped)
+
+module _ (net : Network) where
+  abbrev pub left_text : Option Place → List ℕ
+  left_text None = codes "ready"
+  left_text (Some place) = place_text net place
+
+  abbrev pub left_line : (ℕ → Option Place) → ℕ → List ℕ
+  left_line left p = codes "process " ++ process_name net p ++ codes " " ++ left_text (left p) ++ codes "\n"
+
+  abbrev pub prefix_line : List Token → ℕ → List ℕ
+  prefix_line tokens c = codes "prefix " ++ channel_name net c ++ flat_map token_part tokens ++ codes "\n"
+
+  -- the stream so far of the channel to show, if there is one
+  abbrev pub prefix_of : List Entry → Option ℕ → List ℕ
+  prefix_of E None = []
+  prefix_of E (Some c) = prefix_line (slice_index_or (each_channel net (λ b. stream net E b)) c []) c
+
+  abbrev pub cut_text : List Entry → (ℕ → Option Place) → Option ℕ → List ℕ
+  cut_text E left show = lines_upto (left_line left) (length net.processes) ++ prefix_of E show
+
+  -- the text that follows the verdict
+  abbrev pub after_verdict : End → List Entry → (ℕ → Option Place) → Option ℕ → List ℕ
+  after_verdict Budget E left show = cut_text E left show
+  after_verdict _ E left show = []

@@ -1,0 +1,167 @@
+//! What is told of a run that was cut: where it left each process, and the stream so far.
+ghost use Rattle.std.specs.Prelude.{◌≡◌, ◌++◌, ◌<◌, OnOk, length, string_bytes};
+ghost use Rattle.std.specs.List.{flat_map};
+ghost use Rattle.kpn_model.specs.NamesAndLines.{channel_name, lines_upto};
+ghost use Rattle.kpn_report.specs.Text.{token_part};
+ghost use Rattle.hox_run.specs.Cuts.{after_verdict, left_at, left_line, left_text, prefix_line, prefix_of};
+
+use kpn_model::{End, Entry, Kinds, Place, Token};
+use kpn_network::Net;
+use kpn_report::stream_of;
+use kpn_state::Standing;
+use std::alloc::{AllocError, Global};
+use std::fmt::Write;
+
+/// Appends what follows the verdict on a run with this end. If it was cut, this is a line for each process,
+/// which says whether it was ready, has stopped, or for which channel it waits; and if `show` is given a line
+/// `prefix` with what went through that channel so far. Else it is nothing.
+///
+/// Errors: memory was refused.
+pub(crate) fn push_after_verdict<K: Kinds>(
+    alloc: Global,
+    out: &mut String,
+    net: &Net<K>,
+    history: &[Entry],
+    standings: &[Standing],
+    places: &[Place],
+    end: End,
+    show: Option<usize>,
+) -> Result<(), AllocError>
+    ensures { OnOk result (string_bytes out.new ≡ string_bytes out.old ++ after_verdict net.now end history.now (left_at standings.now places.now) show) }
+{
+    match end {
+        End::Budget => {
+            push_left(out, net, standings, places)?;
+            push_prefix(alloc, out, net, history, show)
+        }
+        End::Terminated | End::Deadlock | End::Ceiling | End::Memory => Ok(()),
+    }
+}
+
+/// Appends the line of each process.
+fn push_left<K: Kinds>(
+    out: &mut String,
+    net: &Net<K>,
+    standings: &[Standing],
+    places: &[Place],
+) -> Result<(), AllocError>
+    ensures { OnOk result (string_bytes out.new ≡ string_bytes out.old ++ lines_upto (left_line net.now (left_at standings.now places.now)) (length net.now.processes)) }
+{
+    for p in 0..net.processes() {
+        push_left_line(out, net, left_at(standings, places, p), p)?;
+    }
+    Ok(())
+}
+
+/// What is known of a process: its place, unless it was ready.
+fn left_at(standings: &[Standing], places: &[Place], process: usize) -> Option<Place>
+    ensures { result ≡ left_at standings.now places.now process }
+{
+    match standings.get(process) {
+        Some(Standing::Ready | Standing::Out) => None,
+        _ => Some(places.get(process).copied().unwrap_or(Place::Stopped)),
+    }
+}
+
+/// Appends the line of a process that was left so.
+fn push_left_line<K: Kinds>(
+    out: &mut String,
+    net: &Net<K>,
+    left: Option<Place>,
+    process: usize,
+) -> Result<(), AllocError>
+    requires { process < length net.now.processes }
+    ensures { OnOk result (string_bytes out.new ≡ string_bytes out.old ++ left_line net.now (λ _. left) process) }
+{
+    let name = net.process_name(process);
+    write!(out, "process {name} ")?;
+    push_left_text(out, net, left)?;
+    out.push_str("\n")
+}
+
+/// Appends how a process was left.
+fn push_left_text<K: Kinds>(
+    out: &mut String,
+    net: &Net<K>,
+    left: Option<Place>,
+) -> Result<(), AllocError>
+    ensures { OnOk result (string_bytes out.new ≡ string_bytes out.old ++ left_text net.now left) }
+{
+    match left {
+        None => out.push_str("ready"),
+        Some(Place::Stopped) => out.push_str("stopped"),
+        Some(Place::Reads(c)) => {
+            let channel = channel_name(net, c);
+            write!(out, "reads {channel}")
+        }
+        Some(Place::Writes(c)) => {
+            let channel = channel_name(net, c);
+            write!(out, "writes {channel}")
+        }
+    }
+}
+
+/// Appends the line of the stream so far, if a channel is to be shown.
+fn push_prefix<K: Kinds>(
+    alloc: Global,
+    out: &mut String,
+    net: &Net<K>,
+    history: &[Entry],
+    show: Option<usize>,
+) -> Result<(), AllocError>
+    ensures { OnOk result (string_bytes out.new ≡ string_bytes out.old ++ prefix_of net.now history.now show) }
+{
+    match show {
+        Some(c) => {
+            let tokens = stream_of(alloc, net, history, c)?;
+            push_stream(out, net, tokens.as_slice(), c)
+        }
+        None => Ok(()),
+    }
+}
+
+/// Appends a line with these tokens of a channel.
+fn push_stream<K: Kinds>(
+    out: &mut String,
+    net: &Net<K>,
+    tokens: &[Token],
+    c: usize,
+) -> Result<(), AllocError>
+    ensures { OnOk result (string_bytes out.new ≡ string_bytes out.old ++ prefix_line net.now tokens.now c) }
+{
+    let name = channel_name(net, c);
+    write!(out, "prefix {name}")?;
+    push_tokens(out, tokens)?;
+    out.push_str("\n")
+}
+
+/// Appends some tokens, each after a space.
+fn push_tokens(out: &mut String, tokens: &[Token]) -> Result<(), AllocError>
+    ensures { OnOk result (string_bytes out.new ≡ string_bytes out.old ++ flat_map token_part tokens.now) }
+{
+    for token in tokens {
+        push_token(out, *token)?;
+    }
+    Ok(())
+}
+
+/// Appends a space and a token.
+fn push_token(out: &mut String, token: Token) -> Result<(), AllocError>
+    ensures { OnOk result (string_bytes out.new ≡ string_bytes out.old ++ token_part token) }
+{
+    match token {
+        Token::Word(word) => write!(out, " {word}"),
+        Token::Flag(flag) => write!(out, " {flag}"),
+    }
+}
+
+/// The name of a channel; nothing if the network has no such channel.
+fn channel_name<K: Kinds>(net: &Net<K>, c: usize) -> &str
+    ensures { result.now ≡ channel_name net.now c }
+{
+    if c < net.channels() {
+        net.channel_name(c)
+    } else {
+        ""
+    }
+}
