@@ -1,0 +1,6 @@
+pub mod Lines
+pub mod Counted
+pub mod Ported
+pub mod Flowed
+pub mod Streamed
+pub mod LawfulExits

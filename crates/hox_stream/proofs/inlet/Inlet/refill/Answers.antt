@@ -1,0 +1,20 @@
+-- What was kept, and then what was read.
+use Rattle.std.proofs.Common.{◌≡◌, ◌++◌, ◌-◌, ℕ, List, length, length-drop, drop, take, refl, ap, ◌∙◌, arith}
+use Rattle.std.proofs.lemmas.List.{take_all}
+use Rattle.hox_stream.proofs.inlet.Inlet.refill.Goals as goal
+
+-- a slice to the end
+all_left : (xs : List ℕ) (n : ℕ) → take (length xs - n) (drop n xs) ≡ drop n xs
+all_left xs n = take_all (length xs - n) (drop n xs) (omega (arith, length-drop n xs))
+
+pub returns : goal.returns
+returns g c =
+    rw (← c.self.view_is) (record {
+      channel = refl;
+      sort = refl;
+      bytes = take c.in-Ok-read.n c.read.new.buf;
+      kept = c.append.ensures ∙ ap (λ l. l ++ take c.in-Ok-read.n c.read.new.buf) (c.in-Ok.ensures.items ∙ all_left c.deref.result.now c.self.inside.next ∙ ap (λ (l : List ℕ). drop c.self.inside.next l) c.deref.ensures.value);
+      consumed = c.in-Ok-read.ensures.bytes.0;
+      tokens = refl;
+      lines = refl;
+    })

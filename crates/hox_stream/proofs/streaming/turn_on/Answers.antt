@@ -1,0 +1,14 @@
+-- Turn after turn.
+use Rattle.std.proofs.Common.{refl}
+use Rattle.kpn_model.specs.Network.{family_of}
+use Rattle.hox_stream.proofs.Streamed.{streams_both, streams_none}
+use Rattle.hox_stream.proofs.streaming.turn_on.Goals as goal
+
+pub turns-init : goal.turns-init
+turns-init g c = streams_none (family_of g.B.Kinds.Kinds.start g.B.Kinds.Kinds.answer_of) _ _ _ _ refl
+
+pub turns-preserved : goal.turns-preserved
+turns-preserved g c = streams_both (family_of g.B.Kinds.Kinds.start g.B.Kinds.Kinds.answer_of) _ _ _ _ _ _ _ _ _ c.turns.invariant c.turn.ensures.streams
+
+pub returns-in-Some-clause-streams : goal.returns-in-Some-clause-streams
+returns-in-Some-clause-streams g c = streams_both (family_of g.B.Kinds.Kinds.start g.B.Kinds.Kinds.answer_of) _ _ _ _ _ _ _ _ _ c.turns.invariant c.turn.ensures.streams

@@ -1,0 +1,18 @@
+-- The sink at its place is written.
+use Rattle.std.proofs.lemmas.List.{get_or_default}
+use Rattle.kpn_model.specs.Network.{family_of}
+use Rattle.hox_stream.specs.Views.{no_outlet}
+use Rattle.hox_stream.proofs.Streamed.{streams_told}
+use Rattle.hox_stream.proofs.telling.tell_at.Goals as goal
+
+pub returns-in-Ok-clause-streams : goal.returns-in-Ok-clause-streams
+returns-in-Ok-clause-streams g c = λ ins.
+    streams_told (family_of g.B.Kinds.Kinds.start g.B.Kinds.Kinds.answer_of) _ _ ins c.args.outlets.now c.args.k _ c.tell.new.outlet c.requires (get_or_default c.args.outlets.now c.args.k c.index-outlets-k.result no_outlet c.requires) c.tell.ensures.tells
+
+pub returns-in-Err-Failed-clause-streams : goal.returns-in-Err-Failed-clause-streams
+returns-in-Err-Failed-clause-streams g c = λ ins.
+    streams_told (family_of g.B.Kinds.Kinds.start g.B.Kinds.Kinds.answer_of) _ _ ins c.args.outlets.now c.args.k _ c.tell.new.outlet c.requires (get_or_default c.args.outlets.now c.args.k c.index-outlets-k.result no_outlet c.requires) c.tell.ensures.tells
+
+pub returns-in-Err-Memory-clause-streams : goal.returns-in-Err-Memory-clause-streams
+returns-in-Err-Memory-clause-streams g c = λ ins.
+    streams_told (family_of g.B.Kinds.Kinds.start g.B.Kinds.Kinds.answer_of) _ _ ins c.args.outlets.now c.args.k _ c.tell.new.outlet c.requires (get_or_default c.args.outlets.now c.args.k c.index-outlets-k.result no_outlet c.requires) c.tell.ensures.tells

@@ -1,0 +1,26 @@
+-- With what a program exits whose stream ended.
+use Rattle.kpn_model.specs.declared.verdict.Verdict.{Verdict}
+use Rattle.kpn_model.specs.declared.verdict.Verdict.TheVariants.{Finished, RanDry, Cycle, Cut as WasCut, Full, Memory as NoMemory}
+use Rattle.kpn_front.specs.declared.status.Status.{Status}
+use Rattle.kpn_front.specs.declared.status.Status.TheVariants.{Success, Refused, BudgetSpent, MemoryRefused, Deadlocked, AtCeiling, WriteFailed}
+use Rattle.hox_stream.specs.declared.finish.Finish.{Finish}
+use Rattle.hox_stream.specs.declared.finish.Finish.TheVariants.{Over, Line, Unread, NoInput, Unwritten, Idle, Memory, Cut}
+
+-- where nothing goes on the verdict on the network decides
+abbrev pub status_of_verdict : Verdict → Status
+status_of_verdict Finished = Success
+status_of_verdict RanDry = Success
+status_of_verdict (Cycle p) = Deadlocked
+status_of_verdict WasCut = BudgetSpent
+status_of_verdict Full = AtCeiling
+status_of_verdict NoMemory = MemoryRefused
+
+abbrev pub status_of : Finish → Verdict → Status
+status_of (Over end) verdict = status_of_verdict verdict
+status_of Idle verdict = status_of_verdict verdict
+status_of (Line k refusal) verdict = Refused
+status_of (Unread k) verdict = Refused
+status_of (NoInput k) verdict = Refused
+status_of (Unwritten k) verdict = WriteFailed
+status_of Memory verdict = MemoryRefused
+status_of Cut verdict = BudgetSpent

@@ -1,0 +1,6 @@
+pub mod Views
+pub mod Cutting
+pub mod Ports
+pub mod Streams
+pub mod Exits
+pub mod Finishes

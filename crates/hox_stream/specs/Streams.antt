@@ -1,0 +1,50 @@
+-- A flow between sources and sinks.
+use Rattle.std.specs.Prelude.{◌≡◌, ◌<◌, ℕ, true, List, length, get_or}
+use Rattle.kpn_model.specs.Network.{Family}
+use Rattle.kpn_model.specs.Endings.{NothingGoesOn}
+use Rattle.kpn_flow.specs.Events.{Event, Flows, fed, drained}
+use Rattle.kpn_flow.specs.Flows.{FlowView, is_among}
+use Rattle.kpn_flow.specs.Pauses.{NoneCanHelp}
+use Rattle.kpn_flow.specs.Preloaded.{IsAtEnds}
+use Rattle.hox_stream.specs.declared.finish.Finish.{Finish}
+use Rattle.hox_stream.specs.declared.finish.Finish.TheVariants.{Over, Line, Unread, NoInput, Unwritten, Idle, Memory, Cut}
+use Rattle.hox_stream.specs.Cutting.{IsRefused}
+use Rattle.hox_stream.specs.Ports.{IsSameNet, Takes, Writes}
+use Rattle.hox_stream.specs.Views.{InletView, OutletView, no_inlet, no_outlet}
+
+abbrev pub inlet_at : List InletView → ℕ → InletView
+inlet_at ins k = get_or ins k no_inlet
+
+abbrev pub outlet_at : List OutletView → ℕ → OutletView
+outlet_at outs k = get_or outs k no_outlet
+
+-- no two sources are for one channel, and no two sinks
+abbrev pub AreInletsApart : List InletView → Type 0
+AreInletsApart ins = (j k : ℕ) → j < length ins → k < length ins → (inlet_at ins j).channel ≡ (inlet_at ins k).channel → j ≡ k
+
+abbrev pub AreOutletsApart : List OutletView → Type 0
+AreOutletsApart outs = (j k : ℕ) → j < length outs → k < length outs → (outlet_at outs j).channel ≡ (outlet_at outs k).channel → j ≡ k
+
+-- events at its ends lead the flow on. What was fed into the channel of each source is what the lines say that were read of it, and
+-- what was drained of the channel of each sink is what was written to it
+pub record Streams (kinds : Family) (s t : FlowView) (ins ins_after : List InletView) (outs outs_after : List OutletView) : Type 0 where
+  pub same : IsSameNet s t
+  pub events : List Event
+  pub flows : Flows kinds s.network s.state events t.state
+  pub at_ends : IsAtEnds (is_among s.inputs) (is_among s.outputs) events
+  pub as_many_inlets : length ins_after ≡ length ins
+  pub as_many_outlets : length outs_after ≡ length outs
+  pub taken : AreInletsApart ins → (k : ℕ) → k < length ins → Takes (inlet_at ins k) (inlet_at ins_after k) (fed events (inlet_at ins k).channel)
+  pub written : AreOutletsApart outs → (k : ℕ) → k < length outs → Writes (outlet_at outs k) (outlet_at outs_after k) (drained events (outlet_at outs k).channel)
+
+-- when a stream ends for each cause: nothing goes on, and neither feeding nor draining would help; the next line of a source is
+-- refused; a source can't be read, or its channel is no input; a sink can't be written
+abbrev pub IsFinish : Family → FlowView → List InletView → List OutletView → Finish → Type 0
+IsFinish kinds s ins outs (Over end) = NothingGoesOn kinds s.network s.state end × NoneCanHelp kinds s.network s.unended s.outputs s.state
+IsFinish kinds s ins outs (Line k refusal) = (k < length ins) × IsRefused (inlet_at ins k).sort (inlet_at ins k).kept (inlet_at ins k).is_over refusal
+IsFinish kinds s ins outs (Unread k) = k < length ins
+IsFinish kinds s ins outs (NoInput k) = k < length ins
+IsFinish kinds s ins outs (Unwritten k) = (k < length outs) × ((outlet_at outs k).has_failed ≡ true)
+IsFinish kinds s ins outs Idle = Unit {0}
+IsFinish kinds s ins outs Memory = Unit {0}
+IsFinish kinds s ins outs Cut = Unit {0}

@@ -1,0 +1,33 @@
+-- What contracts see of the ends of a stream.
+use Rattle.std.specs.Prelude.{ℕ, Bool, false, List, [], Option, None}
+use Rattle.std.specs.Io.KnownBytes.{prepend_known}
+use Rattle.kpn_model.specs.declared.token.Sort.{Sort}
+use Rattle.kpn_model.specs.declared.token.Sort.TheVariants.{Words}
+
+-- a source of tokens for a channel: what was read and is not yet said, what is left to read, if that is known, and whether the source
+-- has come to its end; and how many lines and how many tokens were taken
+pub record InletView : Type 0 where
+  pub channel : ℕ
+  pub sort : Sort
+  pub kept : List ℕ
+  pub remaining : Option (List ℕ)
+  pub is_over : Bool
+  pub lines : ℕ
+  pub tokens : ℕ
+
+-- what is still to be said, if that is known
+abbrev pub unread : InletView → Option (List ℕ)
+unread p = prepend_known p.kept p.remaining
+
+-- a sink for the tokens of a channel: what was written, if that is known; whether a write has failed; and how many tokens were written
+pub record OutletView : Type 0 where
+  pub channel : ℕ
+  pub contents : Option (List ℕ)
+  pub has_failed : Bool
+  pub tokens : ℕ
+
+abbrev pub no_inlet : InletView
+no_inlet = record { channel = 0; sort = Words; kept = []; remaining = None; is_over = false; lines = 0; tokens = 0 }
+
+abbrev pub no_outlet : OutletView
+no_outlet = record { channel = 0; contents = None; has_failed = false; tokens = 0 }

@@ -1,0 +1,84 @@
+//! Readers that stop at once.
+ghost use Rattle.std.specs.Prelude.{◌≡◌};
+ghost use Rattle.hox_stream.specs.Exits.{ExitAdmits, exit_name, exit_named, exit_ports, exits, one_input};
+
+use kpn_compute::Computes;
+use kpn_model::{Act, Answer, Card, Kinds, Local, Signature, Sort, Token};
+
+/// The name of the kind that could read words.
+pub(crate) const WORDS_OUT: &str = "words written out";
+
+/// The name of the kind that could read flags.
+pub(crate) const FLAGS_OUT: &str = "flags written out";
+
+/// A family of two kinds that stop at once: `words written out` could read words, and `flags written out`
+/// flags. They stand at the outputs of a stream, in place of what only reads a channel there.
+pub struct Exits;
+
+impl Kinds for Exits {
+    ghost named = { exit_named };
+
+    ghost signature = { exit_ports };
+
+    ghost start = { exits.start };
+
+    ghost answer_of = { exits.answer };
+
+    ghost admits = { ExitAdmits };
+
+    fn named(name: &str) -> Option<(u16, usize)> {
+        if name == WORDS_OUT {
+            return Some((0, 0));
+        }
+        if name == FLAGS_OUT {
+            return Some((1, 0));
+        }
+        None
+    }
+
+    fn signature(card: &Card) -> Option<Signature> {
+        if card.kind == 0 {
+            return Some(one_input(Sort::Words));
+        }
+        if card.kind == 1 {
+            return Some(one_input(Sort::Flags));
+        }
+        None
+    }
+
+    fn start(_card: &Card) -> Local {
+        [0, 0, 0, 0]
+    }
+
+    #[tactic(auto, using(crate::proofs::LawfulExits::exits_lawful))]
+    fn lawful() {}
+}
+
+impl Computes for Exits {
+    fn answer(_card: Card, local: Local, _last: Option<Token>) -> Answer {
+        Answer {
+            next: local,
+            act: Act::Stop,
+        }
+    }
+}
+
+/// The ports of a reader of one channel of this sort.
+fn one_input(sort: Sort) -> Signature
+    ensures { result ≡ one_input sort }
+{
+    Signature {
+        ins: [Some(sort), None, None],
+        outs: [None, None, None],
+    }
+}
+
+/// The name of the kind that could read tokens of this sort.
+pub(crate) fn exit_name(sort: Sort) -> &'static str
+    ensures { result.now ≡ exit_name sort }
+{
+    match sort {
+        Sort::Words => WORDS_OUT,
+        Sort::Flags => FLAGS_OUT,
+    }
+}

@@ -1,0 +1,50 @@
+//! Why a stream ended.
+ghost use Rattle.std.specs.Prelude.{◌≡◌};
+ghost use Rattle.hox_stream.specs.Finishes.{status_of};
+
+use crate::cutting::LineRefusal;
+use kpn_front::Status;
+use kpn_model::{End, Verdict};
+
+/// Why a stream ended. Sources and sinks are named by their places, counted from 0.
+#[derive(Clone, Copy, Debug, PartialEq, Eq)]
+pub enum Finish {
+    /// No process can go on, and neither a token more nor room would help; for this cause, as a run ends. It is
+    /// `Memory` if a growth was refused memory.
+    Over(End),
+    /// The next line of this source is refused. What came before it was fed.
+    Line(usize, LineRefusal),
+    /// This source could not be read.
+    Unread(usize),
+    /// The channel of this source is no input of the flow, or its tokens are of another sort.
+    NoInput(usize),
+    /// This sink could not be written.
+    Unwritten(usize),
+    /// A process waits for a token in an input for which there is no source.
+    Idle,
+    /// Memory was refused for what is read or written.
+    Memory,
+    /// 2^64 - 1 turns were made.
+    Cut,
+}
+
+impl Finish {
+    /// Returns the exit status of a program whose stream ended so, with this verdict on how it left the network.
+    pub fn status(self, verdict: Verdict) -> Status
+        ensures { result ≡ status_of self verdict }
+    {
+        match self {
+            Finish::Over(_) | Finish::Idle => match verdict {
+                Verdict::Finished | Verdict::RanDry => Status::Success,
+                Verdict::Cycle(_) => Status::Deadlocked,
+                Verdict::Cut => Status::BudgetSpent,
+                Verdict::Full => Status::AtCeiling,
+                Verdict::Memory => Status::MemoryRefused,
+            },
+            Finish::Line(..) | Finish::Unread(_) | Finish::NoInput(_) => Status::Refused,
+            Finish::Unwritten(_) => Status::WriteFailed,
+            Finish::Memory => Status::MemoryRefused,
+            Finish::Cut => Status::BudgetSpent,
+        }
+    }
+}

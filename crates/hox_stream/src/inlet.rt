@@ -1,0 +1,174 @@
+//! Sources of tokens.
+ghost use Rattle.std.specs.Prelude.{◌≡◌, ◌≤◌, ◌+◌, ◌++◌, [], false, true, length, drop, IfOk, Option, vec_len, vec_capacity};
+ghost use Rattle.std.specs.Io.Iter.{u64_saturate};
+ghost use Rattle.std.specs.Io.KnownBytes.{IsAtEnd};
+ghost use Rattle.kpn_tokens.specs.TokenLines.{listed};
+ghost use Rattle.hox_stream.specs.Cutting.{IsNext};
+ghost use Rattle.hox_stream.specs.Ports.{ReadsOn};
+
+use crate::cutting::{LONGEST_LINE, Next, next_of};
+use kpn_front::Source;
+use kpn_tokens::{Sort, Token};
+use std::alloc::{AllocError, Global};
+use std::marker::Model;
+
+/// How many bytes one read takes at most.
+const PIECE: usize = 4096;
+
+/// How many bytes are held of a source at most: the longest line, and one piece more.
+const ROOM: usize = 8192;
+
+/// Why a source could not be read on: a read failed, or memory was refused.
+#[derive(Clone, Copy, Debug, PartialEq, Eq)]
+pub(crate) enum ReadFault {
+    Failed,
+    Memory,
+}
+
+/// A source of tokens for a channel, one on each line, which is read piece by piece. At most 8,192 bytes of
+/// it are held at any time.
+///
+/// Contracts see the bytes that were read and are not yet said, and the number of lines and of tokens that
+/// were taken.
+#[derive(Drop)]
+pub struct Inlet<S: Source> {
+    channel: usize,
+    sort: Sort,
+    source: S,
+    held: Vec<u8>,
+    next: usize,
+    is_over: bool,
+    lines: u64,
+    tokens: u64,
+}
+
+impl<S: Source> Model for Inlet<S> {
+    ghost use Rattle.hox_stream.specs.Views.{InletView};
+
+    ghost Value = { InletView };
+
+    ghost use Rattle.std.specs.Prelude.{◌≡◌, ◌≤◌, true, drop, length};
+    ghost use Rattle.std.specs.Io.KnownBytes.{IsAtEnd};
+
+    ghost view = { λ m. record { channel = m.channel; sort = m.sort; kept = drop m.next m.held.items; remaining = S.remaining m.source; is_over = m.is_over; lines = m.lines; tokens = m.tokens } };
+
+    ghost invariant = { λ m. (m.next ≤ length m.held.items) × (length m.held.items ≤ 8192) × (m.is_over ≡ true → IsAtEnd (S.remaining m.source)) };
+}
+
+impl<S: Source> Inlet<S> {
+    /// Makes a source of tokens of this sort for a channel. Nothing of it is read yet.
+    pub fn new(alloc: Global, channel: usize, sort: Sort, source: S) -> Inlet<S>
+        ensures { result ≡ record { channel = channel; sort = sort; kept = []; remaining = S.remaining source; is_over = false; lines = 0; tokens = 0 } }
+    {
+        Inlet {
+            channel,
+            sort,
+            source,
+            held: Vec::new(alloc),
+            next: 0,
+            is_over: false,
+            lines: 0,
+            tokens: 0,
+        }
+    }
+
+    /// Returns the number of the channel.
+    pub fn channel(&self) -> usize
+        ensures { result ≡ self.now.channel }
+    {
+        self.channel
+    }
+
+    /// Returns how many lines were taken; `u64::MAX` if they are as many or more.
+    pub fn lines(&self) -> u64
+        ensures { result ≡ self.now.lines }
+    {
+        self.lines
+    }
+
+    /// Returns how many tokens were taken; `u64::MAX` if they are as many or more.
+    pub fn tokens(&self) -> u64
+        ensures { result ≡ self.now.tokens }
+    {
+        self.tokens
+    }
+
+    /// Returns whether the source has come to its end. Nothing is left to read then.
+    pub fn is_over(&self) -> bool
+        ensures is { result ≡ self.now.is_over }
+        ensures at_end { self.now.is_over ≡ true → IsAtEnd self.now.remaining }
+    {
+        self.is_over
+    }
+
+    /// What the next line says.
+    pub(crate) fn next(&self) -> Next
+        ensures next { IsNext self.now.sort self.now.kept self.now.is_over result }
+        ensures at_end { self.now.is_over ≡ true → IsAtEnd self.now.remaining }
+    {
+        next_of(self.sort, &self.held[self.next..], self.is_over)
+    }
+
+    /// Takes the next line, of so many bytes, which said this.
+    pub(crate) fn pass(&mut self, used: usize, said: Option<Token>)
+        requires { used ≤ length self.old.kept }
+        ensures { self.new ≡ record self.old { kept = drop used self.old.kept; lines = u64_saturate (self.old.lines + 1); tokens = u64_saturate (self.old.tokens + length (listed said)) } }
+    {
+        self.next += used;
+        self.lines = self.lines.saturating_add(1);
+        self.tokens = self.tokens.saturating_add(count_of(said));
+    }
+
+    /// Reads a piece more, unless there is more than a line may have. What was read before is kept.
+    pub(crate) fn refill(&mut self, alloc: Global) -> Result<(), ReadFault>
+        ensures { ReadsOn self.old self.new }
+    {
+        if self.held.len() - self.next > LONGEST_LINE {
+            return Ok(());
+        }
+        let Ok(mut held) = with_room(alloc, &self.held[self.next..]) else {
+            return Err(ReadFault::Memory);
+        };
+        let mut piece = [0; PIECE];
+        self.is_over = false;
+        let Ok(n) = self.source.read(&mut piece) else {
+            return Err(ReadFault::Failed);
+        };
+        append(&mut held, &piece[..n]);
+        self.held = held;
+        self.next = 0;
+        self.is_over = n == 0;
+        Ok(())
+    }
+}
+
+/// How many tokens a line said.
+fn count_of(said: Option<Token>) -> u64
+    ensures { result ≡ length (listed said) }
+{
+    match said {
+        Some(_) => 1,
+        None => 0,
+    }
+}
+
+/// These bytes, with room for a piece more.
+fn with_room(alloc: Global, bytes: &[u8]) -> Result<Vec<u8>, AllocError>
+    requires { length bytes.now ≤ 4096 }
+    ensures items { IfOk result (λ v. v.items ≡ bytes.now) }
+    ensures room { IfOk result (λ v. 8192 ≤ vec_capacity v) }
+{
+    let mut held = Vec::with_capacity(alloc, ROOM)?;
+    held.extend_from_slice(bytes)?;
+    Ok(held)
+}
+
+/// Appends bytes for which there is room.
+fn append(held: &mut Vec<u8>, bytes: &[u8])
+    requires { vec_len held.old + length bytes.now ≤ vec_capacity held.old }
+    ensures { held.new.items ≡ held.old.items ++ bytes.now }
+{
+    if held.extend_from_slice(bytes).is_err() {
+        unreachable!();
+    }
+}

@@ -1,0 +1,98 @@
+//! The network of a stream.
+ghost use Rattle.std.specs.Prelude.{◌≡◌, IfOk, map};
+ghost use Rattle.std.specs.Option.{option_copied};
+ghost use Rattle.hox_stream.specs.Exits.{channel_to, exited, is_one_of, is_reader, with_exits};
+
+use crate::exits::exit_name;
+use kpn_model::{Listed, Text};
+use kpn_sketch::{ChannelSketch, ProcessSketch, Sketch};
+use std::alloc::{AllocError, Global};
+
+/// Returns the sketch of a description in which each process that only reads a channel of one of these names
+/// stops at once, so that the channel may be an output of a flow: it is of a kind of [`Exits`](crate::Exits).
+/// All else stays.
+///
+/// Errors: memory was refused.
+pub fn with_exits(alloc: Global, sketch: Sketch, names: &[Text]) -> Result<Sketch, AllocError>
+    ensures { IfOk result (λ r. r ≡ with_exits names.now sketch) }
+{
+    let Sketch {
+        version,
+        budget,
+        step,
+        processes,
+        channels,
+    } = sketch;
+    let processes = all_exited(alloc, processes.into_vec(), channels.as_slice(), names)?;
+    Ok(Sketch {
+        version,
+        budget,
+        step,
+        processes: Listed::new(processes),
+        channels,
+    })
+}
+
+/// The processes, of which those stop at once that only read a channel of one of these names.
+fn all_exited(
+    alloc: Global,
+    processes: Vec<ProcessSketch>,
+    channels: &[ChannelSketch],
+    names: &[Text],
+) -> Result<Vec<ProcessSketch>, AllocError>
+    ensures { IfOk result (λ v. v.items ≡ map (exited channels.now names.now) processes.items) }
+{
+    let mut all = Vec::new(alloc);
+    for process in processes {
+        all.push(exited(alloc, process, channels, names)?)?;
+    }
+    Ok(all)
+}
+
+/// A process, which stops at once if it only reads a channel of one of these names.
+fn exited(
+    alloc: Global,
+    process: ProcessSketch,
+    channels: &[ChannelSketch],
+    names: &[Text],
+) -> Result<ProcessSketch, AllocError>
+    ensures { IfOk result (λ r. r ≡ exited channels.now names.now process) }
+{
+    if !is_reader(process.kind.as_str()) {
+        return Ok(process);
+    }
+    let Some(channel) = channel_to(channels, names, process.name.as_str()) else {
+        return Ok(process);
+    };
+    let kind = Text::new(String::from_str(alloc, exit_name(channel.sort))?);
+    Ok(ProcessSketch {
+        name: process.name,
+        kind,
+        args: Listed::new(Vec::new(alloc)),
+    })
+}
+
+/// Whether processes of a kind only read one channel.
+fn is_reader(kind: &str) -> bool
+    ensures { result ≡ is_reader kind.now }
+{
+    kind == "sink" || kind == "drain" || kind == "drain_flags"
+}
+
+/// Whether a name is one of these.
+fn is_one_of(names: &[Text], name: &str) -> bool
+    ensures { result ≡ is_one_of names.now name.now }
+{
+    names.iter().any(|other| other.as_str() == name)
+}
+
+/// The channel of one of these names that leads to a process of this name.
+fn channel_to<'a>(
+    channels: &'a [ChannelSketch],
+    names: &[Text],
+    process: &str,
+) -> Option<&'a ChannelSketch>
+    ensures { option_copied result ≡ channel_to channels.now names.now process.now }
+{
+    channels.iter().find(|c| c.to.as_str() == process && is_one_of(names, c.name.as_str()))
+}

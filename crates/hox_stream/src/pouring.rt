@@ -1,0 +1,175 @@
+//! From a source into its channel.
+ghost use Rattle.std.specs.Prelude.{◌≡◌, ◌≢◌, ◌<◌, true, false, [], Err, IsTrue, IfSome, List, length, map};
+ghost use Rattle.kpn_model.specs.Network.{family_of};
+ghost use Rattle.kpn_tokens.specs.TokenLines.{listed};
+ghost use Rattle.kpn_flow.specs.Events.{Fed, Flows};
+ghost use Rattle.kpn_flow.specs.Flows.{IsSameFlow, is_among, with_ended};
+ghost use Rattle.kpn_flow.specs.Preloaded.{IsAtEnds};
+ghost use Rattle.hox_stream.specs.declared.cutting.LineRefusal.{LineRefusal as LineRefusalV};
+ghost use Rattle.hox_stream.specs.Cutting.{IsRefused};
+ghost use Rattle.hox_stream.specs.Ports.{Pours, ReadsOn};
+ghost use Rattle.hox_stream.specs.Streams.{Streams, IsFinish};
+ghost use Rattle.hox_stream.specs.Views.{OutletView};
+
+use crate::cutting::{LineRefusal, Next};
+use crate::finish::Finish;
+use crate::inlet::{Inlet, ReadFault};
+use kpn_body::Body;
+use kpn_flow::Flow;
+use kpn_front::Source;
+use kpn_model::Token;
+use std::alloc::Global;
+
+/// Feeds what a line said, if there is room, and returns whether that was done.
+fn feed_said<B: Body>(flow: &mut Flow<B>, channel: usize, said: Option<Token>) -> bool
+    ensures same { IsSameFlow flow.old flow.new }
+    ensures flows { IsTrue result → Flows (family_of B.Kinds.start B.Kinds.answer_of) flow.old.network flow.old.state (map (λ token. Fed channel token) (listed said)) flow.new.state }
+    ensures at_ends { IsTrue result → IsAtEnds (is_among flow.old.inputs) (is_among flow.old.outputs) (map (λ token. Fed channel token) (listed said)) }
+    ensures not { result ≡ false → flow.new ≡ flow.old }
+{
+    flow.assure_one_run();
+    match said {
+        None => true,
+        Some(token) => flow.may_feed(channel, token) && flow.feed(channel, token),
+    }
+}
+
+/// Takes the next line of a source and feeds its token, if there is a line and room. Returns whether that was
+/// done.
+fn take_line<B: Body, S: Source>(flow: &mut Flow<B>, inlet: &mut Inlet<S>) -> bool
+    ensures { Pours (family_of B.Kinds.start B.Kinds.answer_of) flow.old flow.new inlet.old inlet.new }
+{
+    let Next::Line { said, used } = inlet.next() else {
+        return false;
+    };
+    if !feed_said(flow, inlet.channel(), said) {
+        return false;
+    }
+    inlet.pass(used, said);
+    true
+}
+
+/// Takes line after line of a source, as long as there are lines and room.
+fn take_lines<B: Body, S: Source>(flow: &mut Flow<B>, inlet: &mut Inlet<S>)
+    ensures { Pours (family_of B.Kinds.start B.Kinds.answer_of) flow.old flow.new inlet.old inlet.new }
+{
+    'lines: for _ in 0..u64::MAX {
+        if !take_line(flow, inlet) {
+            return;
+        }
+    }
+}
+
+/// Why nothing was fed from a source.
+#[derive(Clone, Copy, Debug, PartialEq, Eq)]
+pub(crate) enum PourFault {
+    Line(LineRefusal),
+    Failed,
+    NoInput,
+    Memory,
+}
+
+/// Feeds lines of a source for which there is room; if there is no line yet, reads on; and if no more comes,
+/// has the input end.
+fn pour<B: Body, S: Source>(
+    alloc: Global,
+    flow: &mut Flow<B>,
+    inlet: &mut Inlet<S>,
+) -> Result<(), PourFault>
+    ensures pours { Pours (family_of B.Kinds.start B.Kinds.answer_of) flow.old flow.new inlet.old inlet.new }
+    ensures ended { inlet.old.is_over ≡ true → inlet.old.kept ≡ [] → flow.new ≡ with_ended flow.old inlet.old.channel }
+    ensures line { (refusal : LineRefusalV) → result ≡ Err (PourFault.Line refusal) → IsRefused inlet.new.sort inlet.new.kept inlet.new.is_over refusal }
+{
+    let channel = inlet.channel();
+    match inlet.next() {
+        Next::Line { said, .. } => {
+            if let Some(token) = said {
+                if !flow.may_feed(channel, token) {
+                    return Err(PourFault::NoInput);
+                }
+            }
+            take_lines(flow, inlet);
+            Ok(())
+        }
+        Next::Refused(refusal) => Err(PourFault::Line(refusal)),
+        Next::Wanting => {
+            if inlet.is_over() {
+                flow.end_input(channel);
+                Ok(())
+            } else {
+                read_on(alloc, inlet)
+            }
+        }
+    }
+}
+
+/// Reads a source on.
+fn read_on<S: Source>(alloc: Global, inlet: &mut Inlet<S>) -> Result<(), PourFault>
+    ensures reads { ReadsOn inlet.old inlet.new }
+    ensures no_line { (refusal : LineRefusalV) → result ≢ Err (PourFault.Line refusal) }
+{
+    match inlet.refill(alloc) {
+        Ok(()) => Ok(()),
+        Err(ReadFault::Failed) => Err(PourFault::Failed),
+        Err(ReadFault::Memory) => Err(PourFault::Memory),
+    }
+}
+
+/// The same as [`pour`], for the source at place `k`. Returns why the stream ends, if it does.
+fn pour_at<B: Body, S: Source>(
+    alloc: Global,
+    flow: &mut Flow<B>,
+    inlets: &mut [Inlet<S>],
+    k: usize,
+) -> Option<Finish>
+    requires { k < length inlets.old }
+    ensures streams { (outs : List OutletView) → Streams (family_of B.Kinds.start B.Kinds.answer_of) flow.old flow.new inlets.old inlets.new outs outs }
+    ensures finish { IfSome result (λ f. (outs : List OutletView) → IsFinish (family_of B.Kinds.start B.Kinds.answer_of) flow.new inlets.new outs f) }
+{
+    match pour(alloc, flow, &mut inlets[k]) {
+        Ok(()) => None,
+        Err(PourFault::Line(refusal)) => Some(Finish::Line(k, refusal)),
+        Err(PourFault::Failed) => Some(Finish::Unread(k)),
+        Err(PourFault::NoInput) => Some(Finish::NoInput(k)),
+        Err(PourFault::Memory) => Some(Finish::Memory),
+    }
+}
+
+/// The first source, from this place on, for whose tokens a process waits.
+fn first_starved<B: Body, S: Source>(
+    flow: &Flow<B>,
+    inlets: &[Inlet<S>],
+    from: usize,
+) -> Option<usize>
+    ensures within { IfSome result (λ k. k < length inlets.now) }
+{
+    for k in from..inlets.len() {
+        let channel = inlets[k].channel();
+        if flow.is_input(channel) && flow.is_starved(channel) {
+            return Some(k);
+        }
+    }
+    None
+}
+
+/// Pours the next source for whose tokens a process waits, each in its turn. Returns why the stream ends, if it
+/// does.
+pub(crate) fn pour_next<B: Body, S: Source>(
+    alloc: Global,
+    flow: &mut Flow<B>,
+    inlets: &mut [Inlet<S>],
+    turn: &mut usize,
+) -> Option<Finish>
+    ensures streams { (outs : List OutletView) → Streams (family_of B.Kinds.start B.Kinds.answer_of) flow.old flow.new inlets.old inlets.new outs outs }
+    ensures finish { IfSome result (λ f. (outs : List OutletView) → IsFinish (family_of B.Kinds.start B.Kinds.answer_of) flow.new inlets.new outs f) }
+{
+    let found = match first_starved(flow, inlets, *turn) {
+        Some(k) => Some(k),
+        None => first_starved(flow, inlets, 0),
+    };
+    let Some(k) = found else {
+        return Some(Finish::Idle);
+    };
+    *turn = k + 1;
+    pour_at(alloc, flow, inlets, k)
+}
