@@ -41,7 +41,7 @@ IsRefused sort bytes last TooLong = 4096 < line_length bytes
 
 -- what the first of these bytes say: a line, or a line that is refused, or no line yet
 abbrev pub IsNext : Sort → List ℕ → Bool → Next → Type 0
-IsNext sort bytes last (Line said used) = SaysLine sort (before_first is_line_feed bytes) (Ok said) × (0 < length bytes) × (drop used bytes ≡ after_first is_line_feed bytes) × (used ≤ length bytes) × IsWhole bytes last
+IsNext sort bytes last (Line said used) = SaysLine sort (before_first is_line_feed bytes) (Ok said) × (0 < length bytes) × (drop used bytes ≡ after_first is_line_feed bytes) × (used ≤ length bytes) × IsWhole bytes last × (line_length bytes ≤ 4096)
 IsNext sort bytes last (Refused refusal) = IsRefused sort bytes last refusal
 IsNext sort bytes last Wanting = (line_length bytes ≡ length bytes) × (length bytes ≤ 4096) × (last ≡ true → bytes ≡ [])
 

@@ -1,11 +1,12 @@
 -- A flow between sources and sinks.
-use Rattle.std.specs.Prelude.{◌≡◌, ◌<◌, ℕ, true, List, length, get_or}
+use Rattle.std.specs.Prelude.{◌≡◌, ◌<◌, ◌&&◌, ℕ, Bool, true, false, List, length, get_or}
 use Rattle.kpn_model.specs.Network.{Family}
 use Rattle.kpn_model.specs.Endings.{NothingGoesOn}
 use Rattle.kpn_flow.specs.Events.{Event, Flows, fed, drained}
 use Rattle.kpn_flow.specs.Flows.{FlowView, is_among}
 use Rattle.kpn_flow.specs.Pauses.{NoneCanHelp}
 use Rattle.kpn_flow.specs.Preloaded.{IsAtEnds}
+use Rattle.kpn_flow.specs.Waits.{starves}
 use Rattle.hox_stream.specs.declared.finish.Finish.{Finish}
 use Rattle.hox_stream.specs.declared.finish.Finish.TheVariants.{Over, Line, Unread, NoInput, Unwritten, Idle, Memory, Cut}
 use Rattle.hox_stream.specs.Cutting.{IsRefused}
@@ -37,14 +38,21 @@ pub record Streams (kinds : Family) (s t : FlowView) (ins ins_after : List Inlet
   pub taken : AreInletsApart ins → (k : ℕ) → k < length ins → Takes (inlet_at ins k) (inlet_at ins_after k) (fed events (inlet_at ins k).channel)
   pub written : AreOutletsApart outs → (k : ℕ) → k < length outs → Writes (outlet_at outs k) (outlet_at outs_after k) (drained events (outlet_at outs k).channel)
 
+-- a process waits for a token of this source
+abbrev pub is_waited_for : FlowView → InletView → Bool
+is_waited_for s p = is_among s.unended p.channel && starves s.network s.standings p.channel
+
+abbrev pub NoneIsWaitedFor : FlowView → List InletView → Type 0
+NoneIsWaitedFor s ins = (k : ℕ) → k < length ins → is_waited_for s (inlet_at ins k) ≡ false
+
 -- when a stream ends for each cause: nothing goes on, and neither feeding nor draining would help; the next line of a source is
--- refused; a source can't be read, or its channel is no input; a sink can't be written
+-- refused; a source can't be read, or its channel is no input; a sink can't be written; no process waits for a token of a source
 abbrev pub IsFinish : Family → FlowView → List InletView → List OutletView → Finish → Type 0
 IsFinish kinds s ins outs (Over end) = NothingGoesOn kinds s.network s.state end × NoneCanHelp kinds s.network s.unended s.outputs s.state
 IsFinish kinds s ins outs (Line k refusal) = (k < length ins) × IsRefused (inlet_at ins k).sort (inlet_at ins k).kept (inlet_at ins k).is_over refusal
 IsFinish kinds s ins outs (Unread k) = k < length ins
 IsFinish kinds s ins outs (NoInput k) = k < length ins
 IsFinish kinds s ins outs (Unwritten k) = (k < length outs) × ((outlet_at outs k).has_failed ≡ true)
-IsFinish kinds s ins outs Idle = Unit {0}
+IsFinish kinds s ins outs Idle = NoneIsWaitedFor s ins
 IsFinish kinds s ins outs Memory = Unit {0}
 IsFinish kinds s ins outs Cut = Unit {0}

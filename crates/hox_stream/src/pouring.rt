@@ -1,5 +1,5 @@
 //! From a source into its channel.
-ghost use Rattle.std.specs.Prelude.{◌≡◌, ◌≢◌, ◌<◌, true, false, [], Err, IsTrue, IfSome, List, length, map};
+ghost use Rattle.std.specs.Prelude.{◌≡◌, ◌≢◌, ◌<◌, true, false, [], Err, IsTrue, IfSome, IfNone, ◌≤◌, ℕ, List, length, map};
 ghost use Rattle.kpn_model.specs.Network.{family_of};
 ghost use Rattle.kpn_tokens.specs.TokenLines.{listed};
 ghost use Rattle.kpn_flow.specs.Events.{Fed, Flows};
@@ -8,7 +8,7 @@ ghost use Rattle.kpn_flow.specs.Preloaded.{IsAtEnds};
 ghost use Rattle.hox_stream.specs.declared.cutting.LineRefusal.{LineRefusal as LineRefusalV};
 ghost use Rattle.hox_stream.specs.Cutting.{IsRefused};
 ghost use Rattle.hox_stream.specs.Ports.{Pours, ReadsOn};
-ghost use Rattle.hox_stream.specs.Streams.{Streams, IsFinish};
+ghost use Rattle.hox_stream.specs.Streams.{Streams, IsFinish, NoneIsWaitedFor, inlet_at, is_waited_for};
 ghost use Rattle.hox_stream.specs.Views.{OutletView};
 
 use crate::cutting::{LineRefusal, Next};
@@ -135,6 +135,14 @@ fn pour_at<B: Body, S: Source>(
     }
 }
 
+/// Whether a process waits for a token of a source.
+fn is_waited_for<B: Body, S: Source>(flow: &Flow<B>, inlet: &Inlet<S>) -> bool
+    ensures { result ≡ is_waited_for flow.now inlet.now }
+{
+    let channel = inlet.channel();
+    flow.is_input(channel) && flow.is_starved(channel)
+}
+
 /// The first source, from this place on, for whose tokens a process waits.
 fn first_starved<B: Body, S: Source>(
     flow: &Flow<B>,
@@ -142,14 +150,29 @@ fn first_starved<B: Body, S: Source>(
     from: usize,
 ) -> Option<usize>
     ensures within { IfSome result (λ k. k < length inlets.now) }
+    ensures none { IfNone result ((k : ℕ) → k < length inlets.now → from ≤ k → is_waited_for flow.now (inlet_at inlets.now k) ≡ false) }
 {
     for k in from..inlets.len() {
-        let channel = inlets[k].channel();
-        if flow.is_input(channel) && flow.is_starved(channel) {
+        if is_waited_for(flow, &inlets[k]) {
             return Some(k);
         }
     }
     None
+}
+
+/// The same, each in its turn: from this place on, or else from the first one on.
+fn next_starved<B: Body, S: Source>(
+    flow: &Flow<B>,
+    inlets: &[Inlet<S>],
+    from: usize,
+) -> Option<usize>
+    ensures within { IfSome result (λ k. k < length inlets.now) }
+    ensures none { IfNone result (NoneIsWaitedFor flow.now inlets.now) }
+{
+    match first_starved(flow, inlets, from) {
+        Some(k) => Some(k),
+        None => first_starved(flow, inlets, 0),
+    }
 }
 
 /// Pours the next source for whose tokens a process waits, each in its turn. Returns why the stream ends, if it
@@ -163,11 +186,7 @@ pub(crate) fn pour_next<B: Body, S: Source>(
     ensures streams { (outs : List OutletView) → Streams (family_of B.Kinds.start B.Kinds.answer_of) flow.old flow.new inlets.old inlets.new outs outs }
     ensures finish { IfSome result (λ f. (outs : List OutletView) → IsFinish (family_of B.Kinds.start B.Kinds.answer_of) flow.new inlets.new outs f) }
 {
-    let found = match first_starved(flow, inlets, *turn) {
-        Some(k) => Some(k),
-        None => first_starved(flow, inlets, 0),
-    };
-    let Some(k) = found else {
+    let Some(k) = next_starved(flow, inlets, *turn) else {
         return Some(Finish::Idle);
     };
     *turn = k + 1;
