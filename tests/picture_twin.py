@@ -2,8 +2,11 @@
 lines of its report, as the independent interpreter writes them. And networks of many processes to draw."""
 import tomllib
 
-OUTPUTS = {"sink": 0, "copy": 2, "switch": 2}  # of the standard kinds; all others have one
-INPUTS = {"count": 0, "add": 2, "weave": 2, "merge": 2, "switch": 2, "select": 3}
+OUTPUTS = {"sink": 0, "copy": 2, "switch": 2}  # of the kinds that don't have one
+INPUTS = {
+    "count": 0, "add": 2, "weave": 2, "merge": 2, "switch": 2, "select": 3,
+    "sub": 2, "mul": 2, "less": 2, "equal": 2, "and": 2, "or": 2, "hold": 2,
+}
 ENDS = {"terminated": "terminated", "deadlock": "deadlock", "ceiling": "a channel at the ceiling would have to grow", "budget": "budget spent"}
 VERDICTS = {"terminated": "finished", "ceiling": "full", "budget": "cut"}
 HEAD = """\

@@ -6,9 +6,8 @@ import sys
 
 TOP = os.path.dirname(os.path.dirname(os.path.abspath(__file__)))
 PROGRAM = f"{TOP}/crates/kpn/out/kpn"
-DRAWER = f"{TOP}/crates/kpn_draw/out/kpn_draw"
 HOX = f"{TOP}/crates/hox/out/hox"
-BRINGS = "`./kpn --help` (`./kpn-draw --help`, `./hox --help`), which brings it"
+BRINGS = "`./kpn --help` (`./hox --help`), which brings it"
 SECONDS = 60  # that one run may take
 
 

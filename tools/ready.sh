@@ -1,4 +1,4 @@
-# Read by ./kpn and ./kpn-draw: `ready NAME ARGUMENTS` brings the program, if it isn't there or something changed since.
+# Read by ./kpn and ./hox: `ready NAME ARGUMENTS` brings the program, if it isn't there or something changed since.
 top="$(cd "$(dirname "${BASH_SOURCE[0]}")/.." && pwd)"
 
 ready() {

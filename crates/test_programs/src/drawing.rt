@@ -1,14 +1,12 @@
-//! Worked command lines, and worked pictures.
-ghost use Rattle.kpn_drawing.specs.DrawChoices.{HasFewIfRun};
+//! Worked pictures, and worked command lines that ask for them.
+ghost use Rattle.std.specs.Prelude.{◌≡◌, ◌≤◌, IfSome};
 
 use crate::checks::same;
-use kpn_drawing::{Choice, Direction, Served, WordsFault, read_words, serve};
-use kpn_execute::KINDS;
-use kpn_front::{Fallible, Sink, Source};
-use kpn_standard::Standard;
+use hox_args::{Choice, Direction, DrawChoice, WordsFault, read_words};
+use hox_draw::draw;
+use hox_run::{AllKinds, Fault, Request, TokenFile};
+use kpn_net::{Listed, Text};
 use std::alloc::{AllocError, Global};
-use std::io;
-use std::io::Write;
 use std::process::Abort;
 use std::rt::Clock;
 use std::sync::Wait;
@@ -43,62 +41,64 @@ channel = [
 ]
 "#;
 
-/// The exit status and the number of the fault (0 if there is none), in a line.
-fn first_line<R: AllocGlobal + Abort>(rt: &R, status: u8, number: u8) -> Vec<u8> {
-    let line = format!(in rt.alloc(); "{status} {number}\n").expect(rt, "no memory");
-    line.into_bytes()
-}
-
-/// Draws a description of a network of standard kinds, to the right.
-fn draw<I: Source, O: Sink, R: AllocGlobal + Wait + Clock + Threads + Sync>(
-    rt: &R,
-    workers: Option<usize>,
-    source: &mut I,
-    sink: &mut O,
-) -> Served
-    requires { HasFewIfRun workers }
+/// What is asked for without a file of tokens.
+fn plain(alloc: Global, workers: usize) -> Request
+    ensures { result.workers ≡ workers }
 {
-    let direction = Direction::Right;
-    serve::<Standard, _, _, _>(rt, rt.alloc(), KINDS, direction, workers, source, sink)
+    Request {
+        workers,
+        budget: None,
+        tokens: Listed::new(Vec::new(alloc)),
+        show: None,
+        outputs: Listed::new(Vec::new(alloc)),
+    }
 }
 
-/// What is written of a description, after the exit status and the number of its fault.
+/// The picture of a description of a network, to the right: of the network, or of its run. Of one that is
+/// refused, the exit status and the number of its fault.
 fn told<R: AllocGlobal + Wait + Clock + Threads + Abort + Sync>(
     rt: &R,
     text: &str,
-    workers: Option<usize>,
-) -> Vec<u8>
-    requires { HasFewIfRun workers }
+    request: &Request,
+    is_run: bool,
+) -> String
+    requires { (1 ≤ request.now.workers) × (request.now.workers ≤ 16) }
 {
     let mut source = text.as_bytes();
-    let mut written = Vec::new(rt.alloc());
-    let served = draw(rt, workers, &mut source, &mut written);
-    let number = match served.fault {
-        Some(fault) => fault.number(),
-        None => 0,
-    };
-    let mut told = first_line(rt, served.status, number);
-    told.extend_from_slice(written.as_slice())
-        .expect(rt, "no memory");
-    told
+    let direction = Direction::Right;
+    match draw::<AllKinds, _, _>(rt, rt.alloc(), request, direction, is_run, &mut source) {
+        Ok(picture) => picture,
+        Err(fault) => refusal(rt, &fault),
+    }
 }
 
-/// Compares what is written of a description, after the exit status and the number of its fault.
+/// The exit status and the number of the fault of a description, in a line.
+fn refusal<R: AllocGlobal + Abort>(rt: &R, fault: &Fault) -> String {
+    let number = match fault {
+        Fault::Description(refused) => refused.fault.number(),
+        _ => 0,
+    };
+    let status = fault.status().code();
+    format!(in rt.alloc(); "{status} {number}").expect(rt, "no memory")
+}
+
+/// Compares what is drawn of a description without a file of tokens.
 fn tells<R: AllocGlobal + Wait + Clock + Threads + Abort + Sync>(
     rt: &R,
     text: &str,
     workers: Option<usize>,
     due: &str,
 )
-    requires { HasFewIfRun workers }
+    requires { IfSome workers (λ n. (1 ≤ n) × (n ≤ 16)) }
 {
-    let told = told(rt, text, workers);
-    same(rt, text, told.as_slice(), due.as_bytes());
+    let request = plain(rt.alloc(), workers.unwrap_or(1));
+    let told = told(rt, text, &request, workers.is_some());
+    same(rt, text, told.as_str(), due);
 }
 
-/// What is written if a picture with these lines is drawn.
+/// The whole picture with these lines.
 fn drawn<R: AllocGlobal + Abort>(rt: &R, worked: &str) -> String {
-    format!(in rt.alloc(); "0 0\n{HEAD}{worked}").expect(rt, "no memory")
+    format!(in rt.alloc(); "{HEAD}{worked}").expect(rt, "no memory")
 }
 
 /// The counter's network.
@@ -157,81 +157,90 @@ fn draws_a_spent_budget(rt: HostRuntime) {
     tells(&rt, text.as_str(), Some(1), whole.as_str());
 }
 
-/// Texts that are refused, and what is written of them.
+/// Texts that are refused, and what is told of them.
 static REFUSED: [(&str, &str); 3] = [
-    ("version", "2 1\nrefused 1\n"),
-    ("version = 1", "2 2\nrefused 2\n"),
-    ("version = 1\nprocess = []", "2 4\nrefused 4\n"),
+    ("version", "2 1"),
+    ("version = 1", "2 2"),
+    ("version = 1\nprocess = []", "2 4"),
 ];
 
 #[test]
-fn refuses_as_the_other_program_does(rt: HostRuntime) {
+fn refuses_as_the_other_programs_do(rt: HostRuntime) {
     for (text, line) in &REFUSED {
         tells(&rt, text, None, line);
         tells(&rt, text, Some(1), line);
     }
 }
 
-/// Takes a number of bytes, and then fails.
-#[derive(Drop)]
-struct Failing {
-    room: usize,
+/// Two words of a file wait in a channel; the first goes through.
+const SAMPLES: &str = r#"version = 1
+process = [{ name = "src", kind = "input" }, { name = "snk", kind = "sink", args = [1] }]
+channel = [{ name = "x", from = "src", to = "snk" }]
+"#;
+
+const SAMPLES_LINES: &str = r##"  label="finished (terminated)";
+  "src" [label="src\ninput\nended", fillcolor="#e3e3e3"];
+  "snk" [label="snk\nsink 1\nended", fillcolor="#e3e3e3"];
+  "src" -> "snk" [label="x\ncapacity 2\nholds 1"];
 }
+"##;
 
-impl Write for Failing {
-    fn write(&mut self, buf: &[u8]) -> io::Result<usize> {
-        let taken = buf.len().min(self.room);
-        if taken == 0 {
-            return Err(io::ErrorKind::Other.into());
-        }
-        self.room -= taken;
-        Ok(taken)
-    }
-
-    fn flush(&mut self) -> io::Result<()> {
-        Ok(())
-    }
-}
-
-/// Compares the exit status if the fifth byte is the last that can be written.
-fn fails_to_write<R: AllocGlobal + Wait + Clock + Threads + Abort + Sync>(
-    rt: &R,
-    text: &str,
-    workers: Option<usize>,
-)
-    requires { HasFewIfRun workers }
+/// What is asked for: channel x holds 7 and 8 at first.
+fn with_samples<R: AllocGlobal + Abort>(rt: &R) -> Request
+    ensures { result.workers ≡ 1 }
 {
-    let mut source = text.as_bytes();
-    let mut sink = Fallible::new(Failing { room: 5 });
-    let served = draw(rt, workers, &mut source, &mut sink);
-    same(rt, text, served.status, 7);
+    let alloc = rt.alloc();
+    let name = String::from_str(alloc, "x").expect(rt, "no memory");
+    let bytes = Vec::from_slice(alloc, b"7\n8\n").expect(rt, "no memory");
+    let mut files = Vec::new(alloc);
+    files
+        .push(TokenFile {
+            channel: Text::new(name),
+            text: Listed::new(bytes),
+        })
+        .expect(rt, "no memory");
+    Request {
+        workers: 1,
+        budget: None,
+        tokens: Listed::new(files),
+        show: None,
+        outputs: Listed::new(Vec::new(alloc)),
+    }
 }
 
 #[test]
-fn tells_a_failed_write_by_its_status(rt: HostRuntime) {
-    fails_to_write(&rt, COUNTER, None);
-    fails_to_write(&rt, COUNTER, Some(1));
-    fails_to_write(&rt, "", None);
+fn draws_what_a_file_says(rt: HostRuntime) {
+    let request = with_samples(&rt);
+    let whole = drawn(&rt, SAMPLES_LINES);
+    let told = told(&rt, SAMPLES, &request, true);
+    same(&rt, "samples", told.as_str(), whole.as_str());
 }
 
 /// What the arguments ask for, as a text.
 fn asked_for<R: Abort>(rt: &R, alloc: Global, words: &[&str]) -> String {
-    let text = match read_words(alloc, words) {
-        Ok(choice) => choice_text(alloc, &choice),
-        Err(fault) => refused_text(alloc, &fault),
-    };
-    text.expect(rt, "no memory")
+    let read = read_words(alloc, words);
+    read_text(alloc, &read).expect(rt, "no memory")
 }
 
-/// The number of workers, the direction and the file.
-fn choice_text(alloc: Global, choice: &Choice<'_>) -> Result<String, AllocError> {
-    let workers = choice.workers.unwrap_or(0);
-    let direction = match choice.direction {
+/// What was read of the arguments, as a text.
+fn read_text(alloc: Global, read: &Result<Choice<'_>, WordsFault>) -> Result<String, AllocError> {
+    match read {
+        Ok(Choice::Draw(draw)) => draw_text(alloc, draw),
+        Ok(_) => String::from_str(alloc, "no picture"),
+        Err(fault) => refused_text(alloc, fault),
+    }
+}
+
+/// The number of workers, the direction, the file and how many files of tokens there are.
+fn draw_text(alloc: Global, draw: &DrawChoice<'_>) -> Result<String, AllocError> {
+    let workers = draw.workers.unwrap_or(0);
+    let direction = match draw.direction {
         Direction::Right => "right",
         Direction::Down => "down",
     };
-    let file = choice.file.unwrap_or("-");
-    format!(in alloc; "{workers} {direction} {file}")
+    let file = draw.file.unwrap_or("-");
+    let count = draw.tokens.len();
+    format!(in alloc; "{workers} {direction} {file} {count}")
 }
 
 /// The exit status, whether help or the version is asked for, and whether it is because of the number of
@@ -243,27 +252,31 @@ fn refused_text(alloc: Global, fault: &WordsFault) -> Result<String, AllocError>
 }
 
 /// Command lines, and what they ask for: the number of workers of a run (0 if nothing is run), the
-/// direction and a file; or nothing, with the exit status, whether help or the version is asked for, and whether it is
-/// because of the number of workers.
-static WORDS: [(&str, &str); 18] = [
-    ("kpn-draw", "0 right -"),
-    ("kpn-draw a.toml", "0 right a.toml"),
-    ("kpn-draw --down a.toml", "0 down a.toml"),
-    ("kpn-draw --run", "1 right -"),
-    ("kpn-draw --run a.toml", "1 right a.toml"),
-    ("kpn-draw a.toml --run --down", "1 down a.toml"),
-    ("kpn-draw --run --workers 16 a.toml", "16 right a.toml"),
-    ("kpn-draw --workers=2 --run", "2 right -"),
-    ("kpn-draw --workers 2 a.toml", "0 right a.toml"),
-    ("kpn-draw --down --down", "1 false false"),
-    ("kpn-draw --run --workers 17", "1 false true"),
-    ("kpn-draw --run --workers 0", "1 false true"),
-    ("kpn-draw --workers two", "1 false true"),
-    ("kpn-draw a.toml b.toml", "1 false false"),
-    ("kpn-draw --run --run", "1 false false"),
-    ("kpn-draw --show c0", "1 false false"),
-    ("kpn-draw --help", "0 true false"),
-    ("kpn-draw --version", "0 true false"),
+/// direction, a file and the number of files of tokens; or nothing, with the exit status, whether help or the
+/// version is asked for, and whether it is because of the number of workers.
+static WORDS: [(&str, &str); 19] = [
+    ("hox draw", "0 right - 0"),
+    ("hox draw a.toml", "0 right a.toml 0"),
+    ("hox draw --down a.toml", "0 down a.toml 0"),
+    ("hox draw --run", "1 right - 0"),
+    ("hox draw --run a.toml", "1 right a.toml 0"),
+    ("hox draw a.toml --run --down", "1 down a.toml 0"),
+    ("hox draw --run --workers 16 a.toml", "16 right a.toml 0"),
+    ("hox draw --workers=2 --run", "2 right - 0"),
+    ("hox draw --workers 2 a.toml", "0 right a.toml 0"),
+    (
+        "hox draw a.toml --tokens x=b --tokens y=c",
+        "0 right a.toml 2",
+    ),
+    ("hox draw --down --down", "1 false false"),
+    ("hox draw --run --workers 17", "1 false true"),
+    ("hox draw --run --workers 0", "1 false true"),
+    ("hox draw --workers two", "1 false true"),
+    ("hox draw a.toml b.toml", "1 false false"),
+    ("hox draw --run --run", "1 false false"),
+    ("hox draw --show c0", "1 false false"),
+    ("hox draw --help", "0 true false"),
+    ("hox walk", "1 false false"),
 ];
 
 /// Compares what a command line asks for.

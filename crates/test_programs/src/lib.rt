@@ -1,6 +1,7 @@
 //! Tests of the programs and of the examples: in `front` of kpn_front and kpn_args, in `serving` of
-//! kpn_execute, in `counting` of how often bodies are called, in `drawing` of kpn_drawing, in `samples` of hox_run and hox_args, and in `examples` of example_own_kinds and example_least_room. They have a crate of their
-//! own so that these are proved once, and one crate so that what it uses is loaded once.
+//! kpn_execute, in `counting` of how often bodies are called, in `drawing` of hox_draw and hox_args, in
+//! `samples` of hox_run and hox_args, and in `examples` of example_own_kinds and example_least_room. They have
+//! a crate of their own so that these are proved once, and one crate so that what it uses is loaded once.
 #![tactic(auto)]
 
 #[cfg(test)]

@@ -188,6 +188,37 @@ fn words_are_read(rt: HostRuntime) {
     same(&rt, "help", status_of(rt.alloc(), &["hox", "--help"]), 0);
 }
 
+#[test]
+fn words_of_streams_and_of_progress_are_read(rt: HostRuntime) {
+    let words = [
+        "hox", "stream", "f.toml", "--in", "x=-", "--in", "z=b", "--out", "y=-", "--quiet",
+    ];
+    let found = inputs_and_outputs(rt.alloc(), &words);
+    same(&rt, "stream", found, (2, 1, true));
+    let shows = shows_progress(rt.alloc(), &["hox", "run", "--progress"]);
+    same(&rt, "progress", shows, true);
+    let shows = shows_progress(rt.alloc(), &["hox", "run", "--quiet"]);
+    same(&rt, "no progress", shows, false);
+}
+
+/// How many inputs and outputs the arguments ask for, and whether no report is wanted.
+fn inputs_and_outputs(alloc: Global, words: &[&str]) -> (usize, usize, bool) {
+    let read = read_words(alloc, words);
+    match &read {
+        Ok(Choice::Stream(stream)) => (stream.inputs.len(), stream.outputs.len(), stream.quiet),
+        _ => (0, 0, false),
+    }
+}
+
+/// Whether the arguments ask for progress.
+fn shows_progress(alloc: Global, words: &[&str]) -> bool {
+    let read = read_words(alloc, words);
+    match &read {
+        Ok(Choice::Run(run)) => run.progress,
+        _ => false,
+    }
+}
+
 /// How many outputs the arguments ask for, and which budget.
 fn outputs_and_budget(alloc: Global, words: &[&str]) -> (usize, Option<u64>) {
     let read = read_words(alloc, words);

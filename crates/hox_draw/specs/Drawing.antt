@@ -1,0 +1,60 @@
+-- What is drawn of a network, of a run of it, and of a description.
+use Rattle.std.specs.Prelude.{◌≡◌, ℕ, Bool, true, false, List, [], Option, Some, None, Result, MatchResult, String, string_bytes, if◌then◌else◌}
+use Rattle.kpn_model.specs.declared.history.Entry.{Entry}
+use Rattle.kpn_model.specs.declared.history.End.{End}
+use Rattle.kpn_model.specs.Network.{Family, Network}
+use Rattle.kpn_model.specs.Semantics.{State}
+use Rattle.kpn_model.specs.History.{Digest, digest}
+use Rattle.kpn_model.specs.Determinacy.{IsRun, IsFinal}
+use Rattle.kpn_model.specs.Endings.{MayEnd, has_report}
+use Rattle.kpn_report.specs.declared.detail.Detail.{Detail}
+use Rattle.kpn_picture.specs.declared.looks.Direction.{Direction}
+use Rattle.kpn_picture.specs.Picture.{picture}
+use Rattle.hox_run.specs.declared.request.Request.{Request}
+use Rattle.hox_run.specs.declared.request.Fault.{Fault}
+use Rattle.hox_run.specs.Serving.{IsFault, Prepares}
+
+-- a network of this family, whose kinds have these titles, drawn in this direction
+module _ (kinds : Family) (title : ℕ → List ℕ × ℕ) (direction : Direction) where
+  -- the picture of a network after a run, from the run's digest
+  abbrev pub digest_picture : Network → Digest → List ℕ
+  digest_picture net d = picture direction title net (Some d.cause) d.places d.capacities d.rests
+
+  -- the picture of a run to M that ended for this cause; if its budget was spent or memory was refused, it shows only the cause
+  abbrev pub run_picture : Network → End → List Entry → State → List ℕ
+  run_picture net cause E M = if has_report cause then digest_picture net (digest kinds net cause E M) else picture direction title net (Some cause) [] [] []
+
+  -- the picture of a report: with its detail, if there is one
+  abbrev pub report_picture : Network → End → Option Detail → List ℕ
+  report_picture net end None = picture direction title net (Some end) [] [] []
+  report_picture net end (Some d) = picture direction title net (Some end) d.places d.capacities d.rests
+
+  -- a run from the start ended for a cause that justifies its end, and this is its picture; if it came to its own end, it is the
+  -- picture of each run that is over
+  pub record DrawsRun (net : Network) (text : List ℕ) : Type 0 where
+    pub history : List Entry
+    pub state : State
+    pub cause : End
+    pub run : IsRun kinds net history state
+    pub justified : MayEnd kinds net history state cause
+    pub text_is : text ≡ run_picture net cause history state
+    pub settled : has_report cause ≡ true → (F : List Entry) (N : State) (b : End) → IsFinal kinds net F N b → text ≡ digest_picture net (digest kinds net b F N)
+
+  -- the network itself is drawn
+  abbrev pub DrawsNet : Network → List ℕ → Type 0
+  DrawsNet net text = text ≡ picture direction title net None [] [] []
+
+  -- a network is drawn: itself, or as a run left it
+  abbrev pub Draws : Bool → Network → List ℕ → Type 0
+  Draws false net text = DrawsNet net text
+  Draws true net text = DrawsRun net text
+
+  -- the network of a description is prepared as the request wants it, and this is drawn of it
+  pub record DrawsPrepared (is_run : Bool) (request : Request) (net : Network) (text : List ℕ) : Type 0 where
+    pub other : Network
+    pub prepares : Prepares request net other
+    pub draws : Draws is_run other text
+
+  -- what comes of a network that was loaded: its picture, or why there is none
+  abbrev pub GivesPicture : {Z : Type 0} → Bool → Request → Network → Result (String Z) Fault → Type 0
+  GivesPicture is_run request net result = MatchResult result (λ picture. DrawsPrepared is_run request net (string_bytes picture)) (IsFault request net)

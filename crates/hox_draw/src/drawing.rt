@@ -1,0 +1,81 @@
+//! From a description and files of tokens to a picture.
+ghost use Rattle.std.specs.Prelude.{◌≡◌, ◌+◌, IfOk, IfErr, string_bytes};
+ghost use Rattle.kpn_model.specs.Network.{family_of, Network as NetworkV};
+ghost use Rattle.kpn_front.specs.Loading.{ConsumesAtMost, longest};
+ghost use Rattle.hox_run.specs.Serving.{HasFewWorkers, IsFault, Serves};
+ghost use Rattle.hox_draw.specs.Drawing.{Draws, DrawsNet, GivesPicture};
+
+use crate::running::draw_run;
+use hox_run::{Fault, Request, RunFault, prepare};
+use kpn_compute::Computes;
+use kpn_front::Source;
+use kpn_network::Net;
+use kpn_picture::{Direction, Left, Titled, picture_of};
+use std::alloc::{AllocError, Global};
+use std::rt::Clock;
+use std::sync::Wait;
+use std::thread::Threads;
+
+/// Reads a description from the source, gives its channels the tokens of the request's files and its
+/// network the request's budget, and returns the picture of the network: as it is, or if `is_run` as a run by
+/// the request's 1 to 16 workers left it. Its channels lead in the direction.
+///
+/// Errors: see [`Fault`]; `NoShown` and `NoOutput` are none of them, and `Lost` only if several workers are
+/// asked for.
+pub fn draw<K: Computes + Titled, I: Source, R: Wait + Clock + Threads + Sync>(
+    rt: &R,
+    alloc: Global,
+    request: &Request,
+    direction: Direction,
+    is_run: bool,
+    source: &mut I,
+) -> Result<String, Fault>
+    requires { HasFewWorkers request.now }
+    ensures served { Serves K.named K.signature (GivesPicture (family_of K.start K.answer_of) K.title direction is_run request.now) (I.remaining source.old) (I.has_failed source.old) (I.has_failed source.new) result }
+    ensures taken { ConsumesAtMost (longest + 1) (I.remaining source.old) (I.remaining source.new) }
+{
+    let prepared: Result<Net<K>, Fault> = prepare(alloc, request, source);
+    match prepared {
+        Ok(net) => draw_prepared(rt, alloc, request, net, direction, is_run),
+        Err(fault) => Err(fault),
+    }
+}
+
+/// The picture of a network that was prepared.
+fn draw_prepared<K: Computes + Titled, R: Wait + Clock + Threads + Sync>(
+    rt: &R,
+    alloc: Global,
+    request: &Request,
+    net: Net<K>,
+    direction: Direction,
+    is_run: bool,
+) -> Result<String, Fault>
+    requires { HasFewWorkers request.now }
+    ensures drawn { IfOk result (λ picture. Draws (family_of K.start K.answer_of) K.title direction is_run net (string_bytes picture)) }
+    ensures fault { IfErr result (λ e. (m : NetworkV) → IsFault request.now m e) }
+{
+    if !is_run {
+        return draw_net(alloc, &net, direction).map_err(|_| Fault::Memory);
+    }
+    match draw_run(rt, alloc, net, direction, request.workers) {
+        Ok(picture) => Ok(picture),
+        Err(RunFault::Memory) => Err(Fault::Memory),
+        Err(RunFault::Lost) => Err(Fault::Lost),
+    }
+}
+
+/// The picture of a network as it is.
+fn draw_net<K: Titled>(
+    alloc: Global,
+    net: &Net<K>,
+    direction: Direction,
+) -> Result<String, AllocError>
+    ensures { IfOk result (λ picture. DrawsNet (family_of K.start K.answer_of) K.title direction net.now (string_bytes picture)) }
+{
+    let start = Left {
+        places: &[],
+        capacities: &[],
+        rests: &[],
+    };
+    picture_of(alloc, net, direction, None, &start)
+}

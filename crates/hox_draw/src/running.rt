@@ -1,0 +1,128 @@
+//! Running a network, and drawing it as the run left it.
+ghost use Rattle.std.specs.Prelude.{◌≡◌, ◌<◌, ◌≤◌, Err, IfOk, IsSome, map, string_bytes};
+ghost use Rattle.kpn_model.specs.Network.{family_of};
+ghost use Rattle.hox_draw.specs.Drawing.{DrawsRun, report_picture};
+
+use hox_run::RunFault;
+use kpn_body::Body;
+use kpn_compute::{CardBody, Computes, bodies_of};
+use kpn_laws::determinacy_of;
+use kpn_machine::{Chronicle, Machine};
+use kpn_network::Net;
+use kpn_picture::{Direction, Left, Titled, picture_of};
+use kpn_report::{Report, places_of, report_of};
+use kpn_run::{Prompt, RunFault as Fault, run};
+use std::alloc::{AllocError, Global};
+use std::rt::Clock;
+use std::sync::Wait;
+use std::thread::Threads;
+
+/// Runs a network by 1 to 16 workers, and returns the picture of how the run left it, however it ended. A
+/// single worker is the calling thread.
+///
+/// Errors: `Memory` if memory was refused, before the run or for the picture; `Lost` if the machine refused
+/// an answer of one of several workers.
+pub(crate) fn draw_run<K: Computes + Titled, R: Wait + Clock + Threads + Sync>(
+    rt: &R,
+    alloc: Global,
+    net: Net<K>,
+    direction: Direction,
+    workers: usize,
+) -> Result<String, RunFault>
+    requires { (1 ≤ workers) × (workers ≤ 16) }
+    ensures drawn { IfOk result (λ picture. DrawsRun (family_of K.start K.answer_of) K.title direction net (string_bytes picture)) }
+    ensures lost { result ≡ Err RunFault.Lost → 1 < workers }
+{
+    let Ok(bodies) = bodies_of(alloc, &net) else {
+        return Err(RunFault::Memory);
+    };
+    if workers == 1 {
+        draw_alone(alloc, net, bodies, direction).map_err(|_| RunFault::Memory)
+    } else {
+        draw_by_workers(rt, alloc, net, bodies, direction, workers)
+    }
+}
+
+/// The same, in the calling thread, with a body for each process.
+fn draw_alone<K: Computes + Titled>(
+    alloc: Global,
+    net: Net<K>,
+    bodies: Vec<CardBody<K>>,
+    direction: Direction,
+) -> Result<String, AllocError>
+    ensures { IfOk result (λ picture. DrawsRun (family_of K.start K.answer_of) K.title direction net (string_bytes picture)) }
+{
+    let Ok(mut machine) = Machine::open(alloc, net, bodies) else {
+        return Err(AllocError);
+    };
+    machine.finish_alone();
+    picture_of_run(alloc, &machine.into_chronicle(), direction)
+}
+
+/// The same, by several workers.
+fn draw_by_workers<K: Computes + Titled, R: Wait + Clock + Threads + Sync>(
+    rt: &R,
+    alloc: Global,
+    net: Net<K>,
+    bodies: Vec<CardBody<K>>,
+    direction: Direction,
+    workers: usize,
+) -> Result<String, RunFault>
+    requires cards { map ⟦<CardBody<K> as Body>⟧.card bodies.items ≡ map (λ p. p.card) net.processes }
+    requires workers { (1 < workers) × (workers ≤ 16) }
+    ensures { IfOk result (λ picture. DrawsRun (family_of K.start K.answer_of) K.title direction net (string_bytes picture)) }
+{
+    match run(rt, alloc, net, bodies, workers, &Prompt) {
+        Ok(finish) => {
+            picture_of_run(alloc, finish.chronicle(), direction).map_err(|_| RunFault::Memory)
+        }
+        Err(Fault::Memory { .. }) => Err(RunFault::Memory),
+        Err(Fault::Lost { .. }) => Err(RunFault::Lost),
+        Err(Fault::Workers { .. }) => unreachable!(),
+        Err(Fault::Open { .. }) => unreachable!(),
+    }
+}
+
+/// The picture of a run that ended.
+fn picture_of_run<K: Titled>(
+    alloc: Global,
+    chronicle: &Chronicle<K>,
+    direction: Direction,
+) -> Result<String, AllocError>
+    requires { IsSome chronicle.now.end }
+    ensures { IfOk result (λ picture. DrawsRun (family_of K.start K.answer_of) K.title direction chronicle.now.network (string_bytes picture)) }
+{
+    let Some(end) = chronicle.end() else {
+        unreachable!()
+    };
+    determinacy_of::<K>();
+    let net = chronicle.net();
+    let places = places_of(alloc, net, chronicle.standings())?;
+    let report = report_of(alloc, net, chronicle.history(), places, end)?;
+    let picture = picture_of_report(alloc, net, direction, &report)?;
+    Ok(picture)
+}
+
+/// The picture of a report.
+fn picture_of_report<K: Titled>(
+    alloc: Global,
+    net: &Net<K>,
+    direction: Direction,
+    report: &Report,
+) -> Result<String, AllocError>
+    ensures { IfOk result (λ picture. string_bytes picture ≡ report_picture (family_of K.start K.answer_of) K.title direction net.now report.now.end report.now.detail) }
+{
+    let left = match &report.detail {
+        Some(detail) => Left {
+            places: detail.places.as_slice(),
+            capacities: detail.capacities.as_slice(),
+            rests: detail.rests.as_slice(),
+        },
+        None => Left {
+            places: &[],
+            capacities: &[],
+            rests: &[],
+        },
+    };
+    picture_of(alloc, net, direction, Some(report.end), &left)
+}

@@ -1,3 +1,0 @@
-pub mod DrawCommand
-pub mod DrawChoices
-pub mod Drawing
