@@ -15,6 +15,6 @@ pub use cutting::{LONGEST_LINE, LineRefusal};
 pub use exits::Exits;
 pub use finish::Finish;
 pub use inlet::Inlet;
-pub use opening::with_exits;
+pub use opening::net_with_exits;
 pub use outlet::Outlet;
 pub use streaming::stream;

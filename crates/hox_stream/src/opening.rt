@@ -1,19 +1,38 @@
 //! The network of a stream.
-ghost use Rattle.std.specs.Prelude.{◌≡◌, IfOk, map};
+ghost use Rattle.std.specs.Prelude.{◌≡◌, ◌≢◌, IfOk, IfErr, Some, map};
 ghost use Rattle.std.specs.Option.{option_copied};
-ghost use Rattle.hox_stream.specs.Exits.{channel_to, exited, is_one_of, is_reader, with_exits};
+ghost use Rattle.kpn_compute.specs.Both.{both_named, both_ports};
+ghost use Rattle.kpn_net.specs.Faults.{first_fault};
+ghost use Rattle.kpn_net.specs.Sketched.{net_of};
+ghost use Rattle.hox_stream.specs.Exits.{channel_to, exit_named, exit_ports, exited, is_one_of, is_reader, with_exits};
 
-use crate::exits::exit_name;
-use kpn_model::{Listed, Text};
-use kpn_sketch::{ChannelSketch, ProcessSketch, Sketch};
+use crate::exits::{Exits, exit_name};
+use kpn_compute::Both;
+use kpn_model::{Kinds, Listed, Text};
+use kpn_net::{ChannelSketch, Check, Net, NetFault, ProcessSketch, Sketch};
 use std::alloc::{AllocError, Global};
 
-/// Returns the sketch of a description in which each process that only reads a channel of one of these names
-/// stops at once, so that the channel may be an output of a flow: it is of a kind of [`Exits`](crate::Exits).
-/// All else stays.
+/// Makes the network of a stream: that of the sketch of a description in which each process that only reads a
+/// channel of one of these names stops at once, so that the channel may be an output of a flow: it is of a
+/// kind of [`Exits`]. All else stays.
 ///
-/// Errors: memory was refused.
-pub fn with_exits(alloc: Global, sketch: Sketch, names: &[Text]) -> Result<Sketch, AllocError>
+/// Errors: the fault that this sketch has, or `Memory`.
+pub fn net_with_exits<K: Kinds>(
+    alloc: Global,
+    sketch: Sketch,
+    names: &[Text],
+) -> Result<Net<Both<K, Exits>>, NetFault>
+    ensures ok { IfOk result (λ net. net ≡ net_of (both_named K.named exit_named) (with_exits names.now sketch)) }
+    ensures fault { IfErr result (λ e. e ≢ NetFault.Memory → first_fault (both_named K.named exit_named) (both_ports K.signature exit_ports) (with_exits names.now sketch) ≡ Some e) }
+{
+    match with_exits(alloc, sketch, names) {
+        Ok(opened) => Net::check(alloc, &opened),
+        Err(_) => Err(NetFault::Memory),
+    }
+}
+
+/// The sketch in which each process that only reads a channel of one of these names stops at once.
+fn with_exits(alloc: Global, sketch: Sketch, names: &[Text]) -> Result<Sketch, AllocError>
     ensures { IfOk result (λ r. r ≡ with_exits names.now sketch) }
 {
     let Sketch {
