@@ -7,6 +7,9 @@ mod inputs;
 mod messages;
 mod outputs;
 mod pictures;
+mod streaming;
+mod taps;
+mod told;
 
 ghost use Rattle.std.specs.Prelude.{◌≤◌};
 ghost use Rattle.hox_run.specs.Serving.{HasFewWorkers};
