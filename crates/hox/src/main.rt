@@ -1,5 +1,5 @@
-//! Runs described networks on tokens of files, tells how they ended, writes what went through their channels,
-//! and draws them.
+//! Runs described networks on tokens of files, or on tokens that come without end, tells how they ended, writes
+//! what went through their channels, and draws them.
 #![tactic(auto)]
 
 mod hints;
@@ -18,7 +18,8 @@ use crate::inputs::{names_input_twice, pairs_of, request_of};
 use crate::messages::{say_fault, say_input_named_twice, say_no_memory, say_words_refused};
 use crate::outputs::write_told;
 use crate::pictures::draw_asked;
-use hox_args::{Choice, RunChoice, StreamChoice, read_words};
+use crate::streaming::stream_asked;
+use hox_args::{Choice, RunChoice, read_words};
 use hox_run::{AllKinds, Fault, Request, Told, prepare, serve};
 use kpn_front::{Fallible, Refused, Status, say_checked};
 use kpn_net::{Net, NetFault};
@@ -46,7 +47,13 @@ fn status_of<R: Env + Files + Input + Print + Eprint + AllocGlobal + Wait + Cloc
         Ok(Choice::Check { file, tokens }) => check(rt, file, tokens.as_slice()),
         Ok(Choice::Run(run)) => run_asked(rt, &run),
         Ok(Choice::Draw(draw)) => draw_asked(rt, &draw),
-        Ok(Choice::Stream(stream)) => stream_asked(rt, &stream),
+        Ok(Choice::Stream(stream)) => stream_asked(
+            rt,
+            stream.file,
+            stream.inputs.as_slice(),
+            stream.outputs.as_slice(),
+            stream.quiet,
+        ),
         Err(fault) => say_words_refused(rt, &fault),
     }
 }
@@ -106,12 +113,6 @@ fn run_asked<R: Files + Input + Print + Eprint + AllocGlobal + Wait + Clock + Th
         Ok(told) => write_told(rt, &told, outputs.as_slice(), run.quiet),
         Err(fault) => say_fault(rt, run.file, &request, tokens.as_slice(), &fault),
     }
-}
-
-/// Says that networks are not run on tokens that come.
-fn stream_asked<R: Eprint>(rt: &R, _stream: &StreamChoice<'_>) -> u8 {
-    let _ = eprintln!(rt; "hox: stream is not built yet");
-    Status::WrongArguments.code()
 }
 
 /// Runs the network that a file describes, or standard input. A file that can't be opened counts as one

@@ -2,7 +2,10 @@
 use crate::hints::{say_meant, wants_version_2};
 use crate::inputs::Pair;
 use hox_args::WordsFault;
-use hox_run::{AllKinds, Fault, FileFault, KINDS, LONGEST_FILE, PresetFault, ReadFault, Request, sketch_by_ports};
+use hox_run::{
+    AllKinds, Fault, FileFault, KINDS, LONGEST_FILE, PresetFault, ReadFault, Request,
+    sketch_by_ports,
+};
 use kpn_front::{Refused, Status};
 use kpn_message::{message_of, messages_of_sketch};
 use kpn_model::limits::{CEILING, GREATEST_HIGH_BUDGET, HIGH_CEILING};
@@ -57,7 +60,11 @@ fn say_refused<R: Eprint + AllocGlobal>(rt: &R, file: Option<&str>, refused: &Re
     let text = refused.text.as_slice();
     say_wrong(rt, file, text, refused.fault);
     if wants_version_2(rt.alloc(), text, refused.fault) {
-        say_of(rt, file, "version = 2 in place of version = 1 would allow it");
+        say_of(
+            rt,
+            file,
+            "version = 2 in place of version = 1 would allow it",
+        );
     }
 }
 

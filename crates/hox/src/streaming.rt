@@ -5,14 +5,14 @@ use crate::inputs::{Pair, names_input_twice, pairs_of};
 use crate::messages::{say_fault, say_input_named_twice, say_no_memory, say_unread, say_unwritten};
 use crate::taps::{Origin, Spout, Tap};
 use crate::told::say_told;
-use hox_run::{AllKinds, Fault, ReadFault, Request, read_whole};
+use hox_run::{AllKinds, Fault, ReadFault, Request, load_by_ports, read_whole, sketch_by_ports};
 use hox_stream::{Exits, Inlet, Outlet, net_with_exits, stream};
 use kpn_body::Body;
 use kpn_compute::{Both, CardBody, bodies_of};
 use kpn_flow::{Flow, FlowFault, FlowRefused};
-use kpn_front::{Fallible, Refused, Status, load_or_refuse};
+use kpn_front::{Fallible, Refused, Status};
 use kpn_model::{Act, Kinds, Listed, Text};
-use kpn_net::{Net, NetFault, read_sketch};
+use kpn_net::{Net, NetFault};
 use std::alloc::{AllocError, Global};
 use std::rt::Files;
 use std::{fs, io};
@@ -116,7 +116,7 @@ fn net_of<R: Eprint + AllocGlobal>(
     outputs: &[Pair<'_>],
 ) -> Result<Net<StreamKinds>, u8> {
     let mut source = text.as_slice();
-    let loaded: Result<Net<AllKinds>, _> = load_or_refuse(rt.alloc(), &mut source);
+    let loaded: Result<Net<AllKinds>, _> = load_by_ports(rt.alloc(), &mut source);
     if let Err(refused) = loaded {
         return Err(say_refused(rt, file, refused));
     }
@@ -129,10 +129,13 @@ fn net_of<R: Eprint + AllocGlobal>(
     }
 }
 
-/// The network that a text describes, in which those stop at once that only read a channel of these names.
+/// The network that an accepted text describes, in which those stop at once that only read a channel of these
+/// names.
 fn opened(alloc: Global, text: &[u8], names: &[Text]) -> Result<Net<StreamKinds>, NetFault> {
-    let sketch = read_sketch(alloc, text)?;
-    net_with_exits::<AllKinds>(alloc, sketch, names)
+    match sketch_by_ports::<AllKinds>(alloc, text) {
+        Some(sketch) => net_with_exits::<AllKinds>(alloc, sketch, names),
+        None => Err(NetFault::Memory),
+    }
 }
 
 /// The names of the channels of pairs.

@@ -15,10 +15,7 @@ use std::alloc::Global;
 /// ports, whatever the description says, if they have the same. Reads at most 1,048,577 bytes.
 ///
 /// Errors: as those of `kpn_front::load_or_refuse`, with the text.
-pub(crate) fn load_by_ports<K: Kinds, S: Source>(
-    alloc: Global,
-    source: &mut S,
-) -> Result<Net<K>, Refused>
+pub fn load_by_ports<K: Kinds, S: Source>(alloc: Global, source: &mut S) -> Result<Net<K>, Refused>
     ensures loads { S.has_failed source.old ≡ false → IfSome (S.remaining source.old) (λ text. LoadsChanged (by_ports K.named K.signature) K.named K.signature (S.has_failed source.new) text (without_text result)) }
     ensures failed { S.has_failed source.old ≡ false → S.has_failed source.new ≡ true → without_text result ≡ Err NetFault.Input }
     ensures taken { ConsumesAtMost (longest + 1) (S.remaining source.old) (S.remaining source.new) }

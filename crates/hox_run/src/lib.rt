@@ -13,7 +13,7 @@ mod running;
 mod serving;
 mod telling;
 
-pub use described::sketch_by_ports;
+pub use described::{load_by_ports, sketch_by_ports};
 pub use family::{AllKinds, KINDS};
 pub use presets::{FileFault, PresetFault};
 pub use reading::{LONGEST_FILE, ReadFault, read_whole};

@@ -4,8 +4,8 @@ ghost use Rattle.std.specs.Prelude.{◌≡◌, ◌≤◌};
 use crate::checks::same;
 use hox_args::{Choice, WordsFault, channel_and_file, read_words};
 use hox_run::{
-    AllKinds, Fault, FileFault, PresetFault, Request, TokenFile, execute, prepare, read_whole,
-    serve, sketch_by_ports,
+    AllKinds, Fault, FileFault, PresetFault, Request, TokenFile, execute, load_by_ports, prepare,
+    read_whole, serve, sketch_by_ports,
 };
 use kpn_net::{Listed, Net, Sort, Text};
 use std::alloc::Global;
@@ -162,6 +162,9 @@ fn a_channel_has_the_sort_of_its_ports(rt: HostRuntime) {
     };
     let sort = channels.first().map(|channel| channel.sort);
     same(&rt, "sort", sort, Some(Sort::Flags));
+    let mut source = BARE.as_bytes();
+    let loaded: Result<Net<AllKinds>, _> = load_by_ports(rt.alloc(), &mut source);
+    same(&rt, "loaded", loaded.is_ok(), true);
 }
 
 #[test]
