@@ -7,6 +7,7 @@ mod inputs;
 mod messages;
 mod outputs;
 mod pictures;
+mod progress;
 mod streaming;
 mod taps;
 mod told;
@@ -18,11 +19,13 @@ use crate::inputs::{names_input_twice, pairs_of, request_of};
 use crate::messages::{say_fault, say_input_named_twice, say_no_memory, say_words_refused};
 use crate::outputs::write_told;
 use crate::pictures::draw_asked;
+use crate::progress::ProgressLine;
 use crate::streaming::stream_asked;
 use hox_args::{Choice, RunChoice, read_words};
-use hox_run::{AllKinds, Fault, Request, Told, prepare, serve};
+use hox_run::{AllKinds, Fault, Progress, Request, Told, prepare, serve};
 use kpn_front::{Fallible, Refused, Status, say_checked};
 use kpn_net::{Net, NetFault};
+use std::io::IsTerminal;
 use std::process::ExitCode;
 use std::rt::{Clock, Env, Files};
 use std::sync::Wait;
@@ -30,12 +33,15 @@ use std::thread::Threads;
 use std::{env, fs, io};
 
 fn main(rt: HostRuntime) -> ExitCode {
-    ExitCode::from(status_of(&rt))
+    let is_terminal = rt.stderr().is_terminal();
+    ExitCode::from(status_of(&rt, is_terminal))
 }
 
-/// Reads the arguments, does what they ask for, and returns the exit status.
+/// Reads the arguments, does what they ask for, and returns the exit status. It is passed whether standard error
+/// is a terminal.
 fn status_of<R: Env + Files + Input + Print + Eprint + AllocGlobal + Wait + Clock + Threads + Sync>(
     rt: &R,
+    is_terminal: bool,
 ) -> u8 {
     let Ok(arguments) = arguments_of(rt) else {
         return say_no_memory(rt);
@@ -45,7 +51,7 @@ fn status_of<R: Env + Files + Input + Print + Eprint + AllocGlobal + Wait + Cloc
     };
     match read_words(rt.alloc(), texts.as_slice()) {
         Ok(Choice::Check { file, tokens }) => check(rt, file, tokens.as_slice()),
-        Ok(Choice::Run(run)) => run_asked(rt, &run),
+        Ok(Choice::Run(run)) => run_asked(rt, &run, is_terminal),
         Ok(Choice::Draw(draw)) => draw_asked(rt, &draw),
         Ok(Choice::Stream(stream)) => stream_asked(
             rt,
@@ -85,6 +91,7 @@ fn check<R: Files + Input + Print + Eprint + AllocGlobal>(
 fn run_asked<R: Files + Input + Print + Eprint + AllocGlobal + Wait + Clock + Threads + Sync>(
     rt: &R,
     run: &RunChoice<'_>,
+    is_terminal: bool,
 ) -> u8
     requires { (1 ≤ run.now.workers) × (run.now.workers ≤ 16) }
 {
@@ -109,7 +116,10 @@ fn run_asked<R: Files + Input + Print + Eprint + AllocGlobal + Wait + Clock + Th
         Ok(request) => request,
         Err(status) => return status,
     };
-    match serve_file(rt, &request, run.file) {
+    let line = ProgressLine::new(rt, is_terminal || run.progress);
+    let served = serve_file(rt, &request, run.file, &line);
+    line.clear();
+    match served {
         Ok(told) => write_told(rt, &told, outputs.as_slice(), run.quiet),
         Err(fault) => say_fault(rt, run.file, &request, tokens.as_slice(), &fault),
     }
@@ -117,10 +127,11 @@ fn run_asked<R: Files + Input + Print + Eprint + AllocGlobal + Wait + Clock + Th
 
 /// Runs the network that a file describes, or standard input. A file that can't be opened counts as one
 /// that can't be read.
-fn serve_file<R: Files + Input + AllocGlobal + Wait + Clock + Threads + Sync>(
+fn serve_file<R: Files + Input + AllocGlobal + Wait + Clock + Threads + Sync, P: Progress>(
     rt: &R,
     request: &Request,
     file: Option<&str>,
+    progress: &P,
 ) -> Result<Told, Fault>
     requires { HasFewWorkers request.now }
 {
@@ -128,10 +139,12 @@ fn serve_file<R: Files + Input + AllocGlobal + Wait + Clock + Threads + Sync>(
     match file {
         None | Some("-") => {
             let mut source = Fallible::new(rt.reader());
-            serve::<AllKinds, _, _>(rt, alloc, request, &mut source)
+            serve::<AllKinds, _, _, _>(rt, alloc, request, &mut source, progress)
         }
         Some(path) => match fs::open(rt, path) {
-            Ok(file) => serve::<AllKinds, _, _>(rt, alloc, request, &mut Fallible::new(file)),
+            Ok(file) => {
+                serve::<AllKinds, _, _, _>(rt, alloc, request, &mut Fallible::new(file), progress)
+            }
             Err(_) => Err(unread(rt)),
         },
     }

@@ -5,3 +5,4 @@ pub mod Said
 pub mod Cutting
 pub mod ToldRuns
 pub mod FilesSaid
+pub mod Progressing

@@ -1,19 +1,30 @@
 //! Running a network.
-ghost use Rattle.std.specs.Prelude.{◌≡◌, ◌<◌, ◌≤◌, IfOk, Err, length, map};
+ghost use Rattle.std.specs.Prelude.{◌≡◌, ◌≢◌, ◌+◌, ◌<◌, ◌≤◌, ℕ, IfOk, IsSome, None, Err, length, map};
 ghost use Rattle.std.specs.List.{All};
 ghost use Rattle.kpn_model.specs.Network.{family_of};
+ghost use Rattle.kpn_state.specs.declared.standing.Standing.TheVariants.{Out};
+ghost use Rattle.kpn_state.specs.Standings.{standing};
 ghost use Rattle.hox_run.specs.Telling.{TellsRun};
 
+use crate::progress::{OnBoard, Progress, tell_of};
 use crate::telling::{Told, told_of};
 use kpn_body::Body;
 use kpn_compute::{CardBody, Computes, bodies_of};
 use kpn_machine::Machine;
 use kpn_network::Net;
+use kpn_observe::{WatchedFault, WatchedRun, run_watched};
 use kpn_run::{Prompt, RunFault as Fault, run};
 use std::alloc::{AllocError, Global};
 use std::rt::Clock;
 use std::sync::Wait;
 use std::thread::Threads;
+use std::time::Duration;
+
+/// After so many answers one worker asks whether it is time to tell how far the run has come.
+const PIECE: u64 = 100_000;
+
+/// So many milliseconds go by between two looks at several workers.
+const PERIOD: u64 = 100;
 
 /// Why nothing is told of a run: memory was refused, before the run or for what is told; or the machine
 /// refused an answer of one of several workers.
@@ -29,16 +40,18 @@ pub enum RunFault {
 ///
 /// If the run came to its own end, the same is told of each run of the network that is over, whatever the
 /// schedule and the number of workers (Kahn 1974). A run that was cut by its budget gives the streams as far as
-/// it came: what any other run puts on a channel begins with them, or they with it.
+/// it came: what any other run puts on a channel begins with them, or they with it. While it runs, `progress` is
+/// told how far it has come.
 ///
 /// Errors: see [`RunFault`].
-pub fn execute<K: Computes, R: Wait + Clock + Threads + Sync>(
+pub fn execute<K: Computes, R: Wait + Clock + Threads + Sync, P: Progress>(
     rt: &R,
     alloc: Global,
     net: Net<K>,
     workers: usize,
     show: Option<usize>,
     outputs: &[usize],
+    progress: &P,
 ) -> Result<Told, RunFault>
     requires workers { (1 ≤ workers) × (workers ≤ 16) }
     requires within { All (λ c. c < length net.channels) outputs.now }
@@ -49,19 +62,22 @@ pub fn execute<K: Computes, R: Wait + Clock + Threads + Sync>(
         return Err(RunFault::Memory);
     };
     if workers == 1 {
-        execute_alone(alloc, net, bodies, show, outputs).map_err(|_| RunFault::Memory)
+        execute_alone(alloc, net, bodies, show, outputs, progress).map_err(|_| RunFault::Memory)
+    } else if progress.is_wanted() {
+        execute_watched(rt, alloc, net, bodies, workers, show, outputs, progress)
     } else {
         execute_by_workers(rt, alloc, net, bodies, workers, show, outputs)
     }
 }
 
 /// The same, in the calling thread, with a body for each process.
-fn execute_alone<K: Computes>(
+fn execute_alone<K: Computes, P: Progress>(
     alloc: Global,
     net: Net<K>,
     bodies: Vec<CardBody<K>>,
     show: Option<usize>,
     outputs: &[usize],
+    progress: &P,
 ) -> Result<Told, AllocError>
     requires within { All (λ c. c < length net.channels) outputs.now }
     ensures { IfOk result (TellsRun (family_of K.start K.answer_of) net show outputs.now) }
@@ -69,8 +85,33 @@ fn execute_alone<K: Computes>(
     let Ok(mut machine) = Machine::open(alloc, net, bodies) else {
         return Err(AllocError);
     };
-    machine.finish_alone();
+    finish(&mut machine, progress);
     told_of(alloc, &machine.into_chronicle(), show, outputs)
+}
+
+/// Runs to an end in the calling thread, a piece at a time. No process may be out.
+fn finish<B: Body, P: Progress>(machine: &mut Machine<B>, progress: &P)
+    requires { (p : ℕ) → standing machine.old.standings p ≢ Out }
+    ensures network { machine.new.network ≡ machine.old.network }
+    ensures ended { IsSome machine.new.end }
+{
+    while machine.end().is_none() {
+        go_on(machine);
+        tell_of(machine, progress);
+    }
+}
+
+/// Goes on with a run that has not ended, by some answers.
+fn go_on<B: Body>(machine: &mut Machine<B>)
+    requires on { machine.old.end ≡ None }
+    requires none_out { (p : ℕ) → standing machine.old.standings p ≢ Out }
+    ensures network { machine.new.network ≡ machine.old.network }
+    ensures none_out { (p : ℕ) → standing machine.new.standings p ≢ Out }
+    ensures more { machine.old.commits < machine.new.commits }
+    ensures few { machine.new.commits ≤ machine.new.network.budget + 2 + length machine.new.network.processes }
+{
+    machine.assure_faithful();
+    machine.ask_in_place(PIECE);
 }
 
 /// The same, by several workers.
@@ -97,4 +138,49 @@ fn execute_by_workers<K: Computes, R: Wait + Clock + Threads + Sync>(
         Err(Fault::Workers { .. }) => unreachable!(),
         Err(Fault::Open { .. }) => unreachable!(),
     }
+}
+
+/// The same, by several workers, beside a thread that is told how far they have come.
+fn execute_watched<K: Computes, R: Wait + Clock + Threads + Sync, P: Progress>(
+    rt: &R,
+    alloc: Global,
+    net: Net<K>,
+    bodies: Vec<CardBody<K>>,
+    workers: usize,
+    show: Option<usize>,
+    outputs: &[usize],
+    progress: &P,
+) -> Result<Told, RunFault>
+    requires cards { map ⟦<CardBody<K> as Body>⟧.card bodies.items ≡ map (λ p. p.card) net.processes }
+    requires workers { (1 < workers) × (workers ≤ 16) }
+    requires within { All (λ c. c < length net.channels) outputs.now }
+    ensures { IfOk result (TellsRun (family_of K.start K.answer_of) net show outputs.now) }
+{
+    let observer = OnBoard { progress };
+    let period = Duration::from_millis(PERIOD);
+    match run_watched(rt, alloc, net, bodies, workers, &Prompt, period, &observer) {
+        Ok(ran) => told_of_watched(alloc, &ran, show, outputs),
+        Err(WatchedFault::Memory { .. }) => Err(RunFault::Memory),
+        Err(WatchedFault::Stopped { .. }) => Err(RunFault::Lost),
+        Err(WatchedFault::Lost { .. }) => Err(RunFault::Lost),
+        Err(WatchedFault::Workers { .. }) => unreachable!(),
+        Err(WatchedFault::Open { .. }) => unreachable!(),
+    }
+}
+
+/// What is told of a run that was watched. If it has no end, it is lost: the observer never wishes to stop, but no
+/// contract says that a run has an end then.
+fn told_of_watched<K: Computes>(
+    alloc: Global,
+    ran: &WatchedRun<K>,
+    show: Option<usize>,
+    outputs: &[usize],
+) -> Result<Told, RunFault>
+    requires within { All (λ c. c < length ran.now.machine.network.channels) outputs.now }
+    ensures { IfOk result (TellsRun (family_of K.start K.answer_of) ran.now.machine.network show outputs.now) }
+{
+    if ran.end().is_none() {
+        return Err(RunFault::Lost);
+    }
+    told_of(alloc, ran.chronicle(), show, outputs).map_err(|_| RunFault::Memory)
 }

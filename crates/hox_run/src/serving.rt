@@ -10,6 +10,7 @@ ghost use Rattle.hox_run.specs.Serving.{AreNamed, GivesNet, GivesRun, HasFewWork
 use crate::described::load_by_ports;
 use crate::parts::parts_of;
 use crate::presets::{greatest_budget, preset, set_budget};
+use crate::progress::Progress;
 use crate::request::{Fault, Request};
 use crate::running::{RunFault, execute};
 use crate::telling::Told;
@@ -24,14 +25,15 @@ use std::thread::Threads;
 
 /// Reads a description from the source, gives its channels the tokens of the request's files and its
 /// network the request's budget, and runs it. Returns what is told of the run. A channel has the sort of its two
-/// ports, so that the description need not say it.
+/// ports, so that the description need not say it. While it runs, `progress` is told how far it has come.
 ///
 /// Errors: see [`Fault`].
-pub fn serve<K: Computes, I: Source, R: Wait + Clock + Threads + Sync>(
+pub fn serve<K: Computes, I: Source, R: Wait + Clock + Threads + Sync, P: Progress>(
     rt: &R,
     alloc: Global,
     request: &Request,
     source: &mut I,
+    progress: &P,
 ) -> Result<Told, Fault>
     requires { HasFewWorkers request.now }
     ensures served { Serves K.named K.signature (GivesRun (family_of K.start K.answer_of) request.now) (I.remaining source.old) (I.has_failed source.old) (I.has_failed source.new) result }
@@ -39,7 +41,7 @@ pub fn serve<K: Computes, I: Source, R: Wait + Clock + Threads + Sync>(
 {
     let loaded: Result<Net<K>, _> = load_by_ports(alloc, source);
     match loaded {
-        Ok(net) => serve_net(rt, alloc, request, &net),
+        Ok(net) => serve_net(rt, alloc, request, &net, progress),
         Err(refused) => Err(Fault::Description(refused)),
     }
 }
@@ -64,11 +66,12 @@ pub fn prepare<K: Kinds, I: Source>(
 }
 
 /// Runs a network that was loaded, as the request wants it.
-fn serve_net<K: Computes, R: Wait + Clock + Threads + Sync>(
+fn serve_net<K: Computes, R: Wait + Clock + Threads + Sync, P: Progress>(
     rt: &R,
     alloc: Global,
     request: &Request,
     net: &Net<K>,
+    progress: &P,
 ) -> Result<Told, Fault>
     requires { HasFewWorkers request.now }
     ensures { GivesRun (family_of K.start K.answer_of) request.now net.now result }
@@ -76,7 +79,15 @@ fn serve_net<K: Computes, R: Wait + Clock + Threads + Sync>(
     let net = prepare_net(alloc, request, net)?;
     let show = shown_in(&net, request)?;
     let outputs = outputs_in(alloc, &net, request.outputs.as_slice())?;
-    match execute(rt, alloc, net, request.workers, show, outputs.as_slice()) {
+    match execute(
+        rt,
+        alloc,
+        net,
+        request.workers,
+        show,
+        outputs.as_slice(),
+        progress,
+    ) {
         Ok(told) => Ok(told),
         Err(RunFault::Memory) => Err(Fault::Memory),
         Err(RunFault::Lost) => Err(Fault::Lost),

@@ -4,14 +4,15 @@ ghost use Rattle.std.specs.Prelude.{◌≡◌, ◌≤◌};
 use crate::checks::same;
 use hox_args::{Choice, WordsFault, channel_and_file, read_words};
 use hox_run::{
-    AllKinds, Fault, FileFault, PresetFault, Request, TokenFile, execute, load_by_ports, prepare,
-    read_whole, serve, sketch_by_ports,
+    AllKinds, Fault, FileFault, PresetFault, Progress, Request, Silent, SoFar, TokenFile, execute,
+    load_by_ports, prepare, read_whole, serve, sketch_by_ports,
 };
 use kpn_net::{Listed, Net, Sort, Text};
 use std::alloc::Global;
 use std::process::Abort;
 use std::rt::Clock;
 use std::sync::Wait;
+use std::sync::atomic::{AtomicU64, Ordering};
 use std::thread::Threads;
 
 /// Two words of a file go through.
@@ -78,7 +79,7 @@ fn tells<R: AllocGlobal + Wait + Clock + Threads + Abort + Sync>(rt: &R, workers
 {
     let request = asked(rt, rt.alloc(), "1, first\n0x10", workers);
     let mut source = COPY.as_bytes();
-    match serve::<AllKinds, _, _>(rt, rt.alloc(), &request, &mut source) {
+    match serve::<AllKinds, _, _, _>(rt, rt.alloc(), &request, &mut source, &Silent) {
         Ok(told) => {
             same(rt, "status", told.status.code(), 0);
             same(rt, "report", told.report.as_str(), COPY_LINES);
@@ -95,23 +96,66 @@ fn words_of_a_file_go_through(rt: HostRuntime) {
     tells(&rt, 2);
 }
 
-#[test]
-fn a_run_that_is_cut_tells_what_it_has(rt: HostRuntime) {
+/// Counts how often it is told how far a run has come, and keeps the entries that it was told last.
+#[derive(Drop)]
+struct Listener {
+    told: AtomicU64,
+    entries: AtomicU64,
+}
+
+impl Progress for Listener {
+    fn is_wanted(&self) -> bool {
+        true
+    }
+
+    fn is_due(&self) -> bool {
+        true
+    }
+
+    fn tell(&self, so_far: SoFar) {
+        self.told.fetch_add(1, Ordering::SeqCst);
+        self.entries.store(so_far.entries, Ordering::SeqCst);
+    }
+}
+
+/// Runs the process that goes on for ever by so many workers until it is cut, and compares what is told. Returns
+/// how often the listener was told something, and how many entries at last.
+fn is_cut<R: AllocGlobal + Wait + Clock + Threads + Abort + Sync>(
+    rt: &R,
+    workers: usize,
+) -> (u64, u64)
+    requires { (1 ≤ workers) × (workers ≤ 16) }
+{
     let request = Request {
-        workers: 1,
+        workers,
         budget: None,
         tokens: Listed::new(Vec::new(rt.alloc())),
-        show: Some(text_of(&rt, rt.alloc(), "a")),
+        show: Some(text_of(rt, rt.alloc(), "a")),
         outputs: Listed::new(Vec::new(rt.alloc())),
     };
     let mut source = LOOP.as_bytes();
-    match serve::<AllKinds, _, _>(&rt, rt.alloc(), &request, &mut source) {
+    let listener = Listener {
+        told: AtomicU64::new(0),
+        entries: AtomicU64::new(0),
+    };
+    match serve::<AllKinds, _, _, _>(rt, rt.alloc(), &request, &mut source, &listener) {
         Ok(told) => {
-            same(&rt, "status", told.status.code(), 3);
-            same(&rt, "report", told.report.as_str(), LOOP_LINES);
+            same(rt, "status", told.status.code(), 3);
+            same(rt, "report", told.report.as_str(), LOOP_LINES);
         }
-        Err(fault) => same(&rt, "refused", fault.status().code(), 3),
+        Err(fault) => same(rt, "refused", fault.status().code(), 3),
     }
+    (
+        listener.told.load(Ordering::SeqCst),
+        listener.entries.load(Ordering::SeqCst),
+    )
+}
+
+#[test]
+fn a_run_that_is_cut_tells_what_it_has(rt: HostRuntime) {
+    let told = is_cut(&rt, 1);
+    same(&rt, "told", told, (1, 3));
+    let _ = is_cut(&rt, 2);
 }
 
 #[test]
@@ -141,7 +185,7 @@ fn a_network_is_run_by_two(rt: HostRuntime) {
     let Ok(net) = net else {
         return same(&rt, "refused", true, false);
     };
-    match execute(&rt, rt.alloc(), net, 2, None, &[]) {
+    match execute(&rt, rt.alloc(), net, 2, None, &[], &Silent) {
         Ok(told) => same(&rt, "status", told.status.code(), 0),
         Err(_) => same(&rt, "memory", true, false),
     }
