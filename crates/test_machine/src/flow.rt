@@ -4,3 +4,4 @@ mod networks;
 mod openings;
 mod pauses;
 mod refusals;
+mod streams;
