@@ -20,17 +20,13 @@ pub struct SoFar {
 /// Who is told how far a run has come while it goes on. What is told of the run in the end doesn't depend on it.
 ///
 /// ```text
-/// impl<'a, R: Clock + Eprint + Sync> Progress for Line<'a, R> {
+/// impl<'a, R: Clock + Eprint + Sync> Progress for ProgressLine<'a, R> {
 ///     fn is_wanted(&self) -> bool {
 ///         self.is_wanted
 ///     }
 ///
 ///     fn is_due(&self) -> bool {
-///         self.millis() >= self.next.load(Ordering::SeqCst)
-///     }
-///
-///     fn tell(&self, so_far: SoFar) {
-///         self.draw(so_far);
+///         self.is_wanted && self.millis() >= self.due.load(Ordering::SeqCst)
 ///     }
 /// }
 /// ```
