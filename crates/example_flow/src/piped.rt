@@ -44,7 +44,7 @@ impl Piped {
     pub fn obey<W: Write>(&mut self, alloc: Global, line: &str, sink: &mut W) -> Result<()> {
         match read_line(line) {
             Some(Line::Word(word)) => self.pour(word, sink),
-            Some(Line::Feed(name)) => self.feed(alloc, name, line, sink),
+            Some(Line::Feed(name)) => self.feed_and_tell(alloc, name, line, sink),
             Some(Line::Drain(name, most)) => self.drain(name, most, sink),
             Some(Line::Advance(most)) => self.advance(most, sink),
             Some(Line::End(name)) => self.end(name),
@@ -60,19 +60,25 @@ impl Piped {
     }
 
     /// Feeds the tokens that a line names after its first two words, and writes for how many there was room.
-    fn feed<W: Write>(
+    fn feed_and_tell<W: Write>(
         &mut self,
         alloc: Global,
         name: &str,
         line: &str,
         sink: &mut W,
     ) -> Result<()> {
+        let fed = self.feed(alloc, name, line)?;
+        Ok(writeln!(sink, "fed {fed}")?)
+    }
+
+    /// Feeds the tokens that a line names after its first two words, and returns for how many there was room.
+    fn feed(&mut self, alloc: Global, name: &str, line: &str) -> Result<usize> {
         let channel = self.input_named(name)?;
         let batch = read_tokens(alloc, line)?;
-        match offer_all(&mut self.flow, channel, batch.as_slice()) {
-            Some(fed) => Ok(writeln!(sink, "fed {fed}")?),
-            None => bail!("{name} has ended, or a token is of another sort"),
+        if !self.flow.may_feed_all(channel, batch.as_slice()) {
+            bail!("{name} has ended, or a token is of another sort");
         }
+        Ok(self.flow.feed_all(channel, batch.as_slice()))
     }
 
     fn drain<W: Write>(&mut self, name: &str, most: usize, sink: &mut W) -> Result<()> {
@@ -144,14 +150,6 @@ impl Piped {
         }
         Ok(())
     }
-}
-
-/// Feeds tokens, and returns for how many there was room; `None` if the input takes none of them.
-fn offer_all(flow: &mut CardFlow, channel: usize, batch: &[Token]) -> Option<usize> {
-    if !flow.may_feed_all(channel, batch) {
-        return None;
-    }
-    Some(flow.feed_all(channel, batch))
 }
 
 /// Feeds a token, and returns whether there was room.

@@ -68,26 +68,28 @@ fn say_refused<R: Eprint + AllocGlobal>(rt: &R, file: Option<&str>, refused: &Re
     }
 }
 
-/// Says all that is wrong with this text.
+/// Says all that is wrong with this text, and what was likely meant.
 fn say_wrong<R: Eprint + AllocGlobal>(rt: &R, file: Option<&str>, text: &[u8], fault: NetFault) {
-    let alloc = rt.alloc();
-    if let Some(sketch) = sketch_by_ports::<AllKinds>(alloc, text) {
-        let messages = messages_of_sketch::<AllKinds>(alloc, &sketch, KINDS);
-        if !messages.is_empty() {
-            say_each(rt, file, messages.as_slice());
-            return say_meant(rt, file, &sketch);
-        }
+    let Some(sketch) = sketch_by_ports::<AllKinds>(rt.alloc(), text) else {
+        return say_fault_of(rt, file, text, fault);
+    };
+    let mut is_said = false;
+    for message in &messages_of_sketch::<AllKinds>(rt.alloc(), &sketch, KINDS) {
+        say_of(rt, file, message.as_str());
+        is_said = true;
     }
-    match message_of::<AllKinds>(alloc, text, fault, KINDS) {
-        Some(message) => say_of(rt, file, message.as_str()),
-        None => say_plain(rt, file, fault),
+    if is_said {
+        say_meant(rt, file, &sketch);
+    } else {
+        say_fault_of(rt, file, text, fault);
     }
 }
 
-/// Says each of these of the description in this file, or on standard input.
-fn say_each<R: Eprint>(rt: &R, file: Option<&str>, messages: &[String]) {
-    for message in messages {
-        say_of(rt, file, message.as_str());
+/// Says what is wrong with this text by its fault.
+fn say_fault_of<R: Eprint + AllocGlobal>(rt: &R, file: Option<&str>, text: &[u8], fault: NetFault) {
+    match message_of::<AllKinds>(rt.alloc(), text, fault, KINDS) {
+        Some(message) => say_of(rt, file, message.as_str()),
+        None => say_plain(rt, file, fault),
     }
 }
 

@@ -7,6 +7,7 @@ use kpn_model::{Deed, End, Entry, Token};
 use kpn_watch::{Board, CountingPublisher, Phase, Progress, Publisher, Watcher};
 use std::alloc::Global;
 use std::process::Abort;
+use std::test::Fail;
 
 fn progress(entries: u32, growths: u32, phase: Phase) -> Progress {
     Progress {
@@ -16,7 +17,50 @@ fn progress(entries: u32, growths: u32, phase: Phase) -> Progress {
     }
 }
 
-// How many watchers a board allows.
+/// Publishes one entry, then three with an end, and looks after each.
+fn looks_between(
+    board: &Board,
+    publisher: &mut Publisher,
+    watcher: &mut Watcher,
+) -> (Progress, Progress)
+    requires publisher { (publisher.old.board ≡ board.now) × (publisher.old.entries ≡ []) × (publisher.old.phase ≡ Phase.Running) }
+    requires watcher { watcher.old.board ≡ board.now }
+    ensures publisher { publisher.new.board ≡ board.now }
+    ensures watcher { watcher.new.board ≡ board.now }
+{
+    let put = Entry::Did {
+        process: 0,
+        deed: Deed::Put {
+            channel: 0,
+            token: Token::Word(1),
+        },
+    };
+    let grew = Entry::Grew { channel: 0, to: 2 };
+    let stopped = Entry::Did {
+        process: 1,
+        deed: Deed::Stopped,
+    };
+    board.publish(publisher, &[put], 0, Phase::Running);
+    let early = board.look(watcher);
+    board.publish(publisher, &[put, grew, stopped], 1, Phase::Terminated);
+    (early, board.look(watcher))
+}
+
+#[test]
+fn a_look_shows_a_growth(rt: HostRuntime) -> Result<(), Fail> {
+    let (board, mut publisher) = Board::new(rt.alloc())?;
+    let mut watcher = board.split(&mut publisher)?;
+    let seen = looks_between(&board, &mut publisher, &mut watcher);
+    board.join(watcher, &mut publisher);
+    let due = (
+        progress(1, 0, Phase::Running),
+        progress(3, 1, Phase::Terminated),
+    );
+    same(&rt, "seen", seen, due);
+    Ok(())
+}
+
+/// How many watchers a board allows.
 fn watchers(board: &Board, publisher: &mut Publisher) -> usize
     requires { publisher.old.board ≡ board.now }
 {
