@@ -1,6 +1,11 @@
-//! Boards: how many watchers there may be, and histories whose words were worked out by hand.
-ghost use Rattle.std.specs.Prelude.{◌≡◌, ◌+◌, ◌^◌, ◌<◌, ◌%◌, ◌++◌, [], length};
+//! Boards: how many watchers there may be, and what is shown of histories that were worked out by hand.
+ghost use Rattle.std.specs.Prelude.{◌≡◌, ◌+◌, ◌<◌, ◌++◌, ◌∷◌, [], length};
+ghost use Rattle.kpn_model.specs.declared.history.Deed.TheVariants.{Put, Took, Stopped};
+ghost use Rattle.kpn_model.specs.declared.history.Entry.TheVariants.{Did, Grew};
+ghost use Rattle.kpn_model.specs.declared.token.Token.TheVariants.{Word};
 ghost use Rattle.kpn_watch.specs.Phases.{phase_of};
+ghost use Rattle.kpn_watch.specs.Shown.{word_of};
+ghost use Rattle.kpn_watch.specs.declared.progress.Phase.TheVariants.{Running, Terminated};
 
 use crate::checks::same;
 use kpn_model::{Deed, End, Entry, Token};
@@ -91,24 +96,15 @@ struct Display {
     ghost watched: { watcher.board ≡ board },
 }
 
-/// What a look must return, and the word from which it is read.
-#[derive(Clone, Copy)]
-struct Due {
-    progress: Progress,
-    word: u64,
-    ghost size: { word < 2 ^ 47 },
-    ghost phase: { word % 8 < 6 },
-}
-
-fn shown(entries: u32, growths: u32, phase: Phase, word: u64) -> Due
-    requires size { word < 2 ^ 47 }
-    requires phase { word % 8 < 6 }
-{
-    Due {
-        progress: progress(entries, growths, phase),
-        word,
-    }
-}
+/// Ghost lemma: the words in which the board publishes the histories of a counter of three into a sink of one.
+fn worked_words()
+    ensures one { word_of (Did 0 (Put 0 (Word 1)) ∷ []) Running ≡ 33554432 }
+    ensures two { word_of (Did 0 (Put 0 (Word 1)) ∷ Did 1 (Took 0 (Word 1)) ∷ []) Running ≡ 67108864 }
+    ensures three { word_of (Did 0 (Put 0 (Word 1)) ∷ Did 1 (Took 0 (Word 1)) ∷ Did 0 (Put 0 (Word 2)) ∷ []) Running ≡ 100663296 }
+    ensures four { word_of (Did 0 (Put 0 (Word 1)) ∷ Did 1 (Took 0 (Word 1)) ∷ Did 0 (Put 0 (Word 2)) ∷ Did 1 Stopped ∷ []) Running ≡ 134217728 }
+    ensures six { word_of (Did 0 (Put 0 (Word 1)) ∷ Did 1 (Took 0 (Word 1)) ∷ Did 0 (Put 0 (Word 2)) ∷ Did 1 Stopped ∷ Grew 0 2 ∷ Did 0 (Put 0 (Word 3)) ∷ []) Running ≡ 201326600 }
+    ensures seven { word_of (Did 0 (Put 0 (Word 1)) ∷ Did 1 (Took 0 (Word 1)) ∷ Did 0 (Put 0 (Word 2)) ∷ Did 1 Stopped ∷ Grew 0 2 ∷ Did 0 (Put 0 (Word 3)) ∷ Did 0 Stopped ∷ []) Terminated ≡ 234881033 }
+{}
 
 impl Display {
     fn new<R: Abort>(rt: &R, alloc: Global) -> Display
@@ -133,7 +129,7 @@ impl Display {
     }
 
     /// Publishes the history with these entries appended, and compares a look.
-    fn append<R: Abort>(&mut self, rt: &R, more: &[Entry], ended: Option<End>, due: Due)
+    fn append<R: Abort>(&mut self, rt: &R, more: &[Entry], ended: Option<End>, due: Progress)
         requires shown { (self.old.publisher.entries ≡ self.old.history.items) × (self.old.publisher.phase ≡ Phase.Running) }
         requires short { length self.old.history.items + length more.now < 100 }
         ensures shown { (self.new.publisher.entries ≡ self.new.history.items) × (self.new.publisher.phase ≡ phase_of ended) }
@@ -142,8 +138,7 @@ impl Display {
         self.history.extend_from_slice(more).expect(rt, "no memory");
         self.publisher
             .publish(&self.board, self.history.as_slice(), ended);
-        same(rt, "look", self.look(), due.progress);
-        same(rt, "word", Progress::of_word(due.word), due.progress);
+        same(rt, "look", self.look(), due);
     }
 }
 
@@ -164,9 +159,11 @@ fn stopped(process: usize) -> Entry {
     }
 }
 
-/// A counter of three into a sink of one: the channel of capacity one grows to two.
+/// A counter of three into a sink of one: the channel of capacity one grows to two. The words are those of
+/// `worked_words`.
 #[test]
-fn each_commit_has_its_word(rt: HostRuntime) {
+fn each_commit_is_shown(rt: HostRuntime) {
+    worked_words();
     let mut display = Display::new(&rt, rt.alloc());
     let running = Phase::Running;
     same(&rt, "nothing", display.look(), progress(0, 0, running));
@@ -177,14 +174,13 @@ fn each_commit_has_its_word(rt: HostRuntime) {
             token: Token::Word(1),
         },
     };
-    display.append(&rt, &[put(1)], None, shown(1, 0, running, 33_554_432));
-    display.append(&rt, &[took], None, shown(2, 0, running, 67_108_864));
-    display.append(&rt, &[put(2)], None, shown(3, 0, running, 100_663_296));
-    display.append(&rt, &[stopped(1)], None, shown(4, 0, running, 134_217_728));
+    display.append(&rt, &[put(1)], None, progress(1, 0, running));
+    display.append(&rt, &[took], None, progress(2, 0, running));
+    display.append(&rt, &[put(2)], None, progress(3, 0, running));
+    display.append(&rt, &[stopped(1)], None, progress(4, 0, running));
     let grew = Entry::Grew { channel: 0, to: 2 };
-    let grown = shown(6, 1, running, 201_326_600);
-    display.append(&rt, &[grew, put(3)], None, grown);
-    let last = shown(7, 1, Phase::Terminated, 234_881_033);
+    display.append(&rt, &[grew, put(3)], None, progress(6, 1, running));
+    let last = progress(7, 1, Phase::Terminated);
     display.append(&rt, &[stopped(0)], Some(End::Terminated), last);
     let Display {
         board,
@@ -192,5 +188,5 @@ fn each_commit_has_its_word(rt: HostRuntime) {
         watcher,
         history: _,
     } = display;
-    same(&rt, "left", publisher.join(&board, watcher), last.progress);
+    same(&rt, "left", publisher.join(&board, watcher), last);
 }
