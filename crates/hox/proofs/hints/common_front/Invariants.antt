@@ -1,8 +1,8 @@
 use Rattle.std.proofs.Common.{◌≤◌, ◌-◌, length}
 use Rattle.hox.proofs.hints.common_front.Given as goal
 
-abbrev pub invariant-loop-1 : goal.invariant-loop-1
-invariant-loop-1 l = (l.front ≤ length l.a) × (l.front ≤ length l.b)
+abbrev pub invariant-loop-front : goal.invariant-loop-front
+invariant-loop-front l = (l.front ≤ length l.a) × (l.front ≤ length l.b)
 
-abbrev pub decreases-loop-1 : goal.decreases-loop-1
-decreases-loop-1 l = length l.a - l.front
+abbrev pub decreases-loop-front : goal.decreases-loop-front
+decreases-loop-front l = length l.a - l.front
