@@ -13,6 +13,9 @@ pub(crate) fn wants_version_2(alloc: Global, text: &[u8], fault: NetFault) -> bo
     let Ok(text) = str::from_utf8(text) else {
         return false;
     };
+    if matches!(fault, NetFault::Memory | NetFault::Input) {
+        return false;
+    }
     match text.replace(alloc, "version = 1", "version = 2") {
         Ok(newer) => newer.as_str() != text && !is_refused_for(alloc, newer.as_bytes(), fault),
         Err(_) => false,
