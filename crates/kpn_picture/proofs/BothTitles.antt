@@ -5,7 +5,7 @@ use Rattle.kpn_model.specs.declared.kinds.Card.{Card}
 use Rattle.kpn_model.specs.declared.kinds.Signature.{Signature}
 use Rattle.kpn_compute.specs.declared.both.TheConstants.{NO_KIND}
 use Rattle.kpn_compute.specs.Both.{both_named, both_ports, meant_by}
-use Rattle.kpn_picture.specs.Titles.{MeansKind, both_title}
+use Rattle.kpn_picture.specs.Titles.{MeansKind, both_title, below}
 
 no_ports : (x : Bool) (o : Option Signature) → o ≡ None → (if x then None else o) ≡ None
 no_ports true o e = refl
@@ -55,17 +55,20 @@ module _ (s t : Card → Option Signature) where
     second_means odd None (Some own) is = second_alone odd own is
     second_means odd (Some other) (Some own) is = inr (λ args. refl)
 
-  -- the same of the titles of both
-  pub first_named :
-      (f g : List ℕ → Option (ℕ × ℕ)) (u v : ℕ → List ℕ × ℕ) (k : ℕ) → (k % 2 == 0) ≡ true → MeansKind s (f (u (k / 2)).0) (k / 2, (u (k / 2)).1)
-      → MeansKind (both_ports s t) (both_named f g (both_title u v k).0) (k, (both_title u v k).1)
-  first_named f g u v k is_even is =
-      let even : k % 2 ≡ 0 = grind (arith, nat_tests) in
-      rw is_even (first_means k (u (k / 2)).1 even (f (u (k / 2)).0) (g (u (k / 2)).0) is)
+  -- the same of the titles of both, if none of the arguments is below 0
+  module _ (f g : List ℕ → Option (ℕ × ℕ)) (u v : ℕ → List ℕ × ℕ) (card : Card) where
+    pub first_named :
+        (card.kind % 2 == 0) ≡ true → (below card (u (card.kind / 2)).1 ≡ 0 → MeansKind s (f (u (card.kind / 2)).0) (card.kind / 2, (u (card.kind / 2)).1))
+        → below card (both_title u v card.kind).1 ≡ 0 → MeansKind (both_ports s t) (both_named f g (both_title u v card.kind).0) (card.kind, (both_title u v card.kind).1)
+    first_named is_even is none =
+        let even : card.kind % 2 ≡ 0 = grind (arith, nat_tests) in
+        let own : below card (u (card.kind / 2)).1 ≡ 0 = rw is_even at none in
+        rw is_even (first_means card.kind (u (card.kind / 2)).1 even (f (u (card.kind / 2)).0) (g (u (card.kind / 2)).0) (is own))
 
-  pub second_named :
-      (f g : List ℕ → Option (ℕ × ℕ)) (u v : ℕ → List ℕ × ℕ) (k : ℕ) → (k % 2 == 0) ≡ false → MeansKind t (g (v (k / 2)).0) (k / 2, (v (k / 2)).1)
-      → MeansKind (both_ports s t) (both_named f g (both_title u v k).0) (k, (both_title u v k).1)
-  second_named f g u v k is_odd is =
-      let odd : k % 2 ≡ 1 = grind (arith, nat_tests) in
-      rw is_odd (second_means k (v (k / 2)).1 odd (f (v (k / 2)).0) (g (v (k / 2)).0) is)
+    pub second_named :
+        (card.kind % 2 == 0) ≡ false → (below card (v (card.kind / 2)).1 ≡ 0 → MeansKind t (g (v (card.kind / 2)).0) (card.kind / 2, (v (card.kind / 2)).1))
+        → below card (both_title u v card.kind).1 ≡ 0 → MeansKind (both_ports s t) (both_named f g (both_title u v card.kind).0) (card.kind, (both_title u v card.kind).1)
+    second_named is_odd is none =
+        let odd : card.kind % 2 ≡ 1 = grind (arith, nat_tests) in
+        let own : below card (v (card.kind / 2)).1 ≡ 0 = rw is_odd at none in
+        rw is_odd (second_means card.kind (v (card.kind / 2)).1 odd (f (v (card.kind / 2)).0) (g (v (card.kind / 2)).0) (is own))

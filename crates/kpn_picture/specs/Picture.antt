@@ -1,6 +1,6 @@
 -- The text of a picture, in the language of Graphviz.
-use Rattle.std.specs.Prelude.{◌≢◌, All, ℕ, ◌/◌, ◌==◌, nat_lt, ◌&&◌, zero, suc, Bool, true, false, not, if◌then◌else◌, codes, decimal, List, [], ◌++◌, length, take, slice_get, Option, Some, None}
-use Rattle.std.specs.List.{flat_map, count_by}
+use Rattle.std.specs.Prelude.{◌≢◌, All, ℕ, ◌+◌, ◌/◌, ◌==◌, nat_lt, nat_le, ◌&&◌, zero, suc, Bool, true, false, not, if◌then◌else◌, codes, decimal, List, [], ◌++◌, length, slice_get, Option, Some, None}
+use Rattle.std.specs.List.{count_by}
 use Rattle.std.specs.Option.{option_map_or}
 use Rattle.kpn_model.specs.declared.token.Token.{Token}
 use Rattle.kpn_model.specs.declared.token.Sort.{Sort}
@@ -13,8 +13,10 @@ use Rattle.kpn_model.specs.declared.history.End.{End}
 use Rattle.kpn_model.specs.Network.{Network, card_of, channel_of, in_of, out_of}
 use Rattle.kpn_model.specs.NamesAndLines.{process_name, channel_name, lines_upto}
 use Rattle.kpn_model.specs.Waits.{is_on_cycle, is_jammed}
+use Rattle.kpn_standard.specs.Locals.{at}
 use Rattle.kpn_picture.specs.declared.looks.Direction.{Direction}
 use Rattle.kpn_picture.specs.declared.looks.Direction.TheVariants.{Right, Down}
+use Rattle.kpn_picture.specs.Titles.{below}
 use Rattle.kpn_picture.specs.Caption.{caption}
 
 abbrev pub rankdir : Direction → List ℕ
@@ -32,8 +34,11 @@ head direction =
 abbrev pub IsPlain : List ℕ → Type 0
 IsPlain text = All (λ b. (b ≢ 34) × (b ≢ 92) × (b ≢ 10)) text
 
-abbrev pub argument_part : ℕ → List ℕ
-argument_part n = codes " " ++ decimal n
+-- argument k of a card, if its title has so many: where it is below 0, of -1 - n the card has n
+abbrev pub argument_part : ℕ → Card → ℕ → List ℕ
+argument_part arity card k =
+    if nat_le arity k then [] else
+    if nat_lt k (below card arity) then codes " -" ++ decimal (at card.args k + 1) else codes " " ++ decimal (at card.args k)
 
 -- a sort, where it isn't that of most channels; and a capacity, where it wasn't 1 or has grown
 abbrev pub sort_part : Sort → List ℕ
@@ -82,7 +87,7 @@ closing look = codes "\"" ++ look ++ codes "];\n"
 
 -- a kind, with the arguments that it takes
 abbrev pub kind_text : (ℕ → List ℕ × ℕ) → Card → List ℕ
-kind_text title card = let t = title card.kind in t.0 ++ flat_map argument_part (take t.1 card.args)
+kind_text title card = let t = title card.kind in t.0 ++ argument_part t.1 card 0 ++ argument_part t.1 card 1 ++ argument_part t.1 card 2
 
 -- the processes stand in rows of eight, in their order; a channel stays in a row if both its ends are there
 abbrev pub stays : Channel → Bool

@@ -1,9 +1,9 @@
 //! Processes, as boxes.
 ghost use Rattle.std.specs.Prelude.{◌≡◌, ◌++◌, ◌<◌, [], OnOk, IsSome, length, string_bytes};
-ghost use Rattle.std.specs.List.{flat_map};
 ghost use Rattle.std.specs.Option.{option_map_or};
 ghost use Rattle.kpn_model.specs.Network.{card_of};
 ghost use Rattle.kpn_model.specs.NamesAndLines.{lines_upto};
+ghost use Rattle.kpn_picture.specs.Titles.{below};
 ghost use Rattle.kpn_picture.specs.Picture.{argument_part, box_opening, kind_text, place_label, node_line};
 
 use crate::edges::{channel_name, process_name};
@@ -15,13 +15,27 @@ use kpn_verdict::{is_on_cycle, place_at};
 use std::alloc::AllocError;
 use std::fmt::Write;
 
-fn push_arguments(out: &mut String, arguments: &[u64]) -> Result<(), AllocError>
-    ensures { OnOk result (string_bytes out.new ≡ string_bytes out.old ++ flat_map argument_part arguments.now) }
+/// How many of the arguments of a card are below 0, if its title has so many.
+fn below(card: &Card, arity: usize) -> u64
+    ensures { result ≡ below card.now arity }
 {
-    for argument in arguments {
-        write!(out, " {argument}")?;
+    if arity < 3 { card.args[arity] } else { 0 }
+}
+
+/// Appends argument `k` of a card, if its title has so many.
+fn push_argument(out: &mut String, card: &Card, arity: usize, k: usize) -> Result<(), AllocError>
+    requires { k < 3 }
+    ensures { OnOk result (string_bytes out.new ≡ string_bytes out.old ++ argument_part arity card.now k) }
+{
+    let argument = card.args[k];
+    if k >= arity {
+        Ok(())
+    } else if (k as u64) < below(card, arity) {
+        let magnitude = u128::from(argument) + 1;
+        write!(out, " -{magnitude}")
+    } else {
+        write!(out, " {argument}")
     }
-    Ok(())
 }
 
 /// Appends the kind of a card, with the arguments that it takes.
@@ -31,7 +45,10 @@ fn push_kind<K: Titled>(out: &mut String, card: &Card) -> Result<(), AllocError>
 {
     let (name, arity) = K::title(card);
     out.push_str(name)?;
-    push_arguments(out, &card.args[..arity.min(3)])
+    push_argument(out, card, arity, 0)?;
+    push_argument(out, card, arity, 1)?;
+    push_argument(out, card, arity, 2)?;
+    Ok(())
 }
 
 /// Appends the place in which a run left a process, if that is known.

@@ -2,7 +2,7 @@
 ghost use Rattle.std.specs.Prelude.{◌≡◌, Some, IsSome};
 ghost use Rattle.kpn_standard.specs.Signatures.{named, signature};
 ghost use Rattle.kpn_signals.specs.Signatures.{number_named, ports};
-ghost use Rattle.kpn_picture.specs.Titles.{standard_title, signals_title, both_title};
+ghost use Rattle.kpn_picture.specs.Titles.{standard_title, signals_title, both_title, below};
 
 use kpn_compute::both::{is_first, own_card};
 use kpn_compute::{Both, Filtered, Filters};
@@ -14,18 +14,19 @@ use kpn_standard::{Kind, Standard};
 /// arguments it takes.
 pub trait Titled: Kinds {
     ghost use Rattle.std.specs.Prelude.{◌≡◌, ℕ, List, IsSome};
-    ghost use Rattle.kpn_picture.specs.Titles.{MeansKind};
+    ghost use Rattle.kpn_picture.specs.Titles.{MeansKind, below};
 
     ghost title: { ℕ → List ℕ × ℕ };
 
     /// Returns the title of the kind of a card: its name and the number of its arguments. The name means
-    /// this kind; or it is refused in each description, as a name that two joined families have. The card
-    /// must have a signature.
+    /// this kind; or it is refused in each description, as a name that two joined families have; or the card
+    /// has one argument more, which is not 0: so many of its arguments are below 0, from the first on, and of
+    /// such an argument -1 - n it has n. The card must have a signature.
     fn title(card: &Card) -> (&'static str, usize)
         requires { IsSome (Self.signature card.now) }
         ensures name { result.0.now ≡ (title card.now.kind).0 }
         ensures arity { result.1 ≡ (title card.now.kind).1 }
-        ensures named { MeansKind Self.signature (Self.named (title card.now.kind).0) (card.now.kind, (title card.now.kind).1) };
+        ensures named { below card.now (title card.now.kind).1 ≡ 0 → MeansKind Self.signature (Self.named (title card.now.kind).0) (card.now.kind, (title card.now.kind).1) };
 }
 
 /// Filters whose kinds have titles, as `Titled` has them of a family.
@@ -72,17 +73,18 @@ impl Titled for Standard {
 impl Titled for Signals {
     ghost title = { signals_title };
 
-    /// Returns the title of the kind of a card. Its name means this kind.
+    /// Returns the title of the kind of a card. Its name means this kind, if no argument is below 0; the kinds
+    /// with arguments below 0 have the names by which a description calls them.
     fn title(card: &Card) -> (&'static str, usize)
         requires { IsSome (ports card.now) }
         ensures name { result.0.now ≡ (signals_title card.now.kind).0 }
         ensures arity { result.1 ≡ (signals_title card.now.kind).1 }
-        ensures named { number_named (signals_title card.now.kind).0 ≡ Some (card.now.kind, (signals_title card.now.kind).1) }
+        ensures named { below card.now (signals_title card.now.kind).1 ≡ 0 → number_named (signals_title card.now.kind).0 ≡ Some (card.now.kind, (signals_title card.now.kind).1) }
     {
         let Some(signal) = Signal::numbered(card.kind) else {
             unreachable!()
         };
-        let found = signal.row();
+        let found = signal.plain().row();
         (found.name, found.arguments)
     }
 }

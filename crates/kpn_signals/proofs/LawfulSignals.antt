@@ -11,7 +11,8 @@ use Rattle.kpn_standard.specs.Table.{one_word}
 use Rattle.kpn_standard.specs.Signatures.{given}
 use Rattle.kpn_standard.proofs.Laws.{passes}
 use Rattle.kpn_signals.specs.declared.signal.Signal.{Signal}
-use Rattle.kpn_signals.specs.declared.signal.Signal.TheVariants.{Input, InputFlags, Drain, DrainFlags, Constant, CountUp, Sub, Mul, Shift, Left, Less, Equal, Not, And, Or, Decimate, Repeat, Hold, Delay, LowPass, Clip}
+use Rattle.kpn_signals.specs.declared.signal.Signal.TheVariants.{Input, InputFlags, Drain, DrainFlags, Constant, CountUp, Sub, Mul, Shift, Left, Less, Equal, Not, And, Or, Decimate, Repeat, Hold, Delay, LowPass, Clip, SignedConstant, SignedHold, SignedClip}
+use Rattle.kpn_signals.specs.Words.{word_below, bound}
 use Rattle.kpn_signals.specs.Shapes.{Admitted}
 use Rattle.kpn_signals.specs.Arithmetic.{sub_join, mul_join, shift_step, left_step}
 use Rattle.kpn_signals.specs.Logic.{less_join, equal_join, not_step, and_join, or_join}
@@ -20,7 +21,7 @@ use Rattle.kpn_signals.specs.Filters.{choice, hold_join, delay_step, low_pass_st
 use Rattle.kpn_signals.specs.Table.{row_of, numbered}
 use Rattle.kpn_signals.specs.Signatures.{accepts, signature_of_kind, ports}
 use Rattle.kpn_signals.specs.Family.{answer_of, start_of, signals}
-use Rattle.kpn_signals.proofs.Numbers.{local_word, right_shift_fits, next_level_fits, nearest_fits}
+use Rattle.kpn_signals.proofs.Numbers.{local_word, below_fits, bound_fits, right_shift_fits, next_level_fits, nearest_fits}
 use Rattle.kpn_signals.proofs.Laws.{IsLawful, by_flag, stops, reads, writes, step_lawful, join_lawful}
 
 -- the word of a token that fits
@@ -100,10 +101,17 @@ kind_lawful LowPass card small is taken =
 kind_lawful Clip card small is taken =
     step_lawful card _ (has_ports Clip card is taken) (clip_step (at card.args 0) (at card.args 1)) refl
     (λ kept t kept_fits fits. (kept_fits, nearest_fits _ _ _ (argument card 0 (omega arith) small) (argument card 1 (omega arith) small) (word_fits t fits), refl))
+kind_lawful SignedConstant card small is taken = λ l last fits last_fits. writes card _ (has_ports SignedConstant card is taken) l 0 _ (omega arith) (below_fits (at card.args 0)) refl fits
+kind_lawful SignedHold card small is taken =
+    join_lawful card _ (has_ports SignedHold card is taken) hold_join refl refl (λ kept x t kept_fits x_fits fits. let c = choice_fits kept x t kept_fits x_fits in (c, c, refl))
+kind_lawful SignedClip card small is taken =
+    step_lawful card _ (has_ports SignedClip card is taken) (clip_step (word_below (at card.args 0)) (bound (at card.args 1) (at card.args 2))) refl
+    (λ kept t kept_fits fits. (kept_fits, nearest_fits _ _ _ (below_fits (at card.args 0)) (bound_fits (at card.args 1) (at card.args 2) (argument card 1 (omega arith) small)) (word_fits t fits), refl))
 
 -- the start of each kind is a local state
 start_fits : (kind : Signal) (args : List ℕ) → at args 0 < 2 ^ 64 → IsLocal (start_of kind args)
 start_fits Hold args small = (omega arith, omega arith, small, omega arith)
+start_fits SignedHold args small = (omega arith, omega arith, below_fits (at args 0), omega arith)
 start_fits _ args small = (omega arith, omega arith, omega arith, omega arith)
 
 -- a card that has ports is of a kind that accepts its arguments

@@ -1,5 +1,5 @@
 -- What the kinds write and keep are words.
-use Rattle.std.proofs.Common.{◌≡◌, ◌∙◌, ℕ, zero, suc, ◌<◌, ◌^◌, ℤ, pos, negsuc, ◌+ℤ◌, ◌-ℤ◌, List, [], ◌∷◌, refl, subst, sym, ap, arith}
+use Rattle.std.proofs.Common.{◌≡◌, ◌∙◌, ℕ, zero, suc, ◌<◌, ◌^◌, ◌==◌, Bool, true, false, if◌then◌else◌, ℤ, pos, negsuc, ◌+ℤ◌, ◌-ℤ◌, List, [], ◌∷◌, refl, subst, sym, ap, arith}
 use Rattle.std.specs.Prelude.{FitsSigned}
 use Rattle.std.specs.Int.{w64, w128, int_shr}
 use Rattle.std.specs.Int.Signed.{shr_z, mag_shr}
@@ -7,7 +7,7 @@ use Rattle.std.proofs.lemmas.Int.{ints, clamps, to_z-of_z}
 use mir.Val.{to_z, of_z}
 use Rattle.std.proofs.lemmas.Nat.{shr_le}
 use Rattle.kpn_standard.specs.Locals.{at, IsLocal}
-use Rattle.kpn_signals.specs.Words.{signed, word_of}
+use Rattle.kpn_signals.specs.Words.{signed, word_of, word_below, bound}
 use Rattle.kpn_signals.specs.Arithmetic.{right_shift}
 use Rattle.kpn_signals.specs.Filters.{next_level, nearest}
 
@@ -28,6 +28,17 @@ local_word (a ∷ b ∷ c ∷ d ∷ e ∷ l) k fits = absurd fits
 pub word_fits : (z : ℤ) → FitsSigned w64 z → word_of z < 2 ^ 64
 word_fits (pos n) fits = omega (arith, fits.sfits)
 word_fits (negsuc n) fits = omega arith
+
+-- so has -1 - n, and a bound
+pub below_fits : (n : ℕ) → word_below n < 2 ^ 64
+below_fits n = omega arith
+
+chosen_fits : (b : Bool) (n : ℕ) → n < 2 ^ 64 → (if b then word_below n else n) < 2 ^ 64
+chosen_fits true n small = below_fits n
+chosen_fits false n small = small
+
+pub bound_fits : (n below : ℕ) → n < 2 ^ 64 → bound n below < 2 ^ 64
+bound_fits n below small = chosen_fits (below == 2) n small
 
 -- a word stands for a signed number of 64 bits
 pub signed_fits : (w : ℕ) → w < 2 ^ 64 → FitsSigned w64 (signed w)

@@ -7,7 +7,8 @@ use Rattle.kpn_model.specs.Network.{Family}
 use Rattle.kpn_standard.specs.Locals.{at, one, three, stays}
 use Rattle.kpn_signals.specs.declared.turns.TheConstants.{READS_FIRST}
 use Rattle.kpn_signals.specs.declared.signal.Signal.{Signal}
-use Rattle.kpn_signals.specs.declared.signal.Signal.TheVariants.{Input, InputFlags, Drain, DrainFlags, Constant, CountUp, Sub, Mul, Shift, Left, Less, Equal, Not, And, Or, Decimate, Repeat, Hold, Delay, LowPass, Clip}
+use Rattle.kpn_signals.specs.declared.signal.Signal.TheVariants.{Input, InputFlags, Drain, DrainFlags, Constant, CountUp, Sub, Mul, Shift, Left, Less, Equal, Not, And, Or, Decimate, Repeat, Hold, Delay, LowPass, Clip, SignedConstant, SignedHold, SignedClip}
+use Rattle.kpn_signals.specs.Words.{word_below, bound}
 use Rattle.kpn_signals.specs.Shapes.{step_answer, join_answer}
 use Rattle.kpn_signals.specs.Ends.{input_answer, drain_answer, constant_answer, count_up_answer}
 use Rattle.kpn_signals.specs.Arithmetic.{sub_join, mul_join, shift_step, left_step}
@@ -39,10 +40,14 @@ answer_of Hold args l last = join_answer hold_join l last
 answer_of Delay args l last = step_answer (delay_step (at args 0)) l last
 answer_of LowPass args l last = step_answer (low_pass_step (at args 0)) l last
 answer_of Clip args l last = step_answer (clip_step (at args 0) (at args 1)) l last
+answer_of SignedConstant args l last = constant_answer (word_below (at args 0)) l
+answer_of SignedHold args l last = join_answer hold_join l last
+answer_of SignedClip args l last = step_answer (clip_step (word_below (at args 0)) (bound (at args 1) (at args 2))) l last
 
 -- the local state in which a process of a kind begins: hold keeps its argument at first, all else is 0
 abbrev pub start_of : Signal → List ℕ → List ℕ
 start_of Hold args = three READS_FIRST 0 (at args 0)
+start_of SignedHold args = three READS_FIRST 0 (word_below (at args 0))
 start_of _ args = one 0
 
 -- a card of no kind stops

@@ -9,6 +9,7 @@ use crate::filters::{clip, delay, hold, low_pass};
 use crate::logic::{and, equal, less, not, or};
 use crate::rates::{decimate, repeat};
 use crate::signal::Signal;
+use crate::signs::{bound, word_below};
 use crate::turns::{reads, stops};
 use kpn_model::{Answer, Local, Token};
 
@@ -19,7 +20,7 @@ pub fn answer(kind: Signal, args: [u64; 3], local: Local, last: Option<Token>) -
     requires { accepts kind args ≡ true }
     ensures { result ≡ answer_of kind args local last }
 {
-    let [a, b, _] = args;
+    let [a, b, c] = args;
     match kind {
         Signal::Input | Signal::InputFlags => stops(local),
         Signal::Drain | Signal::DrainFlags => reads(local),
@@ -40,5 +41,8 @@ pub fn answer(kind: Signal, args: [u64; 3], local: Local, last: Option<Token>) -
         Signal::Delay => delay(a, local, last),
         Signal::LowPass => low_pass(a, local, last),
         Signal::Clip => clip(a, b, local, last),
+        Signal::SignedConstant => constant(word_below(a), local),
+        Signal::SignedHold => hold(local, last),
+        Signal::SignedClip => clip(word_below(a), bound(b, c), local, last),
     }
 }

@@ -3,6 +3,9 @@
 //!
 //! Sums, differences and products are modulo 2^64. Where a kind is signed (`shift`, `less`, `low_pass`
 //! and `clip`), a word is a number in two's complement: from 2^63 on it stands for itself less 2^64.
+//!
+//! `constant`, `hold` and `clip` have a second kind each, `constant, signed` and so on, for arguments below 0,
+//! which no card has: of -1 - n it has n, and after its arguments how many of them are below 0.
 #![tactic(auto)]
 
 pub mod answers;
@@ -14,6 +17,7 @@ mod logic;
 mod rates;
 pub mod signal;
 pub mod signals;
+mod signs;
 pub mod turns;
 
 pub use answers::answer;

@@ -1,9 +1,10 @@
 //! The table of the kinds for signals.
 ghost use Rattle.std.specs.Prelude.{◌≡◌, Some, IfSome};
-ghost use Rattle.kpn_signals.specs.Table.{row_of, numbered, called};
-ghost use Rattle.kpn_signals.specs.Signatures.{accepts, number_named};
+ghost use Rattle.kpn_signals.specs.Table.{row_of, numbered, called, plain};
+ghost use Rattle.kpn_signals.specs.Signatures.{accepts, are_bounds, number_named};
 ghost use Rattle.kpn_signals.specs.Family.{start_of};
 
+use crate::signs::{FIRST_BELOW, bound, word_below};
 use crate::turns::READS_FIRST;
 use kpn_model::{Local, Sort};
 use kpn_standard::kind::Row;
@@ -55,6 +56,13 @@ pub enum Signal {
     LowPass,
     /// The least and the greatest word, as signed numbers: writes the nearest one within them.
     Clip,
+    /// `Constant` of a number below 0: n for the number -1 - n, and 1, as one argument is below 0.
+    SignedConstant,
+    /// `Hold` of a number below 0, which is given in the same way.
+    SignedHold,
+    /// `Clip` of numbers of which the first alone or both are below 0: for such a number -1 - n it is given n;
+    /// and how many are below 0.
+    SignedClip,
 }
 
 /// The longest delay: as many words as a process keeps.
@@ -108,6 +116,9 @@ impl Signal {
             Signal::Delay => tabled(18, "delay", 1, ONE_WORD, ONE_WORD),
             Signal::LowPass => tabled(19, "low_pass", 1, ONE_WORD, ONE_WORD),
             Signal::Clip => tabled(20, "clip", 2, ONE_WORD, ONE_WORD),
+            Signal::SignedConstant => tabled(21, "constant, signed", 2, NO_PORT, ONE_WORD),
+            Signal::SignedHold => tabled(22, "hold, signed", 2, WORD_AND_FLAG, ONE_WORD),
+            Signal::SignedClip => tabled(23, "clip, signed", 3, ONE_WORD, ONE_WORD),
         }
     }
 
@@ -138,6 +149,9 @@ impl Signal {
             18 => Some(Signal::Delay),
             19 => Some(Signal::LowPass),
             20 => Some(Signal::Clip),
+            21 => Some(Signal::SignedConstant),
+            22 => Some(Signal::SignedHold),
+            23 => Some(Signal::SignedClip),
             _ => None,
         }
     }
@@ -168,7 +182,22 @@ impl Signal {
             "delay" => Some(Signal::Delay),
             "low_pass" => Some(Signal::LowPass),
             "clip" => Some(Signal::Clip),
+            "constant, signed" => Some(Signal::SignedConstant),
+            "hold, signed" => Some(Signal::SignedHold),
+            "clip, signed" => Some(Signal::SignedClip),
             _ => None,
+        }
+    }
+
+    /// Returns the kind by which a description calls this one: another one only where arguments are below 0.
+    pub fn plain(self) -> Signal
+        ensures { result ≡ plain self }
+    {
+        match self {
+            Signal::SignedConstant => Signal::Constant,
+            Signal::SignedHold => Signal::Hold,
+            Signal::SignedClip => Signal::Clip,
+            kind => kind,
         }
     }
 
@@ -186,6 +215,8 @@ impl Signal {
             Signal::Decimate | Signal::Repeat => one_used && a > 0,
             Signal::Delay => one_used && a > 0 && a <= MAX_DELAY,
             Signal::Constant | Signal::Hold => one_used,
+            Signal::SignedConstant | Signal::SignedHold => two_used && a < FIRST_BELOW && b == 1,
+            Signal::SignedClip => are_bounds(a, b, c),
             Signal::Input | Signal::InputFlags | Signal::Drain | Signal::DrainFlags => none_used,
             Signal::CountUp | Signal::Sub | Signal::Mul | Signal::Less => none_used,
             Signal::Equal | Signal::Not | Signal::And | Signal::Or => none_used,
@@ -198,9 +229,21 @@ impl Signal {
     {
         match self {
             Signal::Hold => [READS_FIRST, 0, args[0], 0],
+            Signal::SignedHold => [READS_FIRST, 0, word_below(args[0]), 0],
             _ => [0; 4],
         }
     }
+}
+
+/// Whether a process can clip to these bounds, of which the first alone or both are below 0.
+fn are_bounds(lo: u64, hi: u64, below: u64) -> bool
+    ensures { result ≡ are_bounds lo hi below }
+{
+    let has_signs = below == 1 || below == 2;
+    lo < FIRST_BELOW
+        && hi < FIRST_BELOW
+        && has_signs
+        && word_below(lo).cast_signed() <= bound(hi, below).cast_signed()
 }
 
 /// A row of the table.
