@@ -1,3 +1,4 @@
+pub mod Signs
 pub mod Ports
 pub mod Presets
 pub mod Statuses

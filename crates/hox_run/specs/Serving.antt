@@ -11,7 +11,7 @@ use Rattle.hox_run.specs.declared.request.Request.{Request}
 use Rattle.hox_run.specs.declared.request.Fault.{Fault}
 use Rattle.hox_run.specs.declared.request.Fault.TheVariants.{Description, Tokens, Budget, NoShown, NoOutput, Memory, Lost}
 use Rattle.hox_run.specs.declared.telling.Told.{Told}
-use Rattle.hox_run.specs.Ports.{by_ports}
+use Rattle.hox_run.specs.Ports.{as_meant}
 use Rattle.hox_run.specs.Presets.{PresetAll, Stops, greatest_budget, with_budget}
 use Rattle.hox_run.specs.Telling.{TellsRun}
 
@@ -84,6 +84,6 @@ GivesLoaded gives (Err fault) result = MatchResult result (λ x. ⊥) (λ e. ref
 -- failed before and after
 pub record Serves {X : Type 0} (named : List ℕ → Option (ℕ × ℕ)) (signature : Card → Option Signature) (gives : Network → Result X Fault → Type 0) (input : Option (List ℕ)) (failed_before failed_after : Bool) (result : Result X Fault) : Type 0 where
   pub loaded : Result Network NetFault
-  pub loads : failed_before ≡ false → IfSome input (λ text. LoadsChanged (by_ports named signature) named signature failed_after text loaded)
+  pub loads : failed_before ≡ false → IfSome input (λ text. LoadsChanged (as_meant named signature) named signature failed_after text loaded)
   pub failed : failed_before ≡ false → failed_after ≡ true → loaded ≡ Err Input
   pub comes : GivesLoaded gives loaded result

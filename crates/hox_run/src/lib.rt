@@ -12,6 +12,7 @@ mod reading;
 mod request;
 mod running;
 mod serving;
+mod signs;
 mod telling;
 
 pub use described::{load_by_ports, sketch_by_ports};

@@ -2,7 +2,7 @@
 use Rattle.std.proofs.Common.{false, ◌∙◌, Err}
 use Rattle.kpn_front.specs.Loading.{LoadsChanged}
 use Rattle.kpn_front.proofs.Loaded.{loads_known}
-use Rattle.hox_run.specs.Ports.{by_ports}
+use Rattle.hox_run.specs.Ports.{as_meant}
 use Rattle.hox_run.proofs.described.load_by_ports.Goals as goal
 
 pub returns-in-Err-net_of_text-clause-loads : goal.returns-in-Err-net_of_text-clause-loads
@@ -10,5 +10,5 @@ returns-in-Err-net_of_text-clause-loads g c fresh =
     let named = g.K.Kinds.named in
     let signature = g.K.Kinds.signature in
     let unfailed = c.in-Ok.ensures.failed (λ e. cc) ∙ fresh in
-    let loaded : LoadsChanged (by_ports named signature) named signature false c.in-Ok.text.items (Err c.in-Err-net_of_text.fault) = rw (← c.as_slice.ensures.value) c.in-Err-net_of_text.ensures in
-    loads_known named signature (by_ports named signature) _ _ c.in-Ok.text.items (Err c.in-Err-net_of_text.fault) c.in-Ok.ensures.ok.1 unfailed loaded
+    let loaded : LoadsChanged (as_meant named signature) named signature false c.in-Ok.text.items (Err c.in-Err-net_of_text.fault) = rw (← c.as_slice.ensures.value) c.in-Err-net_of_text.ensures in
+    loads_known named signature (as_meant named signature) _ _ c.in-Ok.text.items (Err c.in-Err-net_of_text.fault) c.in-Ok.ensures.ok.1 unfailed loaded
