@@ -273,4 +273,9 @@ fn knows_the_titles_of_kinds(rt: HostRuntime) {
         );
         same(&rt, "is second", is_first(both), false);
     }
+    let below = Card {
+        kind: 21,
+        args: [6, 1, 0],
+    };
+    same(&rt, "below 0", Signals::title(&below), ("constant", 1));
 }

@@ -24,7 +24,7 @@ type Row = (
     Act,
 );
 
-static ROWS: [Row; 34] = [
+static ROWS: [Row; 38] = [
     (Signal::Input, [0, 0, 0], &[], &[], &[], Stop),
     (Signal::InputFlags, [0, 0, 0], &[], &[], &[], Stop),
     (
@@ -335,6 +335,43 @@ static ROWS: [Row; 34] = [
         &[Word(LEAST), Word(0), Word(GREATEST)],
         Read(0),
     ),
+    (
+        Signal::SignedConstant,
+        [GREATEST, 1, 0],
+        &[],
+        &[],
+        &[Word(LEAST), Word(LEAST)],
+        Write(0, Word(LEAST)),
+    ),
+    (
+        Signal::SignedHold,
+        [6, 1, 0],
+        &[Word(3), Word(5), Word(8)],
+        &[Flag(false), Flag(true), Flag(false)],
+        &[Word(u64::MAX - 6), Word(5), Word(5)],
+        Read(0),
+    ),
+    (
+        Signal::SignedClip,
+        [99, 100, 1],
+        &[
+            Word(u64::MAX - 149),
+            Word(u64::MAX - 99),
+            Word(7),
+            Word(101),
+        ],
+        &[],
+        &[Word(u64::MAX - 99), Word(u64::MAX - 99), Word(7), Word(100)],
+        Read(0),
+    ),
+    (
+        Signal::SignedClip,
+        [GREATEST, 1, 2],
+        &[Word(LEAST), Word(u64::MAX), Word(0)],
+        &[],
+        &[Word(LEAST), Word(u64::MAX - 1), Word(u64::MAX - 1)],
+        Read(0),
+    ),
 ];
 
 /// The longest row has fewer acts.
@@ -447,7 +484,7 @@ fn help_lists_the_kinds(rt: HostRuntime) {
         };
         same(&rt, help.name, ports, ports_of(help.ports));
     }
-    same(&rt, "numbered", Signal::numbered(KINDS), None);
+    same(&rt, "numbered", Signal::numbered(KINDS + 3), None);
     same(&rt, "named", Signals::named("count"), None);
 }
 
@@ -472,6 +509,12 @@ fn signals_accept_arguments(rt: HostRuntime) {
         (20, [0, u64::MAX, 0], false),
         (20, [1, 1, 1], false),
         (21, [0, 0, 0], false),
+        (21, [LEAST, 1, 0], false),
+        (22, [GREATEST, 1, 0], true),
+        (23, [4, 1, 2], true),
+        (23, [1, 4, 2], false),
+        (23, [1, 4, 3], false),
+        (24, [0, 0, 0], false),
     ];
     for (kind, args, is_accepted) in rows {
         let signature = Signals::signature(&Card { kind, args });
