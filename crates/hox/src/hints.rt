@@ -1,8 +1,8 @@
-//! What would do for a refused description.
+//! What would do for a refused description, and for a name that no channel has.
 ghost use Rattle.std.specs.Prelude.{◌≤◌, length};
 
-use hox_run::{AllKinds, KINDS, sketch_by_ports};
-use kpn_model::Kinds;
+use hox_run::{AllKinds, KINDS, channel_names, sketch_by_ports};
+use kpn_model::{Kinds, Text};
 use kpn_net::faults::process_named;
 use kpn_net::{Check, Net, NetFault, Sketch, read_sketch};
 use std::alloc::Global;
@@ -77,6 +77,56 @@ fn say_process_meant<R: Eprint>(rt: &R, file: Option<&str>, sketch: &Sketch, nam
             return say_near(rt, file, name, process.name.as_str());
         }
     }
+}
+
+/// How many channels are named at most where none was likely meant.
+const MOST_NAMED: usize = 8;
+
+/// Says that no channel of a network has a name, and which would do; nothing of that where memory is refused.
+pub(crate) fn say_no_channel_of<K: Kinds, R: Eprint + AllocGlobal>(
+    rt: &R,
+    net: &Net<K>,
+    name: &str,
+) {
+    match channel_names(rt.alloc(), net) {
+        Ok(channels) => say_no_channel(rt, name, channels.as_slice()),
+        Err(_) => say_no_channel(rt, name, &[]),
+    }
+}
+
+/// Says that no channel has a name, and which of these channels was likely meant, or if none was, which there
+/// are, where they are few.
+pub(crate) fn say_no_channel<R: Eprint>(rt: &R, name: &str, channels: &[Text]) {
+    let _ = eprintln!(rt; "hox: no channel has the name {name}");
+    for channel in channels {
+        if is_meant(name, channel.as_str()) {
+            return say_near(rt, None, name, channel.as_str());
+        }
+    }
+    if 0 < channels.len() && channels.len() <= MOST_NAMED {
+        say_channels(rt, channels);
+    }
+}
+
+/// Whether a channel was likely meant by a name: if only their case differs, or one is near the other. Of two
+/// names of one letter neither is meant by the other.
+fn is_meant(name: &str, channel: &str) -> bool {
+    name.eq_ignore_ascii_case(channel)
+        || (name.len() > 1 || channel.len() > 1) && is_near(name.as_bytes(), channel.as_bytes())
+}
+
+/// Says which channels there are.
+fn say_channels<R: Eprint>(rt: &R, channels: &[Text]) {
+    for (c, channel) in channels.iter().enumerate() {
+        let before = match channels.len() - c {
+            1 if c == 0 => "hox: the channel is ",
+            _ if c == 0 => "hox: the channels are ",
+            1 => " and ",
+            _ => ", ",
+        };
+        let _ = eprint!(rt; "{before}{}", channel.as_str());
+    }
+    let _ = eprintln!(rt; "");
 }
 
 /// Says which name was likely meant.

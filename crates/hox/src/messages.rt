@@ -1,5 +1,5 @@
 //! What is said on standard error.
-use crate::hints::{say_meant, wants_version_2};
+use crate::hints::{say_meant, say_no_channel, wants_version_2};
 use crate::inputs::Pair;
 use hox_args::WordsFault;
 use hox_run::{
@@ -33,14 +33,10 @@ pub(crate) fn say_fault<R: Eprint + AllocGlobal>(
         Fault::Budget(greatest) => eprintln!(rt;
             "hox: --budget must be 1 to {greatest}; in version 2 it may be {GREATEST_HIGH_BUDGET}"
         ),
-        Fault::NoShown => match &request.show {
-            Some(name) => say_no_channel(rt, name.as_str()),
-            None => Ok(()),
-        },
-        Fault::NoOutput(output) => match request.outputs.as_slice().get(*output) {
-            Some(name) => say_no_channel(rt, name.as_str()),
-            None => Ok(()),
-        },
+        Fault::NoHolder(..) | Fault::NoShown(_) | Fault::NoOutput(..) => {
+            say_unknown(rt, request, fault);
+            Ok(())
+        }
         Fault::Memory => eprintln!(rt; "hox: memory was refused"),
         Fault::Lost => eprintln!(rt;
             "hox: a worker's answer was refused, and the run was given up"
@@ -49,9 +45,24 @@ pub(crate) fn say_fault<R: Eprint + AllocGlobal>(
     fault.status().code()
 }
 
-/// Says that no channel has a name.
-fn say_no_channel<R: Eprint>(rt: &R, name: &str) -> std::io::Result<()> {
-    eprintln!(rt; "hox: no channel has the name {name}")
+/// Says that no channel has the name that this fault of the request is about.
+fn say_unknown<R: Eprint>(rt: &R, request: &Request, fault: &Fault) {
+    let (name, channels) = match fault {
+        Fault::NoHolder(file, channels) => match request.tokens.as_slice().get(*file) {
+            Some(file) => (&file.channel, channels),
+            None => return,
+        },
+        Fault::NoShown(channels) => match &request.show {
+            Some(name) => (name, channels),
+            None => return,
+        },
+        Fault::NoOutput(output, channels) => match request.outputs.as_slice().get(*output) {
+            Some(name) => (name, channels),
+            None => return,
+        },
+        _ => return,
+    };
+    say_no_channel(rt, name.as_str(), channels.as_slice());
 }
 
 /// Says all that is wrong with the description in this file, or on standard input, and whether version 2 would
@@ -122,7 +133,10 @@ fn say_stop<R: Eprint>(rt: &R, request: &Request, tokens: &[Pair<'_>], stop: Pre
     };
     let file = pair.file;
     let _ = match stop.fault {
-        FileFault::NoChannel => say_no_channel(rt, pair.channel),
+        FileFault::NoChannel => {
+            say_no_channel(rt, pair.channel, &[]);
+            Ok(())
+        }
         FileFault::NoText => eprintln!(rt; "hox: {file} is not UTF-8"),
         FileFault::TooMany { most } if most == CEILING as usize => eprintln!(rt;
             "hox: {file} has more than {most} tokens; version = 2 of the description allows {HIGH_CEILING}"

@@ -1,6 +1,7 @@
 //! Running a network on tokens that come, as they come.
 ghost use Rattle.std.specs.Prelude.{◌<◌, IfOk, length};
 
+use crate::hints::say_no_channel_of;
 use crate::inputs::{Pair, names_input_twice, pairs_of};
 use crate::messages::{say_fault, say_input_named_twice, say_no_memory, say_unread, say_unwritten};
 use crate::taps::{Origin, Spout, Tap};
@@ -223,13 +224,17 @@ fn drained_channels<R: Eprint + AllocGlobal>(
 }
 
 /// The channel with a name. If there is none this is said, and the exit status is returned.
-fn channel_named<R: Eprint>(rt: &R, net: &Net<StreamKinds>, name: &str) -> Result<usize, u8>
+fn channel_named<R: Eprint + AllocGlobal>(
+    rt: &R,
+    net: &Net<StreamKinds>,
+    name: &str,
+) -> Result<usize, u8>
     ensures { IfOk result (λ channel. channel < length net.now.channels) }
 {
     match net.find_channel(name) {
         Some(channel) if channel < net.channels() => Ok(channel),
         _ => {
-            let _ = eprintln!(rt; "hox: no channel has the name {name}");
+            say_no_channel_of(rt, net, name);
             Err(Status::WrongArguments.code())
         }
     }

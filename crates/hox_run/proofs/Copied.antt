@@ -1,6 +1,7 @@
 -- A process and a channel of a network from what is asked of them, and lists that are copied item by item.
-use Rattle.std.proofs.Common.{◌≡◌, ◌≤◌, ◌+◌, ℕ, zero, suc, List, [], ◌∷◌, ◌++◌, length, take, Some, option_map, slice_get, get_or, refl, sym, ◌∙◌, arith}
+use Rattle.std.proofs.Common.{◌≡◌, ◌≤◌, ◌+◌, ℕ, zero, suc, List, [], ◌∷◌, ◌++◌, length, map, take, Some, option_map, slice_get, get_or, refl, sym, ◌∙◌, arith}
 use Rattle.std.proofs.lemmas.List.{take_all}
+use Rattle.std.proofs.lemmas.Option.{slice_get-map}
 use Rattle.kpn_model.specs.declared.kinds.Card.{Card}
 use Rattle.kpn_model.specs.declared.parts.Process.{Process}
 use Rattle.kpn_model.specs.declared.parts.Channel.{Channel}
@@ -20,6 +21,10 @@ pub channel_is : (cs : List Channel) (c : ℕ) (name : List ℕ) → option_map 
 channel_is [] c name named = cc
 channel_is (x ∷ cs) zero name named = let e : x.name ≡ name = cc in rw (← e) refl
 channel_is (x ∷ cs) (suc c) name named = channel_is cs c name named
+
+-- the name of a channel among all their names
+pub named_at : (cs : List Channel) (c : ℕ) → slice_get (map (λ (x : Channel). x.name) cs) c ≡ option_map (λ (x : Channel). x.name) (slice_get cs c)
+named_at cs c = slice_get-map (λ (x : Channel). x.name) cs c
 
 -- the first items of a list, copied
 module _ {X : Type 0} where

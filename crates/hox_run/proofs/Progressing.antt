@@ -1,5 +1,5 @@
 -- A piece of a run takes some answer.
-use Rattle.std.proofs.Common.{◌≡◌, ◌≢◌, ◌+◌, ◌<◌, ℕ, zero, suc, true, List, Option, None, refl, sym, subst, arith}
+use Rattle.std.proofs.Common.{◌≡◌, ◌≢◌, ◌+◌, ◌<◌, ℕ, zero, suc, true, None, refl, subst, arith}
 use Rattle.std.specs.List.{list_any}
 use Rattle.kpn_state.specs.declared.standing.Standing.TheVariants.{Ready, Out}
 use Rattle.kpn_state.specs.Standings.{standing, is_busy}

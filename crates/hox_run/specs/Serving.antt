@@ -9,7 +9,8 @@ use Rattle.kpn_execute.specs.Execution.{number_of_channel}
 use Rattle.kpn_front.specs.Loading.{LoadsChanged}
 use Rattle.hox_run.specs.declared.request.Request.{Request}
 use Rattle.hox_run.specs.declared.request.Fault.{Fault}
-use Rattle.hox_run.specs.declared.request.Fault.TheVariants.{Description, Tokens, Budget, NoShown, NoOutput, Memory, Lost}
+use Rattle.hox_run.specs.declared.request.Fault.TheVariants.{Description, Tokens, Budget, NoHolder, NoShown, NoOutput, Memory, Lost}
+use Rattle.hox_run.specs.declared.presets.FileFault.TheVariants.{NoChannel}
 use Rattle.hox_run.specs.declared.telling.Told.{Told}
 use Rattle.hox_run.specs.Ports.{as_meant}
 use Rattle.hox_run.specs.Presets.{PresetAll, Stops, greatest_budget, with_budget}
@@ -40,16 +41,24 @@ abbrev pub IsNamed : Network → Option (List ℕ) → Option ℕ → Type 0
 IsNamed net None channel = channel ≡ None
 IsNamed net (Some name) channel = (channel ≢ None) × (channel ≡ number_of_channel net name)
 
+-- the names of a network's channels, in order
+abbrev pub channel_names : Network → List (List ℕ)
+channel_names net = map (λ c. c.name) net.channels
+
 -- when each fault is found in a request to run the network of a description: in the files, from the first on; in the budget; in the
--- names of the channel to show and of those to write; or memory was refused, or a worker's answer, at any time
+-- names of the channel to show and of those to write; or memory was refused, or a worker's answer, at any time. With a name that no
+-- channel has it gives those that the channels have
 abbrev pub IsFault : Request → Network → Fault → Type 0
 IsFault request net (Description refused) = ⊥
-IsFault request net (Tokens stop) = Stops request.tokens net stop.file stop.fault
+IsFault request net (Tokens stop) = Stops request.tokens net stop.file stop.fault × (stop.fault ≢ NoChannel)
 IsFault request net (Budget greatest) =
     (preset : Network) × PresetAll request.tokens net preset × (greatest ≡ greatest_budget preset.ceiling)
     × (n : ℕ) × (request.budget ≡ Some n) × ((n ≡ 0) ⊎ (greatest < n))
-IsFault request net NoShown = (other : Network) × Prepares request net other × (name : List ℕ) × (request.show ≡ Some name) × (number_of_channel other name ≡ None)
-IsFault request net (NoOutput k) = (other : Network) × Prepares request net other × (k < length request.outputs) × (number_of_channel other (get_or request.outputs k []) ≡ None)
+IsFault request net (NoHolder file names) = Stops request.tokens net file NoChannel × (names ≡ channel_names net)
+IsFault request net (NoShown names) =
+    (other : Network) × Prepares request net other × (name : List ℕ) × (request.show ≡ Some name) × (number_of_channel other name ≡ None) × (names ≡ channel_names other)
+IsFault request net (NoOutput k names) =
+    (other : Network) × Prepares request net other × (k < length request.outputs) × (number_of_channel other (get_or request.outputs k []) ≡ None) × (names ≡ channel_names other)
 IsFault request net Memory = Unit {0}
 IsFault request net Lost = 1 < request.workers
 

@@ -5,6 +5,7 @@
 mod cut;
 mod described;
 mod family;
+mod names;
 mod parts;
 mod presets;
 mod progress;
@@ -17,6 +18,7 @@ mod telling;
 
 pub use described::{load_by_ports, sketch_by_ports};
 pub use family::{AllKinds, KINDS};
+pub use names::channel_names;
 pub use presets::{FileFault, PresetFault};
 pub use progress::{Progress, Silent, SoFar};
 pub use reading::{LONGEST_FILE, ReadFault, read_whole};

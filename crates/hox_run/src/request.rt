@@ -31,14 +31,18 @@ pub struct Request {
 pub enum Fault {
     /// The description is refused.
     Description(Refused),
-    /// A token file is refused.
+    /// A token file is refused, for another fault than that no channel has its name.
     Tokens(PresetFault),
     /// The budget is not 1 to this number.
     Budget(u64),
-    /// No channel has the name of the one to show.
-    NoShown,
-    /// No channel has the name of the output of this number, counted from 0.
-    NoOutput(usize),
+    /// No channel has the name that the token file of this number gives, counted from 0; the names of those
+    /// that there are, in order.
+    NoHolder(usize, Listed<Text>),
+    /// No channel has the name of the one to show; the names of those that there are, in order.
+    NoShown(Listed<Text>),
+    /// No channel has the name of the output of this number, counted from 0; the names of those that there
+    /// are, in order.
+    NoOutput(usize, Listed<Text>),
     /// Memory was refused.
     Memory,
     /// The machine refused an answer of one of several workers.
@@ -56,7 +60,8 @@ impl Fault {
                 _ => Status::Refused,
             },
             Fault::Tokens(stop) => status_of_file(stop.fault),
-            Fault::Budget(_) | Fault::NoShown | Fault::NoOutput(_) => Status::WrongArguments,
+            Fault::NoHolder(..) | Fault::NoShown(_) | Fault::NoOutput(..) => Status::WrongArguments,
+            Fault::Budget(_) => Status::WrongArguments,
             Fault::Memory => Status::MemoryRefused,
             Fault::Lost => Status::Lost,
         }

@@ -1,22 +1,23 @@
 //! Running a described network as it is asked for, from bytes to bytes.
-ghost use Rattle.std.specs.Prelude.{◌≡◌, ◌<◌, ◌+◌, ◌⊎◌, ℕ, List, [], Some, None, IfOk, IfErr, IfSome, length, get_or};
+ghost use Rattle.std.specs.Prelude.{◌≡◌, ◌<◌, ◌+◌, ◌⊎◌, ℕ, List, [], Some, None, IfOk, IfErr, IfSome, MatchResult, length, get_or};
 ghost use Rattle.std.specs.List.{All};
 ghost use Rattle.kpn_model.specs.Network.{family_of, Network as NetworkV};
 ghost use Rattle.kpn_execute.specs.Execution.{number_of_channel};
 ghost use Rattle.kpn_front.specs.Loading.{ConsumesAtMost, longest};
 ghost use Rattle.hox_run.specs.Presets.{PresetAll};
-ghost use Rattle.hox_run.specs.Serving.{AreNamed, GivesNet, GivesRun, HasFewWorkers, IsNamed, Serves};
+ghost use Rattle.hox_run.specs.Serving.{AreNamed, GivesNet, GivesRun, HasFewWorkers, IsNamed, Serves, channel_names};
 
 use crate::described::load_by_ports;
+use crate::names::channel_names;
 use crate::parts::parts_of;
-use crate::presets::{greatest_budget, preset, set_budget};
+use crate::presets::{FileFault, greatest_budget, preset, set_budget};
 use crate::progress::Progress;
 use crate::request::{Fault, Request};
 use crate::running::{RunFault, execute};
 use crate::telling::Told;
 use kpn_compute::Computes;
 use kpn_front::Source;
-use kpn_model::{Kinds, Text};
+use kpn_model::{Kinds, Listed, Text};
 use kpn_network::Net;
 use std::alloc::Global;
 use std::rt::Clock;
@@ -77,7 +78,7 @@ fn serve_net<K: Computes, R: Wait + Clock + Threads + Sync, P: Progress>(
     ensures { GivesRun (family_of K.start K.answer_of) request.now net.now result }
 {
     let net = prepare_net(alloc, request, net)?;
-    let show = shown_in(&net, request)?;
+    let show = shown_in(alloc, &net, request)?;
     let outputs = outputs_in(alloc, &net, request.outputs.as_slice())?;
     match execute(
         rt,
@@ -103,7 +104,10 @@ fn prepare_net<K: Kinds>(alloc: Global, request: &Request, net: &Net<K>) -> Resu
         return Err(Fault::Memory);
     };
     if let Err(stop) = preset::<K>(alloc, &mut parts, request.tokens.as_slice()) {
-        return Err(Fault::Tokens(stop));
+        return match stop.fault {
+            FileFault::NoChannel => Err(Fault::NoHolder(stop.file, names_in(alloc, net)?)),
+            _ => Err(Fault::Tokens(stop)),
+        };
     }
     if let Some(budget) = request.budget {
         if !set_budget::<K>(&mut parts, budget) {
@@ -117,16 +121,20 @@ fn prepare_net<K: Kinds>(alloc: Global, request: &Request, net: &Net<K>) -> Resu
 }
 
 /// The channel to show, if one is asked for.
-fn shown_in<K: Kinds>(net: &Net<K>, request: &Request) -> Result<Option<usize>, Fault>
+fn shown_in<K: Kinds>(
+    alloc: Global,
+    net: &Net<K>,
+    request: &Request,
+) -> Result<Option<usize>, Fault>
     ensures ok { IfOk result (IsNamed net.now request.now.show) }
-    ensures fault { IfErr result (λ e. (e ≡ Fault.NoShown) × (name : List ℕ) × (request.now.show ≡ Some name) × (number_of_channel net.now name ≡ None)) }
+    ensures fault { IfErr result (λ e. (e ≡ Fault.Memory) ⊎ ((name : List ℕ) × (e ≡ Fault.NoShown (channel_names net.now)) × (request.now.show ≡ Some name) × (number_of_channel net.now name ≡ None))) }
 {
     let Some(name) = &request.show else {
         return Ok(None);
     };
     match net.find_channel(name.as_str()) {
         Some(channel) => Ok(Some(channel)),
-        None => Err(Fault::NoShown),
+        None => Err(Fault::NoShown(names_in(alloc, net)?)),
     }
 }
 
@@ -134,7 +142,7 @@ fn shown_in<K: Kinds>(net: &Net<K>, request: &Request) -> Result<Option<usize>, 
 fn outputs_in<K: Kinds>(alloc: Global, net: &Net<K>, names: &[Text]) -> Result<Vec<usize>, Fault>
     ensures named { IfOk result (λ v. AreNamed net.now names.now v.items) }
     ensures within { IfOk result (λ v. All (λ c. c < length net.now.channels) v.items) }
-    ensures fault { IfErr result (λ e. (e ≡ Fault.Memory) ⊎ ((k : ℕ) × (e ≡ Fault.NoOutput k) × (k < length names.now) × (number_of_channel net.now (get_or names.now k []) ≡ None))) }
+    ensures fault { IfErr result (λ e. (e ≡ Fault.Memory) ⊎ ((k : ℕ) × (e ≡ Fault.NoOutput k (channel_names net.now)) × (k < length names.now) × (number_of_channel net.now (get_or names.now k []) ≡ None))) }
 {
     let mut channels = Vec::new(alloc);
     for k in 0..names.len() {
@@ -144,10 +152,17 @@ fn outputs_in<K: Kinds>(alloc: Global, net: &Net<K>, names: &[Text]) -> Result<V
                     return Err(Fault::Memory);
                 }
             }
-            None => return Err(Fault::NoOutput(k)),
+            None => return Err(Fault::NoOutput(k, names_in(alloc, net)?)),
         }
     }
     Ok(channels)
+}
+
+/// The names of a network's channels, for a fault.
+fn names_in<K: Kinds>(alloc: Global, net: &Net<K>) -> Result<Listed<Text>, Fault>
+    ensures { MatchResult result (λ names. names ≡ channel_names net.now) (λ e. e ≡ Fault.Memory) }
+{
+    channel_names(alloc, net).map_err(|_| Fault::Memory)
 }
 
 /// The channel of this name.

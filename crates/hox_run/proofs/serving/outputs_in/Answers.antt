@@ -1,6 +1,7 @@
-use Rattle.std.proofs.Common.{◌≡◌, [], None, get_or, inr, refl, sym, ap, ◌∙◌}
+use Rattle.std.proofs.Common.{◌≡◌, [], None, get_or, inr, sym, ap, ◌∙◌}
 use Rattle.std.proofs.lemmas.List.{get_or_read}
 use Rattle.kpn_execute.specs.Execution.{number_of_channel}
+use Rattle.hox_run.specs.declared.request.Fault.TheVariants.{NoOutput}
 use Rattle.hox_run.proofs.serving.outputs_in.Goals as goal
 
 pub returns-in-None-clause-fault : goal.returns-in-None-clause-fault
@@ -9,4 +10,4 @@ returns-in-None-clause-fault g c =
     let k = c.loop-k.k in
     let named : c.as_str.result.now ≡ get_or names k [] = c.as_str.ensures ∙ get_or_read names k c.index-names-k.result c.loop-k-test.true c.index-names-k.is [] in
     let unknown : number_of_channel c.args.net.now (get_or names k []) ≡ None = ap (number_of_channel c.args.net.now) (sym named) ∙ sym c.in-None.ensures.is in
-    inr (k, refl, c.loop-k-test.true, unknown)
+    inr (k, ap (NoOutput k) c.in_ok-names_in-in-None.ensures, c.loop-k-test.true, unknown)
