@@ -10,6 +10,7 @@ mod opening;
 mod piped;
 
 use crate::opening::{open, read_description};
+use crate::piped::Piped;
 use anyhow::Result;
 use std::alloc::Global;
 use std::io::{self, BufRead, BufReader, BufWriter, Write};
@@ -25,25 +26,54 @@ fn main(rt: HostRuntime) -> ExitCode {
     }
 }
 
-/// Opens the flow that the first lines describe, and does what the others say.
+/// Plays what standard input says, and writes to standard output what comes of it.
 fn play<R: Input + Print>(rt: &R, alloc: Global) -> Result<()> {
     let mut sink = BufWriter::new(alloc, io::writer(rt))?;
     let mut source = BufReader::new(alloc, rt.reader())?;
-    let description = read_description(alloc, &mut source)?;
+    play_lines(alloc, &mut source, &mut sink)
+}
+
+/// Opens the flow that the first lines describe, and does what the others say.
+fn play_lines<S: BufRead, W: Write>(alloc: Global, source: &mut S, sink: &mut W) -> Result<()> {
+    let description = read_description(alloc, source)?;
     let mut piped = open(alloc, &description)?;
+    obey_all(alloc, &mut piped, source, sink)?;
+    Ok(sink.flush()?)
+}
+
+/// Does what each line says.
+fn obey_all<S: BufRead, W: Write>(
+    alloc: Global,
+    piped: &mut Piped,
+    source: &mut S,
+    sink: &mut W,
+) -> Result<()> {
     let mut line = String::new(alloc);
     for _ in 0..u64::MAX {
-        line.clear();
-        if source.read_line(&mut line)? == 0 {
-            piped.finish(alloc, &mut sink)?;
+        if !obey_next(alloc, piped, &mut line, source, sink)? {
             break;
         }
-        let said = line.trim_end();
-        if said == "stop" {
-            break;
-        }
-        piped.obey(alloc, said, &mut sink)?;
     }
-    sink.flush()?;
     Ok(())
+}
+
+/// Does what the next line says, and returns whether another one is to be read.
+fn obey_next<S: BufRead, W: Write>(
+    alloc: Global,
+    piped: &mut Piped,
+    line: &mut String,
+    source: &mut S,
+    sink: &mut W,
+) -> Result<bool> {
+    line.clear();
+    if source.read_line(line)? == 0 {
+        piped.finish(alloc, sink)?;
+        return Ok(false);
+    }
+    let said = line.trim_end();
+    if said == "stop" {
+        return Ok(false);
+    }
+    piped.obey(alloc, said, sink)?;
+    Ok(true)
 }

@@ -1,8 +1,8 @@
 //! The command line: its subcommands and their options.
-ghost use Rattle.std.specs.Prelude.{◌≡◌, IfOk, false};
-ghost use Rattle.clap.specs.Words.{app_of, rule_of};
+ghost use Rattle.std.specs.Prelude.{◌≡◌, IfOk, codes, false};
+ghost use Rattle.clap.specs.Words.{app_of, new_app, rule_of, with_rule};
 ghost use Rattle.clap.specs.declared.builder.command.Command.TheViews.{out-Command as fields_of};
-ghost use Rattle.hox_args.specs.HoxCommand.{hox, hox_budget_rule, hox_check_command, hox_down_rule, hox_draw_command, hox_draw_flags, hox_file_rule, hox_in_rule, hox_out_rule, hox_progress_rule, hox_quiet_rule, hox_run_bounds, hox_run_command, hox_run_rule, hox_run_streams, hox_show_rule, hox_stream_command, hox_stream_files, hox_tokens_rule, hox_two, hox_workers_rule};
+ghost use Rattle.hox_args.specs.HoxCommand.{flag_rule, hox, hox_check_command, hox_draw_command, hox_draw_flags, hox_file_rule, hox_run_bounds, hox_run_command, hox_run_streams, hox_stream_command, hox_two, list_rule, option_rule};
 
 use crate::help::{KINDS_AND_FILES, PICTURES, STATUSES, STREAMS};
 use clap::{Arg, ArgAction, Command};
@@ -35,23 +35,24 @@ fn check<'a>(alloc: Global) -> Result<Command<'a>, AllocError>
     ensures app { IfOk result (λ c. app_of c ≡ hox_check_command) }
     ensures local { IfOk result (λ c. (fields_of c).has_globals ≡ false) }
 {
-    Command::new(alloc, "check")
-        .about(
-            "Checks a description and its files of tokens, and counts its processes and channels",
-        )
-        .after_help(KINDS_AND_FILES)
-        .arg(tokens(alloc))?
-        .arg(file(alloc))
+    let check = bare(
+        alloc,
+        "check",
+        "Checks a description and its files of tokens, and counts its processes and channels",
+        KINDS_AND_FILES,
+    );
+    let check = with(check, tokens(alloc))?;
+    with(check, file(alloc))
 }
 
 fn run<'a>(alloc: Global) -> Result<Command<'a>, AllocError>
     ensures app { IfOk result (λ c. app_of c ≡ hox_run_command) }
     ensures local { IfOk result (λ c. (fields_of c).has_globals ≡ false) }
 {
-    run_bounds(alloc)?
-        .arg(progress(alloc))?
-        .arg(quiet(alloc))?
-        .arg(file(alloc))
+    let progress = "Shows on standard error how far the run is, also where that is no terminal";
+    let run = with(run_bounds(alloc)?, flag(alloc, "progress", progress))?;
+    let run = with(run, quiet(alloc))?;
+    with(run, file(alloc))
 }
 
 /// The subcommand `run` with its options on files and streams, on the budget and on workers.
@@ -59,7 +60,9 @@ fn run_bounds<'a>(alloc: Global) -> Result<Command<'a>, AllocError>
     ensures app { IfOk result (λ c. app_of c ≡ hox_run_bounds) }
     ensures local { IfOk result (λ c. (fields_of c).has_globals ≡ false) }
 {
-    run_streams(alloc)?.arg(budget(alloc))?.arg(workers(alloc))
+    let budget = "How many entries the run may have [default: that of the description]";
+    let run = with(run_streams(alloc)?, option(alloc, "budget", "N", budget))?;
+    with(run, workers(alloc))
 }
 
 /// The subcommand `run` with its options on files and streams.
@@ -67,22 +70,25 @@ fn run_streams<'a>(alloc: Global) -> Result<Command<'a>, AllocError>
     ensures app { IfOk result (λ c. app_of c ≡ hox_run_streams) }
     ensures local { IfOk result (λ c. (fields_of c).has_globals ≡ false) }
 {
-    Command::new(alloc, "run")
-        .about("Runs the network of a description, reports how it ended, and writes its streams")
-        .after_help(KINDS_AND_FILES)
-        .arg(tokens(alloc))?
-        .arg(out(alloc))?
-        .arg(show(alloc))
+    let run = bare(
+        alloc,
+        "run",
+        "Runs the network of a description, reports how it ended, and writes its streams",
+        KINDS_AND_FILES,
+    );
+    let show = "The report has the stream of this channel";
+    let run = with(run, tokens(alloc))?;
+    let run = with(run, out(alloc))?;
+    with(run, option(alloc, "show", "CHANNEL", show))
 }
 
 fn draw<'a>(alloc: Global) -> Result<Command<'a>, AllocError>
     ensures app { IfOk result (λ c. app_of c ≡ hox_draw_command) }
     ensures local { IfOk result (λ c. (fields_of c).has_globals ≡ false) }
 {
-    draw_flags(alloc)?
-        .arg(workers(alloc))?
-        .arg(tokens(alloc))?
-        .arg(file(alloc))
+    let draw = with(draw_flags(alloc)?, workers(alloc))?;
+    let draw = with(draw, tokens(alloc))?;
+    with(draw, file(alloc))
 }
 
 /// The subcommand `draw` with its flags.
@@ -90,137 +96,120 @@ fn draw_flags<'a>(alloc: Global) -> Result<Command<'a>, AllocError>
     ensures app { IfOk result (λ c. app_of c ≡ hox_draw_flags) }
     ensures local { IfOk result (λ c. (fields_of c).has_globals ≡ false) }
 {
-    Command::new(alloc, "draw")
-        .about("Draws the network of a description, or how a run left it, for Graphviz")
-        .after_help(PICTURES)
-        .arg(is_run(alloc))?
-        .arg(down(alloc))
+    let draw = bare(
+        alloc,
+        "draw",
+        "Draws the network of a description, or how a run left it, for Graphviz",
+        PICTURES,
+    );
+    let is_run = "Runs the network, and draws how the run left it";
+    let down = "Draws the channels downwards, and not to the right";
+    let draw = with(draw, flag(alloc, "run", is_run))?;
+    with(draw, flag(alloc, "down", down))
 }
 
 fn stream<'a>(alloc: Global) -> Result<Command<'a>, AllocError>
     ensures app { IfOk result (λ c. app_of c ≡ hox_stream_command) }
     ensures local { IfOk result (λ c. (fields_of c).has_globals ≡ false) }
 {
-    stream_files(alloc)?.arg(quiet(alloc))?.arg(file(alloc))
+    let stream = bare(
+        alloc,
+        "stream",
+        "Runs the network of a description for ever on tokens that come, in bounded memory",
+        STREAMS,
+    );
+    let input =
+        "The channel gets the tokens of the file as they come, one a line, - is standard input; may be given again";
+    let stream = with(stream, list(alloc, "in", input))?;
+    let stream = with(stream, out(alloc))?;
+    let stream = with(stream, quiet(alloc))?;
+    with(stream, file(alloc))
 }
 
-/// The subcommand `stream` with its options on files of tokens.
-fn stream_files<'a>(alloc: Global) -> Result<Command<'a>, AllocError>
-    ensures app { IfOk result (λ c. app_of c ≡ hox_stream_files) }
+/// A subcommand without arguments.
+fn bare<'a>(alloc: Global, name: &'a str, about: &'a str, after_help: &'a str) -> Command<'a>
+    ensures app { app_of result ≡ new_app name.now }
+    ensures local { (fields_of result).has_globals ≡ false }
+{
+    Command::new(alloc, name)
+        .about(about)
+        .after_help(after_help)
+}
+
+/// A subcommand with one argument more.
+fn with<'a>(command: Command<'a>, arg: Arg<'a>) -> Result<Command<'a>, AllocError>
+    requires command { (fields_of command).has_globals ≡ false }
+    requires arg { arg.global ≡ false }
+    ensures app { IfOk result (λ c. app_of c ≡ with_rule (app_of command.entry) (rule_of arg.entry)) }
     ensures local { IfOk result (λ c. (fields_of c).has_globals ≡ false) }
 {
-    Command::new(alloc, "stream")
-        .about("Runs the network of a description for ever on tokens that come, in bounded memory")
-        .after_help(STREAMS)
-        .arg(input(alloc))?
-        .arg(out(alloc))
+    command.arg(arg)
 }
 
 fn tokens<'a>(alloc: Global) -> Arg<'a>
-    ensures rule { rule_of result ≡ hox_tokens_rule }
+    ensures rule { rule_of result ≡ list_rule (codes "tokens") }
     ensures local { result.global ≡ false }
 {
-    Arg::new(alloc, "tokens")
-        .long("tokens")
-        .action(ArgAction::Append)
-        .value_name("CHANNEL=FILE")
-        .help("The channel holds the tokens of the file at first, one a line; may be given again")
-}
-
-fn input<'a>(alloc: Global) -> Arg<'a>
-    ensures rule { rule_of result ≡ hox_in_rule }
-    ensures local { result.global ≡ false }
-{
-    Arg::new(alloc, "in")
-        .long("in")
-        .action(ArgAction::Append)
-        .value_name("CHANNEL=FILE")
-        .help(
-            "The channel gets the tokens of the file as they come, one a line, - is standard input; may be given again",
-        )
+    let help = "The channel holds the tokens of the file at first, one a line; may be given again";
+    list(alloc, "tokens", help)
 }
 
 fn out<'a>(alloc: Global) -> Arg<'a>
-    ensures rule { rule_of result ≡ hox_out_rule }
+    ensures rule { rule_of result ≡ list_rule (codes "out") }
     ensures local { result.global ≡ false }
 {
-    Arg::new(alloc, "out")
-        .long("out")
-        .action(ArgAction::Append)
-        .value_name("CHANNEL=FILE")
-        .help(
-            "Writes the stream of the channel to the file, one token a line, - is standard output; may be given again",
-        )
-}
-
-fn show<'a>(alloc: Global) -> Arg<'a>
-    ensures rule { rule_of result ≡ hox_show_rule }
-    ensures local { result.global ≡ false }
-{
-    Arg::new(alloc, "show")
-        .long("show")
-        .value_name("CHANNEL")
-        .help("The report has the stream of this channel")
-}
-
-fn budget<'a>(alloc: Global) -> Arg<'a>
-    ensures rule { rule_of result ≡ hox_budget_rule }
-    ensures local { result.global ≡ false }
-{
-    Arg::new(alloc, "budget")
-        .long("budget")
-        .value_name("N")
-        .help("How many entries the run may have [default: that of the description]")
+    let help =
+        "Writes the stream of the channel to the file, one token a line, - is standard output; may be given again";
+    list(alloc, "out", help)
 }
 
 fn workers<'a>(alloc: Global) -> Arg<'a>
-    ensures rule { rule_of result ≡ hox_workers_rule }
+    ensures rule { rule_of result ≡ option_rule (codes "workers") }
     ensures local { result.global ≡ false }
 {
-    Arg::new(alloc, "workers")
-        .long("workers")
-        .value_name("N")
-        .help("How many workers run the network [default: 1]")
+    let help = "How many workers run the network [default: 1]";
+    option(alloc, "workers", "N", help)
 }
 
 fn quiet<'a>(alloc: Global) -> Arg<'a>
-    ensures rule { rule_of result ≡ hox_quiet_rule }
+    ensures rule { rule_of result ≡ flag_rule (codes "quiet") }
     ensures local { result.global ≡ false }
 {
-    Arg::new(alloc, "quiet")
-        .long("quiet")
-        .action(ArgAction::SetTrue)
-        .help("Writes no report")
+    flag(alloc, "quiet", "Writes no report")
 }
 
-fn progress<'a>(alloc: Global) -> Arg<'a>
-    ensures rule { rule_of result ≡ hox_progress_rule }
+/// An option `--name CHANNEL=FILE` that may be given again.
+fn list<'a>(alloc: Global, name: &'a str, help: &'a str) -> Arg<'a>
+    ensures rule { rule_of result ≡ list_rule name.now }
     ensures local { result.global ≡ false }
 {
-    Arg::new(alloc, "progress")
-        .long("progress")
-        .action(ArgAction::SetTrue)
-        .help("Shows on standard error how far the run is, also where that is no terminal")
+    Arg::new(alloc, name)
+        .long(name)
+        .action(ArgAction::Append)
+        .value_name("CHANNEL=FILE")
+        .help(help)
 }
 
-fn is_run<'a>(alloc: Global) -> Arg<'a>
-    ensures rule { rule_of result ≡ hox_run_rule }
+/// An option `--name VALUE`.
+fn option<'a>(alloc: Global, name: &'a str, value: &'a str, help: &'a str) -> Arg<'a>
+    ensures rule { rule_of result ≡ option_rule name.now }
     ensures local { result.global ≡ false }
 {
-    Arg::new(alloc, "run")
-        .long("run")
-        .action(ArgAction::SetTrue)
-        .help("Runs the network, and draws how the run left it")
+    Arg::new(alloc, name)
+        .long(name)
+        .value_name(value)
+        .help(help)
 }
 
-fn down<'a>(alloc: Global) -> Arg<'a>
-    ensures rule { rule_of result ≡ hox_down_rule }
+/// A flag `--name`.
+fn flag<'a>(alloc: Global, name: &'a str, help: &'a str) -> Arg<'a>
+    ensures rule { rule_of result ≡ flag_rule name.now }
     ensures local { result.global ≡ false }
 {
-    Arg::new(alloc, "down")
-        .long("down")
+    Arg::new(alloc, name)
+        .long(name)
         .action(ArgAction::SetTrue)
-        .help("Draws the channels downwards, and not to the right")
+        .help(help)
 }
 
 fn file<'a>(alloc: Global) -> Arg<'a>
