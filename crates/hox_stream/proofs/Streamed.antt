@@ -14,7 +14,9 @@ use Rattle.kpn_flow.proofs.Stretches.{at_ends_both, at_ends_went, flows_both, fl
 use Rattle.hox_stream.specs.declared.cutting.LineRefusal.{LineRefusal}
 use Rattle.hox_stream.specs.Cutting.{IsRefused}
 use Rattle.hox_stream.specs.Ports.{Pours, Takes, Tells, Writes}
-use Rattle.hox_stream.specs.Streams.{AreInletsApart, AreOutletsApart, Streams, inlet_at, outlet_at}
+use Rattle.hox_stream.specs.declared.finish.Finish.{Finish}
+use Rattle.hox_stream.specs.declared.finish.Finish.TheVariants.{Over, Line, Unread, NoInput, Unwritten, Idle, Memory, Cut}
+use Rattle.hox_stream.specs.Streams.{AllFailedStay, AreInletsApart, AreOutletsApart, IsFinish, Streams, inlet_at, outlet_at}
 use Rattle.hox_stream.specs.Views.{InletView, OutletView, no_inlet, no_outlet}
 use Rattle.hox_stream.proofs.Flowed.{at_ends_there, flows_there, same_net_both, same_net_none, same_net_of}
 use Rattle.hox_stream.proofs.Ported.{takes_both, takes_none, writes_both, writes_none}
@@ -207,3 +209,20 @@ refused_there ins k q refusal within h =
     let here : inlet_at (set ins k q) k ≡ q = get_or-set_same ins k q no_inlet within in
     let long = length-set ins k q in
     (omega (arith, long), subst (λ (p : InletView). IsRefused p.sort p.kept p.is_over refusal) (sym here) h)
+
+-- a sink is flushed
+pub streams_flushed :
+    (kinds : Family) (s : FlowView) (ins : List InletView) (outs : List OutletView) (k : ℕ) (p q : OutletView) → k < length outs → p ≡ outlet_at outs k → Writes p q [] → Streams kinds s s ins ins outs (set outs k q)
+streams_flushed kinds s ins outs k p q within at w =
+    streams_told kinds s s ins outs k p q within at (record { same = same_net_none s; tokens = []; writes = w; flows = refl; at_ends = tt })
+
+-- why a stream ends stays so while sinks are flushed
+pub finish_stays : (kinds : Family) (s : FlowView) (ins : List InletView) (outs after : List OutletView) (finish : Finish) → AllFailedStay outs after → IsFinish kinds s ins outs finish → IsFinish kinds s ins after finish
+finish_stays kinds s ins outs after (Over end) still h = h
+finish_stays kinds s ins outs after (Line k refusal) still h = h
+finish_stays kinds s ins outs after (Unread k) still h = h
+finish_stays kinds s ins outs after (NoInput k) still h = h
+finish_stays kinds s ins outs after (Unwritten k) still h = (subst (λ n. k < n) (sym still.0) h.0, still.1 k h.1)
+finish_stays kinds s ins outs after Idle still h = h
+finish_stays kinds s ins outs after Memory still h = h
+finish_stays kinds s ins outs after Cut still h = h

@@ -1,5 +1,5 @@
 -- A flow between sources and sinks.
-use Rattle.std.specs.Prelude.{◌≡◌, ◌<◌, ◌&&◌, ℕ, Bool, true, false, List, length, get_or}
+use Rattle.std.specs.Prelude.{◌≡◌, ◌<◌, ◌&&◌, ℕ, Bool, true, false, List, [], length, get_or}
 use Rattle.kpn_model.specs.Network.{Family}
 use Rattle.kpn_model.specs.Endings.{NothingGoesOn}
 use Rattle.kpn_flow.specs.Events.{Event, Flows, fed, drained}
@@ -37,6 +37,14 @@ pub record Streams (kinds : Family) (s t : FlowView) (ins ins_after : List Inlet
   pub as_many_outlets : length outs_after ≡ length outs
   pub taken : AreInletsApart ins → (k : ℕ) → k < length ins → Takes (inlet_at ins k) (inlet_at ins_after k) (fed events (inlet_at ins k).channel)
   pub written : AreOutletsApart outs → (k : ℕ) → k < length outs → Writes (outlet_at outs k) (outlet_at outs_after k) (drained events (outlet_at outs k).channel)
+
+-- nothing waits to be written to a sink, unless a write to it has failed
+abbrev pub AreWritten : List OutletView → Type 0
+AreWritten outs = (k : ℕ) → k < length outs → (outlet_at outs k).has_failed ≡ false → (outlet_at outs k).waiting ≡ []
+
+-- there are as many sinks, and a sink that can't be written stays so
+abbrev pub AllFailedStay : List OutletView → List OutletView → Type 0
+AllFailedStay outs after = (length after ≡ length outs) × ((k : ℕ) → (outlet_at outs k).has_failed ≡ true → (outlet_at after k).has_failed ≡ true)
 
 -- a process waits for a token of this source
 abbrev pub is_waited_for : FlowView → InletView → Bool

@@ -19,10 +19,12 @@ pub record InletView : Type 0 where
 abbrev pub unread : InletView → Option (List ℕ)
 unread p = prepend_known p.kept p.remaining
 
--- a sink for the tokens of a channel: what was written, if that is known; whether a write has failed; and how many tokens were written
+-- a sink for the tokens of a channel: what was written, if that is known, with what waits to be written; what of it waits; whether a
+-- write has failed; and how many tokens were written, or wait to be
 pub record OutletView : Type 0 where
   pub channel : ℕ
   pub contents : Option (List ℕ)
+  pub waiting : List ℕ
   pub has_failed : Bool
   pub tokens : ℕ
 
@@ -30,4 +32,4 @@ abbrev pub no_inlet : InletView
 no_inlet = record { channel = 0; sort = Words; kept = []; remaining = None; is_over = false; lines = 0; tokens = 0 }
 
 abbrev pub no_outlet : OutletView
-no_outlet = record { channel = 0; contents = None; has_failed = false; tokens = 0 }
+no_outlet = record { channel = 0; contents = None; waiting = []; has_failed = false; tokens = 0 }

@@ -119,6 +119,11 @@ impl<S: Source> Inlet<S> {
         self.tokens = self.tokens.saturating_add(count_of(said));
     }
 
+    /// Returns whether the source has to be read on for its next line.
+    pub(crate) fn wants_more(&self) -> bool {
+        !self.is_over && !self.held[self.next..].contains(&b'\n')
+    }
+
     /// Reads a piece more, unless there is more than a line may have. What was read before is kept.
     pub(crate) fn refill(&mut self, alloc: Global) -> Result<(), ReadFault>
         ensures { ReadsOn self.old self.new }
@@ -171,4 +176,9 @@ fn append(held: &mut Vec<u8>, bytes: &[u8])
     if held.extend_from_slice(bytes).is_err() {
         unreachable!();
     }
+}
+
+/// Whether a source has to be read on for its next line.
+pub(crate) fn wants_more<S: Source>(inlets: &[Inlet<S>]) -> bool {
+    inlets.iter().any(|inlet| inlet.wants_more())
 }
