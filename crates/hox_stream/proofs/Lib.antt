@@ -4,3 +4,6 @@ pub mod Ported
 pub mod Flowed
 pub mod Streamed
 pub mod LawfulExits
+pub mod Paired
+pub mod Started
+pub mod Wholes

@@ -34,7 +34,7 @@ impl<S: Sink> Model for Outlet<S> {
 
 impl<S: Sink> Outlet<S> {
     /// Makes a sink for the tokens of a channel. Nothing is written yet.
-    pub fn new(channel: usize, sink: S) -> Outlet<S>
+    pub(crate) fn new(channel: usize, sink: S) -> Outlet<S>
         ensures { result ≡ record { channel = channel; contents = (S.seen sink).contents; has_failed = false; tokens = 0 } }
     {
         Outlet {
