@@ -6,3 +6,6 @@ pub mod Flowed
 pub mod Streamed
 pub mod Flushed
 pub mod LawfulExits
+pub mod Paired
+pub mod Started
+pub mod Wholes

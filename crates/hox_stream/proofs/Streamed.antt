@@ -4,7 +4,7 @@ use Rattle.std.proofs.lemmas.Bool.{cases_eq, eq-eqb, ne_eqb}
 use Rattle.std.proofs.lemmas.List.{get_or-set_same, get_or-set_other}
 use Rattle.kpn_model.specs.declared.token.Token.{Token}
 use Rattle.kpn_model.specs.declared.history.Entry.{Entry}
-use Rattle.kpn_model.specs.Network.{Family}
+use Rattle.kpn_model.specs.Network.{Family, Network, channel_of}
 use Rattle.kpn_flow.specs.declared.counts.Counts.{Counts}
 use Rattle.kpn_flow.specs.declared.pause.Pause.{Pause}
 use Rattle.kpn_flow.specs.Events.{Event, Went, Fed, Drained, fed, drained}
@@ -226,3 +226,18 @@ finish_stays kinds s ins outs after (Unwritten k) still h = (subst (λ n. k < n)
 finish_stays kinds s ins outs after Idle still h = h
 finish_stays kinds s ins outs after Memory still h = h
 finish_stays kinds s ins outs after Cut still h = h
+
+-- a read of a source has failed there
+pub failed_there : (ins : List InletView) (k : ℕ) (q : InletView) → k < length ins → q.has_failed ≡ true → (k < length (set ins k q)) × ((inlet_at (set ins k q) k).has_failed ≡ true)
+failed_there ins k q within h =
+    let here : inlet_at (set ins k q) k ≡ q = get_or-set_same ins k q no_inlet within in
+    let long = length-set ins k q in
+    (omega (arith, long), subst (λ (p : InletView). p.has_failed ≡ true) (sym here) h)
+
+-- the tokens of the channel there are of another sort
+pub other_sort_there : (net : Network) (ins : List InletView) (k : ℕ) (q : InletView) → k < length ins → (q.sort ≡ (channel_of net q.channel).sort → ⊥)
+    → (k < length (set ins k q)) × ((inlet_at (set ins k q) k).sort ≡ (channel_of net (inlet_at (set ins k q) k).channel).sort → ⊥)
+other_sort_there net ins k q within h =
+    let here : inlet_at (set ins k q) k ≡ q = get_or-set_same ins k q no_inlet within in
+    let long = length-set ins k q in
+    (omega (arith, long), subst (λ (p : InletView). p.sort ≡ (channel_of net p.channel).sort → ⊥) (sym here) h)

@@ -45,7 +45,7 @@ impl<S: Sink> Model for Outlet<S> {
 
 impl<S: Sink> Outlet<S> {
     /// Makes a sink for the tokens of a channel. Nothing is written yet.
-    pub fn new(alloc: Global, channel: usize, sink: S) -> Outlet<S>
+    pub(crate) fn new(alloc: Global, channel: usize, sink: S) -> Outlet<S>
         ensures { result ≡ record { channel = channel; contents = (S.seen sink).contents; waiting = []; has_failed = false; tokens = 0 } }
     {
         Outlet {

@@ -18,18 +18,9 @@ use std::alloc::Global;
 /// How many entries are made at most before what came out is written.
 const STRETCH: u64 = 1000000;
 
-/// Runs a flow between sources and sinks, until it has come to its end, and returns why it ended. What came
-/// out is written before a source is read on, and at the end; and a source is read only where a process
-/// waits for its tokens.
-///
-/// What was fed into the channel of each source is what the lines say that were read of it, and what was
-/// drained of the channel of each sink is what was written to it, one token a line. So what is written
-/// begins the stream of every run of the network into whose inputs the same comes (Kahn 1974), and the
-/// pieces in which it was read don't matter (docs/endless.md).
-///
-/// Memory is taken for what is held of a source, at most 8,192 bytes, for what waits to be written to a sink,
-/// some 4,096 bytes, and for growths.
-pub fn stream<B: Body, I: Source, O: Sink>(
+/// Runs a flow between sources and sinks, until it has come to its end, and returns why it ended, as
+/// [`crate::serve`] does from the start of a network.
+pub(crate) fn stream<B: Body, I: Source, O: Sink>(
     alloc: Global,
     flow: &mut Flow<B>,
     inlets: &mut [Inlet<I>],
