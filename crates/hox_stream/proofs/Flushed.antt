@@ -1,5 +1,5 @@
 -- One sink after another is flushed.
-use Rattle.std.proofs.Common.{◌≡◌, ◌<◌, ◌+◌, ⊎_elim, Option, Some, None, IfSome, ℕ, true, false, List, [], length, length-set, set, refl, sym, ap, ◌∙◌, subst, arith}
+use Rattle.std.proofs.Common.{◌≡◌, ◌<◌, ◌+◌, ⊎_elim, Option, Some, None, IfSome, ℕ, true, false, List, [], length, length-set, set, refl, sym, ap, ◌∙◌, subst, arith, Result, Ok, Err, IfErr, is_err}
 use Rattle.std.proofs.lemmas.Bool.{cases_eq}
 use Rattle.std.proofs.lemmas.List.{get_or-set_same, get_or-set_other}
 use Rattle.kpn_model.specs.Network.{Family}
@@ -61,6 +61,11 @@ module _ (outs after : List OutletView) (n : ℕ) (p q : OutletView) (within : n
   flushes_failed failed e x =
       let long : n < length (set after n q) = subst (λ m. n < m) (sym (length-set after n q)) within in
       flushes_more failed (Some n) x (long, at_set (λ o. o.has_failed ≡ true) after n n q within (λ same. e) (λ ne. absurd (ne refl)))
+
+-- what an error would mean
+pub err_means : {X E : Type 0} (P : Type 0) (r : Result X E) → is_err r ≡ true → IfErr r (λ _. P) → P
+err_means P (Ok x) e h = cc
+err_means P (Err x) e h = h
 
 -- all were flushed
 pub all_written : (outs after : List OutletView) (failed : Option ℕ) → Flushes outs after (length after) failed → AreWritten after
