@@ -40,13 +40,7 @@ pub(crate) fn stream_asked<R: Files + Input + Print + Eprint + AllocGlobal>(
         return Status::WrongArguments.code();
     }
     match open(rt, file, inputs.as_slice(), outputs.as_slice()) {
-        Ok(opened) => run(
-            rt,
-            opened,
-            inputs.as_slice(),
-            outputs.as_slice(),
-            is_quiet,
-        ),
+        Ok(opened) => run(rt, opened, inputs.as_slice(), outputs.as_slice(), is_quiet),
         Err(status) => status,
     }
 }
@@ -199,14 +193,7 @@ fn run<R: Files + Input + Print + Eprint + AllocGlobal>(
         Err(status) => return status,
     };
     match serve(rt.alloc(), opened, sources, sinks) {
-        Ok(served) => say_told(
-            rt,
-            &served.flow,
-            served.finish,
-            (inputs, served.inlets.as_slice()),
-            (outputs, served.outlets.as_slice()),
-            is_quiet,
-        ),
+        Ok(served) => say_told(rt, &served, inputs, outputs, is_quiet),
         Err(_) => say_no_memory(rt),
     }
 }

@@ -1,7 +1,7 @@
 -- Why a flow is not opened whose channels may be fed and drained.
 use Rattle.std.proofs.Common.{◌≡◌, ◌&&◌, ◌||◌, ◌⊎◌, ℕ, Bool, true, false, nat_lt, List, [], ◌∷◌, ◌++◌, length, map, take, get_or, Option, Some, None, Result, Ok, Err, IfOk, IfErr, if◌then◌else◌, inl, inr, refl, sym, ap, ◌∙◌, subst, ◌<◌, ◌+◌}
 use Rattle.std.proofs.lemmas.Bool.{and_right, or_from, or_parts}
-use Rattle.std.proofs.lemmas.List.{length-map, map-append, map_more}
+use Rattle.std.proofs.lemmas.List.{get_or_read, length-map, map-append, map_more}
 use Rattle.std.proofs.lemmas.List.Folds.{list_any-append}
 use Rattle.std.specs.List.{list_any}
 use Rattle.kpn_model.specs.declared.parts.Process.{Process}
@@ -15,7 +15,11 @@ use Rattle.kpn_flow.specs.Ends.{IsFlowFault, end_fault, is_no_channel}
 use Rattle.hox_stream.specs.declared.starting.Way.TheVariants.{In, Out}
 use Rattle.hox_stream.specs.declared.starting.StreamFault.{StreamFault}
 use Rattle.hox_stream.specs.declared.starting.StreamFault.TheVariants.{Description, Input, Output, Twice as NamedTwice, Memory as NoMemory}
-use Rattle.hox_stream.specs.Starts.{AreNamed, IsFresh, IsStarted, IsStartFault, IsStreamFault, cards_in, is_busy, is_twice}
+use Rattle.hox_stream.specs.Starts.{AreNamed, IsFresh, IsStarted, IsStartFault, IsStreamFault, cards_in, is_busy, is_twice, number_of_channel}
+
+-- what was found by the name at a place
+pub at_name : (net : Network) (names : List (List ℕ)) (k : ℕ) (item name : List ℕ) (found : Option ℕ) → k < length names → item ≡ get_or names k item → name ≡ item → found ≡ number_of_channel net name → number_of_channel net (get_or names k []) ≡ found
+at_name net names k item name found within is read by_name = sym (by_name ∙ ap (number_of_channel net) (read ∙ get_or_read names k item within is []))
 
 -- one name more
 pub named_more : (f : List ℕ → Option ℕ) (names : List (List ℕ)) (k : ℕ) (channels : List ℕ) (c : ℕ) (new : List ℕ) → k < length names → map f (take k names) ≡ map Some channels → f (get_or names k []) ≡ Some c → new ≡ channels ++ c ∷ []

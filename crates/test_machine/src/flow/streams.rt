@@ -33,11 +33,7 @@ channel = [
 "#;
 
 /// The stream of the sums, in which these channels are fed and drained.
-fn opened(
-    alloc: Global,
-    fed: &str,
-    drained: &str,
-) -> Result<OpenStream<Kinds>, StreamFault> {
+fn opened(alloc: Global, fed: &str, drained: &str) -> Result<OpenStream<Kinds>, StreamFault> {
     match read_sketch(alloc, SUMS.as_bytes()) {
         Ok(sketch) => {
             let (fed, drained) = (name(alloc, fed)?, name(alloc, drained)?);
@@ -114,7 +110,22 @@ fn named(refused: &Result<OpenStream<Kinds>, StreamFault>) -> &str {
 #[test]
 fn names_of_channels_are_checked(rt: HostRuntime) {
     let alloc = rt.alloc();
-    same(&rt, "fed", named(&opened(alloc, "now", "y")) == "both", true);
-    same(&rt, "drained", named(&opened(alloc, "x", "last")) == "sum", true);
-    same(&rt, "unknown", named(&opened(alloc, "x", "z")) == "none", true);
+    same(
+        &rt,
+        "fed",
+        named(&opened(alloc, "now", "y")) == "both",
+        true,
+    );
+    same(
+        &rt,
+        "drained",
+        named(&opened(alloc, "x", "last")) == "sum",
+        true,
+    );
+    same(
+        &rt,
+        "unknown",
+        named(&opened(alloc, "x", "z")) == "none",
+        true,
+    );
 }
