@@ -13,9 +13,10 @@ mod taps;
 mod told;
 
 ghost use Rattle.std.specs.Prelude.{◌≤◌};
+ghost use Rattle.hox_args.specs.HoxChoices.{HasFewHoxWorkers};
 ghost use Rattle.hox_run.specs.Serving.{HasFewWorkers};
 
-use crate::inputs::{names_input_twice, pairs_of, request_of};
+use crate::inputs::{Pair, names_input_twice, pairs_of, request_of};
 use crate::messages::{say_fault, say_input_named_twice, say_no_memory, say_words_refused};
 use crate::outputs::write_told;
 use crate::pictures::draw_asked;
@@ -43,24 +44,52 @@ fn status_of<R: Env + Files + Input + Print + Eprint + AllocGlobal + Wait + Cloc
     rt: &R,
     is_terminal: bool,
 ) -> u8 {
-    let Ok(arguments) = arguments_of(rt) else {
-        return say_no_memory(rt);
-    };
-    let Ok(texts) = texts_of(rt, &arguments) else {
-        return say_no_memory(rt);
-    };
-    match read_words(rt.alloc(), texts.as_slice()) {
-        Ok(Choice::Check { file, tokens }) => check(rt, file, tokens.as_slice()),
-        Ok(Choice::Run(run)) => run_asked(rt, &run, is_terminal),
-        Ok(Choice::Draw(draw)) => draw_asked(rt, &draw),
-        Ok(Choice::Stream(stream)) => stream_asked(
+    match arguments_of(rt) {
+        Ok(arguments) => status_by(rt, &arguments, is_terminal),
+        Err(_) => say_no_memory(rt),
+    }
+}
+
+/// The same, by the arguments.
+fn status_by<R: Files + Input + Print + Eprint + AllocGlobal + Wait + Clock + Threads + Sync>(
+    rt: &R,
+    arguments: &Vec<String>,
+    is_terminal: bool,
+) -> u8 {
+    match texts_of(rt, arguments) {
+        Ok(texts) => status_by_texts(rt, texts.as_slice(), is_terminal),
+        Err(_) => say_no_memory(rt),
+    }
+}
+
+fn status_by_texts<
+    R: Files + Input + Print + Eprint + AllocGlobal + Wait + Clock + Threads + Sync,
+>(rt: &R, texts: &[&str], is_terminal: bool) -> u8 {
+    match read_words(rt.alloc(), texts) {
+        Ok(choice) => do_asked(rt, &choice, is_terminal),
+        Err(fault) => say_words_refused(rt, &fault),
+    }
+}
+
+/// Does what is asked for, and returns the exit status.
+fn do_asked<R: Files + Input + Print + Eprint + AllocGlobal + Wait + Clock + Threads + Sync>(
+    rt: &R,
+    choice: &Choice<'_>,
+    is_terminal: bool,
+) -> u8
+    requires { HasFewHoxWorkers choice.now }
+{
+    match choice {
+        Choice::Check { file, tokens } => check(rt, *file, tokens.as_slice()),
+        Choice::Run(run) => run_asked(rt, run, is_terminal),
+        Choice::Draw(draw) => draw_asked(rt, draw),
+        Choice::Stream(stream) => stream_asked(
             rt,
             stream.file,
             stream.inputs.as_slice(),
             stream.outputs.as_slice(),
             stream.quiet,
         ),
-        Err(fault) => say_words_refused(rt, &fault),
     }
 }
 
@@ -77,13 +106,22 @@ fn check<R: Files + Input + Print + Eprint + AllocGlobal>(
         return say_input_named_twice(rt);
     }
     let outputs = Vec::new(rt.alloc());
-    let request = match request_of(rt, 1, None, None, tokens.as_slice(), &outputs) {
-        Ok(request) => request,
-        Err(status) => return status,
-    };
-    match prepare_file(rt, &request, file) {
+    match request_of(rt, 1, None, None, tokens.as_slice(), &outputs) {
+        Ok(request) => check_request(rt, file, tokens.as_slice(), &request),
+        Err(status) => status,
+    }
+}
+
+/// Says whether the description in this file is a network with the tokens of a request.
+fn check_request<R: Files + Input + Print + Eprint + AllocGlobal>(
+    rt: &R,
+    file: Option<&str>,
+    tokens: &[Pair<'_>],
+    request: &Request,
+) -> u8 {
+    match prepare_file(rt, request, file) {
         Ok(net) => say_checked(&net, &mut Fallible::new(io::writer(rt))),
-        Err(fault) => say_fault(rt, file, &request, tokens.as_slice(), &fault),
+        Err(fault) => say_fault(rt, file, request, tokens, &fault),
     }
 }
 
@@ -105,23 +143,36 @@ fn run_asked<R: Files + Input + Print + Eprint + AllocGlobal + Wait + Clock + Th
         return say_input_named_twice(rt);
     }
     let workers = run.workers;
-    let request = match request_of(
-        rt,
-        workers,
-        run.budget,
-        run.show,
-        tokens.as_slice(),
-        &outputs,
-    ) {
-        Ok(request) => request,
-        Err(status) => return status,
-    };
-    let line = ProgressLine::new(rt, is_terminal || run.progress);
-    let served = serve_file(rt, &request, run.file, &line);
+    let budget = run.budget;
+    let show = run.show;
+    match request_of(rt, workers, budget, show, tokens.as_slice(), &outputs) {
+        Ok(request) => run_request(
+            rt,
+            run,
+            (tokens.as_slice(), outputs.as_slice()),
+            &request,
+            is_terminal || run.progress,
+        ),
+        Err(status) => status,
+    }
+}
+
+/// Runs the network that is described as a request asks for, with these files of tokens and these for streams.
+fn run_request<R: Files + Input + Print + Eprint + AllocGlobal + Wait + Clock + Threads + Sync>(
+    rt: &R,
+    run: &RunChoice<'_>,
+    (tokens, outputs): (&[Pair<'_>], &[Pair<'_>]),
+    request: &Request,
+    is_shown: bool,
+) -> u8
+    requires { HasFewWorkers request.now }
+{
+    let line = ProgressLine::new(rt, is_shown);
+    let served = serve_file(rt, request, run.file, &line);
     line.clear();
     match served {
-        Ok(told) => write_told(rt, &told, outputs.as_slice(), run.quiet),
-        Err(fault) => say_fault(rt, run.file, &request, tokens.as_slice(), &fault),
+        Ok(told) => write_told(rt, &told, outputs, run.quiet),
+        Err(fault) => say_fault(rt, run.file, request, tokens, &fault),
     }
 }
 

@@ -2,7 +2,7 @@
 ghost use Rattle.std.specs.Prelude.{◌≤◌, IfSome};
 ghost use Rattle.hox_run.specs.Serving.{HasFewWorkers};
 
-use crate::inputs::{names_input_twice, pairs_of, request_of};
+use crate::inputs::{Pair, names_input_twice, pairs_of, request_of};
 use crate::messages::{say_fault, say_input_named_twice, say_unwritten};
 use crate::unread;
 use hox_args::DrawChoice;
@@ -28,13 +28,21 @@ pub(crate) fn draw_asked<
     }
     let outputs = Vec::new(rt.alloc());
     let workers = choice.workers.unwrap_or(1);
-    let request = match request_of(rt, workers, None, None, tokens.as_slice(), &outputs) {
-        Ok(request) => request,
-        Err(status) => return status,
-    };
-    match draw_file(rt, &request, choice) {
+    match request_of(rt, workers, None, None, tokens.as_slice(), &outputs) {
+        Ok(request) => draw_request(rt, choice, tokens.as_slice(), &request),
+        Err(status) => status,
+    }
+}
+
+/// Draws the network that is described as a request asks for, with these files of tokens.
+fn draw_request<
+    R: Files + Input + Print + Eprint + AllocGlobal + Wait + Clock + Threads + Sync,
+>(rt: &R, choice: &DrawChoice<'_>, tokens: &[Pair<'_>], request: &Request) -> u8
+    requires { HasFewWorkers request.now }
+{
+    match draw_file(rt, request, choice) {
         Ok(picture) => write_picture(rt, picture.as_str()),
-        Err(fault) => say_fault(rt, choice.file, &request, tokens.as_slice(), &fault),
+        Err(fault) => say_fault(rt, choice.file, request, tokens, &fault),
     }
 }
 

@@ -1,18 +1,14 @@
 //! Running a network on tokens that come, as they come.
-ghost use Rattle.std.specs.Prelude.{◌<◌, IfOk, length};
-
 use crate::hints::say_no_channel_of;
 use crate::inputs::{Pair, names_input_twice, pairs_of};
 use crate::messages::{say_fault, say_input_named_twice, say_no_memory, say_unread, say_unwritten};
 use crate::taps::{Origin, Spout, Tap};
 use crate::told::say_told;
 use hox_run::{AllKinds, Fault, ReadFault, Request, load_by_ports, read_whole, sketch_by_ports};
-use hox_stream::{Exits, Inlet, Outlet, net_with_exits, stream};
-use kpn_body::Body;
-use kpn_compute::{Both, CardBody, bodies_of};
-use kpn_flow::{Flow, FlowFault, FlowRefused};
+use hox_stream::{Exits, NameFault, OpenStream, StreamFault, open_stream, serve};
+use kpn_compute::Both;
 use kpn_front::{Fallible, Refused, Status};
-use kpn_model::{Act, Kinds, Listed, Text};
+use kpn_model::{Listed, Text};
 use kpn_net::{Net, NetFault};
 use std::alloc::{AllocError, Global};
 use std::rt::Files;
@@ -20,8 +16,6 @@ use std::{fs, io};
 
 /// The kinds of a description, and those of the readers of what is written out.
 type StreamKinds = Both<AllKinds, Exits>;
-
-type StreamBody = CardBody<StreamKinds>;
 
 /// Runs the network that a file describes, or standard input: from each file of `inputs` tokens come into a
 /// channel as they are read, and what goes through each channel of `outputs` is written to a file as it comes.
@@ -47,13 +41,7 @@ pub(crate) fn stream_asked<R: Files + Input + Print + Eprint + AllocGlobal>(
         return Status::WrongArguments.code();
     }
     match open(rt, file, inputs.as_slice(), outputs.as_slice()) {
-        Ok(mut flow) => run(
-            rt,
-            &mut flow,
-            inputs.as_slice(),
-            outputs.as_slice(),
-            is_quiet,
-        ),
+        Ok(opened) => run(rt, opened, inputs.as_slice(), outputs.as_slice(), is_quiet),
         Err(status) => status,
     }
 }
@@ -63,24 +51,69 @@ fn names_output_twice(outputs: &[Pair<'_>]) -> bool {
     outputs.iter().filter(|pair| pair.file == "-").count() > 1
 }
 
-/// Opens the flow that is described. If it can't be opened this is said, and the exit status is returned.
+/// Opens the stream that is described. If it can't be opened this is said, and the exit status is returned.
 fn open<R: Files + Input + Eprint + AllocGlobal>(
     rt: &R,
     file: Option<&str>,
     inputs: &[Pair<'_>],
     outputs: &[Pair<'_>],
-) -> Result<Flow<StreamBody>, u8> {
+) -> Result<OpenStream<StreamKinds>, u8> {
     let text = description(rt, file)?;
-    let net = net_of(rt, file, text, outputs)?;
-    let Ok(bodies) = bodies_of(rt.alloc(), &net) else {
-        return Err(say_no_memory(rt));
-    };
-    let fed = fed_channels(rt, &net, bodies.as_slice(), inputs)?;
-    let drained = drained_channels(rt, &net, bodies.as_slice(), outputs)?;
-    match Flow::open(rt.alloc(), net, bodies, fed.as_slice(), drained.as_slice()) {
-        Ok(flow) => Ok(flow),
-        Err(refused) => Err(say_flow_refused(rt, &refused)),
+    let mut source = text.as_slice();
+    match load_by_ports(rt.alloc(), &mut source) {
+        Ok(net) => open_text(rt, file, &net, text.as_slice(), (inputs, outputs)),
+        Err(refused) => Err(say_refused(rt, file, refused)),
     }
+}
+
+/// The same, of a text that was accepted, and the network that it describes.
+fn open_text<R: Eprint + AllocGlobal>(
+    rt: &R,
+    file: Option<&str>,
+    net: &Net<AllKinds>,
+    text: &[u8],
+    (inputs, outputs): (&[Pair<'_>], &[Pair<'_>]),
+) -> Result<OpenStream<StreamKinds>, u8> {
+    match opened(rt.alloc(), text, inputs, outputs) {
+        Ok(opened) => Ok(opened),
+        Err(StreamFault::Description(fault)) => Err(say_description(rt, file, text, fault)),
+        Err(StreamFault::Input(fault)) => Err(say_name_fault(rt, net, inputs, true, &fault)),
+        Err(StreamFault::Output(fault)) => Err(say_name_fault(rt, net, outputs, false, &fault)),
+        Err(StreamFault::Twice) => {
+            let _ = eprintln!(rt; "hox: a channel is named twice");
+            Err(Status::WrongArguments.code())
+        }
+        Err(StreamFault::Memory) => Err(say_no_memory(rt)),
+    }
+}
+
+/// Says why a text is refused, and returns the exit status.
+fn say_description<R: Eprint + AllocGlobal>(
+    rt: &R,
+    file: Option<&str>,
+    text: &[u8],
+    fault: NetFault,
+) -> u8 {
+    match Vec::from_slice(rt.alloc(), text) {
+        Ok(text) => say_refused(rt, file, Refused { fault, text }),
+        Err(_) => say_no_memory(rt),
+    }
+}
+
+/// The stream of the network that an accepted text describes.
+fn opened(
+    alloc: Global,
+    text: &[u8],
+    inputs: &[Pair<'_>],
+    outputs: &[Pair<'_>],
+) -> Result<OpenStream<StreamKinds>, StreamFault> {
+    let Some(sketch) = sketch_by_ports::<AllKinds>(alloc, text) else {
+        return Err(StreamFault::Description(NetFault::Memory));
+    };
+    let (Ok(fed), Ok(drained)) = (names_of(alloc, inputs), names_of(alloc, outputs)) else {
+        return Err(StreamFault::Memory);
+    };
+    open_stream::<AllKinds>(alloc, sketch, fed.as_slice(), drained.as_slice())
 }
 
 /// The bytes of the description.
@@ -109,36 +142,6 @@ fn description<R: Files + Input + Eprint + AllocGlobal>(
     }
 }
 
-/// The network that a text describes, in which those stop at once that only read a channel that is written out.
-fn net_of<R: Eprint + AllocGlobal>(
-    rt: &R,
-    file: Option<&str>,
-    text: Vec<u8>,
-    outputs: &[Pair<'_>],
-) -> Result<Net<StreamKinds>, u8> {
-    let mut source = text.as_slice();
-    let loaded: Result<Net<AllKinds>, _> = load_by_ports(rt.alloc(), &mut source);
-    if let Err(refused) = loaded {
-        return Err(say_refused(rt, file, refused));
-    }
-    let Ok(names) = names_of(rt.alloc(), outputs) else {
-        return Err(say_no_memory(rt));
-    };
-    match opened(rt.alloc(), text.as_slice(), names.as_slice()) {
-        Ok(net) => Ok(net),
-        Err(fault) => Err(say_refused(rt, file, Refused { fault, text })),
-    }
-}
-
-/// The network that an accepted text describes, in which those stop at once that only read a channel of these
-/// names.
-fn opened(alloc: Global, text: &[u8], names: &[Text]) -> Result<Net<StreamKinds>, NetFault> {
-    match sketch_by_ports::<AllKinds>(alloc, text) {
-        Some(sketch) => net_with_exits::<AllKinds>(alloc, sketch, names),
-        None => Err(NetFault::Memory),
-    }
-}
-
 /// The names of the channels of pairs.
 fn names_of(alloc: Global, pairs: &[Pair<'_>]) -> Result<Vec<Text>, AllocError> {
     let mut names = Vec::new(alloc);
@@ -160,149 +163,73 @@ fn say_refused<R: Eprint + AllocGlobal>(rt: &R, file: Option<&str>, refused: Ref
     say_fault(rt, file, &request, &[], &Fault::Description(refused))
 }
 
-/// Says why a flow is not opened, and returns the exit status.
-fn say_flow_refused<R: Eprint>(rt: &R, refused: &FlowRefused<StreamBody>) -> u8 {
-    let said = match refused.fault {
-        FlowFault::Memory => return say_no_memory(rt),
-        FlowFault::Twice => "a channel is named twice",
-        _ => "a channel can be neither read in nor written out",
-    };
-    let _ = eprintln!(rt; "hox: {said}");
-    Status::WrongArguments.code()
-}
-
-/// The channels into which tokens come.
-fn fed_channels<R: Eprint + AllocGlobal>(
+/// Says why the channel of one of these pairs can't be fed, or drained, and returns the exit status.
+fn say_name_fault<R: Eprint + AllocGlobal>(
     rt: &R,
-    net: &Net<StreamKinds>,
-    bodies: &[StreamBody],
+    net: &Net<AllKinds>,
     pairs: &[Pair<'_>],
-) -> Result<Vec<usize>, u8> {
-    let mut channels = Vec::new(rt.alloc());
-    for pair in pairs {
-        let channel = channel_named(rt, net, pair.channel)?;
-        let writer = net.ends(channel).writer;
-        if !stops_at_once(bodies, writer) {
-            let _ = eprintln!(rt;
-                "hox: --in {}: the writer of that channel, {}, writes to it itself; let its kind be input, or input_flags",
-                pair.channel,
-                process_name(net, writer)
-            );
-            return Err(Status::WrongArguments.code());
+    is_fed: bool,
+    fault: &NameFault,
+) -> u8 {
+    match fault {
+        NameFault::NoChannel(k) => {
+            say_no_channel_of(rt, net, name_at(pairs, *k));
+            Status::WrongArguments.code()
         }
-        if channels.push(channel).is_err() {
-            return Err(say_no_memory(rt));
+        NameFault::Busy(k, process) => {
+            let (name, process) = (name_at(pairs, *k), process.as_str());
+            let _ = if is_fed {
+                eprintln!(rt;
+                    "hox: --in {name}: the writer of that channel, {process}, writes to it itself; let its kind be input, or input_flags"
+                )
+            } else {
+                eprintln!(rt;
+                    "hox: --out {name}: the reader of that channel, {process}, takes its tokens; let a copy write them also to a channel that a process of kind drain, drain_flags or sink reads"
+                )
+            };
+            Status::WrongArguments.code()
         }
-    }
-    Ok(channels)
-}
-
-/// The channels that are written out.
-fn drained_channels<R: Eprint + AllocGlobal>(
-    rt: &R,
-    net: &Net<StreamKinds>,
-    bodies: &[StreamBody],
-    pairs: &[Pair<'_>],
-) -> Result<Vec<usize>, u8> {
-    let mut channels = Vec::new(rt.alloc());
-    for pair in pairs {
-        let channel = channel_named(rt, net, pair.channel)?;
-        let reader = net.ends(channel).reader;
-        if !stops_at_once(bodies, reader) {
-            let _ = eprintln!(rt;
-                "hox: --out {}: the reader of that channel, {}, takes its tokens; let a copy write them also to a channel that a process of kind drain, drain_flags or sink reads",
-                pair.channel,
-                process_name(net, reader)
-            );
-            return Err(Status::WrongArguments.code());
-        }
-        if channels.push(channel).is_err() {
-            return Err(say_no_memory(rt));
-        }
-    }
-    Ok(channels)
-}
-
-/// The channel with a name. If there is none this is said, and the exit status is returned.
-fn channel_named<R: Eprint + AllocGlobal>(
-    rt: &R,
-    net: &Net<StreamKinds>,
-    name: &str,
-) -> Result<usize, u8>
-    ensures { IfOk result (λ channel. channel < length net.now.channels) }
-{
-    match net.find_channel(name) {
-        Some(channel) if channel < net.channels() => Ok(channel),
-        _ => {
-            say_no_channel_of(rt, net, name);
-            Err(Status::WrongArguments.code())
-        }
+        NameFault::Memory => say_no_memory(rt),
     }
 }
 
-/// The name of a process.
-fn process_name<'a>(net: &'a Net<StreamKinds>, process: usize) -> &'a str {
-    if process < net.processes() {
-        net.process_name(process)
-    } else {
-        ""
+/// The name of the channel of the pair at this place.
+fn name_at<'a>(pairs: &[Pair<'a>], k: usize) -> &'a str {
+    match pairs.get(k) {
+        Some(pair) => pair.channel,
+        None => "",
     }
 }
 
-/// Whether a process stops at once, as its body answers at its start.
-fn stops_at_once<B: Body>(bodies: &[B], process: usize) -> bool {
-    if process >= bodies.len() {
-        return false;
-    }
-    let body = &bodies[process];
-    let card = body.card();
-    B::Kinds::starts(card);
-    let local = B::Kinds::start(&card);
-    let answer = body.answer(local, None);
-    matches!(answer.act, Act::Stop)
-}
-
-/// Runs the flow between the files, and returns the exit status.
+/// Runs the stream between the files, and returns the exit status.
 fn run<R: Files + Input + Print + Eprint + AllocGlobal>(
     rt: &R,
-    flow: &mut Flow<StreamBody>,
+    opened: OpenStream<StreamKinds>,
     inputs: &[Pair<'_>],
     outputs: &[Pair<'_>],
     is_quiet: bool,
 ) -> u8 {
-    let mut inlets = match inlets_of(rt, flow.net(), inputs) {
-        Ok(inlets) => inlets,
+    let sources = match sources_of(rt, inputs) {
+        Ok(sources) => sources,
         Err(status) => return status,
     };
-    let mut outlets = match outlets_of(rt, flow.net(), outputs) {
-        Ok(outlets) => outlets,
+    let sinks = match sinks_of(rt, outputs) {
+        Ok(sinks) => sinks,
         Err(status) => return status,
     };
-    let finish = stream(
-        rt.alloc(),
-        flow,
-        inlets.as_mut_slice(),
-        outlets.as_mut_slice(),
-    );
-    say_told(
-        rt,
-        flow,
-        finish,
-        (inputs, inlets.as_slice()),
-        (outputs, outlets.as_slice()),
-        is_quiet,
-    )
+    match serve(rt.alloc(), opened, sources, sinks) {
+        Ok(served) => say_told(rt, &served, inputs, outputs, is_quiet),
+        Err(_) => say_no_memory(rt),
+    }
 }
 
 /// The sources of tokens.
-fn inlets_of<R: Files + Input + Eprint + AllocGlobal>(
+fn sources_of<R: Files + Input + Eprint + AllocGlobal>(
     rt: &R,
-    net: &Net<StreamKinds>,
     pairs: &[Pair<'_>],
-) -> Result<Vec<Inlet<Tap<R::Reader, R::File>>>, u8> {
-    let mut inlets = Vec::new(rt.alloc());
+) -> Result<Vec<Tap<R::Reader, R::File>>, u8> {
+    let mut sources = Vec::new(rt.alloc());
     for pair in pairs {
-        let channel = channel_named(rt, net, pair.channel)?;
         let origin = match pair.file {
             "-" => Origin::Input(rt.reader()),
             path => match fs::open(rt, path) {
@@ -313,23 +240,20 @@ fn inlets_of<R: Files + Input + Eprint + AllocGlobal>(
                 }
             },
         };
-        let inlet = Inlet::new(rt.alloc(), channel, net.sort(channel), Tap::new(origin));
-        if inlets.push(inlet).is_err() {
+        if sources.push(Tap::new(origin)).is_err() {
             return Err(say_no_memory(rt));
         }
     }
-    Ok(inlets)
+    Ok(sources)
 }
 
 /// The sinks of tokens.
-fn outlets_of<'a, R: Files + Print + Eprint + AllocGlobal>(
+fn sinks_of<'a, R: Files + Print + Eprint + AllocGlobal>(
     rt: &'a R,
-    net: &Net<StreamKinds>,
     pairs: &[Pair<'_>],
-) -> Result<Vec<Outlet<Spout<io::Printer<'a, R>, R::File>>>, u8> {
-    let mut outlets = Vec::new(rt.alloc());
+) -> Result<Vec<Spout<io::Printer<'a, R>, R::File>>, u8> {
+    let mut sinks = Vec::new(rt.alloc());
     for pair in pairs {
-        let channel = channel_named(rt, net, pair.channel)?;
         let sink = match pair.file {
             "-" => Spout::Output(io::writer(rt)),
             path => match fs::create(rt, path) {
@@ -340,9 +264,9 @@ fn outlets_of<'a, R: Files + Print + Eprint + AllocGlobal>(
                 }
             },
         };
-        if outlets.push(Outlet::new(channel, sink)).is_err() {
+        if sinks.push(sink).is_err() {
             return Err(say_no_memory(rt));
         }
     }
-    Ok(outlets)
+    Ok(sinks)
 }

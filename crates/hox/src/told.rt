@@ -2,8 +2,9 @@
 use crate::inputs::Pair;
 use crate::messages::{say_no_memory, say_unread, say_unwritten};
 use hox_run::ReadFault;
-use hox_stream::{Finish, Inlet, LONGEST_LINE, LineRefusal, Outlet};
+use hox_stream::{Finish, Inlet, LONGEST_LINE, LineRefusal, Served};
 use kpn_body::Body;
+use kpn_compute::Computes;
 use kpn_flow::Flow;
 use kpn_front::{Sink, Source};
 use kpn_model::{End, Verdict};
@@ -14,27 +15,28 @@ use std::alloc::{AllocError, Global};
 
 /// Says on standard error how a stream ended and, if it is wanted, what was read and written. Returns the exit
 /// status.
-pub(crate) fn say_told<R: Eprint + AllocGlobal, B: Body, I: Source, O: Sink>(
+pub(crate) fn say_told<R: Eprint + AllocGlobal, F: Computes, I: Source, O: Sink>(
     rt: &R,
-    flow: &Flow<B>,
-    finish: Finish,
-    inputs: (&[Pair<'_>], &[Inlet<I>]),
-    outputs: (&[Pair<'_>], &[Outlet<O>]),
+    served: &Served<F, I, O>,
+    inputs: &[Pair<'_>],
+    outputs: &[Pair<'_>],
     is_quiet: bool,
 ) -> u8 {
+    let flow = &served.flow;
+    let finish = served.finish;
     if !is_quiet {
-        for (pair, inlet) in inputs.0.iter().zip(inputs.1) {
+        for (pair, inlet) in inputs.iter().zip(served.inlets.as_slice()) {
             let (channel, tokens) = (pair.channel, inlet.tokens());
             let _ = eprintln!(rt; "in {channel} tokens {tokens}");
         }
-        for (pair, outlet) in outputs.0.iter().zip(outputs.1) {
+        for (pair, outlet) in outputs.iter().zip(served.outlets.as_slice()) {
             let (channel, tokens) = (pair.channel, outlet.tokens());
             let _ = eprintln!(rt; "out {channel} tokens {tokens}");
         }
         let (entries, growths) = (flow.entries(), flow.growths());
         let _ = eprintln!(rt; "entries {entries} growths {growths}");
     }
-    say_fault(rt, finish, inputs, outputs.0);
+    say_fault(rt, finish, inputs, served.inlets.as_slice(), outputs);
     match judged(rt.alloc(), flow, finish) {
         Ok((verdict, line)) => {
             if !is_quiet {
@@ -69,12 +71,13 @@ fn judged<B: Body>(
 fn say_fault<R: Eprint, I: Source>(
     rt: &R,
     finish: Finish,
-    inputs: (&[Pair<'_>], &[Inlet<I>]),
+    inputs: &[Pair<'_>],
+    inlets: &[Inlet<I>],
     outputs: &[Pair<'_>],
 ) {
     match finish {
-        Finish::Line(k, refusal) => say_line(rt, inputs, k, refusal),
-        Finish::Unread(k) => match inputs.0.get(k) {
+        Finish::Line(k, refusal) => say_line(rt, inputs, inlets, k, refusal),
+        Finish::Unread(k) => match inputs.get(k) {
             Some(pair) => say_unread(rt, pair.file, ReadFault::Failed),
             None => {}
         },
@@ -92,11 +95,12 @@ fn say_fault<R: Eprint, I: Source>(
 /// Says which line of a source is refused, and what would do.
 fn say_line<R: Eprint, I: Source>(
     rt: &R,
-    inputs: (&[Pair<'_>], &[Inlet<I>]),
+    inputs: &[Pair<'_>],
+    inlets: &[Inlet<I>],
     k: usize,
     refusal: LineRefusal,
 ) {
-    let (Some(pair), Some(inlet)) = (inputs.0.get(k), inputs.1.get(k)) else {
+    let (Some(pair), Some(inlet)) = (inputs.get(k), inlets.get(k)) else {
         return;
     };
     let (file, line) = (pair.file, inlet.lines().saturating_add(1));

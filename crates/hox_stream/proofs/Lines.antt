@@ -1,5 +1,5 @@
 -- Lines of a text that comes in pieces.
-use Rattle.std.proofs.Common.{◌≡◌, ◌<◌, ◌≤◌, ◌+◌, ◌++◌, inl, inr, ℕ, suc, Bool, true, false, cond, nat_lt, MatchOption, not, List, [], Option, Some, None, Ok, length, take, drop, refl, sym, ap, ◌∙◌, subst, arith, append_assoc, append-nil, length-append}
+use Rattle.std.proofs.Common.{◌≡◌, ◌<◌, ◌≤◌, ◌+◌, ◌++◌, inl, inr, ℕ, suc, Bool, true, false, cond, nat_lt, MatchOption, not, List, [], ◌∷◌, Option, Some, None, Ok, length, take, drop, refl, sym, ap, ◌∙◌, subst, arith, append_assoc, append-nil, length-append}
 use Rattle.std.proofs.lemmas.Bool.{ne_eqb, ltb-true, ltb-false}
 use Rattle.std.proofs.lemmas.List.Sums.{prefix_len-le-length}
 use Rattle.std.proofs.lemmas.List.{take-append-le, drop-append-le, drop_all}
@@ -8,12 +8,26 @@ use Rattle.std.specs.Io.KnownBytes.{Consumes, IsAtEnd, prepend_known}
 use Rattle.std.specs.List.{before_first, after_first, prefix_len, position}
 use Rattle.kpn_model.specs.declared.token.Token.{Token}
 use Rattle.kpn_model.specs.declared.token.Sort.{Sort}
-use Rattle.kpn_tokens.specs.TokenLines.{Begin, Fails, Say, SaysLine, is_line_feed, line, listed, more, later}
+use Rattle.kpn_model.specs.declared.token.Sort.TheVariants.{Words, Flags}
+use Rattle.kpn_model.specs.Valid.{IsOfSort}
+use Rattle.kpn_tokens.specs.TokenLines.{Begin, Fails, IsTokenOf, Say, SaysCell, SaysLine, cell, is_line_feed, line, listed, more, later}
 use Rattle.hox_stream.specs.declared.cutting.Next.TheVariants.{Line}
 use Rattle.hox_stream.specs.Cutting.{IsCut, IsNext, IsWhole, Leads, Passes, line_length}
 
 abbrev in_line : ℕ → Bool
 in_line b = not (is_line_feed b)
+
+-- a token that a line says is of the sort
+of_sort : (sort : Sort) (text : List ℕ) (token : Token) → IsTokenOf sort text token → IsOfSort sort token
+of_sort Words text token (digits, is) = rw is (refl, digits.1)
+of_sort Flags text token (flag, said, is) = rw is (refl, tt)
+
+of_cell : (sort : Sort) (cell : List ℕ) (token : Token) → SaysCell sort cell (Ok (Some token)) → IsOfSort sort token
+of_cell sort [] token says = cc
+of_cell sort (b ∷ bs) token says = of_sort sort (b ∷ bs) token says
+
+pub said_of_sort : (sort : Sort) (text : List ℕ) (said : Option Token) (token : Token) → SaysLine sort text (Ok said) → said ≡ Some token → IsOfSort sort token
+said_of_sort sort text said token says e = of_cell sort (cell text) token (subst (λ (o : Option Token). SaysCell sort (cell text) (Ok o)) e says)
 
 -- a line that has its line feed ends there, whatever comes after it
 length_on : (text next : List ℕ) → line_length text < length text → line_length (text ++ next) ≡ line_length text

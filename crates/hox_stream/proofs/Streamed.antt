@@ -4,7 +4,7 @@ use Rattle.std.proofs.lemmas.Bool.{cases_eq, eq-eqb, ne_eqb}
 use Rattle.std.proofs.lemmas.List.{get_or-set_same, get_or-set_other}
 use Rattle.kpn_model.specs.declared.token.Token.{Token}
 use Rattle.kpn_model.specs.declared.history.Entry.{Entry}
-use Rattle.kpn_model.specs.Network.{Family}
+use Rattle.kpn_model.specs.Network.{Family, Network, channel_of}
 use Rattle.kpn_flow.specs.declared.counts.Counts.{Counts}
 use Rattle.kpn_flow.specs.declared.pause.Pause.{Pause}
 use Rattle.kpn_flow.specs.Events.{Event, Went, Fed, Drained, fed, drained}
@@ -14,7 +14,9 @@ use Rattle.kpn_flow.proofs.Stretches.{at_ends_both, at_ends_went, flows_both, fl
 use Rattle.hox_stream.specs.declared.cutting.LineRefusal.{LineRefusal}
 use Rattle.hox_stream.specs.Cutting.{IsRefused}
 use Rattle.hox_stream.specs.Ports.{Pours, Takes, Tells, Writes}
-use Rattle.hox_stream.specs.Streams.{AreInletsApart, AreOutletsApart, Streams, inlet_at, outlet_at}
+use Rattle.hox_stream.specs.declared.finish.Finish.{Finish}
+use Rattle.hox_stream.specs.declared.finish.Finish.TheVariants.{Over, Line, Unread, NoInput, Unwritten, Idle, Memory, Cut}
+use Rattle.hox_stream.specs.Streams.{AllFailedStay, AreInletsApart, AreOutletsApart, IsFinish, Streams, inlet_at, outlet_at}
 use Rattle.hox_stream.specs.Views.{InletView, OutletView, no_inlet, no_outlet}
 use Rattle.hox_stream.proofs.Flowed.{at_ends_there, flows_there, same_net_both, same_net_none, same_net_of}
 use Rattle.hox_stream.proofs.Ported.{takes_both, takes_none, writes_both, writes_none}
@@ -207,3 +209,35 @@ refused_there ins k q refusal within h =
     let here : inlet_at (set ins k q) k ≡ q = get_or-set_same ins k q no_inlet within in
     let long = length-set ins k q in
     (omega (arith, long), subst (λ (p : InletView). IsRefused p.sort p.kept p.is_over refusal) (sym here) h)
+
+-- a sink is flushed
+pub streams_flushed :
+    (kinds : Family) (s : FlowView) (ins : List InletView) (outs : List OutletView) (k : ℕ) (p q : OutletView) → k < length outs → p ≡ outlet_at outs k → Writes p q [] → Streams kinds s s ins ins outs (set outs k q)
+streams_flushed kinds s ins outs k p q within at w =
+    streams_told kinds s s ins outs k p q within at (record { same = same_net_none s; tokens = []; writes = w; flows = refl; at_ends = tt })
+
+-- why a stream ends stays so while sinks are flushed
+pub finish_stays : (kinds : Family) (s : FlowView) (ins : List InletView) (outs after : List OutletView) (finish : Finish) → AllFailedStay outs after → IsFinish kinds s ins outs finish → IsFinish kinds s ins after finish
+finish_stays kinds s ins outs after (Over end) still h = h
+finish_stays kinds s ins outs after (Line k refusal) still h = h
+finish_stays kinds s ins outs after (Unread k) still h = h
+finish_stays kinds s ins outs after (NoInput k) still h = h
+finish_stays kinds s ins outs after (Unwritten k) still h = (subst (λ n. k < n) (sym still.0) h.0, still.1 k h.1)
+finish_stays kinds s ins outs after Idle still h = h
+finish_stays kinds s ins outs after Memory still h = h
+finish_stays kinds s ins outs after Cut still h = h
+
+-- a read of a source has failed there
+pub failed_there : (ins : List InletView) (k : ℕ) (q : InletView) → k < length ins → q.has_failed ≡ true → (k < length (set ins k q)) × ((inlet_at (set ins k q) k).has_failed ≡ true)
+failed_there ins k q within h =
+    let here : inlet_at (set ins k q) k ≡ q = get_or-set_same ins k q no_inlet within in
+    let long = length-set ins k q in
+    (omega (arith, long), subst (λ (p : InletView). p.has_failed ≡ true) (sym here) h)
+
+-- the tokens of the channel there are of another sort
+pub other_sort_there : (net : Network) (ins : List InletView) (k : ℕ) (q : InletView) → k < length ins → (q.sort ≡ (channel_of net q.channel).sort → ⊥)
+    → (k < length (set ins k q)) × ((inlet_at (set ins k q) k).sort ≡ (channel_of net (inlet_at (set ins k q) k).channel).sort → ⊥)
+other_sort_there net ins k q within h =
+    let here : inlet_at (set ins k q) k ≡ q = get_or-set_same ins k q no_inlet within in
+    let long = length-set ins k q in
+    (omega (arith, long), subst (λ (p : InletView). p.sort ≡ (channel_of net p.channel).sort → ⊥) (sym here) h)

@@ -4,3 +4,5 @@ pub mod Ports
 pub mod Streams
 pub mod Exits
 pub mod Finishes
+pub mod Starts
+pub mod Serves

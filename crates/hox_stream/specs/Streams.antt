@@ -1,6 +1,6 @@
 -- A flow between sources and sinks.
-use Rattle.std.specs.Prelude.{◌≡◌, ◌<◌, ◌&&◌, ℕ, Bool, true, false, List, length, get_or}
-use Rattle.kpn_model.specs.Network.{Family}
+use Rattle.std.specs.Prelude.{◌≡◌, ◌≢◌, ◌<◌, ◌&&◌, ℕ, Bool, true, false, List, [], length, get_or}
+use Rattle.kpn_model.specs.Network.{Family, channel_of}
 use Rattle.kpn_model.specs.Endings.{NothingGoesOn}
 use Rattle.kpn_flow.specs.Events.{Event, Flows, fed, drained}
 use Rattle.kpn_flow.specs.Flows.{FlowView, is_among}
@@ -38,6 +38,14 @@ pub record Streams (kinds : Family) (s t : FlowView) (ins ins_after : List Inlet
   pub taken : AreInletsApart ins → (k : ℕ) → k < length ins → Takes (inlet_at ins k) (inlet_at ins_after k) (fed events (inlet_at ins k).channel)
   pub written : AreOutletsApart outs → (k : ℕ) → k < length outs → Writes (outlet_at outs k) (outlet_at outs_after k) (drained events (outlet_at outs k).channel)
 
+-- nothing waits to be written to a sink, unless a write to it has failed
+abbrev pub AreWritten : List OutletView → Type 0
+AreWritten outs = (k : ℕ) → k < length outs → (outlet_at outs k).has_failed ≡ false → (outlet_at outs k).waiting ≡ []
+
+-- there are as many sinks, and a sink that can't be written stays so
+abbrev pub AllFailedStay : List OutletView → List OutletView → Type 0
+AllFailedStay outs after = (length after ≡ length outs) × ((k : ℕ) → (outlet_at outs k).has_failed ≡ true → (outlet_at after k).has_failed ≡ true)
+
 -- a process waits for a token of this source
 abbrev pub is_waited_for : FlowView → InletView → Bool
 is_waited_for s p = is_among s.unended p.channel && starves s.network s.standings p.channel
@@ -46,12 +54,13 @@ abbrev pub NoneIsWaitedFor : FlowView → List InletView → Type 0
 NoneIsWaitedFor s ins = (k : ℕ) → k < length ins → is_waited_for s (inlet_at ins k) ≡ false
 
 -- when a stream ends for each cause: nothing goes on, and neither feeding nor draining would help; the next line of a source is
--- refused; a source can't be read, or its channel is no input; a sink can't be written; no process waits for a token of a source
+-- refused; a read of a source has failed; the tokens of its channel are of another sort; a sink can't be written; no process waits for a
+-- token of a source
 abbrev pub IsFinish : Family → FlowView → List InletView → List OutletView → Finish → Type 0
 IsFinish kinds s ins outs (Over end) = NothingGoesOn kinds s.network s.state end × NoneCanHelp kinds s.network s.unended s.outputs s.state
 IsFinish kinds s ins outs (Line k refusal) = (k < length ins) × IsRefused (inlet_at ins k).sort (inlet_at ins k).kept (inlet_at ins k).is_over refusal
-IsFinish kinds s ins outs (Unread k) = k < length ins
-IsFinish kinds s ins outs (NoInput k) = k < length ins
+IsFinish kinds s ins outs (Unread k) = (k < length ins) × ((inlet_at ins k).has_failed ≡ true)
+IsFinish kinds s ins outs (NoInput k) = (k < length ins) × ((inlet_at ins k).sort ≢ (channel_of s.network (inlet_at ins k).channel).sort)
 IsFinish kinds s ins outs (Unwritten k) = (k < length outs) × ((outlet_at outs k).has_failed ≡ true)
 IsFinish kinds s ins outs Idle = NoneIsWaitedFor s ins
 IsFinish kinds s ins outs Memory = Unit {0}

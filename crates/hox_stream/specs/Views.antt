@@ -4,13 +4,14 @@ use Rattle.std.specs.Io.KnownBytes.{prepend_known}
 use Rattle.kpn_model.specs.declared.token.Sort.{Sort}
 use Rattle.kpn_model.specs.declared.token.Sort.TheVariants.{Words}
 
--- a source of tokens for a channel: what was read and is not yet said, what is left to read, if that is known, and whether the source
--- has come to its end; and how many lines and how many tokens were taken
+-- a source of tokens for a channel: what was read and is not yet said, what is left to read, if that is known, whether a read has
+-- failed, and whether the source has come to its end; and how many lines and how many tokens were taken
 pub record InletView : Type 0 where
   pub channel : ℕ
   pub sort : Sort
   pub kept : List ℕ
   pub remaining : Option (List ℕ)
+  pub has_failed : Bool
   pub is_over : Bool
   pub lines : ℕ
   pub tokens : ℕ
@@ -19,15 +20,17 @@ pub record InletView : Type 0 where
 abbrev pub unread : InletView → Option (List ℕ)
 unread p = prepend_known p.kept p.remaining
 
--- a sink for the tokens of a channel: what was written, if that is known; whether a write has failed; and how many tokens were written
+-- a sink for the tokens of a channel: what was written, if that is known, with what waits to be written; what of it waits; whether a
+-- write has failed; and how many tokens were written, or wait to be
 pub record OutletView : Type 0 where
   pub channel : ℕ
   pub contents : Option (List ℕ)
+  pub waiting : List ℕ
   pub has_failed : Bool
   pub tokens : ℕ
 
 abbrev pub no_inlet : InletView
-no_inlet = record { channel = 0; sort = Words; kept = []; remaining = None; is_over = false; lines = 0; tokens = 0 }
+no_inlet = record { channel = 0; sort = Words; kept = []; remaining = None; has_failed = false; is_over = false; lines = 0; tokens = 0 }
 
 abbrev pub no_outlet : OutletView
-no_outlet = record { channel = 0; contents = None; has_failed = false; tokens = 0 }
+no_outlet = record { channel = 0; contents = None; waiting = []; has_failed = false; tokens = 0 }

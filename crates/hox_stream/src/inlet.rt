@@ -1,5 +1,5 @@
 //! Sources of tokens.
-ghost use Rattle.std.specs.Prelude.{◌≡◌, ◌≤◌, ◌+◌, ◌++◌, [], false, true, length, drop, IfOk, Option, vec_len, vec_capacity};
+ghost use Rattle.std.specs.Prelude.{◌≡◌, ◌≤◌, ◌+◌, ◌++◌, [], false, true, Err, length, drop, IfOk, Option, vec_len, vec_capacity};
 ghost use Rattle.std.specs.Io.Iter.{u64_saturate};
 ghost use Rattle.std.specs.Io.KnownBytes.{IsAtEnd};
 ghost use Rattle.kpn_tokens.specs.TokenLines.{listed};
@@ -28,8 +28,8 @@ pub(crate) enum ReadFault {
 /// A source of tokens for a channel, one on each line, which is read piece by piece. At most 8,192 bytes of
 /// it are held at any time.
 ///
-/// Contracts see the bytes that were read and are not yet said, and the number of lines and of tokens that
-/// were taken.
+/// Contracts see the bytes that were read and are not yet said, whether a read has failed, and the number of
+/// lines and of tokens that were taken.
 #[derive(Drop)]
 pub struct Inlet<S: Source> {
     channel: usize,
@@ -50,15 +50,15 @@ impl<S: Source> Model for Inlet<S> {
     ghost use Rattle.std.specs.Prelude.{◌≡◌, ◌≤◌, true, drop, length};
     ghost use Rattle.std.specs.Io.KnownBytes.{IsAtEnd};
 
-    ghost view = { λ m. record { channel = m.channel; sort = m.sort; kept = drop m.next m.held.items; remaining = S.remaining m.source; is_over = m.is_over; lines = m.lines; tokens = m.tokens } };
+    ghost view = { λ m. record { channel = m.channel; sort = m.sort; kept = drop m.next m.held.items; remaining = S.remaining m.source; has_failed = S.has_failed m.source; is_over = m.is_over; lines = m.lines; tokens = m.tokens } };
 
     ghost invariant = { λ m. (m.next ≤ length m.held.items) × (length m.held.items ≤ 8192) × (m.is_over ≡ true → IsAtEnd (S.remaining m.source)) };
 }
 
 impl<S: Source> Inlet<S> {
     /// Makes a source of tokens of this sort for a channel. Nothing of it is read yet.
-    pub fn new(alloc: Global, channel: usize, sort: Sort, source: S) -> Inlet<S>
-        ensures { result ≡ record { channel = channel; sort = sort; kept = []; remaining = S.remaining source; is_over = false; lines = 0; tokens = 0 } }
+    pub(crate) fn new(alloc: Global, channel: usize, sort: Sort, source: S) -> Inlet<S>
+        ensures { result ≡ record { channel = channel; sort = sort; kept = []; remaining = S.remaining source; has_failed = S.has_failed source; is_over = false; lines = 0; tokens = 0 } }
     {
         Inlet {
             channel,
@@ -119,9 +119,15 @@ impl<S: Source> Inlet<S> {
         self.tokens = self.tokens.saturating_add(count_of(said));
     }
 
+    /// Returns whether the source has to be read on for its next line.
+    pub(crate) fn wants_more(&self) -> bool {
+        !self.is_over && !self.held[self.next..].contains(&b'\n')
+    }
+
     /// Reads a piece more, unless there is more than a line may have. What was read before is kept.
     pub(crate) fn refill(&mut self, alloc: Global) -> Result<(), ReadFault>
-        ensures { ReadsOn self.old self.new }
+        ensures reads { ReadsOn self.old self.new }
+        ensures failed { result ≡ Err ReadFault.Failed → self.new.has_failed ≡ true }
     {
         if self.held.len() - self.next > LONGEST_LINE {
             return Ok(());
@@ -171,4 +177,9 @@ fn append(held: &mut Vec<u8>, bytes: &[u8])
     if held.extend_from_slice(bytes).is_err() {
         unreachable!();
     }
+}
+
+/// Whether a source has to be read on for its next line.
+pub(crate) fn wants_more<S: Source>(inlets: &[Inlet<S>]) -> bool {
+    inlets.iter().any(|inlet| inlet.wants_more())
 }

@@ -1,4 +1,5 @@
-//! A network between sources and sinks of tokens, one on each line, in bounded memory.
+//! A network between sources and sinks of tokens, one on each line, in bounded memory: from the sketch of a
+//! description and the names of channels to what is written, and why it ended.
 #![tactic(auto)]
 
 mod cutting;
@@ -8,6 +9,8 @@ mod inlet;
 mod opening;
 mod outlet;
 mod pouring;
+mod serving;
+mod starting;
 mod streaming;
 mod telling;
 
@@ -15,6 +18,6 @@ pub use cutting::{LONGEST_LINE, LineRefusal};
 pub use exits::Exits;
 pub use finish::Finish;
 pub use inlet::Inlet;
-pub use opening::net_with_exits;
 pub use outlet::Outlet;
-pub use streaming::stream;
+pub use serving::{Served, serve};
+pub use starting::{NameFault, OpenStream, StreamFault, open_stream};

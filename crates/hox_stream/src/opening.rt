@@ -17,7 +17,7 @@ use std::alloc::{AllocError, Global};
 /// kind of [`Exits`]. All else stays.
 ///
 /// Errors: the fault that this sketch has, or `Memory`.
-pub fn net_with_exits<K: Kinds>(
+pub(crate) fn net_with_exits<K: Kinds>(
     alloc: Global,
     sketch: Sketch,
     names: &[Text],

@@ -1,11 +1,15 @@
 //! Sinks of tokens.
-ghost use Rattle.std.specs.Prelude.{◌≡◌, false, true, IfErr};
+ghost use Rattle.std.specs.Prelude.{◌≡◌, [], false, true, IfErr, string_bytes};
+ghost use Rattle.std.specs.Io.KnownBytes.{append_known};
 ghost use Rattle.hox_stream.specs.Ports.{Writes};
 
 use kpn_front::Sink;
-use kpn_tokens::{Token, tokens_text};
+use kpn_tokens::{Token, append_tokens};
 use std::alloc::Global;
 use std::marker::Model;
+
+/// How many bytes wait at most before they are written.
+const PIECE: usize = 4096;
 
 /// Why tokens were not written: a write failed, of which some bytes may have been written; or memory was
 /// refused.
@@ -15,11 +19,15 @@ pub(crate) enum WriteFault {
     Memory,
 }
 
-/// A sink for the tokens of a channel, one on each line.
+/// A sink for the tokens of a channel, one on each line. Lines wait until there are 4,096 bytes of them, or
+/// until they are flushed.
+///
+/// Contracts see what was written with what waits.
 #[derive(Drop)]
 pub struct Outlet<S: Sink> {
     channel: usize,
     sink: S,
+    waiting: String,
     has_failed: bool,
     tokens: u64,
 }
@@ -29,17 +37,21 @@ impl<S: Sink> Model for Outlet<S> {
 
     ghost Value = { OutletView };
 
-    ghost view = { λ m. record { channel = m.channel; contents = (S.seen m.sink).contents; has_failed = m.has_failed; tokens = m.tokens } };
+    ghost use Rattle.std.specs.Prelude.{string_bytes};
+    ghost use Rattle.std.specs.Io.KnownBytes.{append_known};
+
+    ghost view = { λ m. record { channel = m.channel; contents = append_known (S.seen m.sink).contents (string_bytes m.waiting); waiting = string_bytes m.waiting; has_failed = m.has_failed; tokens = m.tokens } };
 }
 
 impl<S: Sink> Outlet<S> {
     /// Makes a sink for the tokens of a channel. Nothing is written yet.
-    pub fn new(channel: usize, sink: S) -> Outlet<S>
-        ensures { result ≡ record { channel = channel; contents = (S.seen sink).contents; has_failed = false; tokens = 0 } }
+    pub(crate) fn new(alloc: Global, channel: usize, sink: S) -> Outlet<S>
+        ensures { result ≡ record { channel = channel; contents = (S.seen sink).contents; waiting = []; has_failed = false; tokens = 0 } }
     {
         Outlet {
             channel,
             sink,
+            waiting: String::new(alloc),
             has_failed: false,
             tokens: 0,
         }
@@ -52,7 +64,7 @@ impl<S: Sink> Outlet<S> {
         self.channel
     }
 
-    /// Returns how many tokens were written; `u64::MAX` if they are as many or more.
+    /// Returns how many tokens were written, or wait to be; `u64::MAX` if they are as many or more.
     pub fn tokens(&self) -> u64
         ensures { result ≡ self.now.tokens }
     {
@@ -66,28 +78,54 @@ impl<S: Sink> Outlet<S> {
         self.has_failed
     }
 
-    /// Returns the sink.
+    /// Returns the sink. What waits is not written to it.
     pub fn into_sink(self) -> S
-        ensures { (S.seen result).contents ≡ self.contents }
+        ensures { append_known (S.seen result).contents self.waiting ≡ self.contents }
     {
         let Outlet { sink, .. } = self;
         sink
     }
 
-    /// Writes tokens, one on each line. If it fails, some of them may have been written.
-    pub(crate) fn write(&mut self, alloc: Global, tokens: &[Token]) -> Result<(), WriteFault>
+    /// Writes tokens, one on each line, or has them wait. If it fails, some of them may have been written.
+    pub(crate) fn write(&mut self, tokens: &[Token]) -> Result<(), WriteFault>
         ensures writes { Writes self.old self.new tokens.now }
         ensures failed { IfErr result (λ _. self.new.has_failed ≡ true) }
     {
-        let Ok(text) = tokens_text(alloc, tokens) else {
+        self.append(tokens)?;
+        if self.waiting.len() < PIECE {
+            return Ok(());
+        }
+        self.flush()
+    }
+
+    /// Has tokens wait.
+    fn append(&mut self, tokens: &[Token]) -> Result<(), WriteFault>
+        ensures writes { Writes self.old self.new tokens.now }
+        ensures failed { IfErr result (λ _. self.new.has_failed ≡ true) }
+    {
+        if append_tokens(&mut self.waiting, tokens).is_err() {
             self.has_failed = true;
             return Err(WriteFault::Memory);
-        };
-        if self.sink.write_all(text.as_bytes()).is_err() {
+        }
+        self.tokens = self.tokens.saturating_add(tokens.len() as u64);
+        Ok(())
+    }
+
+    /// Writes what waits, unless a write has failed. If it fails, some of it may have been written.
+    pub(crate) fn flush(&mut self) -> Result<(), WriteFault>
+        ensures writes { Writes self.old self.new [] }
+        ensures written { self.new.has_failed ≡ false → self.new.waiting ≡ [] }
+        ensures still { self.old.has_failed ≡ true → self.new.has_failed ≡ true }
+        ensures failed { IfErr result (λ _. self.new.has_failed ≡ true) }
+    {
+        if self.has_failed || self.waiting.is_empty() {
+            return Ok(());
+        }
+        if self.sink.write_all(self.waiting.as_bytes()).is_err() {
             self.has_failed = true;
             return Err(WriteFault::Failed);
         }
-        self.tokens = self.tokens.saturating_add(tokens.len() as u64);
+        self.waiting.clear();
         Ok(())
     }
 }

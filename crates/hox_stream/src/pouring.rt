@@ -1,6 +1,6 @@
 //! From a source into its channel.
 ghost use Rattle.std.specs.Prelude.{◌≡◌, ◌≢◌, ◌<◌, true, false, [], Err, IsTrue, IfSome, IfNone, ◌≤◌, ℕ, List, length, map};
-ghost use Rattle.kpn_model.specs.Network.{family_of};
+ghost use Rattle.kpn_model.specs.Network.{channel_of, family_of};
 ghost use Rattle.kpn_tokens.specs.TokenLines.{listed};
 ghost use Rattle.kpn_flow.specs.Events.{Fed, Flows};
 ghost use Rattle.kpn_flow.specs.Flows.{IsSameFlow, is_among, with_ended};
@@ -76,9 +76,12 @@ fn pour<B: Body, S: Source>(
     flow: &mut Flow<B>,
     inlet: &mut Inlet<S>,
 ) -> Result<(), PourFault>
+    requires { is_among flow.old.unended inlet.old.channel ≡ true }
     ensures pours { Pours (family_of B.Kinds.start B.Kinds.answer_of) flow.old flow.new inlet.old inlet.new }
     ensures ended { inlet.old.is_over ≡ true → inlet.old.kept ≡ [] → flow.new ≡ with_ended flow.old inlet.old.channel }
     ensures line { (refusal : LineRefusalV) → result ≡ Err (PourFault.Line refusal) → IsRefused inlet.new.sort inlet.new.kept inlet.new.is_over refusal }
+    ensures failed { result ≡ Err PourFault.Failed → inlet.new.has_failed ≡ true }
+    ensures no_input { result ≡ Err PourFault.NoInput → inlet.new.sort ≢ (channel_of flow.new.network inlet.new.channel).sort }
 {
     let channel = inlet.channel();
     match inlet.next() {
@@ -107,6 +110,8 @@ fn pour<B: Body, S: Source>(
 fn read_on<S: Source>(alloc: Global, inlet: &mut Inlet<S>) -> Result<(), PourFault>
     ensures reads { ReadsOn inlet.old inlet.new }
     ensures no_line { (refusal : LineRefusalV) → result ≢ Err (PourFault.Line refusal) }
+    ensures failed { result ≡ Err PourFault.Failed → inlet.new.has_failed ≡ true }
+    ensures input { result ≢ Err PourFault.NoInput }
 {
     match inlet.refill(alloc) {
         Ok(()) => Ok(()),
@@ -122,7 +127,8 @@ fn pour_at<B: Body, S: Source>(
     inlets: &mut [Inlet<S>],
     k: usize,
 ) -> Option<Finish>
-    requires { k < length inlets.old }
+    requires within { k < length inlets.old }
+    requires input { is_among flow.old.unended (inlet_at inlets.old k).channel ≡ true }
     ensures streams { (outs : List OutletView) → Streams (family_of B.Kinds.start B.Kinds.answer_of) flow.old flow.new inlets.old inlets.new outs outs }
     ensures finish { IfSome result (λ f. (outs : List OutletView) → IsFinish (family_of B.Kinds.start B.Kinds.answer_of) flow.new inlets.new outs f) }
 {
@@ -150,6 +156,7 @@ fn first_starved<B: Body, S: Source>(
     from: usize,
 ) -> Option<usize>
     ensures within { IfSome result (λ k. k < length inlets.now) }
+    ensures waited { IfSome result (λ k. is_waited_for flow.now (inlet_at inlets.now k) ≡ true) }
     ensures none { IfNone result ((k : ℕ) → k < length inlets.now → from ≤ k → is_waited_for flow.now (inlet_at inlets.now k) ≡ false) }
 {
     for k in from..inlets.len() {
@@ -167,6 +174,7 @@ fn next_starved<B: Body, S: Source>(
     from: usize,
 ) -> Option<usize>
     ensures within { IfSome result (λ k. k < length inlets.now) }
+    ensures waited { IfSome result (λ k. is_waited_for flow.now (inlet_at inlets.now k) ≡ true) }
     ensures none { IfNone result (NoneIsWaitedFor flow.now inlets.now) }
 {
     match first_starved(flow, inlets, from) {

@@ -2,14 +2,14 @@
 ghost use Rattle.std.specs.Prelude.{IfSome, List};
 ghost use Rattle.kpn_model.specs.Network.{family_of};
 ghost use Rattle.kpn_flow.specs.Pieces.{IsOneRunInPieces};
-ghost use Rattle.hox_stream.specs.Streams.{Streams, IsFinish};
+ghost use Rattle.hox_stream.specs.Streams.{AreWritten, IsFinish, Streams};
 ghost use Rattle.hox_stream.specs.Views.{InletView, OutletView};
 
 use crate::finish::Finish;
-use crate::inlet::Inlet;
+use crate::inlet::{Inlet, wants_more};
 use crate::outlet::Outlet;
 use crate::pouring::pour_next;
-use crate::telling::tell_all;
+use crate::telling::{flush_all, tell_all};
 use kpn_body::Body;
 use kpn_flow::{Flow, Pause};
 use kpn_front::{Sink, Source};
@@ -18,17 +18,9 @@ use std::alloc::Global;
 /// How many entries are made at most before what came out is written.
 const STRETCH: u64 = 1000000;
 
-/// Runs a flow between sources and sinks, until it has come to its end, and returns why it ended. What comes
-/// out is written before more is read; and a source is read only where a process waits for its tokens.
-///
-/// What was fed into the channel of each source is what the lines say that were read of it, and what was
-/// drained of the channel of each sink is what was written to it, one token a line. So what is written
-/// begins the stream of every run of the network into whose inputs the same comes (Kahn 1974), and the
-/// pieces in which it was read don't matter (docs/endless.md).
-///
-/// Memory is taken for what is held of a source, at most 8,192 bytes, for at most 1,024 tokens that are
-/// written at once, and for growths.
-pub fn stream<B: Body, I: Source, O: Sink>(
+/// Runs a flow between sources and sinks, until it has come to its end, and returns why it ended, as
+/// [`crate::serve`] does from the start of a network.
+pub(crate) fn stream<B: Body, I: Source, O: Sink>(
     alloc: Global,
     flow: &mut Flow<B>,
     inlets: &mut [Inlet<I>],
@@ -36,11 +28,15 @@ pub fn stream<B: Body, I: Source, O: Sink>(
 ) -> Finish
     ensures streams { Streams (family_of B.Kinds.start B.Kinds.answer_of) flow.old flow.new inlets.old inlets.new outlets.old outlets.new }
     ensures finish { IsFinish (family_of B.Kinds.start B.Kinds.answer_of) flow.new inlets.new outlets.new result }
+    ensures written { AreWritten outlets.new }
     ensures one_run { IsOneRunInPieces (family_of B.Kinds.start B.Kinds.answer_of) flow.new }
 {
     let finish = turn_on(alloc, flow, inlets, outlets);
     flow.assure_one_run();
-    finish
+    match flush_all(outlets) {
+        Ok(()) => finish,
+        Err(unwritten) => unwritten,
+    }
 }
 
 /// Turn after turn.
@@ -75,7 +71,7 @@ fn turn<B: Body, I: Source, O: Sink>(
     ensures finish { IfSome result (IsFinish (family_of B.Kinds.start B.Kinds.answer_of) flow.new inlets.new outlets.new) }
 {
     let pause = flow.advance(STRETCH);
-    match tell_all(alloc, flow, outlets) {
+    match tell_all(flow, outlets) {
         Err(finish) => return Some(finish),
         Ok(true) => return None,
         Ok(false) => {}
@@ -83,6 +79,26 @@ fn turn<B: Body, I: Source, O: Sink>(
     match pause {
         Pause::Cut | Pause::Blocked => None,
         Pause::Over(end) => Some(Finish::Over(end)),
-        Pause::Starved => pour_next(alloc, flow, inlets, next),
+        Pause::Starved => pour(alloc, flow, inlets, outlets, next),
     }
+}
+
+/// Reads what is waited for, from the source at place `next` on; first writes what came out, if a source may
+/// have to be read on. Returns why the stream ends, if it does.
+fn pour<B: Body, I: Source, O: Sink>(
+    alloc: Global,
+    flow: &mut Flow<B>,
+    inlets: &mut [Inlet<I>],
+    outlets: &mut [Outlet<O>],
+    next: &mut usize,
+) -> Option<Finish>
+    ensures streams { Streams (family_of B.Kinds.start B.Kinds.answer_of) flow.old flow.new inlets.old inlets.new outlets.old outlets.new }
+    ensures finish { IfSome result (IsFinish (family_of B.Kinds.start B.Kinds.answer_of) flow.new inlets.new outlets.new) }
+{
+    if wants_more(inlets) {
+        if let Err(finish) = flush_all(outlets) {
+            return Some(finish);
+        }
+    }
+    pour_next(alloc, flow, inlets, next)
 }

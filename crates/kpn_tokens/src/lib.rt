@@ -8,4 +8,4 @@ mod written;
 pub use kpn_model::{Sort, Token};
 pub use line::{LineFault, token_of_line};
 pub use text::{MOST_TOKENS, TokensFault, read_tokens};
-pub use written::tokens_text;
+pub use written::{append_tokens, tokens_text};

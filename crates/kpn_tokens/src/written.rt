@@ -15,10 +15,20 @@ pub fn tokens_text(alloc: Global, tokens: &[Token]) -> Result<String, AllocError
     ensures { IfOk result (λ text. string_bytes text ≡ flat_map token_line tokens.now) }
 {
     let mut text = String::new(alloc);
-    for token in tokens {
-        push_token(&mut text, *token)?;
-    }
+    append_tokens(&mut text, tokens)?;
     Ok(text)
+}
+
+/// Appends tokens to a text, in the same form.
+///
+/// Errors: memory was refused. Some of them may have been appended.
+pub fn append_tokens(out: &mut String, tokens: &[Token]) -> Result<(), AllocError>
+    ensures { OnOk result (string_bytes out.new ≡ string_bytes out.old ++ flat_map token_line tokens.now) }
+{
+    for token in tokens {
+        push_token(out, *token)?;
+    }
+    Ok(())
 }
 
 /// Appends a token and a line feed.

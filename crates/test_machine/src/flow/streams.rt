@@ -1,11 +1,13 @@
-//! Flows between bytes in memory.
+//! Streams between bytes in memory.
 use crate::checks::same;
-use hox_stream::{Exits, Finish, Inlet, LineRefusal, Outlet, net_with_exits, stream};
+use hox_stream::{
+    Exits, Finish, LineRefusal, NameFault, OpenStream, Outlet, Served, StreamFault, open_stream,
+    serve,
+};
 use kpn_body::Standard;
-use kpn_compute::{Both, CardBody, bodies_of};
-use kpn_flow::Flow;
-use kpn_model::{End, Sort, Text, Verdict};
-use kpn_net::{Net, NetFault, read_sketch};
+use kpn_compute::Both;
+use kpn_model::{End, Text, Verdict};
+use kpn_net::read_sketch;
 use kpn_tokens::LineFault;
 use std::alloc::Global;
 use std::process::Abort;
@@ -30,38 +32,23 @@ channel = [
 ]
 "#;
 
-/// The network of the sums, whose sink stops at once.
-fn sums(alloc: Global) -> Result<Net<Kinds>, NetFault> {
-    let sketch = read_sketch(alloc, SUMS.as_bytes())?;
-    let Ok(name) = String::from_str(alloc, "y") else {
-        return Err(NetFault::Memory);
-    };
-    net_with_exits::<Standard>(alloc, sketch, &[Text::new(name)])
-}
-
-/// A flow of it.
-fn opened<R: Abort>(rt: &R, alloc: Global) -> Flow<CardBody<Kinds>> {
-    let net = sums(alloc).expect(rt, "no network");
-    let bodies = bodies_of(alloc, &net).expect(rt, "no memory for the bodies");
-    match Flow::open(alloc, net, bodies, &[0], &[4]) {
-        Ok(flow) => flow,
-        Err(_) => panic!(rt; "no flow"),
+/// The stream of the sums, in which these channels are fed and drained.
+fn opened(alloc: Global, fed: &str, drained: &str) -> Result<OpenStream<Kinds>, StreamFault> {
+    match read_sketch(alloc, SUMS.as_bytes()) {
+        Ok(sketch) => {
+            let (fed, drained) = (name(alloc, fed)?, name(alloc, drained)?);
+            open_stream::<Standard>(alloc, sketch, &[fed], &[drained])
+        }
+        Err(fault) => Err(StreamFault::Description(fault)),
     }
 }
 
-/// The one source, of channel x.
-fn source<'a, R: Abort>(rt: &R, alloc: Global, text: &'a str) -> Vec<Inlet<&'a [u8]>> {
-    let mut inlets = Vec::new(alloc);
-    let inlet = Inlet::new(alloc, 0, Sort::Words, text.as_bytes());
-    assert!(rt; inlets.push(inlet).is_ok());
-    inlets
-}
-
-/// The one sink, of channel y.
-fn sink<R: Abort>(rt: &R, alloc: Global) -> Vec<Outlet<Vec<u8>>> {
-    let mut outlets = Vec::new(alloc);
-    assert!(rt; outlets.push(Outlet::new(4, Vec::new(alloc))).is_ok());
-    outlets
+/// The name of a channel.
+fn name(alloc: Global, name: &str) -> Result<Text, StreamFault> {
+    match String::from_str(alloc, name) {
+        Ok(name) => Ok(Text::new(name)),
+        Err(_) => Err(StreamFault::Memory),
+    }
 }
 
 /// Compares what was written to the one sink.
@@ -75,11 +62,21 @@ fn wrote<R: Abort>(rt: &R, mut outlets: Vec<Outlet<Vec<u8>>>, due: &str) {
 /// Streams a text through the sums, compares what was written and why it ended, and returns whether nothing
 /// is left to do.
 fn streamed<R: Abort>(rt: &R, alloc: Global, text: &str, written: &str, due: Finish) -> bool {
-    let mut flow = opened(rt, alloc);
-    let mut inlets = source(rt, alloc, text);
-    let mut outlets = sink(rt, alloc);
-    let (ins, outs) = (inlets.as_mut_slice(), outlets.as_mut_slice());
-    same(rt, "finish", stream(alloc, &mut flow, ins, outs), due);
+    let Ok(stream) = opened(alloc, "x", "y") else {
+        panic!(rt; "no stream");
+    };
+    let mut sources = Vec::new(alloc);
+    assert!(rt; sources.push(text.as_bytes()).is_ok());
+    let mut sinks: Vec<Vec<u8>> = Vec::new(alloc);
+    assert!(rt; sinks.push(Vec::new(alloc)).is_ok());
+    let served = serve(alloc, stream, sources, sinks).expect(rt, "no memory");
+    let Served {
+        flow,
+        inlets: _,
+        outlets,
+        finish,
+    } = served;
+    same(rt, "finish", finish, due);
     wrote(rt, outlets, written);
     flow.is_exhausted()
 }
@@ -98,4 +95,37 @@ fn a_line_is_refused(rt: HostRuntime) {
     let due = Finish::Line(0, fault);
     streamed(&rt, rt.alloc(), "3\n4\nx\n5\n", "3\n7\n", due);
     same(&rt, "status", due.status(Verdict::RanDry).code(), 2);
+}
+
+/// What is named by the fault for which a stream is not opened.
+fn named(refused: &Result<OpenStream<Kinds>, StreamFault>) -> &str {
+    match refused {
+        Err(StreamFault::Input(NameFault::Busy(0, writer))) => writer.as_str(),
+        Err(StreamFault::Output(NameFault::Busy(0, reader))) => reader.as_str(),
+        Err(StreamFault::Output(NameFault::NoChannel(0))) => "none",
+        _ => "",
+    }
+}
+
+#[test]
+fn names_of_channels_are_checked(rt: HostRuntime) {
+    let alloc = rt.alloc();
+    same(
+        &rt,
+        "fed",
+        named(&opened(alloc, "now", "y")) == "both",
+        true,
+    );
+    same(
+        &rt,
+        "drained",
+        named(&opened(alloc, "x", "last")) == "sum",
+        true,
+    );
+    same(
+        &rt,
+        "unknown",
+        named(&opened(alloc, "x", "z")) == "none",
+        true,
+    );
 }

@@ -12,3 +12,8 @@ loop-k-preserved g c =
 
 pub returns-clause-none : goal.returns-clause-none
 returns-clause-none g c = λ j within from. c.loop-k.invariant j (omega (arith, c.loop-k-test.false)) from
+
+pub returns-then-is_waited_for-clause-waited : goal.returns-then-is_waited_for-clause-waited
+returns-then-is_waited_for-clause-waited g c =
+    let here : c.index-inlets-k.result ≡ inlet_at c.args.inlets.now c.loop-k.k = c.index-inlets-k.is ∙ get_or_default c.args.inlets.now c.loop-k.k c.index-inlets-k.result no_inlet c.loop-k-test.true in
+    sym (c.is_waited_for.ensures ∙ ap (λ (p : InletView). is_waited_for c.args.flow.now p) here) ∙ c.if-is_waited_for.true

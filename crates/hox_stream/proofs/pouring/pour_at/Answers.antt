@@ -1,30 +1,44 @@
 -- The source at its place is poured.
+use Rattle.std.proofs.Common.{◌≡◌, true, get_or, sym, subst, rules}
 use Rattle.std.proofs.lemmas.List.{get_or_default}
 use Rattle.kpn_model.specs.Network.{family_of}
-use Rattle.hox_stream.specs.Views.{no_inlet}
-use Rattle.hox_stream.proofs.Streamed.{refused_there, streams_poured}
+use Rattle.kpn_flow.specs.Flows.{is_among}
+use Rattle.hox_stream.specs.Views.{InletView, no_inlet}
+use Rattle.hox_stream.proofs.Streamed.{failed_there, other_sort_there, refused_there, streams_poured}
 use Rattle.hox_stream.proofs.pouring.pour_at.Goals as goal
 
 pub returns-in-Ok-clause-streams : goal.returns-in-Ok-clause-streams
 returns-in-Ok-clause-streams g c = λ outs.
-    streams_poured (family_of g.B.Kinds.Kinds.start g.B.Kinds.Kinds.answer_of) _ _ c.args.inlets.now outs c.args.k _ c.pour.new.inlet c.requires (get_or_default c.args.inlets.now c.args.k c.index-inlets-k.result no_inlet c.requires) c.pour.ensures.pours
+    streams_poured (family_of g.B.Kinds.Kinds.start g.B.Kinds.Kinds.answer_of) _ _ c.args.inlets.now outs c.args.k _ c.pour.new.inlet c.requires.within (get_or_default c.args.inlets.now c.args.k c.index-inlets-k.result no_inlet c.requires.within) c.pour.ensures.pours
 
 pub returns-in-Err-Line-clause-streams : goal.returns-in-Err-Line-clause-streams
 returns-in-Err-Line-clause-streams g c = λ outs.
-    streams_poured (family_of g.B.Kinds.Kinds.start g.B.Kinds.Kinds.answer_of) _ _ c.args.inlets.now outs c.args.k _ c.pour.new.inlet c.requires (get_or_default c.args.inlets.now c.args.k c.index-inlets-k.result no_inlet c.requires) c.pour.ensures.pours
+    streams_poured (family_of g.B.Kinds.Kinds.start g.B.Kinds.Kinds.answer_of) _ _ c.args.inlets.now outs c.args.k _ c.pour.new.inlet c.requires.within (get_or_default c.args.inlets.now c.args.k c.index-inlets-k.result no_inlet c.requires.within) c.pour.ensures.pours
 
 pub returns-in-Err-Failed-clause-streams : goal.returns-in-Err-Failed-clause-streams
 returns-in-Err-Failed-clause-streams g c = λ outs.
-    streams_poured (family_of g.B.Kinds.Kinds.start g.B.Kinds.Kinds.answer_of) _ _ c.args.inlets.now outs c.args.k _ c.pour.new.inlet c.requires (get_or_default c.args.inlets.now c.args.k c.index-inlets-k.result no_inlet c.requires) c.pour.ensures.pours
+    streams_poured (family_of g.B.Kinds.Kinds.start g.B.Kinds.Kinds.answer_of) _ _ c.args.inlets.now outs c.args.k _ c.pour.new.inlet c.requires.within (get_or_default c.args.inlets.now c.args.k c.index-inlets-k.result no_inlet c.requires.within) c.pour.ensures.pours
 
 pub returns-in-Err-NoInput-clause-streams : goal.returns-in-Err-NoInput-clause-streams
 returns-in-Err-NoInput-clause-streams g c = λ outs.
-    streams_poured (family_of g.B.Kinds.Kinds.start g.B.Kinds.Kinds.answer_of) _ _ c.args.inlets.now outs c.args.k _ c.pour.new.inlet c.requires (get_or_default c.args.inlets.now c.args.k c.index-inlets-k.result no_inlet c.requires) c.pour.ensures.pours
+    streams_poured (family_of g.B.Kinds.Kinds.start g.B.Kinds.Kinds.answer_of) _ _ c.args.inlets.now outs c.args.k _ c.pour.new.inlet c.requires.within (get_or_default c.args.inlets.now c.args.k c.index-inlets-k.result no_inlet c.requires.within) c.pour.ensures.pours
 
 pub returns-in-Err-Memory-clause-streams : goal.returns-in-Err-Memory-clause-streams
 returns-in-Err-Memory-clause-streams g c = λ outs.
-    streams_poured (family_of g.B.Kinds.Kinds.start g.B.Kinds.Kinds.answer_of) _ _ c.args.inlets.now outs c.args.k _ c.pour.new.inlet c.requires (get_or_default c.args.inlets.now c.args.k c.index-inlets-k.result no_inlet c.requires) c.pour.ensures.pours
+    streams_poured (family_of g.B.Kinds.Kinds.start g.B.Kinds.Kinds.answer_of) _ _ c.args.inlets.now outs c.args.k _ c.pour.new.inlet c.requires.within (get_or_default c.args.inlets.now c.args.k c.index-inlets-k.result no_inlet c.requires.within) c.pour.ensures.pours
 
 pub returns-in-Err-Line-clause-finish : goal.returns-in-Err-Line-clause-finish
 returns-in-Err-Line-clause-finish g c = λ outs.
-    refused_there c.args.inlets.now c.args.k c.pour.new.inlet c.in-Err-Line.refusal c.requires (c.in-Err-Line.ensures.line c.in-Err-Line.refusal (cc))
+    refused_there c.args.inlets.now c.args.k c.pour.new.inlet c.in-Err-Line.refusal c.requires.within (c.in-Err-Line.ensures.line c.in-Err-Line.refusal (cc))
+
+pub returns-in-Err-Failed-clause-finish : goal.returns-in-Err-Failed-clause-finish
+returns-in-Err-Failed-clause-finish g c = λ outs. failed_there c.args.inlets.now c.args.k c.pour.new.inlet c.requires.within (c.in-Err-Failed.ensures.failed (cc))
+
+pub returns-in-Err-NoInput-clause-finish : goal.returns-in-Err-NoInput-clause-finish
+returns-in-Err-NoInput-clause-finish g c = λ outs. other_sort_there c.pour.new.flow.network c.args.inlets.now c.args.k c.pour.new.inlet c.requires.within (c.in-Err-NoInput.ensures.no_input (cc))
+
+pub pour-requires : goal.pour-requires
+pour-requires g c =
+    let waited : is_among c.args.flow.now.unended (get_or c.args.inlets.now c.args.k c.index-inlets-k.result).channel ≡ true =
+    subst (λ (p : InletView). is_among c.args.flow.now.unended p.channel ≡ true) (sym (get_or_default c.args.inlets.now c.args.k c.index-inlets-k.result no_inlet c.requires.within)) c.requires.input in
+    search (rules, waited)

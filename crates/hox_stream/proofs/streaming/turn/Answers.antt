@@ -1,6 +1,6 @@
 -- The flow goes on, the sinks are written, and then a source may be poured.
 use Rattle.kpn_model.specs.Network.{family_of}
-use Rattle.hox_stream.proofs.Streamed.{some_each, streams_both, streams_went}
+use Rattle.hox_stream.proofs.Streamed.{streams_both, streams_went}
 use Rattle.hox_stream.proofs.streaming.turn.Goals as goal
 
 pub returns-in-Err-clause-streams : goal.returns-in-Err-clause-streams
@@ -26,7 +26,4 @@ pub returns-in-Starved-clause-streams : goal.returns-in-Starved-clause-streams
 returns-in-Starved-clause-streams g c =
     streams_both (family_of g.B.Kinds.Kinds.start g.B.Kinds.Kinds.answer_of) _ _ _ _ _ _ _ _ _ (
     streams_both (family_of g.B.Kinds.Kinds.start g.B.Kinds.Kinds.answer_of) _ _ _ _ _ _ _ _ _ (streams_went (family_of g.B.Kinds.Kinds.start g.B.Kinds.Kinds.answer_of) _ _ c.args.inlets.now c.args.outlets.now _ _ _ _ _ _ c.advance-pause.ensures.same c.advance-pause.ensures.advances) (c.tell_all.ensures.streams c.args.inlets.now)
-    ) (c.pour_next.ensures.streams c.tell_all.new.outlets)
-
-pub returns-in-Starved-clause-finish : goal.returns-in-Starved-clause-finish
-returns-in-Starved-clause-finish g c = some_each _ c.pour_next.result c.pour_next.ensures.finish c.tell_all.new.outlets
+    ) (c.pour.ensures.streams)

@@ -7,8 +7,8 @@ use Rattle.hox_stream.proofs.inlet.Inlet.refill.Goals as goal
 all_left : (xs : List ℕ) (n : ℕ) → take (length xs - n) (drop n xs) ≡ drop n xs
 all_left xs n = take_all (length xs - n) (drop n xs) (omega (arith, length-drop n xs))
 
-pub returns : goal.returns
-returns g c =
+pub returns-clause-reads : goal.returns-clause-reads
+returns-clause-reads g c =
     rw (← c.self.view_is) (record {
       channel = refl;
       sort = refl;

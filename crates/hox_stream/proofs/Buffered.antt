@@ -1,0 +1,18 @@
+-- What waits to be written, behind what was written.
+use Rattle.std.proofs.Common.{◌≡◌, ◌++◌, List, [], Option, None, Some, ℕ, refl, sym, ap, append_assoc, append-nil}
+use Rattle.std.specs.Io.KnownBytes.{Appends, append_known}
+
+pub append_known_nil : (known : Option (List ℕ)) → append_known known [] ≡ known
+append_known_nil None = refl
+append_known_nil (Some bytes) = ap (λ (l : List ℕ). Some l) (append-nil bytes)
+
+-- more waits
+pub append_known_more : (known : Option (List ℕ)) (waiting more : List ℕ) → Appends (append_known known waiting) (append_known known (waiting ++ more)) more
+append_known_more None waiting more = tt
+append_known_more (Some bytes) waiting more = sym (append_assoc bytes waiting more)
+
+-- what waited was written
+pub append_known_written : (known new : Option (List ℕ)) (waiting : List ℕ) → Appends known new waiting → Appends (append_known known waiting) (append_known new []) []
+append_known_written None new waiting written = tt
+append_known_written (Some bytes) None waiting written = absurd written
+append_known_written (Some bytes) (Some more) waiting written = ap (λ l. l ++ []) written

@@ -1,0 +1,26 @@
+-- What came out is written where a source may have to be read on.
+use Rattle.std.proofs.Common.{List, sym, subst}
+use Rattle.kpn_model.specs.Network.{family_of}
+use Rattle.hox_stream.specs.Streams.{Streams}
+use Rattle.hox_stream.specs.Views.{OutletView}
+use Rattle.hox_stream.proofs.Streamed.{some_each, streams_both}
+use Rattle.hox_stream.proofs.streaming.pour.Goals as goal
+use Rattle.hox_stream.proofs.streaming.pour.Goals.{then-wants_more+in_default, else-wants_more}
+
+pub returns-in-Err-clause-streams : goal.returns-in-Err-clause-streams
+returns-in-Err-clause-streams g c = c.flush_all.ensures.streams (family_of g.B.Kinds.Kinds.start g.B.Kinds.Kinds.answer_of) c.args.flow.now c.args.inlets.now
+
+pub returns-in-Err-clause-finish : goal.returns-in-Err-clause-finish
+returns-in-Err-clause-finish g c = c.in-Err.ensures.finish (family_of g.B.Kinds.Kinds.start g.B.Kinds.Kinds.answer_of) c.args.flow.now c.args.inlets.now
+
+pub returns-clause-streams : goal.returns-clause-streams
+returns-clause-streams g c =
+    let Left : List OutletView → Type 0 = λ outs. Streams (family_of g.B.Kinds.Kinds.start g.B.Kinds.Kinds.answer_of) c.args.flow.now c.pour_next.new.flow c.args.inlets.now c.pour_next.new.inlets c.args.outlets.now outs in
+    elim c.if-wants_more.branch [
+      | then-wants_more+in_default w ↦
+          subst Left (sym w.outlets-is) (streams_both (family_of g.B.Kinds.Kinds.start g.B.Kinds.Kinds.answer_of) _ _ _ _ _ _ _ _ _ (w.flush_all.ensures.streams (family_of g.B.Kinds.Kinds.start g.B.Kinds.Kinds.answer_of) c.args.flow.now c.args.inlets.now) (c.pour_next.ensures.streams w.flush_all.new.outlets))
+      | else-wants_more w ↦ subst Left (sym w.outlets-is) (c.pour_next.ensures.streams c.args.outlets.now)
+    ]
+
+pub returns-clause-finish : goal.returns-clause-finish
+returns-clause-finish g c = some_each _ c.pour_next.result c.pour_next.ensures.finish c.if-wants_more.outlets

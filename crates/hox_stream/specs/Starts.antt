@@ -1,0 +1,100 @@
+-- A stream at its start, and why one is not opened.
+use Rattle.std.specs.Prelude.{◌≡◌, ◌≢◌, ◌<◌, ◌||◌, ℕ, Bool, true, false, not, List, [], length, map, get_or, position, slice_get, option_map, Option, Some, None}
+use Rattle.std.specs.List.{list_any}
+use Rattle.std.specs.Str.{bytes_eq}
+use Rattle.kpn_model.specs.declared.kinds.Card.{Card}
+use Rattle.kpn_model.specs.declared.kinds.Signature.{Signature}
+use Rattle.kpn_model.specs.declared.parts.Channel.{Channel}
+use Rattle.kpn_model.specs.declared.parts.Process.{Process}
+use Rattle.kpn_model.specs.Network.{Family, Network, channel_of}
+use Rattle.kpn_model.specs.Semantics.{start}
+use Rattle.kpn_sketch.specs.declared.fault.NetFault.{NetFault}
+use Rattle.kpn_sketch.specs.declared.fault.NetFault.TheVariants.{Memory as NoMemoryForNet}
+use Rattle.kpn_sketch.specs.declared.sketch.Sketch.{Sketch}
+use Rattle.kpn_net.specs.Faults.{first_fault}
+use Rattle.kpn_flow.specs.Ends.{has_twice, stops_at_once}
+use Rattle.kpn_flow.specs.Flows.{FlowView, AreEnds, is_among, nothing_counted}
+use Rattle.hox_stream.specs.declared.starting.Way.{Way}
+use Rattle.hox_stream.specs.declared.starting.Way.TheVariants.{In, Out}
+use Rattle.hox_stream.specs.declared.starting.NameFault.{NameFault}
+use Rattle.hox_stream.specs.declared.starting.NameFault.TheVariants.{NoChannel, Busy, Memory as NoMemory}
+use Rattle.hox_stream.specs.declared.starting.StreamFault.{StreamFault}
+use Rattle.hox_stream.specs.declared.starting.StreamFault.TheVariants.{Description, Input, Output, Twice, Memory}
+
+-- the number of the channel of this name
+abbrev pub number_of_channel : Network → List ℕ → Option ℕ
+number_of_channel net name = position (λ c. bytes_eq c.name name) net.channels
+
+-- the channels of these names, in order
+abbrev pub AreNamed : Network → List (List ℕ) → List ℕ → Type 0
+AreNamed net names channels = map (number_of_channel net) names ≡ map Some channels
+
+-- the process of this number has this name
+abbrev pub IsNameOf : Network → ℕ → List ℕ → Type 0
+IsNameOf net p name = option_map (λ (x : Process). x.name) (slice_get net.processes p) ≡ Some name
+
+abbrev pub cards_in : Network → List Card
+cards_in net = map (λ (x : Process). x.card) net.processes
+
+-- the process at the outer end: the writer of a channel that is fed, the reader of one that is drained
+abbrev pub outer_process : Way → Channel → ℕ
+outer_process In c = c.writer
+outer_process Out c = c.reader
+
+-- a channel stands in the lists of inputs and outputs twice
+abbrev pub is_twice : List ℕ → List ℕ → Bool
+is_twice inputs outputs = (has_twice inputs || has_twice outputs) || list_any (is_among outputs) inputs
+
+-- a flow at the start of its network, with these inputs and outputs, of which none is named twice
+pub record IsStart (kinds : Family) (s : FlowView) (inputs outputs : List ℕ) : Type 0 where
+  pub state : s.state ≡ start kinds s.network
+  pub inputs_are : inputs ≡ s.inputs
+  pub outputs_are : outputs ≡ s.outputs
+  pub inputs_apart : has_twice inputs ≡ false
+  pub outputs_apart : has_twice outputs ≡ false
+
+-- the fault of a sketch that describes no network
+abbrev pub IsNoNetwork : (List ℕ → Option (ℕ × ℕ)) → (Card → Option Signature) → Sketch → NetFault → Type 0
+IsNoNetwork named ports sketch fault = fault ≢ NoMemoryForNet → first_fault named ports sketch ≡ Some fault
+
+-- why a stream with these inputs and outputs is not opened
+abbrev pub IsStartFault : List ℕ → List ℕ → StreamFault → Type 0
+IsStartFault inputs outputs Twice = is_twice inputs outputs ≡ true
+IsStartFault inputs outputs Memory = Unit {0}
+IsStartFault inputs outputs (Description fault) = ⊥
+IsStartFault inputs outputs (Input fault) = ⊥
+IsStartFault inputs outputs (Output fault) = ⊥
+
+module _ (kinds : Family) (net : Network) where
+  -- the process at the outer end of c does more than to stop
+  abbrev pub is_busy : Way → ℕ → Bool
+  is_busy way c = not (stops_at_once kinds (cards_in net) (outer_process way (channel_of net c)))
+
+  -- the flow stands at the start of the network; only the outside is at its ends
+  pub record IsFresh (s : FlowView) : Type 0 where
+    pub network : s.network ≡ net
+    pub state : s.state ≡ start kinds net
+    pub unended : s.unended ≡ s.inputs
+    pub counts : s.counts ≡ nothing_counted
+    pub ends : AreEnds kinds net s.inputs s.outputs
+
+  -- and its inputs are the channels of the first names, its outputs those of the others
+  pub record IsStarted (fed drained : List (List ℕ)) (s : FlowView) : Type 0 where
+    pub fresh : IsFresh s
+    pub inputs : AreNamed net fed s.inputs
+    pub outputs : AreNamed net drained s.outputs
+
+  -- why the channel of one of these names can't be fed, or drained
+  abbrev pub IsNameFault : Way → List (List ℕ) → NameFault → Type 0
+  IsNameFault way names (NoChannel k) = (k < length names) × (number_of_channel net (get_or names k []) ≡ None)
+  IsNameFault way names (Busy k name) =
+      (k < length names) × ((c : ℕ) × (number_of_channel net (get_or names k []) ≡ Some c) × (is_busy way c ≡ true) × IsNameOf net (outer_process way (channel_of net c)) name)
+  IsNameFault way names NoMemory = Unit {0}
+
+  -- why a stream with these inputs and outputs is not opened; its description may have a fault itself
+  abbrev pub IsStreamFault : (NetFault → Type 0) → List (List ℕ) → List (List ℕ) → StreamFault → Type 0
+  IsStreamFault no_network fed drained (Description fault) = no_network fault
+  IsStreamFault no_network fed drained (Input fault) = IsNameFault In fed fault
+  IsStreamFault no_network fed drained (Output fault) = IsNameFault Out drained fault
+  IsStreamFault no_network fed drained Twice = (inputs : List ℕ) × (outputs : List ℕ) × AreNamed net fed inputs × AreNamed net drained outputs × (is_twice inputs outputs ≡ true)
+  IsStreamFault no_network fed drained Memory = Unit {0}

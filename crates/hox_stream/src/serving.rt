@@ -1,0 +1,134 @@
+//! A stream from its start to its end.
+ghost use Rattle.std.specs.Prelude.{◌≡◌, IfOk};
+ghost use Rattle.kpn_model.specs.Network.{channel_of, family_of};
+ghost use Rattle.hox_stream.specs.Serves.{Serves, new_inlet, new_inlets, new_outlets};
+
+use crate::finish::Finish;
+use crate::inlet::Inlet;
+use crate::outlet::Outlet;
+use crate::starting::OpenStream;
+use crate::streaming::stream;
+use kpn_compute::{CardBody, Computes};
+use kpn_flow::Flow;
+use kpn_front::{Sink, Source};
+use kpn_model::{Kinds, Sort};
+use kpn_net::Net;
+use std::alloc::{AllocError, Global};
+
+/// What is left of a stream that ended: its flow, what is left of its sources and its sinks, in order, and why it
+/// ended.
+#[derive(Drop)]
+pub struct Served<F: Computes, I: Source, O: Sink> {
+    pub flow: Flow<CardBody<F>>,
+    pub inlets: Vec<Inlet<I>>,
+    pub outlets: Vec<Outlet<O>>,
+    pub finish: Finish,
+}
+
+/// Runs a stream from its start until it has come to its end. The first source is for the first of the channels
+/// that are fed, and so on, and the first sink for the first of those that are drained; those beyond are let go.
+/// What came out is written before a source is read on, and at the end; and a source is read only where a process
+/// waits for its tokens.
+///
+/// What was fed into the channel of each source is what the lines say that were read of it, and what was drained
+/// of the channel of each sink is what was written to it, one token a line. So what is written begins the stream of
+/// every run of the network into whose inputs the same comes (Kahn 1974), and the pieces in which it was read don't
+/// matter (docs/endless.md).
+///
+/// Memory is taken for what is held of a source, at most 8,192 bytes, for what waits to be written to a sink, some
+/// 4,096 bytes, and for growths.
+///
+/// Errors: memory was refused before anything was read or written.
+pub fn serve<F: Computes, I: Source + Drop, O: Sink + Drop>(
+    alloc: Global,
+    opened: OpenStream<F>,
+    sources: Vec<I>,
+    sinks: Vec<O>,
+) -> Result<Served<F, I, O>, AllocError>
+    ensures { IfOk result (λ r. Serves (family_of F.start F.answer_of) opened r.flow (new_inlets I.remaining I.has_failed opened.network opened.inputs sources.items) r.inlets.items (new_outlets O.seen opened.outputs sinks.items) r.outlets.items r.finish) }
+{
+    let OpenStream {
+        mut flow,
+        inputs,
+        outputs,
+    } = opened;
+    let mut inlets = inlets_of(alloc, flow.net(), inputs.as_slice(), sources)?;
+    let mut outlets = outlets_of(alloc, outputs.as_slice(), sinks)?;
+    let finish = stream(
+        alloc,
+        &mut flow,
+        inlets.as_mut_slice(),
+        outlets.as_mut_slice(),
+    );
+    Ok(Served {
+        flow,
+        inlets,
+        outlets,
+        finish,
+    })
+}
+
+/// The sources, each for the channel at its place.
+fn inlets_of<K: Kinds, S: Source + Drop>(
+    alloc: Global,
+    net: &Net<K>,
+    channels: &[usize],
+    sources: Vec<S>,
+) -> Result<Vec<Inlet<S>>, AllocError>
+    ensures { IfOk result (λ v. v.items ≡ new_inlets S.remaining S.has_failed net.now channels.now sources.items) }
+{
+    let mut inlets = Vec::new(alloc);
+    let mut left = channels;
+    for source in sources {
+        let Some((channel, later)) = left.split_first() else {
+            continue;
+        };
+        left = later;
+        inlets.push(inlet_for(alloc, net, *channel, source))?;
+    }
+    Ok(inlets)
+}
+
+/// A source for a channel, whose sort its tokens have.
+fn inlet_for<K: Kinds, S: Source>(
+    alloc: Global,
+    net: &Net<K>,
+    channel: usize,
+    source: S,
+) -> Inlet<S>
+    ensures { result ≡ new_inlet net.now channel (S.remaining source) (S.has_failed source) }
+{
+    let sort = sort_of(net, channel);
+    Inlet::new(alloc, channel, sort, source)
+}
+
+/// The sort of a channel; words if there is no such channel.
+fn sort_of<K: Kinds>(net: &Net<K>, channel: usize) -> Sort
+    ensures { result ≡ (channel_of net.now channel).sort }
+{
+    if channel < net.channels() {
+        net.sort(channel)
+    } else {
+        Sort::Words
+    }
+}
+
+/// The sinks, each for the channel at its place.
+fn outlets_of<S: Sink + Drop>(
+    alloc: Global,
+    channels: &[usize],
+    sinks: Vec<S>,
+) -> Result<Vec<Outlet<S>>, AllocError>
+    ensures { IfOk result (λ v. v.items ≡ new_outlets S.seen channels.now sinks.items) }
+{
+    let mut outlets = Vec::new(alloc);
+    let mut rest = channels;
+    for sink in sinks {
+        let Some((channel, later)) = rest.split_first() else {
+            continue;
+        };
+        rest = later;
+        outlets.push(Outlet::new(alloc, *channel, sink))?;
+    }
+    Ok(outlets)
+}

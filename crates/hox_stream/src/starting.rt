@@ -1,0 +1,271 @@
+//! The start of a stream.
+ghost use Rattle.std.specs.Prelude.{◌≡◌, ◌<◌, false, [], Some, IfOk, IfErr, IfSome, OnOk, length, map, get_or};
+ghost use Rattle.std.specs.List.{list_any};
+ghost use Rattle.kpn_compute.specs.Both.{both_family, both_named, both_ports};
+ghost use Rattle.kpn_model.specs.Network.{channel_of, family_of};
+ghost use Rattle.kpn_flow.specs.Ends.{has_twice, is_no_channel, stops_at_once};
+ghost use Rattle.kpn_flow.specs.Flows.{is_among};
+ghost use Rattle.kpn_net.specs.Sketched.{net_of};
+ghost use Rattle.hox_stream.specs.Exits.{exit_named, exit_ports, exits, with_exits};
+ghost use Rattle.hox_stream.specs.Starts.{AreNamed, IsFresh, IsNameFault, IsNameOf, IsNoNetwork, IsStarted, IsStartFault, IsStreamFault, cards_in, is_busy, number_of_channel, outer_process};
+
+use crate::exits::Exits;
+use crate::opening::net_with_exits;
+use kpn_body::Body;
+use kpn_compute::{Both, CardBody, Computes, bodies_of};
+use kpn_flow::{Flow, FlowFault};
+use kpn_model::{Act, Kinds, Text};
+use kpn_net::{Net, NetFault, Sketch};
+use std::alloc::{AllocError, Global};
+use std::marker::Model;
+
+/// Which way tokens go at an end of a stream.
+#[derive(Clone, Copy, Debug, PartialEq, Eq)]
+pub(crate) enum Way {
+    In,
+    Out,
+}
+
+/// Why a channel can't be fed, or drained, whose name stands at a place, counted from 0.
+#[derive(Drop)]
+pub enum NameFault {
+    /// No channel has the name.
+    NoChannel(usize),
+    /// The process at the outer end of the channel, which has this name, does more than to stop: the writer of a
+    /// channel that is to be fed, or the reader of one that is to be drained.
+    Busy(usize, Text),
+    /// Memory was refused.
+    Memory,
+}
+
+/// Why a stream was not opened.
+#[derive(Drop)]
+pub enum StreamFault {
+    /// The description has this fault.
+    Description(NetFault),
+    /// A channel can't be fed.
+    Input(NameFault),
+    /// A channel can't be drained.
+    Output(NameFault),
+    /// A channel is named twice.
+    Twice,
+    /// Memory was refused.
+    Memory,
+}
+
+/// A stream at its start: a flow, and which of its channels are fed and drained, in order. Contracts see the flow.
+#[derive(Drop)]
+pub struct OpenStream<F: Computes> {
+    pub(crate) flow: Flow<CardBody<F>>,
+    pub(crate) inputs: Vec<usize>,
+    pub(crate) outputs: Vec<usize>,
+}
+
+impl<F: Computes> Model for OpenStream<F> {
+    ghost use Rattle.kpn_model.specs.Network.{family_of};
+    ghost use Rattle.kpn_flow.specs.Flows.{FlowView};
+    ghost use Rattle.hox_stream.specs.Starts.{IsStart};
+
+    ghost Value = { FlowView };
+
+    ghost view = { λ m. m.flow };
+
+    ghost invariant = { λ m. IsStart (family_of F.start F.answer_of) m.flow m.inputs.items m.outputs.items };
+}
+
+/// Opens the stream of the network that a sketch describes, at its start, from the names of the channels that will
+/// be fed and of those that will be drained. What only reads a channel that is drained stops at once, as
+/// [`Exits`] do.
+///
+/// Errors: the fault that the sketch then has; the first name whose channel can't be fed, and then the first whose
+/// channel can't be drained; a channel that is named twice; or memory was refused.
+pub fn open_stream<K: Computes>(
+    alloc: Global,
+    sketch: Sketch,
+    fed: &[Text],
+    drained: &[Text],
+) -> Result<OpenStream<Both<K, Exits>>, StreamFault>
+    ensures ok { IfOk result (IsStarted (both_family (family_of K.start K.answer_of) exits) (net_of (both_named K.named exit_named) (with_exits drained.now sketch)) fed.now drained.now) }
+    ensures fault { IfErr result (IsStreamFault (both_family (family_of K.start K.answer_of) exits) (net_of (both_named K.named exit_named) (with_exits drained.now sketch)) (IsNoNetwork (both_named K.named exit_named) (both_ports K.signature exit_ports) (with_exits drained.now sketch)) fed.now drained.now) }
+{
+    match net_with_exits::<K>(alloc, sketch, drained) {
+        Ok(net) => open_net(alloc, net, fed, drained),
+        Err(fault) => Err(StreamFault::Description(fault)),
+    }
+}
+
+/// The stream of a network, at its start.
+fn open_net<F: Computes>(
+    alloc: Global,
+    net: Net<F>,
+    fed: &[Text],
+    drained: &[Text],
+) -> Result<OpenStream<F>, StreamFault>
+    ensures ok { IfOk result (IsStarted (family_of F.start F.answer_of) net fed.now drained.now) }
+    ensures fault { IfErr result (IsStreamFault (family_of F.start F.answer_of) net (λ _. ⊥) fed.now drained.now) }
+{
+    let Ok(bodies) = bodies_of(alloc, &net) else {
+        return Err(StreamFault::Memory);
+    };
+    let inputs = match channels_at(alloc, &net, bodies.as_slice(), Way::In, fed) {
+        Ok(inputs) => inputs,
+        Err(fault) => return Err(StreamFault::Input(fault)),
+    };
+    let outputs = match channels_at(alloc, &net, bodies.as_slice(), Way::Out, drained) {
+        Ok(outputs) => outputs,
+        Err(fault) => return Err(StreamFault::Output(fault)),
+    };
+    start(alloc, net, bodies, inputs, outputs)
+}
+
+/// The stream of a network at its start, with these inputs and outputs.
+fn start<F: Computes>(
+    alloc: Global,
+    net: Net<F>,
+    bodies: Vec<CardBody<F>>,
+    inputs: Vec<usize>,
+    outputs: Vec<usize>,
+) -> Result<OpenStream<F>, StreamFault>
+    requires cards { map ⟦<CardBody<F> as Body>⟧.card bodies.items ≡ cards_in net }
+    requires inputs { list_any (is_no_channel net) inputs.items ≡ false }
+    requires outputs { list_any (is_no_channel net) outputs.items ≡ false }
+    requires fed { list_any (is_busy (family_of F.start F.answer_of) net Way.In) inputs.items ≡ false }
+    requires drained { list_any (is_busy (family_of F.start F.answer_of) net Way.Out) outputs.items ≡ false }
+    ensures fresh { IfOk result (IsFresh (family_of F.start F.answer_of) net) }
+    ensures inputs { IfOk result (λ s. s.inputs ≡ inputs.items) }
+    ensures outputs { IfOk result (λ s. s.outputs ≡ outputs.items) }
+    ensures fault { IfErr result (IsStartFault inputs.items outputs.items) }
+{
+    if has_twice(inputs.as_slice()) || has_twice(outputs.as_slice()) {
+        return Err(StreamFault::Twice);
+    }
+    match Flow::open(alloc, net, bodies, inputs.as_slice(), outputs.as_slice()) {
+        Ok(flow) => Ok(OpenStream {
+            flow,
+            inputs,
+            outputs,
+        }),
+        Err(refused) => match refused.fault {
+            FlowFault::Twice => Err(StreamFault::Twice),
+            FlowFault::Memory => Err(StreamFault::Memory),
+            _ => unreachable!(),
+        },
+    }
+}
+
+/// Whether a channel stands in a list twice.
+fn has_twice(channels: &[usize]) -> bool
+    ensures { result ≡ has_twice channels.now }
+{
+    let mut rest = channels;
+    while let Some((first, later)) = rest.split_first() {
+        if is_among(later, *first) {
+            return true;
+        }
+        rest = later;
+    }
+    false
+}
+
+/// Whether a channel is in a list.
+fn is_among(channels: &[usize], channel: usize) -> bool
+    ensures { result ≡ is_among channels.now channel }
+{
+    channels.iter().any(|c| *c == channel)
+}
+
+/// The channels of these names, in order, if each may be fed, or drained.
+fn channels_at<B: Body>(
+    alloc: Global,
+    net: &Net<B::Kinds>,
+    bodies: &[B],
+    way: Way,
+    names: &[Text],
+) -> Result<Vec<usize>, NameFault>
+    requires { map B.card bodies.now ≡ cards_in net.now }
+    ensures named { IfOk result (λ v. AreNamed net.now names.now v.items) }
+    ensures within { IfOk result (λ v. list_any (is_no_channel net.now) v.items ≡ false) }
+    ensures idle { IfOk result (λ v. list_any (is_busy (family_of B.Kinds.start B.Kinds.answer_of) net.now way) v.items ≡ false) }
+    ensures fault { IfErr result (IsNameFault (family_of B.Kinds.start B.Kinds.answer_of) net.now way names.now) }
+{
+    let mut channels = Vec::new(alloc);
+    for k in 0..names.len() {
+        let channel = channel_at(alloc, net, bodies, way, names, k)?;
+        if channels.push(channel).is_err() {
+            return Err(NameFault::Memory);
+        }
+    }
+    Ok(channels)
+}
+
+/// The channel of the name at place `k`, if it may be fed, or drained.
+fn channel_at<B: Body>(
+    alloc: Global,
+    net: &Net<B::Kinds>,
+    bodies: &[B],
+    way: Way,
+    names: &[Text],
+    k: usize,
+) -> Result<usize, NameFault>
+    requires cards { map B.card bodies.now ≡ cards_in net.now }
+    requires within { k < length names.now }
+    ensures named { IfOk result (λ c. number_of_channel net.now (get_or names.now k []) ≡ Some c) }
+    ensures within { IfOk result (λ c. is_no_channel net.now c ≡ false) }
+    ensures idle { IfOk result (λ c. is_busy (family_of B.Kinds.start B.Kinds.answer_of) net.now way c ≡ false) }
+    ensures fault { IfErr result (IsNameFault (family_of B.Kinds.start B.Kinds.answer_of) net.now way names.now) }
+{
+    let Some(channel) = find_within(net, names[k].as_str()) else {
+        return Err(NameFault::NoChannel(k));
+    };
+    let process = outer_process(net, way, channel);
+    if stops_at_once(bodies, process) {
+        return Ok(channel);
+    }
+    match name_of(alloc, net, process) {
+        Ok(name) => Err(NameFault::Busy(k, name)),
+        Err(_) => Err(NameFault::Memory),
+    }
+}
+
+/// The channel of this name.
+fn find_within<K: Kinds>(net: &Net<K>, name: &str) -> Option<usize>
+    ensures is { result ≡ number_of_channel net.now name.now }
+    ensures within { IfSome result (λ c. c < length net.now.channels) }
+{
+    net.find_channel(name)
+}
+
+/// The process at the outer end of a channel that is fed, or drained: its writer, or its reader.
+fn outer_process<K: Kinds>(net: &Net<K>, way: Way, channel: usize) -> usize
+    requires { channel < length net.now.channels }
+    ensures is { result ≡ outer_process way (channel_of net.now channel) }
+    ensures within { result < length net.now.processes }
+{
+    net.assure_valid();
+    let ends = net.ends(channel);
+    match way {
+        Way::In => ends.writer,
+        Way::Out => ends.reader,
+    }
+}
+
+/// Whether a process stops at once, as its body answers at its start.
+fn stops_at_once<B: Body>(bodies: &[B], process: usize) -> bool
+    requires { process < length bodies.now }
+    ensures { result ≡ stops_at_once (family_of B.Kinds.start B.Kinds.answer_of) (map B.card bodies.now) process }
+{
+    let body = &bodies[process];
+    let card = body.card();
+    B::Kinds::starts(card);
+    let local = B::Kinds::start(&card);
+    let answer = body.answer(local, None);
+    matches!(answer.act, Act::Stop)
+}
+
+/// The name of a process.
+fn name_of<K: Kinds>(alloc: Global, net: &Net<K>, process: usize) -> Result<Text, AllocError>
+    requires { process < length net.now.processes }
+    ensures { IfOk result (IsNameOf net.now process) }
+{
+    Ok(Text::new(String::from_str(alloc, net.process_name(process))?))
+}
