@@ -149,7 +149,8 @@ fn run_asked<R: Files + Input + Print + Eprint + AllocGlobal + Wait + Clock + Th
         Ok(request) => run_request(
             rt,
             run,
-            (tokens.as_slice(), outputs.as_slice()),
+            tokens.as_slice(),
+            outputs.as_slice(),
             &request,
             is_terminal || run.progress,
         ),
@@ -161,7 +162,8 @@ fn run_asked<R: Files + Input + Print + Eprint + AllocGlobal + Wait + Clock + Th
 fn run_request<R: Files + Input + Print + Eprint + AllocGlobal + Wait + Clock + Threads + Sync>(
     rt: &R,
     run: &RunChoice<'_>,
-    (tokens, outputs): (&[Pair<'_>], &[Pair<'_>]),
+    tokens: &[Pair<'_>],
+    outputs: &[Pair<'_>],
     request: &Request,
     is_shown: bool,
 ) -> u8

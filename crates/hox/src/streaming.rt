@@ -61,7 +61,7 @@ fn open<R: Files + Input + Eprint + AllocGlobal>(
     let text = description(rt, file)?;
     let mut source = text.as_slice();
     match load_by_ports(rt.alloc(), &mut source) {
-        Ok(net) => open_text(rt, file, &net, text.as_slice(), (inputs, outputs)),
+        Ok(net) => open_text(rt, file, &net, text.as_slice(), inputs, outputs),
         Err(refused) => Err(say_refused(rt, file, refused)),
     }
 }
@@ -72,7 +72,8 @@ fn open_text<R: Eprint + AllocGlobal>(
     file: Option<&str>,
     net: &Net<AllKinds>,
     text: &[u8],
-    (inputs, outputs): (&[Pair<'_>], &[Pair<'_>]),
+    inputs: &[Pair<'_>],
+    outputs: &[Pair<'_>],
 ) -> Result<OpenStream<StreamKinds>, u8> {
     match opened(rt.alloc(), text, inputs, outputs) {
         Ok(opened) => Ok(opened),

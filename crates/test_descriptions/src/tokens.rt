@@ -1,7 +1,7 @@
 //! Texts with a token on each line, and what is read of them, worked out by hand.
 use crate::checks::same;
 use kpn_net::Token;
-use kpn_tokens::{LineFault, Sort, TokensFault, read_tokens, token_of_line, tokens_text};
+use kpn_tokens::{LineFault, Sort, TokensFault, append_tokens, read_tokens, token_of_line, tokens_text};
 use std::test::Fail;
 
 /// Words: in decimal and hexadecimal, with comments, blanks, other columns, and no line feed at the end.
@@ -29,8 +29,9 @@ fn reads_flags_line_by_line(rt: HostRuntime) -> Result<(), Fail> {
     let tokens = read_tokens(alloc, Sort::Flags, "true\nfalse # no\n").expect(&rt, "flags");
     let due = [true, false].map(Token::Flag);
     same(&rt, "flags", tokens.as_slice(), due.as_slice());
-    let text = tokens_text(alloc, tokens.as_slice())?;
-    same(&rt, "text", text.as_str(), "true\nfalse\n");
+    let mut text = tokens_text(alloc, tokens.as_slice())?;
+    append_tokens(&mut text, &[Token::Word(5)])?;
+    same(&rt, "text", text.as_str(), "true\nfalse\n5\n");
     Ok(())
 }
 
