@@ -62,9 +62,11 @@ fn status_by<R: Files + Input + Print + Eprint + AllocGlobal + Wait + Clock + Th
     }
 }
 
-fn status_by_texts<
-    R: Files + Input + Print + Eprint + AllocGlobal + Wait + Clock + Threads + Sync,
->(rt: &R, texts: &[&str], is_terminal: bool) -> u8 {
+fn status_by_texts<R: Files + Input + Print + Eprint + AllocGlobal + Wait + Clock + Threads + Sync>(
+    rt: &R,
+    texts: &[&str],
+    is_terminal: bool,
+) -> u8 {
     match read_words(rt.alloc(), texts) {
         Ok(choice) => do_asked(rt, &choice, is_terminal),
         Err(fault) => say_words_refused(rt, &fault),

@@ -35,9 +35,12 @@ pub(crate) fn draw_asked<
 }
 
 /// Draws the network that is described as a request asks for, with these files of tokens.
-fn draw_request<
-    R: Files + Input + Print + Eprint + AllocGlobal + Wait + Clock + Threads + Sync,
->(rt: &R, choice: &DrawChoice<'_>, tokens: &[Pair<'_>], request: &Request) -> u8
+fn draw_request<R: Files + Input + Print + Eprint + AllocGlobal + Wait + Clock + Threads + Sync>(
+    rt: &R,
+    choice: &DrawChoice<'_>,
+    tokens: &[Pair<'_>],
+    request: &Request,
+) -> u8
     requires { HasFewWorkers request.now }
 {
     match draw_file(rt, request, choice) {

@@ -17,10 +17,7 @@ use kpn_model::Token;
 const BATCH: usize = 64;
 
 /// Moves the first tokens of a channel to its sink. Returns whether there were any.
-fn tell<B: Body, S: Sink>(
-    flow: &mut Flow<B>,
-    outlet: &mut Outlet<S>,
-) -> Result<bool, WriteFault>
+fn tell<B: Body, S: Sink>(flow: &mut Flow<B>, outlet: &mut Outlet<S>) -> Result<bool, WriteFault>
     ensures tells { Tells (family_of B.Kinds.start B.Kinds.answer_of) flow.old flow.new outlet.old outlet.new }
     ensures same { IsSameFlow flow.old flow.new }
     ensures none { result ≡ Ok false → flow.new.state ≡ flow.old.state }
