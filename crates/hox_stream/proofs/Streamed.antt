@@ -15,7 +15,7 @@ use Rattle.hox_stream.specs.declared.cutting.LineRefusal.{LineRefusal}
 use Rattle.hox_stream.specs.Cutting.{IsRefused}
 use Rattle.hox_stream.specs.Ports.{Pours, Takes, Tells, Writes}
 use Rattle.hox_stream.specs.declared.finish.Finish.{Finish}
-use Rattle.hox_stream.specs.declared.finish.Finish.TheVariants.{Over, Line, Unread, NoInput, Unwritten, Idle, Memory, Cut}
+use Rattle.hox_stream.specs.declared.finish.Finish.TheVariants.{Over, Line, Unread, OtherSort, Unwritten, Idle, Memory, Cut}
 use Rattle.hox_stream.specs.Streams.{AllFailedStay, AreInletsApart, AreOutletsApart, IsFinish, Streams, inlet_at, outlet_at}
 use Rattle.hox_stream.specs.Views.{InletView, OutletView, no_inlet, no_outlet}
 use Rattle.hox_stream.proofs.Flowed.{at_ends_there, flows_there, same_net_both, same_net_none, same_net_of}
@@ -221,7 +221,7 @@ pub finish_stays : (kinds : Family) (s : FlowView) (ins : List InletView) (outs 
 finish_stays kinds s ins outs after (Over end) still h = h
 finish_stays kinds s ins outs after (Line k refusal) still h = h
 finish_stays kinds s ins outs after (Unread k) still h = h
-finish_stays kinds s ins outs after (NoInput k) still h = h
+finish_stays kinds s ins outs after (OtherSort k) still h = h
 finish_stays kinds s ins outs after (Unwritten k) still h = (subst (λ n. k < n) (sym still.0) h.0, still.1 k h.1)
 finish_stays kinds s ins outs after Idle still h = h
 finish_stays kinds s ins outs after Memory still h = h

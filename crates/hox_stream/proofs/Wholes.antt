@@ -9,7 +9,7 @@ use Rattle.kpn_flow.specs.Flows.{FlowView}
 use Rattle.kpn_flow.specs.Ends.{has_twice}
 use Rattle.kpn_flow.specs.Pieces.{IsOneRunInPieces}
 use Rattle.hox_stream.specs.declared.finish.Finish.{Finish}
-use Rattle.hox_stream.specs.declared.finish.Finish.TheVariants.{NoInput}
+use Rattle.hox_stream.specs.declared.finish.Finish.TheVariants.{OtherSort}
 use Rattle.hox_stream.specs.Serves.{Serves, new_inlet, new_inlets, new_outlet, new_outlets}
 use Rattle.hox_stream.specs.Starts.{IsStart}
 use Rattle.hox_stream.specs.Streams.{AreInletsApart, AreOutletsApart, AreWritten, IsFinish, Streams, inlet_at}
@@ -35,7 +35,7 @@ outlets_apart {X} seen channels once sinks j k h i e =
 
 -- if the tokens of all sources had the sorts of their channels, they still have them
 never_other : (kinds : Family) (s t : FlowView) (ins after : List InletView) (outs left : List OutletView) → Streams kinds s t ins after outs left → AreInletsApart ins
-    → ((k : ℕ) → k < length ins → (inlet_at ins k).sort ≡ (channel_of s.network (inlet_at ins k).channel).sort) → (finish : Finish) → IsFinish kinds t after left finish → (k : ℕ) → finish ≢ NoInput k
+    → ((k : ℕ) → k < length ins → (inlet_at ins k).sort ≡ (channel_of s.network (inlet_at ins k).channel).sort) → (finish : Finish) → IsFinish kinds t after left finish → (k : ℕ) → finish ≢ OtherSort k
 never_other kinds s t ins after outs left x single fit finish h k e =
     let bad = subst (λ (f : Finish). IsFinish kinds t after left f) e h in
     let within : k < length ins = subst (λ n. k < n) x.as_many_inlets bad.0 in

@@ -9,7 +9,7 @@ use Rattle.kpn_flow.specs.Flows.{FlowView, is_among}
 use Rattle.kpn_flow.specs.Pieces.{IsOneRunInPieces}
 use Rattle.kpn_flow.specs.Preloaded.{IsAtEnds}
 use Rattle.hox_stream.specs.declared.finish.Finish.{Finish}
-use Rattle.hox_stream.specs.declared.finish.Finish.TheVariants.{NoInput}
+use Rattle.hox_stream.specs.declared.finish.Finish.TheVariants.{OtherSort}
 use Rattle.hox_stream.specs.Ports.{IsSameNet, Takes, Writes}
 use Rattle.hox_stream.specs.Streams.{AreWritten, IsFinish, inlet_at, outlet_at}
 use Rattle.hox_stream.specs.Views.{InletView, OutletView}
@@ -44,5 +44,5 @@ pub record Serves (kinds : Family) (s t : FlowView) (ins ins_after : List InletV
   pub written : (k : ℕ) → k < length outs → Writes (outlet_at outs k) (outlet_at outs_after k) (drained events (outlet_at outs k).channel)
   pub told : AreWritten outs_after
   pub ended : IsFinish kinds t ins_after outs_after finish
-  pub sorts_fit : (k : ℕ) → finish ≢ NoInput k
+  pub sorts_fit : (k : ℕ) → finish ≢ OtherSort k
   pub one_run : IsOneRunInPieces kinds t

@@ -8,7 +8,7 @@ use Rattle.kpn_flow.specs.Pauses.{NoneCanHelp}
 use Rattle.kpn_flow.specs.Preloaded.{IsAtEnds}
 use Rattle.kpn_flow.specs.Waits.{starves}
 use Rattle.hox_stream.specs.declared.finish.Finish.{Finish}
-use Rattle.hox_stream.specs.declared.finish.Finish.TheVariants.{Over, Line, Unread, NoInput, Unwritten, Idle, Memory, Cut}
+use Rattle.hox_stream.specs.declared.finish.Finish.TheVariants.{Over, Line, Unread, OtherSort, Unwritten, Idle, Memory, Cut}
 use Rattle.hox_stream.specs.Cutting.{IsRefused}
 use Rattle.hox_stream.specs.Ports.{IsSameNet, Takes, Writes}
 use Rattle.hox_stream.specs.Views.{InletView, OutletView, no_inlet, no_outlet}
@@ -60,7 +60,7 @@ abbrev pub IsFinish : Family → FlowView → List InletView → List OutletView
 IsFinish kinds s ins outs (Over end) = NothingGoesOn kinds s.network s.state end × NoneCanHelp kinds s.network s.unended s.outputs s.state
 IsFinish kinds s ins outs (Line k refusal) = (k < length ins) × IsRefused (inlet_at ins k).sort (inlet_at ins k).kept (inlet_at ins k).is_over refusal
 IsFinish kinds s ins outs (Unread k) = (k < length ins) × ((inlet_at ins k).has_failed ≡ true)
-IsFinish kinds s ins outs (NoInput k) = (k < length ins) × ((inlet_at ins k).sort ≢ (channel_of s.network (inlet_at ins k).channel).sort)
+IsFinish kinds s ins outs (OtherSort k) = (k < length ins) × ((inlet_at ins k).sort ≢ (channel_of s.network (inlet_at ins k).channel).sort)
 IsFinish kinds s ins outs (Unwritten k) = (k < length outs) × ((outlet_at outs k).has_failed ≡ true)
 IsFinish kinds s ins outs Idle = NoneIsWaitedFor s ins
 IsFinish kinds s ins outs Memory = Unit {0}

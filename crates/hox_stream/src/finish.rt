@@ -14,10 +14,11 @@ pub enum Finish {
     Over(End),
     /// The next line of this source is refused. What came before it was fed.
     Line(usize, LineRefusal),
-    /// This source could not be read.
+    /// A read of this source has failed.
     Unread(usize),
-    /// The channel of this source is no input of the flow, or its tokens are of another sort.
-    NoInput(usize),
+    /// The channel of this source has another sort than its tokens. `serve` gives each the sort of its channel, and
+    /// never ends so.
+    OtherSort(usize),
     /// This sink could not be written.
     Unwritten(usize),
     /// A process waits for a token in an input for which there is no source.
@@ -41,7 +42,7 @@ impl Finish {
                 Verdict::Full => Status::AtCeiling,
                 Verdict::Memory => Status::MemoryRefused,
             },
-            Finish::Line(..) | Finish::Unread(_) | Finish::NoInput(_) => Status::Refused,
+            Finish::Line(..) | Finish::Unread(_) | Finish::OtherSort(_) => Status::Refused,
             Finish::Unwritten(_) => Status::WriteFailed,
             Finish::Memory => Status::MemoryRefused,
             Finish::Cut => Status::BudgetSpent,

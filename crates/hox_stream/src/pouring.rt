@@ -65,7 +65,7 @@ fn take_lines<B: Body, S: Source>(flow: &mut Flow<B>, inlet: &mut Inlet<S>)
 pub(crate) enum PourFault {
     Line(LineRefusal),
     Failed,
-    NoInput,
+    OtherSort,
     Memory,
 }
 
@@ -81,14 +81,14 @@ fn pour<B: Body, S: Source>(
     ensures ended { inlet.old.is_over ≡ true → inlet.old.kept ≡ [] → flow.new ≡ with_ended flow.old inlet.old.channel }
     ensures line { (refusal : LineRefusalV) → result ≡ Err (PourFault.Line refusal) → IsRefused inlet.new.sort inlet.new.kept inlet.new.is_over refusal }
     ensures failed { result ≡ Err PourFault.Failed → inlet.new.has_failed ≡ true }
-    ensures no_input { result ≡ Err PourFault.NoInput → inlet.new.sort ≢ (channel_of flow.new.network inlet.new.channel).sort }
+    ensures other_sort { result ≡ Err PourFault.OtherSort → inlet.new.sort ≢ (channel_of flow.new.network inlet.new.channel).sort }
 {
     let channel = inlet.channel();
     match inlet.next() {
         Next::Line { said, .. } => {
             if let Some(token) = said {
                 if !flow.may_feed(channel, token) {
-                    return Err(PourFault::NoInput);
+                    return Err(PourFault::OtherSort);
                 }
             }
             take_lines(flow, inlet);
@@ -111,7 +111,7 @@ fn read_on<S: Source>(alloc: Global, inlet: &mut Inlet<S>) -> Result<(), PourFau
     ensures reads { ReadsOn inlet.old inlet.new }
     ensures no_line { (refusal : LineRefusalV) → result ≢ Err (PourFault.Line refusal) }
     ensures failed { result ≡ Err PourFault.Failed → inlet.new.has_failed ≡ true }
-    ensures input { result ≢ Err PourFault.NoInput }
+    ensures same_sort { result ≢ Err PourFault.OtherSort }
 {
     match inlet.refill(alloc) {
         Ok(()) => Ok(()),
@@ -136,7 +136,7 @@ fn pour_at<B: Body, S: Source>(
         Ok(()) => None,
         Err(PourFault::Line(refusal)) => Some(Finish::Line(k, refusal)),
         Err(PourFault::Failed) => Some(Finish::Unread(k)),
-        Err(PourFault::NoInput) => Some(Finish::NoInput(k)),
+        Err(PourFault::OtherSort) => Some(Finish::OtherSort(k)),
         Err(PourFault::Memory) => Some(Finish::Memory),
     }
 }

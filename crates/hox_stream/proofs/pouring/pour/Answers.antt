@@ -22,8 +22,8 @@ returns-then-is_over-clause-pours g c = pours_ended (family_of g.B.Kinds.Kinds.s
 pub returns-else-is_over-clause-pours : goal.returns-else-is_over-clause-pours
 returns-else-is_over-clause-pours g c = pours_read (family_of g.B.Kinds.Kinds.start g.B.Kinds.Kinds.answer_of) _ _ _ c.read_on.ensures.reads
 
-pub returns-then-not-may_feed-clause-no_input : goal.returns-then-not-may_feed-clause-no_input
-returns-then-not-may_feed-clause-no_input g c = λ is same.
+pub returns-then-not-may_feed-clause-other_sort : goal.returns-then-not-may_feed-clause-other_sort
+returns-then-not-may_feed-clause-other_sort g c = λ is same.
     iff_false c.may_feed.ensures c.if-not-may_feed.true
     (record {
       input = rw c.channel-channel.ensures c.requires;

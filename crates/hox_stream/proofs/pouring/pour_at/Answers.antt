@@ -19,8 +19,8 @@ pub returns-in-Err-Failed-clause-streams : goal.returns-in-Err-Failed-clause-str
 returns-in-Err-Failed-clause-streams g c = λ outs.
     streams_poured (family_of g.B.Kinds.Kinds.start g.B.Kinds.Kinds.answer_of) _ _ c.args.inlets.now outs c.args.k _ c.pour.new.inlet c.requires.within (get_or_default c.args.inlets.now c.args.k c.index-inlets-k.result no_inlet c.requires.within) c.pour.ensures.pours
 
-pub returns-in-Err-NoInput-clause-streams : goal.returns-in-Err-NoInput-clause-streams
-returns-in-Err-NoInput-clause-streams g c = λ outs.
+pub returns-in-Err-OtherSort-clause-streams : goal.returns-in-Err-OtherSort-clause-streams
+returns-in-Err-OtherSort-clause-streams g c = λ outs.
     streams_poured (family_of g.B.Kinds.Kinds.start g.B.Kinds.Kinds.answer_of) _ _ c.args.inlets.now outs c.args.k _ c.pour.new.inlet c.requires.within (get_or_default c.args.inlets.now c.args.k c.index-inlets-k.result no_inlet c.requires.within) c.pour.ensures.pours
 
 pub returns-in-Err-Memory-clause-streams : goal.returns-in-Err-Memory-clause-streams
@@ -34,8 +34,8 @@ returns-in-Err-Line-clause-finish g c = λ outs.
 pub returns-in-Err-Failed-clause-finish : goal.returns-in-Err-Failed-clause-finish
 returns-in-Err-Failed-clause-finish g c = λ outs. failed_there c.args.inlets.now c.args.k c.pour.new.inlet c.requires.within (c.in-Err-Failed.ensures.failed (cc))
 
-pub returns-in-Err-NoInput-clause-finish : goal.returns-in-Err-NoInput-clause-finish
-returns-in-Err-NoInput-clause-finish g c = λ outs. other_sort_there c.pour.new.flow.network c.args.inlets.now c.args.k c.pour.new.inlet c.requires.within (c.in-Err-NoInput.ensures.no_input (cc))
+pub returns-in-Err-OtherSort-clause-finish : goal.returns-in-Err-OtherSort-clause-finish
+returns-in-Err-OtherSort-clause-finish g c = λ outs. other_sort_there c.pour.new.flow.network c.args.inlets.now c.args.k c.pour.new.inlet c.requires.within (c.in-Err-OtherSort.ensures.other_sort (cc))
 
 pub pour-requires : goal.pour-requires
 pour-requires g c =
