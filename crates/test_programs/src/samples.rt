@@ -4,8 +4,8 @@ ghost use Rattle.std.specs.Prelude.{◌≡◌, ◌≤◌};
 use crate::checks::same;
 use hox_args::{Choice, WordsFault, channel_and_file, read_words};
 use hox_run::{
-    AllKinds, Fault, FileFault, PresetFault, Progress, Request, Silent, SoFar, TokenFile, execute,
-    load_by_ports, prepare, read_whole, serve, sketch_by_ports,
+    AllKinds, Fault, FileFault, PresetFault, Progress, Request, Silent, SoFar, TokenFile,
+    channel_names, execute, load_by_ports, prepare, read_whole, serve, sketch_by_ports,
 };
 use kpn_net::{Listed, Net, Sort, Text};
 use std::alloc::Global;
@@ -185,9 +185,64 @@ fn a_network_is_run_by_two(rt: HostRuntime) {
     let Ok(net) = net else {
         return same(&rt, "refused", true, false);
     };
+    let names = channel_names(rt.alloc(), &net).expect(&rt, "no memory");
+    are_x_and_y(&rt, "channels", names.as_slice());
     match execute(&rt, rt.alloc(), net, 2, None, &[], &Silent) {
         Ok(told) => same(&rt, "status", told.status.code(), 0),
         Err(_) => same(&rt, "memory", true, false),
+    }
+}
+
+/// Compares these names with those of the two channels.
+fn are_x_and_y<R: Abort>(rt: &R, row: &str, names: &[Text]) {
+    same(rt, row, names.len(), 2);
+    for (name, due) in names.iter().zip(["x", "y"].iter()) {
+        same(rt, row, name.as_str(), *due);
+    }
+}
+
+/// What is asked for where a name stands that no channel has: second among the files of tokens, as that of the
+/// channel to show, or second among the outputs.
+fn misnamed<R: Abort>(rt: &R, alloc: Global, place: &str) -> Request
+    ensures { result.workers ≡ 1 }
+{
+    let mut request = asked(rt, alloc, "1\n", 1);
+    let channel = text_of(rt, alloc, "z");
+    match place {
+        "tokens" => {
+            let text = Listed::new(Vec::new(alloc));
+            let file = TokenFile { channel, text };
+            request.tokens.push(file).expect(rt, "no memory");
+        }
+        "show" => request.show = Some(channel),
+        _ => request.outputs.push(channel).expect(rt, "no memory"),
+    }
+    request
+}
+
+/// The number in a fault of a name that no channel has, and the names that the channels have.
+fn names_in(fault: &Fault) -> (usize, &[Text]) {
+    match fault {
+        Fault::NoHolder(file, names) => (*file, names.as_slice()),
+        Fault::NoShown(names) => (0, names.as_slice()),
+        Fault::NoOutput(output, names) => (*output, names.as_slice()),
+        _ => (0, &[]),
+    }
+}
+
+#[test]
+fn a_name_that_no_channel_has_is_told_with_those_that_they_have(rt: HostRuntime) {
+    for (place, number) in [("tokens", 1), ("show", 0), ("outputs", 1)] {
+        let request = misnamed(&rt, rt.alloc(), place);
+        let mut source = COPY.as_bytes();
+        match serve::<AllKinds, _, _, _>(&rt, rt.alloc(), &request, &mut source, &Silent) {
+            Ok(_) => same(&rt, place, true, false),
+            Err(fault) => {
+                let (found, names) = names_in(&fault);
+                same(&rt, place, found, number);
+                are_x_and_y(&rt, place, names);
+            }
+        }
     }
 }
 
