@@ -6,7 +6,7 @@ import re
 
 import hox_rules
 import networks
-from hox_rules import MOST_TOKENS, Request, Written, check_of, outcomes, prepared
+from hox_rules import MAY_BE_NEGATIVE, MOST_TOKENS, Request, Written, check_of, outcomes, prepared
 from interpreter import CEILING, GREATEST_BUDGET, SIGNALS, WORD, Network, brought, token_text
 from networks import pick, tables
 from program import Program
@@ -141,6 +141,14 @@ def without_sorts(network):
     return {**network, "channel": [{key: it[key] for key in it if key != "sort"} for it in network["channel"]]}
 
 
+def with_negatives(choices, network):
+    """Gives processes of the kinds that take them numbers below 0, and nearly each bound its place."""
+    for it in network["process"]:
+        if it["kind"] in MAY_BE_NEGATIVE and choices.random() < 0.6:
+            args = [-1 - arg if choices.random() < 0.6 else arg for arg in it["args"]]
+            it["args"] = sorted(args) if choices.random() < 0.97 else args
+
+
 def request_of(choices, versions):
     """A request, and what was done to its network."""
     if choices.random() < 0.004 and 1 in versions:
@@ -148,6 +156,7 @@ def request_of(choices, versions):
     if choices.random() < 0.02:
         return Request(toml_text(choices)), "toml"
     network = networks.network(choices, versions)
+    with_negatives(choices, network)
     if choices.random() < 0.5:
         network["budget"] = 4000
     how = pick(choices, ("valid", 18), ("edited", 1), ("bytes", 1))

@@ -4,9 +4,10 @@ import re
 from collections import namedtuple
 from dataclasses import dataclass, field
 
-from interpreter import CEILING, GREATEST_BUDGET, KINDS, SORTS, STATUS, WORD, Network, Refused, load, text_of, token_text
+from interpreter import CEILING, GREATEST_BUDGET, KINDS, SORTS, STATUS, WORD, Network, Refused, args_fit, load, text_of, token_text
 
 MOST_TOKENS = 1000000
+MAY_BE_NEGATIVE = ("constant", "hold", "clip")
 VERDICTS = {"terminated": "finished", "budget": "cut", "ceiling": "full"}
 
 # What the program wrote on standard output and standard error, its exit status, and the files that were there afterwards.
@@ -98,6 +99,15 @@ def port_sort(processes, name, direction, number):
     return SORTS[sorts[number]] if 0 <= number < len(sorts) else None
 
 
+def as_words(sketch):
+    """The description, in which a word stands for each negative argument of the kinds that take such."""
+    for it in sketch["process"]:
+        args = [arg % WORD for arg in it["args"]]
+        if it["kind"] in MAY_BE_NEGATIVE and len(args) == KINDS[it["kind"]][1] and args_fit(it["kind"], args):
+            it["args"] = args
+    return sketch
+
+
 def by_ports(sketch):
     """The description, in which each channel has the sort of its ports where these agree."""
     for it in sketch["channel"]:
@@ -110,7 +120,7 @@ def by_ports(sketch):
 def prepared(request, versions):
     """The description, with the tokens of the files in its channels."""
     try:
-        sketch = load(request.text, versions, by_ports)
+        sketch = load(request.text, versions, lambda sketch: by_ports(as_words(sketch)))
     except Refused:
         raise Stopped(2, "" if request.description == "-" else f"{request.description}: ") from None
     for name, file in request.tokens:

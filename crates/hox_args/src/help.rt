@@ -72,7 +72,8 @@ Kinds of processes, with their arguments and their ports, inputs -> outputs (w a
   delay N         w -> w      writes N zeros, then copies; N from 1 to 4
   low_pass K      w -> w      y += (x - y) / 2^K, rounded down, signed, from y = 0: writes y; K from 0 to 63
   clip LO HI      w -> w      writes the nearest word from LO to HI, signed
-Signed: a word is a number in two's complement, from 2^63 on itself less 2^64.
+Signed: a word is a number in two's complement, from 2^63 on itself less 2^64. V of constant and hold, and LO
+and HI of clip, may be below 0.
 ";
 
 /// What the help of `draw` says of pictures.

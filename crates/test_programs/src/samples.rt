@@ -263,7 +263,37 @@ fn a_channel_has_the_sort_of_its_ports(rt: HostRuntime) {
     same(&rt, "sort", sort, Some(Sort::Flags));
     let mut source = BARE.as_bytes();
     let loaded: Result<Net<AllKinds>, _> = load_by_ports(rt.alloc(), &mut source);
-    same(&rt, "loaded", loaded.is_ok(), true);
+    let Ok(net) = loaded else {
+        return same(&rt, "refused", true, false);
+    };
+    let sort = if net.channels() > 0 {
+        Some(net.sort(0))
+    } else {
+        None
+    };
+    same(&rt, "sort in the network", sort, Some(Sort::Flags));
+}
+
+/// Words of a file within -100 and 100.
+const WITHIN: &str = r#"version = 1
+process = [{ name = "src", kind = "input" }, { name = "p", kind = "clip", args = [-100, 100] }, { name = "snk", kind = "drain" }]
+channel = [{ name = "x", from = "src", to = "p" }, { name = "y", from = "p", to = "snk" }]
+"#;
+
+/// The words of -150, -100, 7 and 101, and those of -100, -100, 7 and 100.
+#[test]
+fn an_argument_may_be_negative(rt: HostRuntime) {
+    let words = "18446744073709551466\n18446744073709551516\n7\n101\n";
+    let request = asked(&rt, rt.alloc(), words, 1);
+    let mut source = WITHIN.as_bytes();
+    match serve::<AllKinds, _, _, _>(&rt, rt.alloc(), &request, &mut source, &Silent) {
+        Ok(told) => {
+            let y = told.outputs.as_slice().first().expect(&rt, "no output");
+            let due = "18446744073709551516\n18446744073709551516\n7\n100\n";
+            same(&rt, "y", y.as_str(), due);
+        }
+        Err(fault) => same(&rt, "refused", fault.status().code(), 0),
+    }
 }
 
 #[test]
