@@ -1,1 +1,2 @@
 pub mod Locations
+pub mod Told

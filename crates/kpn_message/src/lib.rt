@@ -17,7 +17,7 @@ mod message;
 mod processes;
 mod quoted;
 
-pub use every_fault::{MOST_MESSAGES, messages_of_sketch};
+pub use every_fault::{MOST_MESSAGES, Message, Messages, messages_of_sketch};
 pub use lines::line_of_table;
 pub use location::{Location, locate};
 pub use message::message_of;

@@ -539,9 +539,10 @@ static MESSAGES: [&str; 5] = [
 fn faults_that_stand_by_themselves_are_all_told(rt: HostRuntime) {
     let sketch = read_sketch(rt.alloc(), FAULTY.as_bytes()).expect(&rt, "a sketch");
     let messages = messages_of_sketch::<Standard>(rt.alloc(), &sketch, KINDS);
-    same(&rt, "how many", messages.len(), MESSAGES.len());
-    for (message, due) in messages.as_slice().iter().zip(MESSAGES.iter()) {
-        same(&rt, due, message.as_str(), *due);
+    same(&rt, "all", messages.are_all, true);
+    same(&rt, "how many", messages.told.len(), MESSAGES.len());
+    for (message, due) in messages.told.as_slice().iter().zip(MESSAGES.iter()) {
+        same(&rt, due, message.text.as_str(), *due);
     }
     let found = has_fault::<Standard>(&sketch, NetFault::Step);
     same(&rt, "step", found, true);
