@@ -4,7 +4,7 @@ ghost use Rattle.std.specs.Prelude.{◌≤◌, length};
 use hox_run::{AllKinds, KINDS, channel_names, sketch_by_ports};
 use kpn_model::{Kinds, Text};
 use kpn_net::faults::process_named;
-use kpn_net::{Check, Net, NetFault, Sketch, read_sketch};
+use kpn_net::{Check, Net, NetFault, ProcessSketch, Sketch, read_sketch};
 use std::alloc::Global;
 use std::str;
 
@@ -42,10 +42,12 @@ fn fault_of(alloc: Global, text: &[u8]) -> Option<NetFault> {
     checked.err()
 }
 
-/// Says which kind was likely meant by each unknown one, and which process by each name of none.
+/// Says which kind was likely meant by each unknown one, which bounds by two that stand the other way round, and
+/// which process by each name of none.
 pub(crate) fn say_meant<R: Eprint>(rt: &R, file: Option<&str>, sketch: &Sketch) {
     for process in sketch.processes.as_slice() {
         say_kind_meant(rt, file, process.kind.as_str());
+        say_bounds_meant(rt, file, process);
     }
     for channel in sketch.channels.as_slice() {
         say_process_meant(rt, file, sketch, channel.from.as_str());
@@ -64,6 +66,27 @@ fn say_kind_meant<R: Eprint>(rt: &R, file: Option<&str>, name: &str) {
             return say_near(rt, file, name, kind);
         }
     }
+}
+
+/// Says which bounds were likely meant, if the greater one stands first.
+fn say_bounds_meant<R: Eprint>(rt: &R, file: Option<&str>, process: &ProcessSketch) {
+    if process.kind.as_str() != "clip" {
+        return;
+    }
+    let [low, high] = process.args.as_slice() else {
+        return;
+    };
+    if *low <= *high {
+        return;
+    }
+    let _ = match file {
+        None | Some("-") => {
+            eprintln!(rt; "hox: did you mean [{high}, {low}] by [{low}, {high}]?")
+        }
+        Some(file) => {
+            eprintln!(rt; "hox: {file}: did you mean [{high}, {low}] by [{low}, {high}]?")
+        }
+    };
 }
 
 /// Says which process was likely meant, if this is the name of none.
