@@ -1,7 +1,9 @@
 //! Texts with a token on each line, and what is read of them, worked out by hand.
 use crate::checks::same;
 use kpn_net::Token;
-use kpn_tokens::{LineFault, Sort, TokensFault, append_tokens, read_tokens, token_of_line, tokens_text};
+use kpn_tokens::{
+    LineFault, Sort, TokensFault, append_tokens, read_tokens, token_of_line, tokens_text,
+};
 use std::test::Fail;
 
 /// Words: in decimal and hexadecimal, with comments, blanks, other columns, and no line feed at the end.
