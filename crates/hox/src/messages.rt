@@ -85,8 +85,7 @@ fn say_wrong<R: Eprint + AllocGlobal>(rt: &R, file: Option<&str>, text: &[u8], f
         return say_fault_of(rt, file, text, fault);
     };
     let mut is_said = false;
-    let messages = messages_of_sketch::<AllKinds>(rt.alloc(), &sketch, KINDS);
-    for message in &messages.told {
+    for message in &messages_of_sketch::<AllKinds>(rt.alloc(), &sketch, KINDS).told {
         say_of(rt, file, message.text.as_str());
         is_said = true;
     }

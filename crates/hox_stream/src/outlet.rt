@@ -1,15 +1,18 @@
 //! Sinks of tokens.
-ghost use Rattle.std.specs.Prelude.{◌≡◌, [], false, true, IfErr, string_bytes};
+ghost use Rattle.std.specs.Prelude.{◌≡◌, [], false, true, IfErr, IfOk, string_bytes};
 ghost use Rattle.std.specs.Io.KnownBytes.{append_known};
 ghost use Rattle.hox_stream.specs.Ports.{Writes};
 
 use kpn_front::Sink;
 use kpn_tokens::{Token, append_tokens};
-use std::alloc::Global;
+use std::alloc::{AllocError, Global};
 use std::marker::Model;
 
 /// How many bytes wait at most before they are written.
 const PIECE: usize = 4096;
+
+/// How many bytes there is room for at once: those that wait, and the lines of the tokens that are drained at once.
+const ROOM: usize = 8192;
 
 /// Why tokens were not written: a write failed, of which some bytes may have been written; or memory was
 /// refused.
@@ -30,6 +33,8 @@ pub struct Outlet<S: Sink> {
     waiting: String,
     has_failed: bool,
     tokens: u64,
+    /// How many of them were written when nothing waited last.
+    flushed: u64,
 }
 
 impl<S: Sink> Model for Outlet<S> {
@@ -43,20 +48,26 @@ impl<S: Sink> Model for Outlet<S> {
     ghost view = { λ m. record { channel = m.channel; contents = append_known (S.seen m.sink).contents (string_bytes m.waiting); waiting = string_bytes m.waiting; has_failed = m.has_failed; tokens = m.tokens } };
 }
 
-impl<S: Sink> Outlet<S> {
-    /// Makes a sink for the tokens of a channel. Nothing is written yet.
-    pub(crate) fn new(alloc: Global, channel: usize, sink: S) -> Outlet<S>
-        ensures { result ≡ record { channel = channel; contents = (S.seen sink).contents; waiting = []; has_failed = false; tokens = 0 } }
+impl<S: Sink + Drop> Outlet<S> {
+    /// Makes a sink for the tokens of a channel, with room for the lines that wait. Nothing is written yet.
+    ///
+    /// Errors: memory was refused.
+    pub(crate) fn new(alloc: Global, channel: usize, sink: S) -> Result<Outlet<S>, AllocError>
+        ensures { IfOk result (λ o. o ≡ record { channel = channel; contents = (S.seen sink).contents; waiting = []; has_failed = false; tokens = 0 }) }
     {
-        Outlet {
+        let waiting = String::with_capacity(alloc, ROOM)?;
+        Ok(Outlet {
             channel,
             sink,
-            waiting: String::new(alloc),
+            waiting,
             has_failed: false,
             tokens: 0,
-        }
+            flushed: 0,
+        })
     }
+}
 
+impl<S: Sink> Outlet<S> {
     /// Returns the number of the channel.
     pub fn channel(&self) -> usize
         ensures { result ≡ self.now.channel }
@@ -64,7 +75,8 @@ impl<S: Sink> Outlet<S> {
         self.channel
     }
 
-    /// Returns how many tokens were written, or wait to be; `u64::MAX` if they are as many or more.
+    /// Returns how many tokens were written, or wait to be; `u64::MAX` if they are as many or more. After a write
+    /// that has failed, those that were written before it.
     pub fn tokens(&self) -> u64
         ensures { result ≡ self.now.tokens }
     {
@@ -105,6 +117,7 @@ impl<S: Sink> Outlet<S> {
     {
         if append_tokens(&mut self.waiting, tokens).is_err() {
             self.has_failed = true;
+            self.tokens = self.flushed;
             return Err(WriteFault::Memory);
         }
         self.tokens = self.tokens.saturating_add(tokens.len() as u64);
@@ -123,9 +136,11 @@ impl<S: Sink> Outlet<S> {
         }
         if self.sink.write_all(self.waiting.as_bytes()).is_err() {
             self.has_failed = true;
+            self.tokens = self.flushed;
             return Err(WriteFault::Failed);
         }
         self.waiting.clear();
+        self.flushed = self.tokens;
         Ok(())
     }
 }

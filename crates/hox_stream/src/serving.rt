@@ -35,8 +35,8 @@ pub struct Served<F: Computes, I: Source, O: Sink> {
 /// every run of the network into whose inputs the same comes (Kahn 1974), and the pieces in which it was read don't
 /// matter (docs/endless.md).
 ///
-/// Memory is taken for what is held of a source, at most 8,192 bytes, for what waits to be written to a sink, some
-/// 4,096 bytes, and for growths.
+/// Memory is taken for what is held of a source, at most 8,192 bytes, for what waits to be written to a sink, 8,192
+/// bytes, and for growths.
 ///
 /// Errors: memory was refused before anything was read or written.
 pub fn serve<F: Computes, I: Source + Drop, O: Sink + Drop>(
@@ -128,7 +128,8 @@ fn outlets_of<S: Sink + Drop>(
             continue;
         };
         rest = later;
-        outlets.push(Outlet::new(alloc, *channel, sink))?;
+        let outlet = Outlet::new(alloc, *channel, sink)?;
+        outlets.push(outlet)?;
     }
     Ok(outlets)
 }

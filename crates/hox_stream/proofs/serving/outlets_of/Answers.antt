@@ -21,6 +21,6 @@ loop-sink-preserved g c =
     let before = c.loop-sink.invariant in
     let some = c.in-Some-split_first.ensures.cases.0 in
     record {
-      made = made_more _ c.args.channels.now c.loop-sink.yielded c.in-Some.sink c.in-Some-split_first.channel.now c.loop-sink.rest.now c.in-Some-split_first.later.now c.loop-sink.outlets.items c.push.new.self.items c.new.result before.rest some before.made c.in_ok-push.ensures.items c.new.ensures;
+      made = made_more _ c.args.channels.now c.loop-sink.yielded c.in-Some.sink c.in-Some-split_first.channel.now c.loop-sink.rest.now c.in-Some-split_first.later.now c.loop-sink.outlets.items c.push.new.self.items c.in_ok-outlet.outlet before.rest some before.made c.in_ok-push.ensures.items c.in_ok-outlet.ensures;
       rest = sym (zip_more c.args.channels.now c.loop-sink.yielded c.in-Some.sink c.in-Some-split_first.channel.now c.in-Some-split_first.later.now (sym before.rest ∙ some)).1;
     }
