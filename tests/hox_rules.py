@@ -69,19 +69,20 @@ def token_of(cell, sort):
 
 def tokens_of(file, text, sort, most):
     """The tokens of a file: one on each line, in front of a comma or a comment; lines without one count for nothing."""
+    name = "standard input" if file == "-" else file
     try:
         lines = text.decode().split("\n")
     except UnicodeDecodeError:
-        raise Stopped(2, f"{file} is not UTF-8") from None
+        raise Stopped(2, f"{name} is not UTF-8") from None
     tokens = []
     for number, line in enumerate(lines, 1):
         cell = line.partition("#")[0].partition(",")[0].strip()
         if cell:
             tokens.append(token_of(cell, sort))
             if tokens[-1] is None:
-                raise Stopped(2, f"line {number} of {file}: ")
+                raise Stopped(2, f"line {number} of {name}: ")
     if len(tokens) > most:
-        raise Stopped(2, f"{file} has more than {most} tokens")
+        raise Stopped(2, f"{name} has more than {most} tokens")
     return tokens
 
 

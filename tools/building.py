@@ -8,8 +8,14 @@ import made_from
 from room import TOP, Room, crates_below, has_rlib, read_crates
 
 
+class Speaker:
+    """Whose lines these are: a program's that is brought, or those of a build."""
+
+    name = "build"
+
+
 def say(text):
-    print(f"kpn: {text}", file=sys.stderr, flush=True)
+    print(f"{Speaker.name}: {text}", file=sys.stderr, flush=True)
 
 
 def is_program(name):

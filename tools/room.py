@@ -68,7 +68,7 @@ class Room:
         os.makedirs(os.path.dirname(self.folder), exist_ok=True)
         lock = f"{self.folder}.lock"
         open(lock, "a", encoding="utf-8").close()
-        self.held = Held(lock, f"kpn: another build is under way in {TOP}; waiting until it is done")
+        self.held = Held(lock, f"build: another build is under way in {TOP}; waiting until it is done")
         self.held.__enter__()
         shutil.rmtree(self.folder, ignore_errors=True)
         return self
@@ -92,7 +92,7 @@ class Room:
             file.writelines(f"{name}: {' '.join(self.crates[name])}\n" for name in names)
 
     def lock_of(self, name):
-        return Held(os.path.join(TOP, "crates", name), f"kpn: an rt command is at work in crates/{name}; waiting until it is done")
+        return Held(os.path.join(TOP, "crates", name), f"build: an rt command is at work in crates/{name}; waiting until it is done")
 
     def give(self, name):
         """Has the tree keep what was proved of a crate, if nothing else was proved of it meanwhile."""

@@ -1,7 +1,7 @@
 //! What would do for a refused description, and for a name that no channel has.
 ghost use Rattle.std.specs.Prelude.{◌≤◌, length};
 
-use hox_run::{AllKinds, KINDS, channel_names, sketch_by_ports};
+use hox_run::{AllKinds, KINDS, sketch_by_ports};
 use kpn_model::{Kinds, Text};
 use kpn_net::faults::process_named;
 use kpn_net::{Check, Net, NetFault, ProcessSketch, Sketch, read_sketch};
@@ -44,7 +44,7 @@ fn fault_of(alloc: Global, text: &[u8]) -> Option<NetFault> {
 
 /// Says which kind was likely meant by each unknown one, which bounds by two that stand the other way round, and
 /// which process by each name of none.
-pub(crate) fn say_meant<R: Eprint>(rt: &R, file: Option<&str>, sketch: &Sketch) {
+pub(crate) fn say_meant<R: Eprint>(rt: &R, file: &str, sketch: &Sketch) {
     for process in sketch.processes.as_slice() {
         say_kind_meant(rt, file, process.kind.as_str());
         say_bounds_meant(rt, file, process);
@@ -56,7 +56,7 @@ pub(crate) fn say_meant<R: Eprint>(rt: &R, file: Option<&str>, sketch: &Sketch) 
 }
 
 /// Says which kind was likely meant, if this is the name of none.
-fn say_kind_meant<R: Eprint>(rt: &R, file: Option<&str>, name: &str) {
+fn say_kind_meant<R: Eprint>(rt: &R, file: &str, name: &str) {
     if AllKinds::named(name).is_some() {
         return;
     }
@@ -69,7 +69,7 @@ fn say_kind_meant<R: Eprint>(rt: &R, file: Option<&str>, name: &str) {
 }
 
 /// Says which bounds were likely meant, if the greater one stands first.
-fn say_bounds_meant<R: Eprint>(rt: &R, file: Option<&str>, process: &ProcessSketch) {
+fn say_bounds_meant<R: Eprint>(rt: &R, file: &str, process: &ProcessSketch) {
     if process.kind.as_str() != "clip" {
         return;
     }
@@ -80,17 +80,13 @@ fn say_bounds_meant<R: Eprint>(rt: &R, file: Option<&str>, process: &ProcessSket
         return;
     }
     let _ = match file {
-        None | Some("-") => {
-            eprintln!(rt; "hox: did you mean [{high}, {low}] by [{low}, {high}]?")
-        }
-        Some(file) => {
-            eprintln!(rt; "hox: {file}: did you mean [{high}, {low}] by [{low}, {high}]?")
-        }
+        "-" => { eprintln!(rt; "hox: did you mean [{high}, {low}] by [{low}, {high}]?") }
+        file => { eprintln!(rt; "hox: {file}: did you mean [{high}, {low}] by [{low}, {high}]?") }
     };
 }
 
 /// Says which process was likely meant, if this is the name of none.
-fn say_process_meant<R: Eprint>(rt: &R, file: Option<&str>, sketch: &Sketch, name: &str) {
+fn say_process_meant<R: Eprint>(rt: &R, file: &str, sketch: &Sketch, name: &str) {
     let processes = sketch.processes.as_slice();
     if process_named(processes, name).is_some() {
         return;
@@ -105,25 +101,13 @@ fn say_process_meant<R: Eprint>(rt: &R, file: Option<&str>, sketch: &Sketch, nam
 /// How many channels are named at most where none was likely meant.
 const MOST_NAMED: usize = 8;
 
-/// Says that no channel of a network has a name, and which would do; nothing of that where memory is refused.
-pub(crate) fn say_no_channel_of<K: Kinds, R: Eprint + AllocGlobal>(
-    rt: &R,
-    net: &Net<K>,
-    name: &str,
-) {
-    match channel_names(rt.alloc(), net) {
-        Ok(channels) => say_no_channel(rt, name, channels.as_slice()),
-        Err(_) => say_no_channel(rt, name, &[]),
-    }
-}
-
 /// Says that no channel has a name, and which of these channels was likely meant, or if none was, which there
 /// are, where they are few.
 pub(crate) fn say_no_channel<R: Eprint>(rt: &R, name: &str, channels: &[Text]) {
     let _ = eprintln!(rt; "hox: no channel has the name {name}");
     for channel in channels {
         if is_meant(name, channel.as_str()) {
-            return say_near(rt, None, name, channel.as_str());
+            return say_near(rt, "-", name, channel.as_str());
         }
     }
     if 0 < channels.len() && channels.len() <= MOST_NAMED {
@@ -153,10 +137,10 @@ fn say_channels<R: Eprint>(rt: &R, channels: &[Text]) {
 }
 
 /// Says which name was likely meant.
-fn say_near<R: Eprint>(rt: &R, file: Option<&str>, name: &str, near: &str) {
+fn say_near<R: Eprint>(rt: &R, file: &str, name: &str, near: &str) {
     let _ = match file {
-        None | Some("-") => eprintln!(rt; "hox: did you mean {near} by {name}?"),
-        Some(file) => eprintln!(rt; "hox: {file}: did you mean {near} by {name}?"),
+        "-" => eprintln!(rt; "hox: did you mean {near} by {name}?"),
+        file => eprintln!(rt; "hox: {file}: did you mean {near} by {name}?"),
     };
 }
 

@@ -1,7 +1,7 @@
 //! What is said on standard error.
 use crate::hints::{say_meant, say_no_channel, wants_version_2};
-use crate::inputs::Pair;
 use hox_args::WordsFault;
+use hox_execute::{Asked, Stop};
 use hox_run::{
     AllKinds, Fault, FileFault, KINDS, LONGEST_FILE, PresetFault, ReadFault, Request,
     sketch_by_ports,
@@ -13,36 +13,41 @@ use kpn_net::NetFault;
 use kpn_tokens::LineFault;
 use std::str;
 
-/// Says why a request on the description in this file is not done, and returns the exit status.
-pub(crate) fn say_fault<R: Eprint + AllocGlobal>(
-    rt: &R,
-    file: Option<&str>,
-    request: &Request,
-    tokens: &[Pair<'_>],
-    fault: &Fault,
-) -> u8 {
-    let _ = match fault {
-        Fault::Description(refused) => {
-            say_refused(rt, file, refused);
-            Ok(())
+/// Says why what the arguments ask for is not done, and returns the exit status.
+pub(crate) fn say_stop<R: Print + Eprint + AllocGlobal>(rt: &R, stop: &Stop<'_>) -> u8 {
+    match stop {
+        Stop::Words(fault) => return say_words_refused(rt, fault),
+        Stop::NoPair { option, text } => say_no_pair(rt, *option, *text),
+        Stop::InputTwice => say_input_named_twice(rt),
+        Stop::Unread { file, fault } => say_unread(rt, *file, *fault),
+        Stop::Refused(refusal) => say_fault(rt, refusal.file, &refusal.asked, &refusal.fault),
+        Stop::Memory => {
+            say_no_memory(rt);
         }
-        Fault::Tokens(stop) => {
-            say_stop(rt, request, tokens, *stop);
-            Ok(())
+    }
+    stop.status().code()
+}
+
+/// Says why what is asked of the network in this file is not done.
+fn say_fault<R: Eprint + AllocGlobal>(rt: &R, file: &str, asked: &Asked<'_>, fault: &Fault) {
+    match fault {
+        Fault::Description(refused) => say_refused(rt, file, refused),
+        Fault::Tokens(stop) => say_file_fault(rt, asked, *stop),
+        Fault::Budget(greatest) => {
+            let _ = eprintln!(rt;
+                "hox: --budget must be 1 to {greatest}; in version 2 it may be {GREATEST_HIGH_BUDGET}"
+            );
         }
-        Fault::Budget(greatest) => eprintln!(rt;
-            "hox: --budget must be 1 to {greatest}; in version 2 it may be {GREATEST_HIGH_BUDGET}"
-        ),
         Fault::NoHolder(..) | Fault::NoShown(_) | Fault::NoOutput(..) => {
-            say_unknown(rt, request, fault);
-            Ok(())
+            say_unknown(rt, &asked.request, fault);
         }
-        Fault::Memory => eprintln!(rt; "hox: memory was refused"),
-        Fault::Lost => eprintln!(rt;
-            "hox: a worker's answer was refused, and the run was given up"
-        ),
-    };
-    fault.status().code()
+        Fault::Memory => {
+            say_no_memory(rt);
+        }
+        Fault::Lost => {
+            let _ = eprintln!(rt; "hox: a worker's answer was refused, and the run was given up");
+        }
+    }
 }
 
 /// Says that no channel has the name that this fault of the request is about.
@@ -67,7 +72,7 @@ fn say_unknown<R: Eprint>(rt: &R, request: &Request, fault: &Fault) {
 
 /// Says all that is wrong with the description in this file, or on standard input, and whether version 2 would
 /// do.
-fn say_refused<R: Eprint + AllocGlobal>(rt: &R, file: Option<&str>, refused: &Refused) {
+pub(crate) fn say_refused<R: Eprint + AllocGlobal>(rt: &R, file: &str, refused: &Refused) {
     let text = refused.text.as_slice();
     say_wrong(rt, file, text, refused.fault);
     if wants_version_2(rt.alloc(), text, refused.fault) {
@@ -80,7 +85,7 @@ fn say_refused<R: Eprint + AllocGlobal>(rt: &R, file: Option<&str>, refused: &Re
 }
 
 /// Says all that is wrong with this text, and what was likely meant.
-fn say_wrong<R: Eprint + AllocGlobal>(rt: &R, file: Option<&str>, text: &[u8], fault: NetFault) {
+fn say_wrong<R: Eprint + AllocGlobal>(rt: &R, file: &str, text: &[u8], fault: NetFault) {
     let Some(sketch) = sketch_by_ports::<AllKinds>(rt.alloc(), text) else {
         return say_fault_of(rt, file, text, fault);
     };
@@ -97,7 +102,7 @@ fn say_wrong<R: Eprint + AllocGlobal>(rt: &R, file: Option<&str>, text: &[u8], f
 }
 
 /// Says what is wrong with this text by its fault.
-fn say_fault_of<R: Eprint + AllocGlobal>(rt: &R, file: Option<&str>, text: &[u8], fault: NetFault) {
+fn say_fault_of<R: Eprint + AllocGlobal>(rt: &R, file: &str, text: &[u8], fault: NetFault) {
     match message_of::<AllKinds>(rt.alloc(), text, fault, KINDS) {
         Some(message) => say_of(rt, file, message.as_str()),
         None => say_plain(rt, file, fault),
@@ -105,38 +110,38 @@ fn say_fault_of<R: Eprint + AllocGlobal>(rt: &R, file: Option<&str>, text: &[u8]
 }
 
 /// Says this of the description in this file, or on standard input.
-pub(crate) fn say_of<R: Eprint>(rt: &R, file: Option<&str>, message: &str) {
+pub(crate) fn say_of<R: Eprint>(rt: &R, file: &str, message: &str) {
     let _ = match file {
-        None | Some("-") => eprintln!(rt; "hox: {message}"),
-        Some(file) => eprintln!(rt; "hox: {file}: {message}"),
+        "-" => eprintln!(rt; "hox: {message}"),
+        file => eprintln!(rt; "hox: {file}: {message}"),
     };
 }
 
 /// Says the fault of the description in this file, or on standard input.
-fn say_plain<R: Eprint>(rt: &R, file: Option<&str>, fault: NetFault) {
+fn say_plain<R: Eprint>(rt: &R, file: &str, fault: NetFault) {
     let _ = match file {
-        None | Some("-") => eprintln!(rt; "hox: {fault}"),
-        Some(file) => eprintln!(rt; "hox: {file}: {fault}"),
+        "-" => eprintln!(rt; "hox: {fault}"),
+        file => eprintln!(rt; "hox: {file}: {fault}"),
     };
 }
 
-/// Says that standard input is named more than once, and returns the exit status.
-pub(crate) fn say_input_named_twice<R: Eprint>(rt: &R) -> u8 {
+/// Says that a text of an option names no file.
+fn say_no_pair<R: Eprint>(rt: &R, option: &str, text: &str) {
+    let _ = eprintln!(rt; "hox: --{option} {text}: it takes CHANNEL=FILE");
+}
+
+/// Says that standard input is named more than once.
+fn say_input_named_twice<R: Eprint>(rt: &R) {
     let _ = eprintln!(rt; "hox: standard input can be read once, and is named twice; name a file");
-    Status::WrongArguments.code()
 }
 
 /// Says why a file of tokens is refused.
-fn say_stop<R: Eprint>(rt: &R, request: &Request, tokens: &[Pair<'_>], stop: PresetFault) {
-    let Some(pair) = tokens.get(stop.file) else {
+fn say_file_fault<R: Eprint>(rt: &R, asked: &Asked<'_>, stop: PresetFault) {
+    let Some(pair) = asked.tokens.get(stop.file) else {
         return;
     };
-    let file = pair.file;
+    let file = input_name(pair.file);
     let _ = match stop.fault {
-        FileFault::NoChannel => {
-            say_no_channel(rt, pair.channel, &[]);
-            Ok(())
-        }
         FileFault::NoText => eprintln!(rt; "hox: {file} is not UTF-8"),
         FileFault::TooMany { most } if most == CEILING as usize => eprintln!(rt;
             "hox: {file} has more than {most} tokens; version = 2 of the description allows {HIGH_CEILING}"
@@ -145,17 +150,22 @@ fn say_stop<R: Eprint>(rt: &R, request: &Request, tokens: &[Pair<'_>], stop: Pre
             "hox: {file} has more than {most} tokens, and no channel may hold more"
         ),
         FileFault::Line { number, fault } => {
-            let text = match request.tokens.as_slice().get(stop.file) {
-                Some(file) => line_of(file.text.as_slice(), number),
-                None => "",
-            };
+            let text = line_in(&asked.request, stop.file, number);
             eprintln!(rt;
                 "hox: line {number} of {file}: {text:?} is {}",
                 needed(fault)
             )
         }
-        FileFault::Memory => eprintln!(rt; "hox: memory was refused"),
+        FileFault::NoChannel | FileFault::Memory => eprintln!(rt; "hox: memory was refused"),
     };
+}
+
+/// The line with this number, counted from 1, of the file of tokens at this place.
+fn line_in(request: &Request, place: usize, number: usize) -> &str {
+    match request.tokens.as_slice().get(place) {
+        Some(file) => line_of(file.text.as_slice(), number),
+        None => "",
+    }
 }
 
 /// What a line is not, and what would do.
@@ -183,8 +193,14 @@ fn line_of(bytes: &[u8], number: usize) -> &str {
     ""
 }
 
+/// How a file that is read is named: `-` is standard input.
+pub(crate) fn input_name(file: &str) -> &str {
+    if file == "-" { "standard input" } else { file }
+}
+
 /// Says that a file of tokens could not be read.
 pub(crate) fn say_unread<R: Eprint>(rt: &R, file: &str, fault: ReadFault) {
+    let file = input_name(file);
     let _ = match fault {
         ReadFault::TooLong => { eprintln!(rt; "hox: {file} has more than {LONGEST_FILE} bytes") }
         ReadFault::Failed => eprintln!(rt; "hox: {file} could not be read"),
@@ -192,8 +208,9 @@ pub(crate) fn say_unread<R: Eprint>(rt: &R, file: &str, fault: ReadFault) {
     };
 }
 
-/// Says that a stream could not be written.
+/// Says that a file, or standard output, could not be written.
 pub(crate) fn say_unwritten<R: Eprint>(rt: &R, file: &str) {
+    let file = if file == "-" { "standard output" } else { file };
     let _ = eprintln!(rt; "hox: {file} could not be written");
 }
 

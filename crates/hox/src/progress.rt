@@ -23,7 +23,7 @@ pub(crate) struct ProgressLine<'a, R> {
 }
 
 impl<'a, R: Clock> ProgressLine<'a, R> {
-    /// The line of a run that starts now; it is never written if it isn't wanted.
+    /// The line of a run that starts now. It is wanted even where the arguments don't ask for it, or only then.
     pub(crate) fn new(rt: &'a R, is_wanted: bool) -> ProgressLine<'a, R> {
         ProgressLine {
             rt,
@@ -47,9 +47,9 @@ impl<'a, R: Clock> ProgressLine<'a, R> {
 }
 
 impl<'a, R: Eprint> ProgressLine<'a, R> {
-    /// Clears the line, if it was written.
+    /// Clears the line, if it stands there.
     pub(crate) fn clear(&self) {
-        if self.is_written.load(Ordering::SeqCst) {
+        if self.is_written.swap(false, Ordering::SeqCst) {
             let _ = eprint!(self.rt; "{CLEAR}");
         }
     }
@@ -61,7 +61,7 @@ impl<'a, R: Clock + Eprint + Sync> Progress for ProgressLine<'a, R> {
     }
 
     fn is_due(&self) -> bool {
-        self.is_wanted && self.millis() >= self.due.load(Ordering::SeqCst)
+        self.millis() >= self.due.load(Ordering::SeqCst)
     }
 
     fn tell(&self, so_far: SoFar) {

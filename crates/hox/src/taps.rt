@@ -1,5 +1,5 @@
 //! Standard input, standard output and files, as sources and sinks of a stream.
-ghost use Rattle.std.specs.Prelude.{false, None};
+ghost use Rattle.std.specs.Prelude.{◌≡◌, false, None};
 ghost use Rattle.std.specs.Io.{ReadsAtMost};
 
 use kpn_front::{Sink, Source};
@@ -22,7 +22,9 @@ pub(crate) struct Tap<I, F> {
 
 impl<I, F> Tap<I, F> {
     /// No read has failed yet.
-    pub(crate) fn new(origin: Origin<I, F>) -> Tap<I, F> {
+    pub(crate) fn new(origin: Origin<I, F>) -> Tap<I, F>
+        ensures { result.has_failed ≡ false }
+    {
         Tap {
             origin,
             has_failed: false,

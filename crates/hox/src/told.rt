@@ -1,6 +1,6 @@
 //! What is told of a stream that ended.
-use crate::inputs::Pair;
-use crate::messages::{say_no_memory, say_unread, say_unwritten};
+use crate::messages::{input_name, say_no_memory, say_unread, say_unwritten};
+use hox_execute::{Ends, Pair, Streamed};
 use hox_run::ReadFault;
 use hox_stream::{Finish, Inlet, LONGEST_LINE, LineRefusal, Served};
 use kpn_body::Body;
@@ -13,39 +13,45 @@ use kpn_tokens::LineFault;
 use kpn_verdict::{verdict_of, verdict_text};
 use std::alloc::{AllocError, Global};
 
-/// Says on standard error how a stream ended and, if it is wanted, what was read and written. Returns the exit
+/// Says on standard error how a stream ended and, unless it is not wanted, what was read and written. Returns the exit
 /// status.
 pub(crate) fn say_told<R: Eprint + AllocGlobal, F: Computes, I: Source, O: Sink>(
     rt: &R,
-    served: &Served<F, I, O>,
-    inputs: &[Pair<'_>],
-    outputs: &[Pair<'_>],
+    streamed: &Streamed<'_, F, I, O>,
     is_quiet: bool,
 ) -> u8 {
-    let flow = &served.flow;
-    let finish = served.finish;
+    let (ends, served) = (&streamed.ends, &streamed.served);
     if !is_quiet {
-        for (pair, inlet) in inputs.iter().zip(served.inlets.as_slice()) {
-            let (channel, tokens) = (pair.channel, inlet.tokens());
-            let _ = eprintln!(rt; "in {channel} tokens {tokens}");
-        }
-        for (pair, outlet) in outputs.iter().zip(served.outlets.as_slice()) {
-            let (channel, tokens) = (pair.channel, outlet.tokens());
-            let _ = eprintln!(rt; "out {channel} tokens {tokens}");
-        }
-        let (entries, growths) = (flow.entries(), flow.growths());
-        let _ = eprintln!(rt; "entries {entries} growths {growths}");
+        say_counts(rt, ends, served);
     }
-    say_fault(rt, finish, inputs, served.inlets.as_slice(), outputs);
-    match judged(rt.alloc(), flow, finish) {
+    say_fault(rt, served.finish, ends, served.inlets.as_slice());
+    match judged(rt.alloc(), &served.flow, served.finish) {
         Ok((verdict, line)) => {
             if !is_quiet {
                 let _ = eprint!(rt; "{line}");
             }
-            finish.status(verdict).code()
+            served.finish.status(verdict).code()
         }
         Err(_) => say_no_memory(rt),
     }
+}
+
+/// Says what was read and written.
+fn say_counts<R: Eprint, F: Computes, I: Source, O: Sink>(
+    rt: &R,
+    ends: &Ends<'_>,
+    served: &Served<F, I, O>,
+) {
+    for (pair, inlet) in ends.inputs.iter().zip(served.inlets.as_slice()) {
+        let (channel, tokens) = (pair.channel, inlet.tokens());
+        let _ = eprintln!(rt; "in {channel} tokens {tokens}");
+    }
+    for (pair, outlet) in ends.outputs.iter().zip(served.outlets.as_slice()) {
+        let (channel, tokens) = (pair.channel, outlet.tokens());
+        let _ = eprintln!(rt; "out {channel} tokens {tokens}");
+    }
+    let (entries, growths) = (served.flow.entries(), served.flow.growths());
+    let _ = eprintln!(rt; "entries {entries} growths {growths}");
 }
 
 /// The verdict on how a stream left its network, and its line; of a stream that something else ended the line
@@ -68,20 +74,14 @@ fn judged<B: Body>(
 }
 
 /// Says what ended a stream before the network came to its end, if something did.
-fn say_fault<R: Eprint, I: Source>(
-    rt: &R,
-    finish: Finish,
-    inputs: &[Pair<'_>],
-    inlets: &[Inlet<I>],
-    outputs: &[Pair<'_>],
-) {
+fn say_fault<R: Eprint, I: Source>(rt: &R, finish: Finish, ends: &Ends<'_>, inlets: &[Inlet<I>]) {
     match finish {
-        Finish::Line(k, refusal) => say_line(rt, inputs, inlets, k, refusal),
-        Finish::Unread(k) => match inputs.get(k) {
+        Finish::Line(k, refusal) => say_line(rt, ends.inputs.as_slice(), inlets, k, refusal),
+        Finish::Unread(k) => match ends.inputs.get(k) {
             Some(pair) => say_unread(rt, pair.file, ReadFault::Failed),
             None => {}
         },
-        Finish::Unwritten(k) => match outputs.get(k) {
+        Finish::Unwritten(k) => match ends.outputs.get(k) {
             Some(pair) => say_unwritten(rt, pair.file),
             None => {}
         },
@@ -103,7 +103,7 @@ fn say_line<R: Eprint, I: Source>(
     let (Some(pair), Some(inlet)) = (inputs.get(k), inlets.get(k)) else {
         return;
     };
-    let (file, line) = (pair.file, inlet.lines().saturating_add(1));
+    let (file, line) = (input_name(pair.file), inlet.lines().saturating_add(1));
     let _ = match refusal {
         LineRefusal::Fault(LineFault::NotAWord) => eprintln!(rt;
             "hox: line {line} of {file} is no word: a word is a number up to 18446744073709551615, or hexadecimal after 0x"

@@ -1,7 +1,7 @@
 //! The arguments of the command line.
-ghost use Rattle.std.specs.Prelude.{◌≡◌, ◌==◌, ◌≤◌, Some, None, IfOk, IfErr, IfSome, map, option_map, codes, false, if◌then◌else◌};
+ghost use Rattle.std.specs.Prelude.{◌≡◌, ◌==◌, ◌<◌, ◌≤◌, Some, None, IfOk, IfErr, MatchOption, length, map, option_map, codes, false, if◌then◌else◌};
 ghost use Rattle.std.specs.Option.{option_map_or};
-ghost use Rattle.std.specs.List.{after_first, before_first};
+ghost use Rattle.std.specs.List.{after_first, before_first, position_or_len};
 ghost use Rattle.std.specs.Str.{bytes_eq};
 ghost use Rattle.clap.specs.Words.{FailsBy, fault_of, first_of, found_of, rows_of, subcommand_of, subcommand_rows_of};
 ghost use Rattle.kpn_args.specs.Choices.{IsRefusedWorkers, IsWorkers, WorkersFrom};
@@ -158,7 +158,7 @@ pub fn read_words<'a>(alloc: Global, words: &'a [&'a str]) -> Result<Choice<'a>,
 /// Returns the channel and the file of a text `CHANNEL=FILE`: what stands before and after its first `=`;
 /// `None` if it has none.
 pub fn channel_and_file(text: &str) -> Option<(&str, &str)>
-    ensures some { IfSome result (λ p. (p.0.now ≡ before_first (λ b. b == 61) text.now) × (p.1.now ≡ after_first (λ b. b == 61) text.now)) }
+    ensures { MatchOption result (position_or_len (λ b. b == 61) text.now ≡ length text.now) (λ p. (p.0.now ≡ before_first (λ b. b == 61) text.now) × (p.1.now ≡ after_first (λ b. b == 61) text.now) × (position_or_len (λ b. b == 61) text.now < length text.now)) }
 {
     text.split_once('=')
 }

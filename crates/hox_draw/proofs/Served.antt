@@ -11,7 +11,7 @@ use Rattle.hox_run.specs.Serving.{GivesLoaded, GivesNet, IsFault, Serves}
 use Rattle.hox_draw.specs.Drawing.{Draws, GivesPicture}
 
 -- what is served of a description is served of what comes of that
-serves_on :
+pub serves_on :
     {X Y : Type 0} {named : List ℕ → Option (ℕ × ℕ)} {signature : Card → Option Signature} {gives : Network → Result X Fault → Type 0} (others : Network → Result Y Fault → Type 0)
     {input : Option (List ℕ)} {before after : Bool} {first : Result X Fault} (last : Result Y Fault)
     → ((loaded : Result Network NetFault) → GivesLoaded gives loaded first → GivesLoaded others loaded last)

@@ -26,7 +26,7 @@ pub struct SoFar {
 ///     }
 ///
 ///     fn is_due(&self) -> bool {
-///         self.is_wanted && self.millis() >= self.due.load(Ordering::SeqCst)
+///         self.millis() >= self.due.load(Ordering::SeqCst)
 ///     }
 /// }
 /// ```

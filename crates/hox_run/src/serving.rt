@@ -1,11 +1,13 @@
 //! Running a described network as it is asked for, from bytes to bytes.
-ghost use Rattle.std.specs.Prelude.{◌≡◌, ◌<◌, ◌+◌, ◌⊎◌, ℕ, List, [], Some, None, IfOk, IfErr, IfSome, MatchResult, length, get_or};
+ghost use Rattle.std.specs.Prelude.{◌≡◌, ◌<◌, ◌+◌, ◌⊎◌, ℕ, List, [], Some, None, OnOk, IfOk, IfErr, IfSome, MatchResult, length, get_or};
 ghost use Rattle.std.specs.List.{All};
 ghost use Rattle.kpn_model.specs.Network.{family_of, Network as NetworkV};
+ghost use Rattle.kpn_model.specs.Valid.{IsValid};
+ghost use Rattle.kpn_network.specs.Parts.{network_of};
 ghost use Rattle.kpn_execute.specs.Execution.{number_of_channel};
 ghost use Rattle.kpn_front.specs.Loading.{ConsumesAtMost, longest};
 ghost use Rattle.hox_run.specs.Presets.{PresetAll};
-ghost use Rattle.hox_run.specs.Serving.{AreNamed, GivesNet, GivesRun, HasFewWorkers, IsNamed, Serves, channel_names};
+ghost use Rattle.hox_run.specs.Serving.{AreNamed, GivesNet, GivesRun, HasFewWorkers, IsFault, IsNamed, Prepares, Serves, channel_names};
 
 use crate::described::load_by_ports;
 use crate::names::channel_names;
@@ -18,7 +20,7 @@ use crate::telling::Told;
 use kpn_compute::Computes;
 use kpn_front::Source;
 use kpn_model::{Kinds, Listed, Text};
-use kpn_network::Net;
+use kpn_network::{Net, Parts};
 use std::alloc::Global;
 use std::rt::Clock;
 use std::sync::Wait;
@@ -103,20 +105,51 @@ fn prepare_net<K: Kinds>(alloc: Global, request: &Request, net: &Net<K>) -> Resu
     let Ok(mut parts) = parts_of(alloc, net) else {
         return Err(Fault::Memory);
     };
-    if let Err(stop) = preset::<K>(alloc, &mut parts, request.tokens.as_slice()) {
-        return match stop.fault {
-            FileFault::NoChannel => Err(Fault::NoHolder(stop.file, names_in(alloc, net)?)),
-            _ => Err(Fault::Tokens(stop)),
-        };
-    }
+    prepare_parts(alloc, request, net, &mut parts)?;
+    Net::of_parts(alloc, parts).map_err(|_| Fault::Memory)
+}
+
+/// Gives the parts of a network the tokens of the request's files and the request's budget.
+fn prepare_parts<K: Kinds>(
+    alloc: Global,
+    request: &Request,
+    net: &Net<K>,
+    parts: &mut Parts,
+) -> Result<(), Fault>
+    requires valid { IsValid K.signature (network_of parts.old) }
+    requires same { network_of parts.old ≡ net.now }
+    ensures valid { IsValid K.signature (network_of parts.new) }
+    ensures ok { OnOk result (Prepares request.now net.now (network_of parts.new)) }
+    ensures fault { IfErr result (IsFault request.now net.now) }
+{
+    hold_files(alloc, request, net, parts)?;
     if let Some(budget) = request.budget {
-        if !set_budget::<K>(&mut parts, budget) {
+        if !set_budget::<K>(parts, budget) {
             return Err(Fault::Budget(greatest_budget(parts.ceiling)));
         }
     }
-    match Net::of_parts(alloc, parts) {
-        Ok(net) => Ok(net),
-        Err(_) => Err(Fault::Memory),
+    Ok(())
+}
+
+/// Gives the parts of a network the tokens of the request's files.
+fn hold_files<K: Kinds>(
+    alloc: Global,
+    request: &Request,
+    net: &Net<K>,
+    parts: &mut Parts,
+) -> Result<(), Fault>
+    requires valid { IsValid K.signature (network_of parts.old) }
+    requires same { network_of parts.old ≡ net.now }
+    ensures valid { IsValid K.signature (network_of parts.new) }
+    ensures ok { OnOk result (PresetAll request.now.tokens net.now (network_of parts.new)) }
+    ensures fault { IfErr result (IsFault request.now net.now) }
+{
+    match preset::<K>(alloc, parts, request.tokens.as_slice()) {
+        Ok(()) => Ok(()),
+        Err(stop) => match stop.fault {
+            FileFault::NoChannel => Err(Fault::NoHolder(stop.file, names_in(alloc, net)?)),
+            _ => Err(Fault::Tokens(stop)),
+        },
     }
 }
 

@@ -1,12 +1,13 @@
 //! What is told of a run that ended.
-ghost use Rattle.std.specs.Prelude.{◌≡◌, ◌<◌, ◌++◌, ℕ, true, IfOk, IsSome, length, map, string_bytes};
-ghost use Rattle.std.specs.List.{All};
+ghost use Rattle.std.specs.Prelude.{◌≡◌, ◌<◌, ◌++◌, ℕ, true, IfOk, IsSome, OnOk, length, map, string_bytes};
+ghost use Rattle.std.specs.List.{All, flat_map};
 ghost use Rattle.kpn_model.specs.Network.{Family, family_of};
 ghost use Rattle.kpn_model.specs.Semantics.{State};
 ghost use Rattle.kpn_model.specs.Endings.{has_report};
 ghost use Rattle.kpn_model.specs.Verdicts.{IsVerdict};
 ghost use Rattle.kpn_report.specs.Text.{report_text};
 ghost use Rattle.kpn_verdict.specs.VerdictText.{verdict_line};
+ghost use Rattle.kpn_tokens.specs.TokenLines.{token_line};
 ghost use Rattle.hox_run.specs.Cuts.{after_verdict, left_at};
 ghost use Rattle.hox_run.specs.Telling.{TellsRun, places_in, status_of_verdict, stream_text};
 
@@ -14,7 +15,7 @@ use crate::cut::push_after_verdict;
 use kpn_front::Status;
 use kpn_laws::{determinacy_of, least_room_of, least_solution_of};
 use kpn_machine::Chronicle;
-use kpn_model::{End, Entry, Kinds, Place, Text, Verdict};
+use kpn_model::{End, Entry, Kinds, Place, Text, Token, Verdict};
 use kpn_network::Net;
 use kpn_report::{places_of, stream_of, text_of};
 use kpn_state::Standing;
@@ -84,10 +85,8 @@ fn judge<K: Kinds>(
     ensures report { IfOk result (λ judged. (kinds : Family) (M : State) → (has_report end ≡ true → places.now ≡ places_in kinds net.now M) → string_bytes judged.report ≡ report_text kinds net.now end history.now M show ++ verdict_line net.now places.now judged.verdict ++ after_verdict net.now end history.now (left_at standings.now places.now) show) }
 {
     let verdict = verdict_of(net, places, end);
-    let line = verdict_text(alloc, net, places, verdict)?;
     let mut report = text_of(alloc, net, history, places, end, show)?;
-    report.push_str(line.as_str())?;
-    push_after_verdict(
+    push_judged(
         alloc,
         &mut report,
         net,
@@ -96,8 +95,41 @@ fn judge<K: Kinds>(
         places,
         end,
         show,
+        verdict,
     )?;
     Ok(Judged { verdict, report })
+}
+
+/// Appends the line of a verdict, and what follows it.
+fn push_judged<K: Kinds>(
+    alloc: Global,
+    out: &mut String,
+    net: &Net<K>,
+    history: &[Entry],
+    standings: &[Standing],
+    places: &[Place],
+    end: End,
+    show: Option<usize>,
+    verdict: Verdict,
+) -> Result<(), AllocError>
+    ensures { OnOk result (string_bytes out.new ≡ string_bytes out.old ++ verdict_line net.now places.now verdict ++ after_verdict net.now end history.now (left_at standings.now places.now) show) }
+{
+    push_line(alloc, out, net, places, verdict)?;
+    push_after_verdict(alloc, out, net, history, standings, places, end, show)
+}
+
+/// Appends the line of a verdict.
+fn push_line<K: Kinds>(
+    alloc: Global,
+    out: &mut String,
+    net: &Net<K>,
+    places: &[Place],
+    verdict: Verdict,
+) -> Result<(), AllocError>
+    ensures { OnOk result (string_bytes out.new ≡ string_bytes out.old ++ verdict_line net.now places.now verdict) }
+{
+    let line = verdict_text(alloc, net, places, verdict)?;
+    out.push_str(line.as_str())
 }
 
 /// The streams of these channels, each as a text.
@@ -128,7 +160,14 @@ fn output_of<K: Kinds>(
     ensures { IfOk result (λ text. text ≡ stream_text net.now history.now channel) }
 {
     let tokens = stream_of(alloc, net, history, channel)?;
-    Ok(Text::new(tokens_text(alloc, tokens.as_slice())?))
+    lines_of(alloc, tokens.as_slice())
+}
+
+/// Tokens as a text, one a line.
+fn lines_of(alloc: Global, tokens: &[Token]) -> Result<Text, AllocError>
+    ensures { IfOk result (λ text. text ≡ flat_map token_line tokens.now) }
+{
+    Ok(Text::new(tokens_text(alloc, tokens)?))
 }
 
 /// The exit status of a run with this verdict.

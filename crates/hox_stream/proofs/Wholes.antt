@@ -49,7 +49,7 @@ pub serves : {X Y : Type 0} (remaining : X → Option (List ℕ)) (has_failed : 
     → AreWritten left → IsFinish kinds t after left finish → IsOneRunInPieces kinds t
     → Serves kinds s t (new_inlets remaining has_failed s.network s.inputs sources) after (new_outlets seen s.outputs sinks) left finish
 serves remaining has_failed seen sources sinks kinds s t inputs outputs after left finish at_start x told ended one_run =
-    let single = inlets_apart remaining has_failed s.network inputs at_start.inputs_apart sources in
+    let single = inlets_apart remaining has_failed s.network inputs at_start.apart.inputs_once sources in
     let made : Serves kinds s t (new_inlets remaining has_failed s.network inputs sources) after (new_outlets seen outputs sinks) left finish = record {
       same = x.same;
       events = x.events;
@@ -58,10 +58,10 @@ serves remaining has_failed seen sources sinks kinds s t inputs outputs after le
       as_many_inlets = x.as_many_inlets;
       as_many_outlets = x.as_many_outlets;
       taken = λ k h. x.taken single k h;
-      written = λ k h. x.written (outlets_apart seen outputs at_start.outputs_apart sinks) k h;
+      written = λ k h. x.written (outlets_apart seen outputs at_start.apart.outputs_once sinks) k h;
       told = told;
       ended = ended;
-      sorts_fit = never_other kinds s t _ after _ left x single (sorts_fit remaining has_failed s.network inputs at_start.inputs_apart sources) finish ended;
+      sorts_fit = never_other kinds s t _ after _ left x single (sorts_fit remaining has_failed s.network inputs at_start.apart.inputs_once sources) finish ended;
       one_run = one_run;
     } in
     subst (λ l. Serves kinds s t (new_inlets remaining has_failed s.network l sources) after (new_outlets seen s.outputs sinks) left finish) at_start.inputs_are

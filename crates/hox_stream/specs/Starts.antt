@@ -1,5 +1,5 @@
 -- A stream at its start, and why one is not opened.
-use Rattle.std.specs.Prelude.{◌≡◌, ◌≢◌, ◌<◌, ◌||◌, ℕ, Bool, true, false, not, List, [], length, map, get_or, position, slice_get, option_map, Option, Some, None}
+use Rattle.std.specs.Prelude.{◌≡◌, ◌≢◌, ◌<◌, ◌||◌, ℕ, Bool, true, not, List, [], length, map, get_or, position, slice_get, option_map, Option, Some, None}
 use Rattle.std.specs.List.{list_any}
 use Rattle.std.specs.Str.{bytes_eq}
 use Rattle.kpn_model.specs.declared.kinds.Card.{Card}
@@ -12,7 +12,7 @@ use Rattle.kpn_sketch.specs.declared.fault.NetFault.{NetFault}
 use Rattle.kpn_sketch.specs.declared.fault.NetFault.TheVariants.{Memory as NoMemoryForNet}
 use Rattle.kpn_sketch.specs.declared.sketch.Sketch.{Sketch}
 use Rattle.kpn_net.specs.Faults.{first_fault}
-use Rattle.kpn_flow.specs.Ends.{has_twice, stops_at_once}
+use Rattle.kpn_flow.specs.Ends.{AreApart, has_twice, stops_at_once}
 use Rattle.kpn_flow.specs.Flows.{FlowView, AreEnds, is_among, nothing_counted}
 use Rattle.hox_stream.specs.declared.starting.Way.{Way}
 use Rattle.hox_stream.specs.declared.starting.Way.TheVariants.{In, Out}
@@ -50,8 +50,7 @@ pub record IsStart (kinds : Family) (s : FlowView) (inputs outputs : List ℕ) :
   pub state : s.state ≡ start kinds s.network
   pub inputs_are : inputs ≡ s.inputs
   pub outputs_are : outputs ≡ s.outputs
-  pub inputs_apart : has_twice inputs ≡ false
-  pub outputs_apart : has_twice outputs ≡ false
+  pub apart : AreApart inputs outputs
 
 -- the fault of a sketch that describes no network
 abbrev pub IsNoNetwork : (List ℕ → Option (ℕ × ℕ)) → (Card → Option Signature) → Sketch → NetFault → Type 0

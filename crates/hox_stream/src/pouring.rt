@@ -1,12 +1,13 @@
 //! From a source into its channel.
 ghost use Rattle.std.specs.Prelude.{◌≡◌, ◌≢◌, ◌<◌, true, false, [], Err, IsTrue, IfSome, IfNone, ◌≤◌, ℕ, List, length, map};
+ghost use Rattle.std.specs.Io.KnownBytes.{IsAtEnd};
 ghost use Rattle.kpn_model.specs.Network.{channel_of, family_of};
 ghost use Rattle.kpn_tokens.specs.TokenLines.{listed};
 ghost use Rattle.kpn_flow.specs.Events.{Fed, Flows};
 ghost use Rattle.kpn_flow.specs.Flows.{IsSameFlow, is_among, with_ended};
 ghost use Rattle.kpn_flow.specs.Preloaded.{IsAtEnds};
 ghost use Rattle.hox_stream.specs.declared.cutting.LineRefusal.{LineRefusal as LineRefusalV};
-ghost use Rattle.hox_stream.specs.Cutting.{IsRefused};
+ghost use Rattle.hox_stream.specs.Cutting.{IsNext, IsRefused};
 ghost use Rattle.hox_stream.specs.Ports.{Pours, ReadsOn};
 ghost use Rattle.hox_stream.specs.Streams.{Streams, IsFinish, NoneIsWaitedFor, inlet_at, is_waited_for};
 ghost use Rattle.hox_stream.specs.Views.{OutletView};
@@ -34,14 +35,18 @@ fn feed_said<B: Body>(flow: &mut Flow<B>, channel: usize, said: Option<Token>) -
     }
 }
 
-/// Takes the next line of a source and feeds its token, if there is a line and room. Returns whether that was
-/// done.
-fn take_line<B: Body, S: Source>(flow: &mut Flow<B>, inlet: &mut Inlet<S>) -> bool
+/// Takes the next line of a source, which says this and has so many bytes, and feeds its token, if there is room.
+/// Returns whether that was done.
+fn take_said<B: Body, S: Source>(
+    flow: &mut Flow<B>,
+    inlet: &mut Inlet<S>,
+    said: Option<Token>,
+    used: usize,
+) -> bool
+    requires next { IsNext inlet.old.sort inlet.old.kept inlet.old.is_over (Next.Line said used) }
+    requires at_end { inlet.old.is_over ≡ true → IsAtEnd inlet.old.remaining }
     ensures { Pours (family_of B.Kinds.start B.Kinds.answer_of) flow.old flow.new inlet.old inlet.new }
 {
-    let Next::Line { said, used } = inlet.next() else {
-        return false;
-    };
     if !feed_said(flow, inlet.channel(), said) {
         return false;
     }
@@ -49,10 +54,35 @@ fn take_line<B: Body, S: Source>(flow: &mut Flow<B>, inlet: &mut Inlet<S>) -> bo
     true
 }
 
-/// Takes line after line of a source, as long as there are lines and room.
-fn take_lines<B: Body, S: Source>(flow: &mut Flow<B>, inlet: &mut Inlet<S>)
+/// Takes the next line of a source and feeds its token, if there is room and a line. Returns whether that was
+/// done. Where there is no room, no line is read.
+fn take_line<B: Body, S: Source>(flow: &mut Flow<B>, inlet: &mut Inlet<S>) -> bool
     ensures { Pours (family_of B.Kinds.start B.Kinds.answer_of) flow.old flow.new inlet.old inlet.new }
 {
+    if !flow.has_room(inlet.channel()) {
+        return false;
+    }
+    let Next::Line { said, used } = inlet.next() else {
+        return false;
+    };
+    take_said(flow, inlet, said, used)
+}
+
+/// Takes the next line of a source, which says this and has so many bytes, and then line after line, as long as
+/// there are room and lines.
+fn take_lines<B: Body, S: Source>(
+    flow: &mut Flow<B>,
+    inlet: &mut Inlet<S>,
+    said: Option<Token>,
+    used: usize,
+)
+    requires next { IsNext inlet.old.sort inlet.old.kept inlet.old.is_over (Next.Line said used) }
+    requires at_end { inlet.old.is_over ≡ true → IsAtEnd inlet.old.remaining }
+    ensures { Pours (family_of B.Kinds.start B.Kinds.answer_of) flow.old flow.new inlet.old inlet.new }
+{
+    if !take_said(flow, inlet, said, used) {
+        return;
+    }
     'lines: for _ in 0..u64::MAX {
         if !take_line(flow, inlet) {
             return;
@@ -85,13 +115,13 @@ fn pour<B: Body, S: Source>(
 {
     let channel = inlet.channel();
     match inlet.next() {
-        Next::Line { said, .. } => {
+        Next::Line { said, used } => {
             if let Some(token) = said {
                 if !flow.may_feed(channel, token) {
                     return Err(PourFault::OtherSort);
                 }
             }
-            take_lines(flow, inlet);
+            take_lines(flow, inlet, said, used);
             Ok(())
         }
         Next::Refused(refusal) => Err(PourFault::Line(refusal)),

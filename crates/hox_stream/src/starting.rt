@@ -3,8 +3,7 @@ ghost use Rattle.std.specs.Prelude.{◌≡◌, ◌<◌, false, [], Some, IfOk, I
 ghost use Rattle.std.specs.List.{list_any};
 ghost use Rattle.kpn_compute.specs.Both.{both_family, both_named, both_ports};
 ghost use Rattle.kpn_model.specs.Network.{channel_of, family_of};
-ghost use Rattle.kpn_flow.specs.Ends.{has_twice, is_no_channel, stops_at_once};
-ghost use Rattle.kpn_flow.specs.Flows.{is_among};
+ghost use Rattle.kpn_flow.specs.Ends.{is_no_channel};
 ghost use Rattle.kpn_net.specs.Sketched.{net_of};
 ghost use Rattle.hox_stream.specs.Exits.{exit_named, exit_ports, exits, with_exits};
 ghost use Rattle.hox_stream.specs.Starts.{AreNamed, IsFresh, IsNameFault, IsNameOf, IsNoNetwork, IsStarted, IsStartFault, IsStreamFault, cards_in, is_busy, number_of_channel, outer_process};
@@ -13,8 +12,8 @@ use crate::exits::Exits;
 use crate::opening::net_with_exits;
 use kpn_body::Body;
 use kpn_compute::{Both, CardBody, Computes, bodies_of};
-use kpn_flow::{Flow, FlowFault};
-use kpn_model::{Act, Kinds, Text};
+use kpn_flow::{Flow, FlowFault, stops_at_once};
+use kpn_model::{Kinds, Text};
 use kpn_net::{Net, NetFault, Sketch};
 use std::alloc::{AllocError, Global};
 use std::marker::Model;
@@ -136,9 +135,6 @@ fn start<F: Computes>(
     ensures outputs { IfOk result (λ s. s.outputs ≡ outputs.items) }
     ensures fault { IfErr result (IsStartFault inputs.items outputs.items) }
 {
-    if has_twice(inputs.as_slice()) || has_twice(outputs.as_slice()) {
-        return Err(StreamFault::Twice);
-    }
     match Flow::open(alloc, net, bodies, inputs.as_slice(), outputs.as_slice()) {
         Ok(flow) => Ok(OpenStream {
             flow,
@@ -151,27 +147,6 @@ fn start<F: Computes>(
             _ => unreachable!(),
         },
     }
-}
-
-/// Whether a channel stands in a list twice.
-fn has_twice(channels: &[usize]) -> bool
-    ensures { result ≡ has_twice channels.now }
-{
-    let mut rest = channels;
-    while let Some((first, later)) = rest.split_first() {
-        if is_among(later, *first) {
-            return true;
-        }
-        rest = later;
-    }
-    false
-}
-
-/// Whether a channel is in a list.
-fn is_among(channels: &[usize], channel: usize) -> bool
-    ensures { result ≡ is_among channels.now channel }
-{
-    channels.iter().any(|c| *c == channel)
 }
 
 /// The channels of these names, in order, if each may be fed, or drained.
@@ -247,19 +222,6 @@ fn outer_process<K: Kinds>(net: &Net<K>, way: Way, channel: usize) -> usize
         Way::In => ends.writer,
         Way::Out => ends.reader,
     }
-}
-
-/// Whether a process stops at once, as its body answers at its start.
-fn stops_at_once<B: Body>(bodies: &[B], process: usize) -> bool
-    requires { process < length bodies.now }
-    ensures { result ≡ stops_at_once (family_of B.Kinds.start B.Kinds.answer_of) (map B.card bodies.now) process }
-{
-    let body = &bodies[process];
-    let card = body.card();
-    B::Kinds::starts(card);
-    let local = B::Kinds::start(&card);
-    let answer = body.answer(local, None);
-    matches!(answer.act, Act::Stop)
 }
 
 /// The name of a process.

@@ -1,7 +1,8 @@
 -- If the command line accepts the arguments, they name one of its two subcommands.
-use Rattle.std.proofs.Common.{◌≡◌, ◌⊎◌, inl, inr, Bool, true, false, cond, List, [], ◌∷◌, Option, Some, None, IfSome, IsSomeAnd, is_some, option_map, codes, refl, subst}
+use Rattle.std.proofs.Common.{◌≡◌, ◌⊎◌, inl, inr, Bool, true, false, cond, List, [], ◌∷◌, Option, Some, None, IfSome, IsSomeAnd, is_some, option_map, codes, refl, subst, Result, Ok, Err, IfOk}
 use Rattle.std.specs.Str.{bytes_eq}
-use Rattle.clap.specs.Words.{Row, Text, built, is_simple_and_free, subcommand_of}
+use Rattle.clap.specs.Words.{App, HasMatchesOf, Row, Text, built, is_simple_and_free, subcommand_of, subcommand_rows_of}
+use Rattle.clap.specs.declared.parser.matches.ArgMatches.{ArgMatches}
 use Rattle.clap.specs.Kinds.{Kinds, or_else}
 use Rattle.clap.specs.Faults.{check_fault, defaults_fault, entered_fault, level_fault, settle_fault, walk_fault}
 use Rattle.clap.specs.Walk.{Held, Names, finished, nothing_held, settled, walk, walk_from}
@@ -80,16 +81,21 @@ at_none None e is = is
 at_none (Some q) e is = cc
 
 -- a subcommand has one of the two names
-other_is : (p : Text × List Row) → bytes_eq p.0 (codes "check") ≡ false → bytes_eq p.0 (codes "run") ≡ false → IsCommand p → ⊥
+pub other_is : (p : Text × List Row) → bytes_eq p.0 (codes "check") ≡ false → bytes_eq p.0 (codes "run") ≡ false → IsCommand p → ⊥
 other_is p check run is = elim is [
   | inl e ↦ let bad : bytes_eq (codes "check") (codes "check") ≡ false = subst (λ t. bytes_eq t (codes "check") ≡ false) e check in cc
   | inr e ↦ let bad : bytes_eq (codes "run") (codes "run") ≡ false = subst (λ t. bytes_eq t (codes "run") ≡ false) e run in cc
 ]
 
 -- arguments that are accepted name no other subcommand
-pub names_no_other : (words : List Text) (p : Text × List Row) → AreTaken words → Some p ≡ subcommand_of kpn words → bytes_eq p.0 (codes "check") ≡ false → bytes_eq p.0 (codes "run") ≡ false → ⊥
-names_no_other words p taken e check run = other_is p check run (at_some (subcommand_of kpn words) p e (names_command words taken))
+pub names_one_of : (words : List Text) (p : Text × List Row) → AreTaken words → Some p ≡ subcommand_of kpn words → (p.0 ≡ codes "check") ⊎ (p.0 ≡ codes "run")
+names_one_of words p taken e = at_some (subcommand_of kpn words) p e (names_command words taken)
 
 -- arguments that are accepted name some subcommand
 pub names_some : (words : List Text) → AreTaken words → None ≡ subcommand_of kpn words → ⊥
 names_some words taken e = at_none (subcommand_of kpn words) e (names_command words taken)
+
+-- a parse of this command line that succeeds has its matches
+pub matches_by : {E : Type 0} (words : List Text) (c : App) (r : Result ArgMatches E) → c ≡ kpn → IfOk r (HasMatchesOf c words) → IfOk r (λ m. subcommand_rows_of m ≡ subcommand_of kpn words)
+matches_by words c (Ok m) same has = (subst (λ (a : App). HasMatchesOf a words m) same has refl).1
+matches_by words c (Err e) same has = tt

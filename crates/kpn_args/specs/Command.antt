@@ -1,18 +1,16 @@
 -- The command line of the program: `kpn check`, and `kpn run --workers N --show NAME`.
-use Rattle.std.specs.Prelude.{true, codes, Some}
+use Rattle.std.specs.Prelude.{true, ℕ, List, codes, Some}
 use Rattle.clap.specs.Words.{App, Rule, new_app, new_rule, with_rule, with_subcommand}
 
-abbrev pub workers_rule : Rule
-workers_rule = record (new_rule (codes "workers")) { long = Some (codes "workers"); value_names = 1 }
-
-abbrev pub show_rule : Rule
-show_rule = record (new_rule (codes "show")) { long = Some (codes "show"); value_names = 1 }
+-- an option with a value, `--name VALUE`
+abbrev pub option_rule : List ℕ → Rule
+option_rule name = record (new_rule name) { long = Some name; value_names = 1 }
 
 abbrev pub check_command : App
 check_command = new_app (codes "check")
 
 abbrev pub run_command : App
-run_command = with_rule (with_rule (new_app (codes "run")) workers_rule) show_rule
+run_command = with_rule (with_rule (new_app (codes "run")) (option_rule (codes "workers"))) (option_rule (codes "show"))
 
 -- it has a version, wants a subcommand, and has none called `help`
 abbrev pub bare_command : App

@@ -1,8 +1,8 @@
 //! The arguments of the command line.
-ghost use Rattle.std.specs.Prelude.{◌≡◌, ◌≤◌, IfOk, IfErr, Some, false, map, option_map, codes, if◌then◌else◌};
-ghost use Rattle.clap.specs.Words.{FailsBy, app_of, fault_of, first_of, found_of, rows_of, rule_of, subcommand_of, subcommand_rows_of};
+ghost use Rattle.std.specs.Prelude.{◌≡◌, ◌⊎◌, ◌≤◌, IfOk, IfErr, Some, false, map, option_map, codes, if◌then◌else◌};
+ghost use Rattle.clap.specs.Words.{FailsBy, app_of, fault_of, first_of, found_of, new_app, rows_of, rule_of, subcommand_of, subcommand_rows_of, with_rule};
 ghost use Rattle.clap.specs.declared.builder.command.Command.TheViews.{out-Command as fields_of};
-ghost use Rattle.kpn_args.specs.Command.{kpn, check_command, run_command, workers_rule, show_rule};
+ghost use Rattle.kpn_args.specs.Command.{kpn, check_command, run_command, option_rule};
 ghost use Rattle.kpn_args.specs.Choices.{IsWorkers, WorkersFrom, IsRefusedWorkers, HasFewWorkers, IsChoice, IsChoiceOf, AreTaken, IsWordsFault, asks_for_help};
 
 use clap::error::ErrorKind;
@@ -149,9 +149,22 @@ pub fn read_words<'a>(alloc: Global, words: &'a [&'a str]) -> Result<Choice<'a>,
     ensures fault { IfErr result (IsWordsFault (map (λ w. w.now) words.entry.now)) }
 {
     let matches = matches_of(alloc, words)?;
-    match subcommand_in(&matches) {
-        Some(("check", _)) => Ok(Choice::Check),
-        Some(("run", entries)) => run_choice(entries),
+    let Some((name, entries)) = subcommand_in(&matches) else {
+        unreachable!()
+    };
+    choice_of(name, entries)
+}
+
+/// The choice that a subcommand and its entries ask for.
+fn choice_of<'a>(name: &str, entries: &ArgMatches<'a>) -> Result<Choice<'a>, WordsFault>
+    requires { (name.now ≡ codes "check") ⊎ (name.now ≡ codes "run") }
+    ensures ok { IfOk result (IsChoiceOf (Some (name.now, rows_of (found_of entries.now)))) }
+    ensures few { IfOk result HasFewWorkers }
+    ensures workers { IfErr result (λ e. (e ≡ WordsFault.Workers) × IsRefusedWorkers (first_of (codes "workers") (rows_of (found_of entries.now)))) }
+{
+    match name {
+        "check" => Ok(Choice::Check),
+        "run" => run_choice(entries),
         _ => unreachable!(),
     }
 }
@@ -237,38 +250,47 @@ fn check<'a>(alloc: Global) -> Command<'a>
     ensures app { app_of result ≡ check_command }
     ensures local { (fields_of result).has_globals ≡ false }
 {
-    Command::new(alloc, "check")
-        .about("Checks a description, and counts its processes and channels")
-        .after_help(INPUT)
+    let about = "Checks a description, and counts its processes and channels";
+    bare(alloc, "check", about)
 }
 
 fn run<'a>(alloc: Global) -> Result<Command<'a>, AllocError>
     ensures app { IfOk result (λ c. app_of c ≡ run_command) }
     ensures local { IfOk result (λ c. (fields_of c).has_globals ≡ false) }
 {
-    Command::new(alloc, "run")
-        .about("Runs the network of a description, and reports how it ended")
-        .after_help(INPUT)
-        .arg(workers(alloc))?
-        .arg(show(alloc))
+    let about = "Runs the network of a description, and reports how it ended";
+    let workers = "How many workers run the network [default: 1]";
+    let show = "Also prints the tokens that were put on this channel";
+    let run = bare(alloc, "run", about);
+    let run = with(run, option(alloc, "workers", "N", workers))?;
+    with(run, option(alloc, "show", "NAME", show))
 }
 
-fn workers<'a>(alloc: Global) -> Arg<'a>
-    ensures rule { rule_of result ≡ workers_rule }
-    ensures local { result.global ≡ false }
+/// A subcommand without arguments.
+fn bare<'a>(alloc: Global, name: &'a str, about: &'a str) -> Command<'a>
+    ensures app { app_of result ≡ new_app name.now }
+    ensures local { (fields_of result).has_globals ≡ false }
 {
-    Arg::new(alloc, "workers")
-        .long("workers")
-        .value_name("N")
-        .help("How many workers run the network [default: 1]")
+    Command::new(alloc, name).about(about).after_help(INPUT)
 }
 
-fn show<'a>(alloc: Global) -> Arg<'a>
-    ensures rule { rule_of result ≡ show_rule }
+/// A subcommand with one argument more.
+fn with<'a>(command: Command<'a>, arg: Arg<'a>) -> Result<Command<'a>, AllocError>
+    requires command { (fields_of command).has_globals ≡ false }
+    requires arg { arg.global ≡ false }
+    ensures app { IfOk result (λ c. app_of c ≡ with_rule (app_of command.entry) (rule_of arg.entry)) }
+    ensures local { IfOk result (λ c. (fields_of c).has_globals ≡ false) }
+{
+    command.arg(arg)
+}
+
+/// An option `--name VALUE`.
+fn option<'a>(alloc: Global, name: &'a str, value: &'a str, help: &'a str) -> Arg<'a>
+    ensures rule { rule_of result ≡ option_rule name.now }
     ensures local { result.global ≡ false }
 {
-    Arg::new(alloc, "show")
-        .long("show")
-        .value_name("NAME")
-        .help("Also prints the tokens that were put on this channel")
+    Arg::new(alloc, name)
+        .long(name)
+        .value_name(value)
+        .help(help)
 }

@@ -1,7 +1,7 @@
 -- Some channel of a list passes a test, or none does.
 use Rattle.std.proofs.Common.{◌≡◌, List, [], ◌∷◌, refl, ℕ, ◌==◌, Bool, true, false, ◌||◌, not, if◌then◌else◌, subst, eqb-true, eq-eqb}
 use Rattle.std.proofs.lemmas.Bool.{or_parts, or_left, or_right}
-use Rattle.std.specs.List.{list_any, filter}
+use Rattle.std.specs.List.{list_any}
 use Rattle.kpn_flow.specs.Flows.{is_among, without}
 
 -- a channel of the list that passes

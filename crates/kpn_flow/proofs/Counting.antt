@@ -1,5 +1,5 @@
 -- Entries that are counted.
-use Rattle.std.proofs.Common.{◌≡◌, ⊎_elim, List, [], ◌∷◌, ◌++◌, length, length-append, refl, sym, ap, ◌∙◌, arith, ℕ, ◌+◌, ◌-◌, ◌^◌, ◌<◌, ◌≤◌, min}
+use Rattle.std.proofs.Common.{◌≡◌, ⊎_elim, List, [], ◌∷◌, ◌++◌, length, length-append, refl, sym, ap, ◌∙◌, arith, ℕ, ◌+◌, ◌-◌, ◌^◌, ◌<◌, ◌≤◌}
 use Rattle.std.proofs.Math.Nat.{min-eq_left, min_comm}
 use Rattle.std.proofs.lemmas.Bool.{cases_lt}
 use Rattle.std.specs.Io.Iter.{u64_saturate}
@@ -8,7 +8,7 @@ use Rattle.kpn_model.specs.declared.history.Entry.TheVariants.{Did, Grew}
 use Rattle.kpn_model.specs.History.{growths}
 use Rattle.kpn_flow.specs.declared.counts.Counts.{Counts}
 use Rattle.kpn_flow.specs.Events.{Event, Went, Fed, Drained, entries_of}
-use Rattle.kpn_flow.specs.Flows.{counted, nothing_counted}
+use Rattle.kpn_flow.specs.Flows.{counted}
 
 pub growths_both : (E F : List Entry) → length (growths (E ++ F)) ≡ length (growths E) + length (growths F)
 growths_both [] F = omega arith

@@ -1,5 +1,5 @@
 -- Two ways that are fed the same and are exhausted have given the same.
-use Rattle.std.proofs.Common.{◌≡◌, ⊎_elim, List, [], ◌∷◌, ◌++◌, append-nil, length, refl, sym, ap, ◌∙◌, arith, ℕ, ◌+◌, ◌<◌, ◌≤◌, Bool, true, false, cond, subst, Some, None}
+use Rattle.std.proofs.Common.{◌≡◌, ⊎_elim, List, [], ◌∷◌, ◌++◌, append-nil, length, refl, sym, ap, ◌∙◌, arith, ℕ, ◌+◌, ◌<◌, ◌≤◌, Bool, true, false, cond, subst, Some}
 use Rattle.std.proofs.lemmas.Bool.{cases_lt, ne_eqb}
 use Rattle.kpn_model.specs.declared.token.Token.{Token}
 use Rattle.kpn_model.specs.declared.parts.Channel.{Channel}
@@ -9,7 +9,7 @@ use Rattle.kpn_model.specs.declared.kinds.Answer.{Answer}
 use Rattle.kpn_model.specs.declared.history.Entry.{Entry}
 use Rattle.kpn_model.specs.declared.history.Status.{Status}
 use Rattle.kpn_model.specs.Network.{Network, Family, channel_of, in_of, out_of}
-use Rattle.kpn_model.specs.Semantics.{State, status, tokens, capacity, wants, answered, start, Run, IsQuiet, IsBlocked, IsPossible, IsEnabled}
+use Rattle.kpn_model.specs.Semantics.{State, status, tokens, capacity, wants, answered, start, Run, IsQuiet, IsBlocked, IsPossible}
 use Rattle.kpn_model.specs.History.{deeds, put_on, stream}
 use Rattle.kpn_model.specs.Determinacy.{IsPrefixOf, IsRun}
 use Rattle.kpn_laws.specs.Alone.{puts}
@@ -23,7 +23,7 @@ use Rattle.kpn_laws.proofs.States.{in_of-reader}
 use Rattle.kpn_flow.specs.Events.{Event, Went, Fed, Drained, Flows, entries_of, fed, drained}
 use Rattle.kpn_flow.specs.Flows.{is_among, AreEnds}
 use Rattle.kpn_flow.specs.Preloaded.{IsAtEnds, StopsAtOnce, preloaded, without_growths, all_fed}
-use Rattle.kpn_flow.specs.Pieces.{IsOneRunWithStreams, IsExhausted, HaveGivenTheSame, ExhaustedAreTheSame}
+use Rattle.kpn_flow.specs.Pieces.{IsOneRunWithStreams, IsExhausted, ExhaustedAreTheSame}
 use Rattle.kpn_flow.proofs.Ahead.{true_false}
 use Rattle.kpn_flow.proofs.Compared.{preload_same}
 use Rattle.kpn_flow.proofs.Mute.{still_at_end, still_wants, still_start, read_stop}

@@ -1,5 +1,5 @@
 -- The faults of the inputs and outputs, and what holds if there is none.
-use Rattle.std.proofs.Common.{◌≡◌, List, refl, ap, ◌∙◌, ℕ, ◌<◌, Bool, true, false, ◌&&◌, not, Option, Some, None, length, get_or, if◌then◌else◌, nat_lt, subst, ltb-true, lt-ltb}
+use Rattle.std.proofs.Common.{◌≡◌, List, refl, ap, ◌∙◌, ℕ, ◌<◌, Bool, true, false, ◌&&◌, ◌||◌, not, Option, Some, None, length, get_or, if◌then◌else◌, nat_lt, subst, ltb-true, lt-ltb}
 use Rattle.std.proofs.lemmas.Bool.{or_parts, not-false}
 use Rattle.std.specs.List.{list_any}
 use Rattle.kpn_model.specs.declared.kinds.Card.{Card}
@@ -10,8 +10,8 @@ use Rattle.kpn_machine.specs.Opening.{cards_of}
 use Rattle.kpn_machine.proofs.Seats.{card_at}
 use Rattle.kpn_flow.specs.declared.ends.FlowFault.{FlowFault}
 use Rattle.kpn_flow.specs.declared.ends.FlowFault.TheVariants.{Bodies, Card as OtherCard, Channel, Twice, Writer, Reader, Memory}
-use Rattle.kpn_flow.specs.Ends.{is_stop, stops_at_once, has_live_writer, has_live_reader, is_no_channel, end_fault, IsFlowFault}
-use Rattle.kpn_flow.specs.Flows.{AreEnds}
+use Rattle.kpn_flow.specs.Ends.{is_stop, stops_at_once, has_live_writer, has_live_reader, is_no_channel, has_twice, end_fault, AreApart, IsFlowFault}
+use Rattle.kpn_flow.specs.Flows.{is_among, AreEnds}
 use Rattle.kpn_flow.specs.Preloaded.{StopsAtOnce}
 use Rattle.kpn_flow.proofs.Among.{none_found}
 
@@ -41,12 +41,12 @@ not_memory false false false true e = cc
 not_memory false false false false e = cc
 
 -- if there is none, all four tests failed
-none_of : (a b c d : Bool) → first_of a b c d ≡ None → (a ≡ false) × (c ≡ false) × (d ≡ false)
+none_of : (a b c d : Bool) → first_of a b c d ≡ None → (a ≡ false) × (b ≡ false) × (c ≡ false) × (d ≡ false)
 none_of true b c d e = cc
 none_of false true c d e = cc
 none_of false false true d e = cc
 none_of false false false true e = cc
-none_of false false false false e = (refl, refl, refl)
+none_of false false false false e = (refl, refl, refl, refl)
 
 is_the_stop : (x : Act) → is_stop x ≡ true → x ≡ Stop
 is_the_stop (Read k) e = cc
@@ -81,11 +81,11 @@ module _ (kinds : Family) (net : Network) (cards : List Card) (inputs outputs : 
       record {
         only_fed = λ c h.
             let here = within c (none_found (is_no_channel net) inputs c none.0 h) in
-            let dead = none_found (has_live_writer kinds net cards) inputs c tests.1 h in
+            let dead = none_found (has_live_writer kinds net cards) inputs c tests.2 h in
             (here, stops (channel_of net c).writer (idle (nat_lt c (length net.channels)) (stops_at_once kinds cards (channel_of net c).writer) (lt-ltb c (length net.channels) here) dead));
         only_drained = λ c h.
             let here = within c (none_found (is_no_channel net) outputs c none.1 h) in
-            let dead = none_found (has_live_reader kinds net cards) outputs c tests.2 h in
+            let dead = none_found (has_live_reader kinds net cards) outputs c tests.3 h in
             (here, stops (channel_of net c).reader (idle (nat_lt c (length net.channels)) (stops_at_once kinds cards (channel_of net c).reader) (lt-ltb c (length net.channels) here) dead));
       }
     where
@@ -93,3 +93,10 @@ module _ (kinds : Family) (net : Network) (cards : List Card) (inputs outputs : 
       idle true true e f = refl
       idle true false e f = cc
       idle false b e f = cc
+
+  -- and no channel stands in the lists twice
+  pub are_apart : end_fault kinds net cards inputs outputs ≡ None → AreApart inputs outputs
+  are_apart e =
+      let twice = or_parts (has_twice inputs || has_twice outputs) (list_any (is_among outputs) inputs) (none_of _ _ _ _ e).1 in
+      let each = or_parts (has_twice inputs) (has_twice outputs) twice.0 in
+      record { inputs_once = each.0; outputs_once = each.1; none_in_both = twice.1 }

@@ -36,6 +36,12 @@ abbrev pub has_twice : List ℕ → Bool
 has_twice [] = false
 has_twice (c ∷ cs) = is_among cs c || has_twice cs
 
+-- no channel stands in the lists twice, be it in one or in both
+pub record AreApart (inputs outputs : List ℕ) : Type 0 where
+  pub inputs_once : has_twice inputs ≡ false
+  pub outputs_once : has_twice outputs ≡ false
+  pub none_in_both : list_any (is_among outputs) inputs ≡ false
+
 -- the first fault of the inputs and outputs
 abbrev pub end_fault : Family → Network → List Card → List ℕ → List ℕ → Option FlowFault
 end_fault kinds net cards inputs outputs =

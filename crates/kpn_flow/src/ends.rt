@@ -75,8 +75,15 @@ fn any_no_channel<K: Kinds>(net: &Net<K>, channels: &[usize]) -> bool
     channels.iter().any(|c| is_no_channel(net, *c))
 }
 
-/// Whether a process stops at once, as its body answers at its start.
-fn stops_at_once<B: Body>(bodies: &[B], process: usize) -> bool
+/// Returns whether a process stops at once, as its body answers at its start. Only the outside writes to a
+/// channel whose writer does so, and only the outside reads from one whose reader does.
+///
+/// ```text
+/// if stops_at_once(bodies, process) {
+///     return Ok(channel);
+/// }
+/// ```
+pub fn stops_at_once<B: Body>(bodies: &[B], process: usize) -> bool
     requires { process < length bodies.now }
     ensures { result ≡ stops_at_once (family_of B.Kinds.start B.Kinds.answer_of) (map B.card bodies.now) process }
 {

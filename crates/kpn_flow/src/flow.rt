@@ -6,7 +6,7 @@ ghost use Rattle.kpn_model.specs.Semantics.{start, tokens, capacity, IsBlocked};
 ghost use Rattle.kpn_model.specs.Valid.{IsOfSort};
 ghost use Rattle.kpn_state.specs.declared.standing.Standing.TheVariants.{Ready};
 ghost use Rattle.kpn_machine.specs.Opening.{cards_of};
-ghost use Rattle.kpn_flow.specs.Ends.{IsFlowFault};
+ghost use Rattle.kpn_flow.specs.Ends.{AreApart, IsFlowFault};
 ghost use Rattle.kpn_flow.specs.Events.{Happens, Fed, Drained, Flows};
 ghost use Rattle.kpn_flow.specs.Flows.{flow_view, is_among, nothing_counted, with_ended, AreEnds, IsReached, IsSameFlow, MayFeed, MayFeedAll};
 ghost use Rattle.kpn_flow.specs.Pauses.{Advances, IsStarving, TellWants};
@@ -91,6 +91,7 @@ impl<B: Body> Flow<B> {
         ensures opened { IfOk result (λ m. m ≡ flow_view net (start (family_of B.Kinds.start B.Kinds.answer_of) net) (replicate (length net.processes) Ready) inputs.now inputs.now outputs.now nothing_counted) }
         ensures cards { OnOk result (map B.card bodies.items ≡ cards_of net.processes) }
         ensures ends { OnOk result (AreEnds (family_of B.Kinds.start B.Kinds.answer_of) net inputs.now outputs.now) }
+        ensures apart { OnOk result (AreApart inputs.now outputs.now) }
         ensures net_back { IfErr result (λ refused. refused.net ≡ net) }
         ensures bodies_back { IfErr result (λ refused. refused.bodies.items ≡ bodies.items) }
         ensures fault { IfErr result (λ refused. IsFlowFault (family_of B.Kinds.start B.Kinds.answer_of) net (map B.card bodies.items) inputs.now outputs.now refused.fault) }
@@ -213,6 +214,23 @@ impl<B: Body> Flow<B> {
         ensures blocked { IsTrue result → IsBlocked (family_of B.Kinds.start B.Kinds.answer_of) self.now.network self.now.state (channel_of self.now.network channel).writer channel }
     {
         holds_up(&self.net, self.standings.as_slice(), channel)
+    }
+
+    /// Returns whether a channel holds fewer tokens than its capacity; `false` if there is no such channel.
+    ///
+    /// ```text
+    /// if !flow.has_room(inlet.channel()) {
+    ///     return false;
+    /// }
+    /// ```
+    pub fn has_room(&self, channel: usize) -> bool
+        ensures { IsTrue result ↔ length (tokens self.now.state channel) < capacity self.now.state channel }
+    {
+        if channel >= self.net.channels() {
+            return false;
+        }
+        let (held, capacity) = self.store.tokens_and_capacity(channel);
+        held < capacity
     }
 
     /// Returns whether each process has stopped or waits for a token. Then nothing more is done, and

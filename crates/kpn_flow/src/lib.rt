@@ -25,7 +25,7 @@ mod turn;
 mod waits;
 
 pub use counts::Counts;
-pub use ends::FlowFault;
+pub use ends::{FlowFault, stops_at_once};
 pub use flow::{Flow, FlowRefused};
 pub use law::{comparable, preloading};
 pub use pause::Pause;

@@ -8,7 +8,7 @@ use std::fmt::Write;
 use toml::{Table, Value};
 
 /// The form that the value of a key has to have.
-#[derive(Clone, Copy, Debug, PartialEq, Eq)]
+#[derive(Clone, Copy)]
 enum Form {
     Integer,
     Text,
@@ -43,7 +43,7 @@ impl Form {
 }
 
 /// Whether a key has to be there.
-#[derive(Clone, Copy, Debug, PartialEq, Eq)]
+#[derive(Clone, Copy)]
 enum Presence {
     Required,
     Optional,
@@ -53,10 +53,8 @@ enum Presence {
 #[derive(Clone, Copy)]
 struct Key(&'static str, Form, Presence);
 
-const VERSION: Key = Key("version", Form::Integer, Required);
-
-/// The keys at the top: the last is of version 2.
-const TOP: [Key; 5] = [
+/// The keys at the top: the first is the version, and the last is of version 2.
+static TOP: [Key; 5] = [
     Key("version", Form::Integer, Required),
     Key("budget", Form::Integer, Optional),
     Key("process", Form::Array, Required),
@@ -64,14 +62,14 @@ const TOP: [Key; 5] = [
     Key("step", Form::Integer, Optional),
 ];
 
-const PROCESS: [Key; 3] = [
+static PROCESS: [Key; 3] = [
     Key("name", Form::Text, Required),
     Key("kind", Form::Text, Required),
     Key("args", Form::Integers, Optional),
 ];
 
 /// The keys of a channel: the last is of version 2.
-const CHANNEL: [Key; 8] = [
+static CHANNEL: [Key; 8] = [
     Key("name", Form::Text, Required),
     Key("from", Form::Text, Required),
     Key("to", Form::Text, Required),
@@ -94,7 +92,7 @@ pub(crate) fn push_misfit(
     text: &[u8],
     table: &Table,
 ) -> Result<(), AllocError> {
-    if push_key(out, table, VERSION)? {
+    if push_key(out, table, TOP[0])? {
         return Ok(());
     }
     let version = match table.get("version") {
@@ -180,7 +178,7 @@ fn push_key(out: &mut String, table: &Table, key: Key) -> Result<bool, AllocErro
             write!(out, "key \"{name}\" must be {}", form.words())?;
             Ok(true)
         }
-        None if presence == Required => {
+        None if matches!(presence, Required) => {
             write!(out, "key \"{name}\" is missing")?;
             Ok(true)
         }

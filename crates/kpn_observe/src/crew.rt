@@ -347,8 +347,7 @@ fn run_seated<
 {
     let mut crewed = crewed;
     work_all(rt, &monitor, &mut crewed, crew);
-    seats.push_reserved(rest);
-    leave_all(crewed, &mut seats);
+    gather(rest, crewed, &mut seats);
     match monitor.close(seats) {
         Ok(closed) => WatchedRun::of(closed),
         Err(_) => unreachable!(),
@@ -378,6 +377,19 @@ fn work_each<
 >(rt: &R, monitor: &Monitor<B, E, O>, seats: &mut [CrewSeat<E, O>], crew: &C) {
     let threads = seats.len().max(1);
     for_each_mut(rt, seats, threads, &|_, seat| crew.work(monitor, seat));
+}
+
+/// All seats of a run: the one that has the parts left, and those of the crew.
+fn gather<E: EntryLedger, O: Ledger>(
+    rest: Seat<E, O>,
+    crewed: Vec<CrewSeat<E, O>>,
+    seats: &mut Vec<Seat<E, O>>,
+)
+    requires { (seats.old.items ≡ []) × (length crewed.items < vec_capacity seats.old) }
+    ensures { sum_by (λ (s : Shares). s.parts) seats.new.items ≡ rest.parts + length crewed.items }
+{
+    seats.push_reserved(rest);
+    leave_all(crewed, seats);
 }
 
 /// Takes the seats back from the crew.

@@ -120,19 +120,14 @@ pub fn run_watched<B: Body, R: Wait + Clock + Threads + Sync, G: Gate, V: Observ
     ensures memory { (n : NetV) (bs : _) → result ≡ Err (WatchedFault.Memory n bs) → (n ≡ net) × (map B.card bs.items ≡ map B.card bodies.items) × (map B.card bodies.items ≡ cards_of net.processes) }
 {
     if !may_work(workers) {
-        return Err(WatchedFault::Workers { net, bodies });
+        return Err(refuse_workers(net, bodies));
     }
     if stops_at_start(observer) {
         return Err(WatchedFault::Stopped { net, bodies });
     }
     let machine = match Machine::open(alloc, net, bodies) {
         Ok(machine) => machine,
-        Err(OpenRefused { net, bodies, fault }) => {
-            return Err(match fault {
-                OpenFault::Memory => WatchedFault::Memory { net, bodies },
-                OpenFault::Bodies | OpenFault::Card => WatchedFault::Open { net, bodies, fault },
-            });
-        }
+        Err(refused) => return Err(not_opened(refused)),
     };
     match run_machine(rt, alloc, machine, workers, gate, period, observer) {
         Ok(ran) => Ok(ran),
@@ -146,6 +141,28 @@ fn may_work(workers: usize) -> bool
     ensures other { result ≡ false → (workers ≡ 0) ⊎ (16 < workers) }
 {
     workers > 0 && workers <= 16
+}
+
+/// The fault of a number of workers that may not share a run.
+fn refuse_workers<B: Body>(net: Net<B::Kinds>, bodies: Vec<B>) -> WatchedFault<B>
+    ensures { result ≡ WatchedFault.Workers net bodies }
+{
+    WatchedFault::Workers { net, bodies }
+}
+
+/// The fault of a machine that was not opened.
+fn not_opened<B: Body>(refused: OpenRefused<B>) -> WatchedFault<B>
+    ensures workers { (n : NetV) (bs : _) → result ≢ WatchedFault.Workers n bs }
+    ensures stopped { (n : NetV) (bs : _) → result ≢ WatchedFault.Stopped n bs }
+    ensures open { (n : NetV) (bs : _) (fault : OpenFaultV) → result ≡ WatchedFault.Open n bs fault → (n ≡ refused.net) × (bs.items ≡ refused.bodies.items) × (fault ≡ refused.fault) × (fault ≢ OpenFault.Memory) }
+    ensures lost { (a : Input) (b : _) → result ≢ WatchedFault.Lost a b }
+    ensures memory { (n : NetV) (bs : _) → result ≡ WatchedFault.Memory n bs → (n ≡ refused.net) × (bs.items ≡ refused.bodies.items) × (refused.fault ≡ OpenFault.Memory) }
+{
+    let OpenRefused { net, bodies, fault } = refused;
+    match fault {
+        OpenFault::Memory => WatchedFault::Memory { net, bodies },
+        OpenFault::Bodies | OpenFault::Card => WatchedFault::Open { net, bodies, fault },
+    }
 }
 
 /// Whether the observer wishes to stop before the start.

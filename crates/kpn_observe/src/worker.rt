@@ -1,5 +1,5 @@
 //! What a worker of a watched run does.
-ghost use Rattle.std.specs.Prelude.{◌≡◌, [], length, IfNone};
+ghost use Rattle.std.specs.Prelude.{◌≡◌, true, [], length, Ok, IfNone};
 
 use crate::bell::Bell;
 use kpn_body::{Body, Finished};
@@ -44,18 +44,40 @@ pub(crate) fn work_until_stopped<B: Body, E: EntryLedger, O: Ledger, R: Wait + C
         if call_all(hand, gate) {
             most = next_most(most, nanos_since(rt, begun));
         }
-        let stops = bell.stops();
-        match monitor.exchange(rt, hand, seat, if stops { 0 } else { most }) {
-            Ok(Next::Over(_)) => return None,
-            Ok(Next::Nothing) if stops => return None,
-            Ok(Next::Nothing) => {
-                monitor.rest(rt, hand, Rest::Idle, Duration::from_micros(FIRST_REST));
-            }
-            Ok(Next::Tasks) => {}
+        match exchange(rt, monitor, bell, seat, hand, most) {
+            Ok(true) => return None,
+            Ok(false) => {}
             Err(Stranger { finished }) => return Some(finished),
         }
     }
     unreachable!()
+}
+
+// Exchanges the answers of a hand for at most so many tasks, or for none if the workers are to stop, and rests
+// where there is nothing to do. Returns whether the worker is done: it holds nothing then.
+fn exchange<B: Body, E: EntryLedger, O: Ledger, R: Wait + Clock>(
+    rt: &R,
+    monitor: &Monitor<B, E, O>,
+    bell: &Bell,
+    seat: &mut Seat<E, O>,
+    hand: &mut Hand<B>,
+    most: usize,
+) -> Result<bool, Stranger<B>>
+    requires { hand.old.called ≡ length hand.old.tasks }
+    ensures parts { seat.new.parts ≡ seat.old.parts }
+    ensures held { result ≡ Ok true → hand.new.tasks ≡ [] }
+{
+    let stops = bell.stops();
+    match monitor.exchange(rt, hand, seat, if stops { 0 } else { most }) {
+        Ok(Next::Over(_)) => Ok(true),
+        Ok(Next::Nothing) if stops => Ok(true),
+        Ok(Next::Nothing) => {
+            monitor.rest(rt, hand, Rest::Idle, Duration::from_micros(FIRST_REST));
+            Ok(false)
+        }
+        Ok(Next::Tasks) => Ok(false),
+        Err(stranger) => Err(stranger),
+    }
 }
 
 // Calls all tasks of a hand, and asks the gate after each. Returns whether there were any.

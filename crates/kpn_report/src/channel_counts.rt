@@ -1,7 +1,7 @@
 //! What went through one channel, in numbers.
 
 /// How many tokens were put on a channel, how many were taken from it, and its capacity.
-#[derive(Clone, Copy, Debug, PartialEq, Eq)]
+#[derive(Clone, Copy)]
 pub(crate) struct ChannelCounts {
     pub put: usize,
     pub taken: usize,

@@ -1,5 +1,5 @@
 //! The run of a network by many workers.
-ghost use Rattle.std.specs.Prelude.{◌≡◌, ◌≢◌, ◌<◌, ◌≤◌, ◌⊎◌, ℕ, false, [], length, map, vec_capacity, Err, IfOk, IsTrue, OnOk};
+ghost use Rattle.std.specs.Prelude.{◌≡◌, ◌≢◌, ◌<◌, ◌≤◌, ◌⊎◌, ℕ, false, [], length, map, vec_capacity, Err, IfOk, IfErr, IsTrue, OnOk};
 ghost use Rattle.kpn_model.specs.Network.{Network as NetV, family_of};
 ghost use Rattle.kpn_machine.specs.declared.opening.OpenFault.{OpenFault as OpenFaultV};
 ghost use Rattle.kpn_machine.specs.Opening.{cards_of, IsOpenFault};
@@ -181,16 +181,25 @@ fn run_bodies<B: Body, R: Wait + Clock + Threads + Sync, G: Gate>(
 {
     let machine = match Machine::open(alloc, net, bodies) {
         Ok(machine) => machine,
-        Err(OpenRefused { net, bodies, fault }) => {
-            return Err(match fault {
-                OpenFault::Memory => RunFault::Memory { net, bodies },
-                OpenFault::Bodies | OpenFault::Card => RunFault::Open { net, bodies, fault },
-            });
-        }
+        Err(refused) => return Err(not_opened(refused)),
     };
     match run_machine(rt, alloc, machine, workers, gate) {
         Ok(finish) => Ok(finish),
         Err(fault) => Err(fault),
+    }
+}
+
+/// The fault of a machine that was not opened.
+fn not_opened<B: Body>(refused: OpenRefused<B>) -> RunFault<B>
+    ensures workers { (n : NetV) (bs : _) → result ≢ RunFault.Workers n bs }
+    ensures open { (n : NetV) (bs : _) (fault : OpenFaultV) → result ≡ RunFault.Open n bs fault → (n ≡ refused.net) × (bs.items ≡ refused.bodies.items) × (fault ≡ refused.fault) × (fault ≢ OpenFault.Memory) }
+    ensures lost { (a : Input) (b : _) → result ≢ RunFault.Lost a b }
+    ensures memory { (n : NetV) (bs : _) → result ≡ RunFault.Memory n bs → (n ≡ refused.net) × (bs.items ≡ refused.bodies.items) × (refused.fault ≡ OpenFault.Memory) }
+{
+    let OpenRefused { net, bodies, fault } = refused;
+    match fault {
+        OpenFault::Memory => RunFault::Memory { net, bodies },
+        OpenFault::Bodies | OpenFault::Card => RunFault::Open { net, bodies, fault },
     }
 }
 
@@ -223,7 +232,7 @@ fn run_machine<B: Body, R: Wait + Clock + Threads + Sync, G: Gate>(
     ensures lost { (a : Input) (b : _) → result ≡ Err (RunFault.Lost a b) → B.card b ≡ a.card }
     ensures memory { (n : NetV) (bs : _) → result ≡ Err (RunFault.Memory n bs) → (n ≡ machine.network) × (map B.card bs.items ≡ cards_of machine.network.processes) }
 {
-    match Opening::new(alloc, machine) {
+    match opening_of(alloc, machine) {
         Ok(opening) => match run_named::<B, Brand, Brand, R, G>(rt, alloc, opening, workers, gate) {
             Ok(finish) => {
                 told_by_laws(&finish);
@@ -231,6 +240,18 @@ fn run_machine<B: Body, R: Wait + Clock + Threads + Sync, G: Gate>(
             }
             Err(fault) => Err(fault),
         },
+        Err(fault) => Err(fault),
+    }
+}
+
+/// What a monitor of a machine is made from, before anything has run.
+fn opening_of<B: Body>(alloc: Global, machine: Machine<B>) -> Result<Opening<B>, RunFault<B>>
+    requires { IsFresh machine }
+    ensures opening { IfOk result (λ o. (o.machine ≡ machine) × (o.entries.parts ≡ 65536) × (o.overs.parts ≡ 65536)) }
+    ensures memory { IfErr result (λ f. (n : NetV) × ((bs : _) × (f ≡ RunFault.Memory n bs) × (n ≡ machine.network) × (map B.card bs.items ≡ cards_of machine.network.processes))) }
+{
+    match Opening::new(alloc, machine) {
+        Ok(opening) => Ok(opening),
         Err(machine) => Err(put_back(machine)),
     }
 }

@@ -1,8 +1,11 @@
 //! Reading a description.
-ghost use Rattle.std.specs.Prelude.{◌≡◌, codes, IfOk, IfErr};
+ghost use Rattle.std.specs.Prelude.{◌≡◌, ℕ, pos, codes, List, None, IsUtf8, IfOk, IfErr};
 ghost use Rattle.toml.specs.Data.{as_integer};
+ghost use Rattle.toml.specs.Errors.{IsMemory};
+ghost use Rattle.toml.specs.Parse.{parse_document};
 ghost use Rattle.toml.specs.View.{table_view};
-ghost use Rattle.kpn_sketch.specs.Form.{Reads, required, has_only};
+ghost use Rattle.kpn_model.specs.declared.limits.TheConstants.{DEFAULT_BUDGET};
+ghost use Rattle.kpn_sketch.specs.Form.{Reads, required, optional, has_only};
 ghost use Rattle.kpn_sketch.specs.Description.{Describes, IsReadFault, sketch_of, top_keys, channel_keys, channel_from};
 
 use crate::fault::NetFault;
@@ -12,6 +15,7 @@ use kpn_model::limits::DEFAULT_BUDGET;
 use kpn_model::version::is_two;
 use kpn_model::{Listed, Sort};
 use std::alloc::Global;
+use toml::de::Error;
 use toml::{Table, Value};
 
 /// Reads a description, a TOML document in UTF-8, and fills in its defaults. Ranges and names are not
@@ -37,8 +41,18 @@ pub fn read_sketch(alloc: Global, text: &[u8]) -> Result<Sketch, NetFault>
 {
     match toml::table_from_slice(alloc, text) {
         Ok(table) => sketch_of(alloc, &table),
-        Err(e) if e.is_memory() => Err(NetFault::Memory),
-        Err(_) => Err(NetFault::NotToml),
+        Err(error) => Err(fault_of(&error)),
+    }
+}
+
+/// The fault of a text that was not read as TOML.
+fn fault_of(error: &Error) -> NetFault
+    ensures { (text : List ℕ) → ((IsMemory error.now → ⊥) → IsUtf8 text → parse_document text ≡ None) → IsReadFault text result }
+{
+    if error.is_memory() {
+        NetFault::Memory
+    } else {
+        NetFault::NotToml
     }
 }
 
@@ -62,6 +76,14 @@ fn has_only_top_keys(version: i64, table: &Table) -> bool
     }
 }
 
+/// Reads the budget.
+fn budget_of(alloc: Global, version: i64, table: &Table) -> Result<i64, NetFault>
+    ensures { Reads result (optional as_integer (pos DEFAULT_BUDGET) (codes "budget") (table_view table.now)) }
+{
+    let default = i64::from(DEFAULT_BUDGET);
+    optional(alloc, version, table, "budget", default)
+}
+
 fn sketch_of(alloc: Global, table: &Table) -> Result<Sketch, NetFault>
     ensures { Reads result (sketch_of (table_view table.now)) }
 {
@@ -72,7 +94,7 @@ fn sketch_of(alloc: Global, table: &Table) -> Result<Sketch, NetFault>
     let none = Listed::new(Vec::new(alloc));
     Ok(Sketch {
         version,
-        budget: optional(alloc, version, table, "budget", i64::from(DEFAULT_BUDGET))?,
+        budget: budget_of(alloc, version, table)?,
         step: optional(alloc, version, table, "step", 1)?,
         processes: required(alloc, version, table, "process")?,
         channels: optional(alloc, version, table, "channel", none)?,
@@ -117,6 +139,13 @@ fn has_only_channel_keys(version: i64, table: &Table) -> bool
     }
 }
 
+/// Reads to which input a channel leads.
+fn input_of(alloc: Global, version: i64, table: &Table) -> Result<i64, NetFault>
+    ensures { Reads result (optional as_integer (pos 0) (codes "in") (table_view table.now)) }
+{
+    optional(alloc, version, table, "in", 0)
+}
+
 /// Reads the channel of a table, whatever other keys it has.
 fn channel_from(alloc: Global, version: i64, table: &Table) -> Result<ChannelSketch, NetFault>
     ensures { Reads result (channel_from (table_view table.now)) }
@@ -127,7 +156,7 @@ fn channel_from(alloc: Global, version: i64, table: &Table) -> Result<ChannelSke
         from: required(alloc, version, table, "from")?,
         to: required(alloc, version, table, "to")?,
         out: optional(alloc, version, table, "out", 0)?,
-        input: optional(alloc, version, table, "in", 0)?,
+        input: input_of(alloc, version, table)?,
         sort: optional(alloc, version, table, "sort", Sort::Words)?,
         capacity: optional(alloc, version, table, "capacity", 1)?,
         tokens: optional(alloc, version, table, "tokens", none)?,

@@ -377,27 +377,22 @@ static TEXTS: [(&str, u8, &str); 14] = [
     ),
 ];
 
-/// The fault of a text, and its message.
-fn told(alloc: Global, text: &[u8]) -> (u8, Option<String>) {
-    let fault = match read_sketch(alloc, text) {
-        Ok(sketch) => match Net::<Standard>::check(alloc, &sketch) {
-            Ok(_) => return (0, None),
-            Err(fault) => fault,
-        },
-        Err(fault) => fault,
-    };
-    (
-        fault.number(),
-        message_of::<Standard>(alloc, text, fault, KINDS),
-    )
+/// The network of a text.
+fn net_of(alloc: Global, text: &[u8]) -> Result<Net<Standard>, NetFault> {
+    let sketch = read_sketch(alloc, text)?;
+    Net::check(alloc, &sketch)
 }
 
-/// Whether a text is refused by this number, and with this message.
-fn is_told(alloc: Global, text: &[u8], number: u8, message: &str) -> bool {
-    match told(alloc, text) {
-        (found, Some(told)) => found == number && told.as_str() == message,
-        _ => false,
-    }
+/// A text is refused by this number, and with this message.
+fn tells<R: Abort>(rt: &R, alloc: Global, text: &[u8], number: u8, message: &str) {
+    let fault = net_of(alloc, text).err().expect(rt, message);
+    let told = message_of::<Standard>(alloc, text, fault, KINDS).expect(rt, message);
+    same(
+        rt,
+        "told",
+        (fault.number(), told.as_str()),
+        (number, message),
+    );
 }
 
 /// An edit of the text, with the number of its fault and its message.
@@ -407,12 +402,7 @@ type Edit = (&'static str, &'static str, u8, &'static str);
 fn tells_of_edit<R: Abort>(rt: &R, alloc: Global, edit: &Edit) {
     let (old, new, number, message) = *edit;
     let text = TEXT.replace(alloc, old, new).expect(rt, "no memory");
-    same(
-        rt,
-        new,
-        is_told(alloc, text.as_bytes(), number, message),
-        true,
-    );
+    tells(rt, alloc, text.as_bytes(), number, message);
 }
 
 fn tells_of_edits<R: Abort>(rt: &R, alloc: Global, edits: &[Edit]) {
@@ -439,11 +429,10 @@ fn edits_of_channels_have_their_messages(rt: HostRuntime) {
 #[test]
 fn each_text_has_its_message(rt: HostRuntime) {
     for (text, number, message) in &TEXTS {
-        let is_told = is_told(rt.alloc(), text.as_bytes(), *number, message);
-        same(&rt, message, is_told, true);
+        tells(&rt, rt.alloc(), text.as_bytes(), *number, message);
     }
     let message = "line 1, column 1: invalid UTF-8";
-    same(&rt, message, is_told(rt.alloc(), &[0xff], 1, message), true);
+    tells(&rt, rt.alloc(), &[0xff], 1, message);
 }
 
 /// The line of table `k` of the text above, if it has so many processes.
@@ -514,7 +503,7 @@ fn locates_a_process_a_channel_and_neither(rt: HostRuntime) {
         Location::Channel(1),
         Location::Description,
     ];
-    assert!(rt; found == due);
+    same(&rt, "places", found, due);
 }
 
 /// A description with five faults that stand by themselves: of what follows from the unknown kind, as that

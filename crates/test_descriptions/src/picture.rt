@@ -2,12 +2,12 @@
 use crate::checks::same;
 use kpn_compute::Both;
 use kpn_compute::both::{is_first, own_card};
-use kpn_net::{Card, Check, End, Listed, Net, Place, Token, read_sketch};
+use kpn_net::{Card, Check, End, Kinds, Listed, Net, Place, Token, read_sketch};
 use kpn_picture::{Direction, Left, Titled, is_jammed, picture_of};
 use kpn_signals::Signals;
 use kpn_standard::Standard;
-use std::alloc::{AllocError, Global};
-use std::test::Fail;
+use std::alloc::Global;
+use std::process::Abort;
 
 /// The lines above all processes, in each picture.
 const HEAD: &str = r##"digraph kpn {
@@ -17,22 +17,30 @@ const HEAD: &str = r##"digraph kpn {
 "##;
 
 /// Draws a network of which nothing is known but how a run ended, if it did.
-fn picture_of_start(
+fn picture_of_start<R: Abort>(
+    rt: &R,
     alloc: Global,
     net: &Net<Standard>,
     end: Option<End>,
-) -> Result<String, AllocError> {
+) -> String {
     let start = Left {
         places: &[],
         capacities: &[],
         rests: &[],
     };
-    picture_of(alloc, net, Direction::Right, end, &start)
+    picture_of(alloc, net, Direction::Right, end, &start).expect(rt, "no memory")
 }
 
-pub(crate) fn net_of(alloc: Global, text: &str) -> Result<Net<Standard>, Fail> {
-    let sketch = read_sketch(alloc, text.as_bytes())?;
-    Ok(Net::check(alloc, &sketch)?)
+/// Compares the picture of a network at its start with the lines below the first ones.
+fn compare_start<R: Abort>(rt: &R, alloc: Global, net: &Net<Standard>, due: &str) {
+    let drawn = picture_of_start(rt, alloc, net, None);
+    same(rt, "picture", drawn.strip_prefix(HEAD), Some(due));
+}
+
+/// The network of a description.
+pub(crate) fn net_of<R: Abort>(rt: &R, alloc: Global, text: &str) -> Net<Standard> {
+    let sketch = read_sketch(alloc, text.as_bytes()).expect(rt, "no sketch");
+    Net::check(alloc, &sketch).expect(rt, "no network")
 }
 
 pub(crate) const COUNTER: &str = r#"version = 1
@@ -41,18 +49,14 @@ channel = [{ name = "c0", from = "src", to = "snk" }]
 "#;
 
 #[test]
-fn draws_a_description(rt: HostRuntime) -> Result<(), Fail> {
-    let alloc = rt.alloc();
-    let net = net_of(alloc, COUNTER)?;
-    let drawn = picture_of_start(alloc, &net, None)?;
+fn draws_a_description(rt: HostRuntime) {
+    let net = net_of(&rt, rt.alloc(), COUNTER);
     let worked = r#"  "src" [label="src\ncount 1 3"];
   "snk" [label="snk\nsink 3"];
   "src" -> "snk" [label="c0"];
 }
 "#;
-    let whole = format!(in alloc; "{HEAD}{worked}")?;
-    assert!(rt; drawn.as_str() == whole.as_str(), "{drawn}");
-    Ok(())
+    compare_start(&rt, rt.alloc(), &net, worked);
 }
 
 /// A switch that passes words on by flags; its channel of flags begins with some.
@@ -75,10 +79,8 @@ channel = [
 "#;
 
 #[test]
-fn draws_flags_and_start_tokens(rt: HostRuntime) -> Result<(), Fail> {
-    let alloc = rt.alloc();
-    let net = net_of(alloc, SWITCH)?;
-    let drawn = picture_of_start(alloc, &net, None)?;
+fn draws_flags_and_start_tokens(rt: HostRuntime) {
+    let net = net_of(&rt, rt.alloc(), SWITCH);
     let worked = r#"  "a" [label="a\ncount 7 3"];
   "b" [label="b\ncount 1 1"];
   "even" [label="even\ndivides 2"];
@@ -92,9 +94,7 @@ fn draws_flags_and_start_tokens(rt: HostRuntime) -> Result<(), Fail> {
   "sw" -> "yes" [label="w1", taillabel="1"];
 }
 "#;
-    let whole = format!(in alloc; "{HEAD}{worked}")?;
-    assert!(rt; drawn.as_str() == whole.as_str(), "{drawn}");
-    Ok(())
+    compare_start(&rt, rt.alloc(), &net, worked);
 }
 
 /// Running sums by feedback without a start token: the adder and the copy wait for each other.
@@ -114,7 +114,7 @@ channel = [
 "#;
 
 /// The places in which the run of the loop leaves its processes.
-pub(crate) const LOOP_PLACES: [Place; 4] = [
+pub(crate) static LOOP_PLACES: [Place; 4] = [
     Place::Stopped,
     Place::Reads(1),
     Place::Reads(2),
@@ -122,24 +122,35 @@ pub(crate) const LOOP_PLACES: [Place; 4] = [
 ];
 
 /// A list of `count` words.
-fn words(alloc: Global, count: usize) -> Result<Listed<Token>, Fail> {
-    Ok(Listed::new(vec![in alloc; Token::Word(2); count]?))
+fn words<R: Abort>(rt: &R, alloc: Global, count: usize) -> Listed<Token> {
+    Listed::new(vec![in alloc; Token::Word(2); count].expect(rt, "no memory"))
 }
 
-#[test]
-fn draws_a_deadlock_with_its_cycle(rt: HostRuntime) -> Result<(), Fail> {
-    let alloc = rt.alloc();
-    let net = net_of(alloc, LOOP)?;
+/// What is left on the channels of the loop.
+fn rests_of_loop<R: Abort>(rt: &R, alloc: Global) -> Vec<Listed<Token>> {
     let mut rests = Vec::new(alloc);
     for count in [4, 0, 0, 0] {
-        rests.push(words(alloc, count)?)?;
+        let rest = words(rt, alloc, count);
+        rests.push(rest).expect(rt, "no memory");
     }
+    rests
+}
+
+/// Compares the picture of the loop after its run with the lines below the first ones.
+fn compare_deadlock<R: Abort>(rt: &R, alloc: Global, net: &Net<Standard>, due: &str) {
+    let rests = rests_of_loop(rt, alloc);
     let left = Left {
         places: &LOOP_PLACES,
         capacities: &[4, 1, 1, 1],
         rests: rests.as_slice(),
     };
-    let drawn = picture_of(alloc, &net, Direction::Right, Some(End::Deadlock), &left)?;
+    let end = Some(End::Deadlock);
+    let drawn = picture_of(alloc, net, Direction::Right, end, &left).expect(rt, "no memory");
+    same(rt, "picture", drawn.strip_prefix(HEAD), Some(due));
+}
+
+#[test]
+fn draws_a_deadlock_with_its_cycle(rt: HostRuntime) {
     let worked = r##"  label="cycle ad c2 cp c1 (deadlock)";
   "src" [label="src\ncount 1 5\nended", fillcolor="#e3e3e3"];
   "ad" [label="ad\nadd\nwaits to read c1", color="#c0392b", penwidth=2];
@@ -151,9 +162,8 @@ fn draws_a_deadlock_with_its_cycle(rt: HostRuntime) -> Result<(), Fail> {
   "cp" -> "snk" [label="c3", taillabel="1"];
 }
 "##;
-    let whole = format!(in alloc; "{HEAD}{worked}")?;
-    assert!(rt; drawn.as_str() == whole.as_str(), "{drawn}");
-    Ok(())
+    let net = net_of(&rt, rt.alloc(), LOOP);
+    compare_deadlock(&rt, rt.alloc(), &net, worked);
 }
 
 /// A copy whose two outputs are woven again (Parks 1995).
@@ -172,110 +182,125 @@ channel = [
 ]
 "#;
 
-/// Which channels are on a cycle of waits.
-fn jammed(alloc: Global, net: &Net<Standard>, places: &[Place]) -> Result<Vec<bool>, AllocError> {
-    let mut jammed = Vec::new(alloc);
+/// Compares which channels of a network are on a cycle of waits.
+fn compare_jams<R: Abort>(rt: &R, net: &Net<Standard>, places: &[Place], due: &[bool]) {
+    same(rt, "channels", net.channels(), due.len());
     for c in 0..net.channels() {
-        jammed.push(is_jammed(net, places, c))?;
+        let found = (c, Some(is_jammed(net, places, c)));
+        same(rt, "jammed", found, (c, due.get(c).copied()));
     }
-    Ok(jammed)
 }
 
 /// The copy waits for room in c2, and its reader for a token of c1, which the copy is to write. The
 /// counter and the sink wait for these two, and not for themselves.
 #[test]
-fn marks_the_cycles_of_waits(rt: HostRuntime) -> Result<(), Fail> {
-    let net = net_of(rt.alloc(), WOVEN)?;
+fn marks_the_cycles_of_waits(rt: HostRuntime) {
     let stuck = [
         Place::Writes(0),
         Place::Writes(2),
         Place::Reads(1),
         Place::Reads(3),
     ];
-    let found = jammed(rt.alloc(), &net, stuck.as_slice())?;
-    assert!(rt; found.as_slice() == [false, true, true, false].as_slice());
-    Ok(())
+    let net = net_of(&rt, rt.alloc(), WOVEN);
+    compare_jams(&rt, &net, &stuck, &[false, true, true, false]);
 }
 
 /// The counter has ended, and the others wait for it: that is no cycle.
 #[test]
-fn marks_no_channel_without_a_cycle(rt: HostRuntime) -> Result<(), Fail> {
-    let net = net_of(rt.alloc(), WOVEN)?;
+fn marks_no_channel_without_a_cycle(rt: HostRuntime) {
     let served = [
         Place::Stopped,
         Place::Reads(0),
         Place::Reads(1),
         Place::Reads(3),
     ];
-    for places in [served.as_slice(), [].as_slice()] {
-        let found = jammed(rt.alloc(), &net, places)?;
-        assert!(rt; found.as_slice() == [false; 4].as_slice());
-    }
-    Ok(())
+    let net = net_of(&rt, rt.alloc(), WOVEN);
+    compare_jams(&rt, &net, &served, &[false; 4]);
+    compare_jams(&rt, &net, &[], &[false; 4]);
+}
+
+/// The title of a picture for each end.
+static ENDS: [(End, &str); 5] = [
+    (End::Terminated, "finished (terminated)"),
+    (End::Deadlock, "ran dry (deadlock)"),
+    (
+        End::Ceiling,
+        "full (a channel at the ceiling would have to grow)",
+    ),
+    (End::Budget, "cut (budget spent)"),
+    (End::Memory, "memory (memory refused)"),
+];
+
+/// Compares the title of the picture of a network for an end.
+fn compare_end<R: Abort>(rt: &R, alloc: Global, net: &Net<Standard>, end: End, due: &str) {
+    let drawn = picture_of_start(rt, alloc, net, Some(end));
+    let line = format!(in alloc; "\n  label=\"{due}\";\n").expect(rt, "no memory");
+    same(rt, due, drawn.contains(line.as_str()), true);
 }
 
 #[test]
-fn draws_each_end(rt: HostRuntime) -> Result<(), Fail> {
-    let alloc = rt.alloc();
-    let net = net_of(alloc, COUNTER)?;
-    for (end, text) in [
-        (End::Terminated, "finished (terminated)"),
-        (End::Deadlock, "ran dry (deadlock)"),
-        (
-            End::Ceiling,
-            "full (a channel at the ceiling would have to grow)",
-        ),
-        (End::Budget, "cut (budget spent)"),
-        (End::Memory, "memory (memory refused)"),
-    ] {
-        let drawn = picture_of_start(alloc, &net, Some(end))?;
-        let line = format!(in alloc; "\n  label=\"{text}\";\n")?;
-        assert!(rt; drawn.contains(line.as_str()), "{drawn}");
+fn draws_each_end(rt: HostRuntime) {
+    let net = net_of(&rt, rt.alloc(), COUNTER);
+    for (end, due) in &ENDS {
+        compare_end(&rt, rt.alloc(), &net, *end, due);
     }
-    Ok(())
 }
 
-/// The titles of cards of standard kinds, of kinds for signals, and of both as one family, in which kind k
-/// of the first is 2k, and of the second 2k + 1.
+/// The title of the kind of a card, if it has a signature.
+fn title_of<K: Titled>(card: Card) -> Option<(&'static str, usize)> {
+    K::signature(&card)?;
+    Some(K::title(&card))
+}
+
+/// A kind in its own family, the same in the family of standard kinds and those for signals, in which kind k of
+/// the first is 2k and of the second 2k + 1, arguments, and the title of cards with these.
+type TitleRow = (u16, u16, [u64; 3], (&'static str, usize));
+
+static STANDARD_TITLES: [TitleRow; 4] = [
+    (0, 0, [1, 3, 0], ("count", 2)),
+    (1, 2, [3, 0, 0], ("sink", 1)),
+    (7, 14, [1, 2, 0], ("weave", 2)),
+    (11, 22, [0, 0, 0], ("select", 0)),
+];
+
+static SIGNALS_TITLES: [TitleRow; 2] = [
+    (19, 39, [3, 0, 0], ("low_pass", 1)),
+    (20, 41, [1, 9, 0], ("clip", 2)),
+];
+
+/// Compares the titles of the cards of a row, and what the family of both says of its card.
+fn compare_titles<K: Titled, R: Abort>(rt: &R, row: &TitleRow, is_standard: bool) {
+    let (kind, of_both, args, due) = *row;
+    let card = Card { kind, args };
+    let both = Card {
+        kind: of_both,
+        args,
+    };
+    let found = [
+        title_of::<K>(card),
+        title_of::<Both<Standard, Signals>>(both),
+    ];
+    same(rt, due.0, found, [Some(due); 2]);
+    let own = (is_first(both), own_card(both));
+    same(rt, due.0, own, (is_standard, card));
+}
+
 #[test]
-fn knows_the_titles_of_kinds(rt: HostRuntime) {
-    for (kind, args, title) in [
-        (0, [1, 3, 0], ("count", 2)),
-        (1, [3, 0, 0], ("sink", 1)),
-        (7, [1, 2, 0], ("weave", 2)),
-        (11, [0, 0, 0], ("select", 0)),
-    ] {
-        let found = Standard::title(&Card { kind, args });
-        same(&rt, "standard", found, title);
-        let both = Card {
-            kind: 2 * kind,
-            args,
-        };
-        same(&rt, "first", Both::<Standard, Signals>::title(&both), title);
-        same(&rt, "is first", is_first(both), true);
-        same(&rt, "own", own_card(both), Card { kind, args });
+fn knows_the_titles_of_standard_kinds(rt: HostRuntime) {
+    for row in &STANDARD_TITLES {
+        compare_titles::<Standard, _>(&rt, row, true);
     }
-    for (kind, args, title) in [
-        (19, [3, 0, 0], ("low_pass", 1)),
-        (20, [1, 9, 0], ("clip", 2)),
-    ] {
-        let found = Signals::title(&Card { kind, args });
-        same(&rt, "signals", found, title);
-        let both = Card {
-            kind: 2 * kind + 1,
-            args,
-        };
-        same(
-            &rt,
-            "second",
-            Both::<Standard, Signals>::title(&both),
-            title,
-        );
-        same(&rt, "is second", is_first(both), false);
+}
+
+#[test]
+fn knows_the_titles_of_signals(rt: HostRuntime) {
+    for row in &SIGNALS_TITLES {
+        compare_titles::<Signals, _>(&rt, row, false);
     }
     let below = Card {
         kind: 21,
         args: [6, 1, 0],
     };
-    same(&rt, "below 0", Signals::title(&below), ("constant", 1));
+    let found = title_of::<Signals>(below);
+    same(&rt, "below 0", found, Some(("constant", 1)));
 }

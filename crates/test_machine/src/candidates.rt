@@ -1,7 +1,7 @@
 //! Who waits at the channels: the candidates for a growth and the marks, by hand, and the growths of a network of three
 //! full channels.
 use crate::checks::same;
-use crate::machines::machine_of;
+use crate::machines::{finish_alone, machine_of};
 use kpn_net::{End, Entry};
 use kpn_state::{Candidates, Marks, Waiting};
 use std::alloc::Global;
@@ -11,46 +11,55 @@ use std::rt::HostRuntime;
 #[test]
 fn candidates_stand_by_capacity_and_number(rt: HostRuntime) {
     let mut candidates = Candidates::new(rt.alloc(), 4).expect(&rt, "ample memory");
-    same(&rt, "none", candidates.first(), None);
+    let none = candidates.first();
     candidates.insert(2, 0);
-    same(&rt, "one", candidates.first(), Some((2, 0)));
+    let one = candidates.first();
     candidates.insert(1, 7);
-    same(&rt, "less capacity", candidates.first(), Some((1, 7)));
+    let less_capacity = candidates.first();
     candidates.insert(1, 5);
-    same(&rt, "the lesser number", candidates.first(), Some((1, 5)));
+    let the_lesser_number = candidates.first();
     candidates.insert(1, 6);
-    same(&rt, "neither", candidates.first(), Some((1, 5)));
+    let neither = candidates.first();
+    let found = [none, one, less_capacity, the_lesser_number, neither];
+    let due = [None, Some((2, 0)), Some((1, 7)), Some((1, 5)), Some((1, 5))];
+    same(&rt, "inserted", found, due);
     candidates.remove(1, 5);
-    same(&rt, "the next number", candidates.first(), Some((1, 6)));
+    let the_next_number = candidates.first();
     candidates.remove(2, 7);
     candidates.remove(1, 6);
-    same(
-        &rt,
-        "the last of its capacity",
-        candidates.first(),
-        Some((1, 7)),
-    );
+    let the_last_of_its_capacity = candidates.first();
     candidates.remove(1, 7);
-    same(&rt, "the next capacity", candidates.first(), Some((2, 0)));
+    let the_next_capacity = candidates.first();
     candidates.remove(2, 0);
-    same(&rt, "none again", candidates.first(), None);
+    let none_again = candidates.first();
+    let found = [
+        the_next_number,
+        the_last_of_its_capacity,
+        the_next_capacity,
+        none_again,
+    ];
+    let due = [Some((1, 6)), Some((1, 7)), Some((2, 0)), None];
+    same(&rt, "removed", found, due);
 }
 
 #[test]
 fn marks_stand_at_their_channels(rt: HostRuntime) {
     let mut marks = Marks::new(rt.alloc(), 2).expect(&rt, "ample memory");
-    same(&rt, "no reader at first", marks.reader_waits(1), false);
-    same(&rt, "no writer at first", marks.writer_waits(1), false);
+    let at_first = [marks.reader_waits(1), marks.writer_waits(1)];
+    same(&rt, "nobody at first", at_first, [false; 2]);
     marks.note_reader(1, true);
-    same(&rt, "a reader", marks.reader_waits(1), true);
-    same(&rt, "not the writer", marks.writer_waits(1), false);
-    same(&rt, "not the other channel", marks.reader_waits(0), false);
+    let reads = [
+        marks.reader_waits(1),
+        marks.writer_waits(1),
+        marks.reader_waits(0),
+    ];
+    same(&rt, "a reader of this channel", reads, [true, false, false]);
     marks.note_writer(0, true);
-    same(&rt, "a writer", marks.writer_waits(0), true);
-    same(&rt, "still no reader", marks.reader_waits(0), false);
+    let writes = [marks.writer_waits(0), marks.reader_waits(0)];
+    same(&rt, "a writer, and no reader", writes, [true, false]);
     marks.note_reader(1, false);
-    same(&rt, "the reader has read", marks.reader_waits(1), false);
-    same(&rt, "the writer waits on", marks.writer_waits(0), true);
+    let has_read = [marks.reader_waits(1), marks.writer_waits(0)];
+    same(&rt, "the writer waits on", has_read, [false, true]);
     marks.note_writer(0, false);
     same(&rt, "the writer has written", marks.writer_waits(0), false);
 }
@@ -59,8 +68,8 @@ fn marks_stand_at_their_channels(rt: HostRuntime) {
 fn nobody_waits_at_first(rt: HostRuntime) {
     let waiting = Waiting::new(rt.alloc(), 3, 2).expect(&rt, "ample memory");
     same(&rt, "no candidate", waiting.candidates.first(), None);
-    same(&rt, "no reader", waiting.marks.reader_waits(1), false);
-    same(&rt, "no writer", waiting.marks.writer_waits(1), false);
+    let marks = [waiting.marks.reader_waits(1), waiting.marks.writer_waits(1)];
+    same(&rt, "nobody", marks, [false; 2]);
 }
 
 /// Three counters of four tokens, whose sinks read none, over channels of capacities 3, 1 and 2.
@@ -103,8 +112,7 @@ fn growths_of<R: Abort>(rt: &R, alloc: Global, history: &[Entry]) -> Vec<Entry> 
 #[test]
 fn the_smallest_channel_grows_first(rt: HostRuntime) {
     let mut machine = machine_of(&rt, rt.alloc(), THREE_FULL);
-    assert!(&rt; machine.out() == 0);
-    machine.finish_alone();
+    finish_alone(&rt, &mut machine);
     same(&rt, "end", machine.end(), Some(End::Terminated));
     same(&rt, "entries", machine.history().len(), 24);
     let growths = growths_of(&rt, rt.alloc(), machine.history());

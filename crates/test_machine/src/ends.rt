@@ -1,7 +1,7 @@
 //! Runs to their end in the calling thread.
 use crate::checks::same;
 use crate::entries::{GREW, PUT_1};
-use crate::machines::{CardMachine, machine_of};
+use crate::machines::{CardMachine, finish_alone, machine_of};
 use crate::networks::{SINK_OF_FOUR, SINK_OF_ONE, SINK_OF_THREE};
 use kpn_body::Standard;
 use kpn_machine::{Chronicle, End, Entry, Standing};
@@ -69,8 +69,7 @@ const DEADLOCK: EndOfRun = EndOfRun {
 /// A machine that ran to its end alone.
 fn finished_machine<R: Abort>(rt: &R, alloc: Global, text: &str) -> CardMachine {
     let mut machine = machine_of(rt, alloc, text);
-    assert!(rt; machine.out() == 0);
-    machine.finish_alone();
+    finish_alone(rt, &mut machine);
     machine
 }
 

@@ -1,6 +1,6 @@
 //! Bodies that are asked where they lie.
 use crate::checks::same;
-use crate::machines::{CardMachine, answer_of, lay, machine_of, outcome_of, take};
+use crate::machines::{CardMachine, machine_of, outcome_of, take};
 use crate::networks::SINK_OF_THREE;
 use kpn_net::End;
 use std::process::Abort;
@@ -28,21 +28,24 @@ fn to_the_end(rt: HostRuntime) {
     asks(&rt, &mut machine, 1000, (0, 0, 8));
 }
 
+/// What is found once the other has gone on beside this process.
+fn due_beside(process: usize) -> (u64, usize, usize) {
+    match process {
+        0 => (1, 1, 0),
+        _ => (2, 1, 1),
+    }
+}
+
 /// Beside a process that is out the other goes on until it has to wait for it: a counter writes one token
 /// and waits with the second, a sink waits at once. The first to be taken is the counter or the sink.
 #[test]
 fn beside_one_that_is_out(rt: HostRuntime) {
     let alloc = rt.alloc();
     let mut machine = machine_of(&rt, alloc, SINK_OF_THREE);
-    let mut tasks = Vec::new(alloc);
-    let task = take(&mut machine).expect(&rt, "no task");
-    let process = task.process();
-    lay(&rt, &mut tasks, task);
-    let due = if process == 0 { (1, 1, 0) } else { (2, 1, 1) };
-    asks(&rt, &mut machine, 1000, due);
+    let task = take(&rt, &mut machine);
+    asks(&rt, &mut machine, 1000, due_beside(task.process()));
     same(&rt, "ready", machine.ready(), 0);
-    let finished = answer_of(&rt, &mut tasks, process);
-    let _ = outcome_of(&rt, &mut machine, finished);
+    outcome_of(&rt, &mut machine, task.call());
     machine.ask_in_place(1000);
     same(&rt, "entries", machine.history().len(), 8);
 }

@@ -1,6 +1,8 @@
 //! Calls of a machine, with only such contracts as the tests need. A test that is refused memory ends
 //! at once, so that no function here has to let go of a machine half way; the one test that goes on
-//! makes its parts itself.
+//! makes its parts itself. Who owns a machine calls those that compare what is lent to them.
+ghost use Rattle.kpn_machine.specs.MachineView.{IsFresh};
+
 use crate::checks::same;
 use crate::networks::{Parts, parts_of};
 use kpn_body::{Finished, Standard, Task};
@@ -36,9 +38,27 @@ pub(crate) fn opened<R: Abort>(rt: &R, alloc: Global, parts: Parts) -> CardMachi
     }
 }
 
-/// Takes the next task, if a process is ready.
-pub(crate) fn take(machine: &mut CardMachine) -> Option<CardTask> {
-    machine.take()
+/// A fresh machine.
+pub(crate) fn assert_fresh<R: Abort>(rt: &R, machine: &CardMachine)
+    ensures { IsFresh machine.now }
+{
+    assert!(rt; machine.is_fresh());
+}
+
+/// Goes on to the end, while no process is out.
+pub(crate) fn finish_alone<R: Abort>(rt: &R, machine: &mut CardMachine) {
+    assert!(rt; machine.out() == 0);
+    machine.finish_alone();
+}
+
+/// Takes the next task of a machine in which a process is ready.
+pub(crate) fn take<R: Abort>(rt: &R, machine: &mut CardMachine) -> CardTask {
+    machine.take().expect(rt, "no process is ready")
+}
+
+/// Takes no task, as no process is ready, or the run has ended.
+pub(crate) fn take_none<R: Abort>(rt: &R, machine: &mut CardMachine) {
+    same(rt, "none is taken", machine.take().is_none(), true);
 }
 
 /// Lays a task to those that are out.
@@ -46,13 +66,17 @@ pub(crate) fn lay<R: Abort>(rt: &R, tasks: &mut Vec<CardTask>, task: CardTask) {
     tasks.push(task).expect(rt, "no memory for a task");
 }
 
+/// Takes the next task, if a process is ready.
+fn take_next<R: Abort>(rt: &R, machine: &mut CardMachine, tasks: &mut Vec<CardTask>) {
+    if let Some(task) = machine.take() {
+        lay(rt, tasks, task);
+    }
+}
+
 /// Takes all ready processes.
 pub(crate) fn take_all<R: Abort>(rt: &R, machine: &mut CardMachine, tasks: &mut Vec<CardTask>) {
-    for _turn in 0..2 {
-        if let Some(task) = take(machine) {
-            lay(rt, tasks, task);
-        }
-    }
+    take_next(rt, machine, tasks);
+    take_next(rt, machine, tasks);
 }
 
 /// Calls the body of a process that is out, and returns its answer.

@@ -1,6 +1,6 @@
 //! What a machine is opened with, and what it hands back.
 use crate::checks::same;
-use crate::machines::{CardMachine, fresh_parts, machine_of, opened};
+use crate::machines::{CardMachine, assert_fresh, fresh_parts, machine_of, opened};
 use crate::networks::{COUNTER, Parts, SINK, SINK_OF_THREE};
 use kpn_body::{Body, Standard};
 use kpn_compute::CardBody;
@@ -19,7 +19,7 @@ fn assert_cards<R: Abort>(rt: &R, bodies: &[CardBody<Standard>], cards: &[Card],
 
 /// Takes apart a fresh machine.
 fn taken_apart<R: Abort>(rt: &R, machine: CardMachine) -> Parts {
-    assert!(rt; machine.is_fresh());
+    assert_fresh(rt, &machine);
     let (net, bodies) = machine.into_parts();
     Parts { net, bodies }
 }
@@ -36,7 +36,7 @@ fn the_parts_of_a_fresh_machine_open_again(rt: HostRuntime) {
     let parts = taken_apart(&rt, machine_of(&rt, rt.alloc(), SINK_OF_THREE));
     assert_parts(&rt, rt.alloc(), &parts);
     let machine = opened(&rt, rt.alloc(), parts);
-    assert!(rt; machine.is_fresh());
+    assert_fresh(&rt, &machine);
 }
 
 /// What a refused machine was to be opened with: the fault with its number, and the cards of the

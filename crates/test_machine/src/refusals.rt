@@ -1,7 +1,7 @@
 //! One request for memory is refused, whichever it is.
 use crate::checks::same;
 use crate::entries::{PUT_1, PUT_2, SINK_STOPPED, TOOK_1};
-use crate::machines::{CardMachine, CardTask, commit_of, opened, take};
+use crate::machines::{CardMachine, CardTask, commit_of, opened, take_none};
 use crate::networks::{COUNTER, Parts, SINK_OF_ONE, parts_of};
 use crate::openings::{Misfit, assert_handed_back};
 use kpn_machine::Outcome::{Done, Parked};
@@ -65,7 +65,7 @@ fn grow<R: Abort>(rt: &R, machine: &mut CardMachine, tasks: &mut Vec<CardTask>) 
 fn assert_ended<R: Abort>(rt: &R, machine: &mut CardMachine) {
     let entries = [PUT_1, TOOK_1, PUT_2, SINK_STOPPED];
     same(rt, "history", machine.history(), entries.as_slice());
-    assert!(rt; take(machine).is_none());
+    take_none(rt, machine);
 }
 
 /// Commits the last answer of a machine whose channel grew.
@@ -75,15 +75,21 @@ fn end_after_growth<R: Abort>(rt: &R, machine: &mut CardMachine, tasks: &mut Vec
     same(rt, "end", found, (Done(1), Some(End::Terminated)));
 }
 
-/// Commits all answers, and returns whether the growth was refused.
-fn grow_to_the_end<R: Abort>(rt: &R, machine: &mut CardMachine, tasks: &mut Vec<CardTask>) -> bool {
-    let is_refused = grow(rt, machine, tasks);
-    if is_refused {
+/// Commits all answers, and returns which request was refused: that of the growth, or what was refused at the
+/// opening.
+fn grow_to_the_end<R: Abort>(
+    rt: &R,
+    machine: &mut CardMachine,
+    tasks: &mut Vec<CardTask>,
+    opening: Refused,
+) -> Refused {
+    if grow(rt, machine, tasks) {
         assert_ended(rt, machine);
+        Refused::Growth
     } else {
         end_after_growth(rt, machine, tasks);
+        opening
     }
-    is_refused
 }
 
 /// Makes a run that needs a growth, and returns which request was refused.
@@ -93,9 +99,8 @@ fn growing_run<R: Abort>(
     parts: Parts,
     tasks: &mut Vec<CardTask>,
 ) -> Refused {
-    let (mut machine, refused) = open_again(rt, alloc, parts);
-    let is_refused = grow_to_the_end(rt, &mut machine, tasks);
-    if is_refused { Refused::Growth } else { refused }
+    let (mut machine, opening) = open_again(rt, alloc, parts);
+    grow_to_the_end(rt, &mut machine, tasks, opening)
 }
 
 /// Makes a run that needs a growth, with room for its tasks, and returns which request was refused.

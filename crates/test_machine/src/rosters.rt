@@ -44,20 +44,26 @@ fn counts(roster: &Roster) -> (usize, usize, usize, usize) {
     (roster.ready(), roster.out(), roster.parked(), roster.live())
 }
 
+/// The second parks, and the first stops, and then all.
+fn move_on<R: Abort>(rt: &R, roster: &mut Roster) {
+    if roster.as_slice().len() != 3 {
+        return;
+    }
+    roster.update(1, READS);
+    same(rt, "one parked", counts(roster), (1, 1, 1, 3));
+    roster.update(0, Standing::Stopped);
+    same(rt, "one stopped", counts(roster), (1, 0, 1, 2));
+    roster.update(1, Standing::Stopped);
+    roster.update(2, Standing::Stopped);
+}
+
 #[test]
 fn processes_are_counted_where_they_stand(rt: HostRuntime) {
     let mut roster = Roster::new(rt.alloc(), 3).expect(&rt, "ample memory");
     same(&rt, "at first", counts(&roster), (3, 0, 0, 3));
     same(&rt, "sent out", roster.send_out(), Some(0));
     same(&rt, "one out", counts(&roster), (2, 1, 0, 3));
-    if roster.as_slice().len() == 3 {
-        roster.update(1, READS);
-        same(&rt, "one parked", counts(&roster), (1, 1, 1, 3));
-        roster.update(0, Standing::Stopped);
-        same(&rt, "one stopped", counts(&roster), (1, 0, 1, 2));
-        roster.update(1, Standing::Stopped);
-        roster.update(2, Standing::Stopped);
-    }
+    move_on(&rt, &mut roster);
     same(&rt, "all stopped", counts(&roster), (0, 0, 0, 0));
     same(&rt, "terminated", roster.all_stopped(), true);
 }

@@ -1,7 +1,9 @@
 //! The standings of the processes, from the opening to the end.
 use crate::checks::same;
 use crate::entries::PUT_1;
-use crate::machines::{CardMachine, CardTask, commit_of, lay, machine_of, take, take_all};
+use crate::machines::{
+    CardMachine, CardTask, commit_of, lay, machine_of, take, take_all, take_none,
+};
 use crate::networks::{BUDGET_OF_ONE, SINK_OF_THREE};
 use kpn_machine::Outcome::{Done, LaidBack};
 use kpn_machine::Standing;
@@ -119,19 +121,23 @@ fn assert_stand<R: Abort>(rt: &R, machine: &CardMachine, due: &Stand, moment: &s
     same(rt, moment, counts_of(machine), due.counts);
 }
 
+/// Where the processes stand while this one is out.
+fn one_out(process: usize) -> Stand {
+    match process {
+        0 => COUNTER_OUT,
+        _ => SINK_OUT,
+    }
+}
+
 /// Takes both processes, one after the other.
 fn go_out<R: Abort>(rt: &R, machine: &mut CardMachine, tasks: &mut Vec<CardTask>) {
     assert_stand(rt, machine, &FRESH, "opened");
-    let first = take(machine).expect(rt, "none is ready");
-    let one_out = match first.process() {
-        0 => COUNTER_OUT,
-        _ => SINK_OUT,
-    };
-    assert_stand(rt, machine, &one_out, "one out");
+    let first = take(rt, machine);
+    assert_stand(rt, machine, &one_out(first.process()), "one out");
     lay(rt, tasks, first);
     take_all(rt, machine, tasks);
     assert_stand(rt, machine, &BOTH_OUT, "both out");
-    assert!(rt; take(machine).is_none());
+    take_none(rt, machine);
 }
 
 /// Commits the answers of both processes, which are out, and then the others to the end.
@@ -198,7 +204,7 @@ fn answer_late<R: Abort>(rt: &R, alloc: Global, machine: &mut CardMachine) {
 fn assert_spent<R: Abort>(rt: &R, machine: &mut CardMachine) {
     same(rt, "end", machine.end(), Some(End::Budget));
     same(rt, "history", machine.history(), [PUT_1].as_slice());
-    assert!(rt; take(machine).is_none());
+    take_none(rt, machine);
 }
 
 #[test]

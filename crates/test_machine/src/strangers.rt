@@ -1,5 +1,6 @@
 //! Answers that a machine did not ask for.
 ghost use Rattle.std.specs.Prelude.{IsSome, None};
+ghost use Rattle.kpn_machine.specs.MachineView.{IsOut};
 
 use crate::checks::same;
 use crate::entries::PUT_1;
@@ -58,7 +59,7 @@ fn refuse_again<R: Abort>(
     machine: &mut CardMachine,
     finished: CardFinished,
 ) -> CardFinished {
-    assert!(rt; !machine.has_asked(&finished));
+    same(rt, "asked", machine.has_asked(&finished), false);
     let finished = handed_back(rt, machine, finished);
     assert_first_answer(rt, &finished);
     same(rt, "history", machine.history(), [PUT_1].as_slice());
@@ -89,14 +90,14 @@ fn refuse_fresh<R: Abort>(
     finished: CardFinished,
 ) -> CardFinished {
     let finished = handed_back(rt, machine, finished);
-    assert!(rt; machine.is_fresh());
+    same(rt, "fresh", machine.is_fresh(), true);
     assert_first_answer(rt, &finished);
     finished
 }
 
 /// Takes the task of the counter after its first token.
 fn second_task<R: Abort>(rt: &R, machine: &mut CardMachine) -> CardTask {
-    let task = take(machine).expect(rt, "the counter is not ready");
+    let task = take(rt, machine);
     same(rt, "process", task.process(), 0);
     same(rt, "card", task.card(), COUNTER);
     same(rt, "local", task.local(), [1, 0, 0, 0]);
@@ -172,11 +173,16 @@ fn an_answer_to_the_same_question_is_taken_once(rt: HostRuntime) {
     ask_both(&rt, rt.alloc(), &mut one, &mut other);
 }
 
+/// An answer that was asked for.
+fn assert_asked<R: Abort>(rt: &R, machine: &CardMachine, finished: &CardFinished)
+    ensures { IsOut machine.now finished.now }
+{
+    assert!(rt; machine.has_asked(finished));
+}
+
 /// Commits the counter's first answer, which was asked for, at once.
 fn take_at_once<R: Abort>(rt: &R, machine: &mut CardMachine, finished: CardFinished) {
-    if !machine.has_asked(&finished) {
-        panic!(rt; "the counter's answer was not asked for");
-    }
+    assert_asked(rt, machine, &finished);
     let outcome = machine.commit_asked(finished);
     same(rt, "outcome", outcome, Done(1));
     same(rt, "history", machine.history(), [PUT_1].as_slice());

@@ -26,7 +26,7 @@ struct Round {
 }
 
 /// What a watcher is shown of the counter of three and its sink at their end.
-pub(crate) const SHOWN: Progress = Progress {
+pub(crate) static SHOWN: Progress = Progress {
     entries: 8,
     growths: 0,
     phase: Phase::Terminated,

@@ -44,26 +44,26 @@ enum Scene {
     InPlace,
 }
 
-const NOTHING: Progress = Progress {
+static NOTHING: Progress = Progress {
     entries: 0,
     growths: 0,
     phase: Phase::Running,
 };
 
 /// After one entry.
-const ONE: Progress = Progress {
+static ONE: Progress = Progress {
     entries: 1,
     growths: 0,
     phase: Phase::Running,
 };
 
-const WOVEN: Progress = Progress {
+static WOVEN: Progress = Progress {
     entries: 33,
     growths: 1,
     phase: Phase::Deadlock,
 };
 
-const WOVEN_ENDED: Ended = Ended {
+static WOVEN_ENDED: Ended = Ended {
     end: Some(End::Deadlock),
     receipts: 33,
     entries: 33,
@@ -71,7 +71,7 @@ const WOVEN_ENDED: Ended = Ended {
 };
 
 /// A counter of three into a sink of three.
-pub(crate) const COUNTER_ENDED: Ended = Ended {
+pub(crate) static COUNTER_ENDED: Ended = Ended {
     end: Some(End::Terminated),
     receipts: 8,
     entries: 8,

@@ -56,21 +56,21 @@ fn refuse<B: Body, E: EntryLedger, O: Ledger, R: Wait + Abort>(
 }
 
 /// What a watcher is shown before the first entry.
-const NOTHING_SEEN: Progress = Progress {
+static NOTHING_SEEN: Progress = Progress {
     entries: 0,
     growths: 0,
     phase: Phase::Running,
 };
 
 /// What a watcher is shown after one entry.
-const ONE_SEEN: Progress = Progress {
+static ONE_SEEN: Progress = Progress {
     entries: 1,
     growths: 0,
     phase: Phase::Running,
 };
 
 /// The result of a monitor that is closed before the first entry.
-const NOTHING_DONE: Ended = Ended {
+static NOTHING_DONE: Ended = Ended {
     end: None,
     receipts: 0,
     entries: 0,
@@ -78,7 +78,7 @@ const NOTHING_DONE: Ended = Ended {
 };
 
 /// The result of a monitor that is closed after one entry, before the end.
-const ONE_DONE: Ended = Ended {
+static ONE_DONE: Ended = Ended {
     end: None,
     receipts: 1,
     entries: 1,

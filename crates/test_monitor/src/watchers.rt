@@ -6,14 +6,14 @@ use kpn_machine::{Deed, Entry};
 use kpn_watch::{Board, Phase, Progress, Publisher, WatchFault, Watcher};
 
 /// Before the first entry.
-const NOTHING: Progress = Progress {
+static NOTHING: Progress = Progress {
     entries: 0,
     growths: 0,
     phase: Phase::Running,
 };
 
 /// After the one entry and the end.
-const ENDED: Progress = Progress {
+static ENDED: Progress = Progress {
     entries: 1,
     growths: 0,
     phase: Phase::Terminated,

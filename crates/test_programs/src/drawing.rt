@@ -19,7 +19,7 @@ const HEAD: &str = r##"digraph kpn {
   edge [color="#44546a", fontcolor="#44546a", fontname="Helvetica", fontsize=11, labelfontsize=9, labeldistance=1.5, labelangle=25];
 "##;
 
-const COUNTER: &str = r#"version = 1
+pub(crate) const COUNTER: &str = r#"version = 1
 budget = 100
 process = [{ name = "src", kind = "count", args = [1, 3] }, { name = "snk", kind = "sink", args = [3] }]
 channel = [{ name = "c0", from = "src", to = "snk" }]
@@ -97,12 +97,12 @@ fn tells<R: AllocGlobal + Wait + Clock + Threads + Abort + Sync>(
 }
 
 /// The whole picture with these lines.
-fn drawn<R: AllocGlobal + Abort>(rt: &R, worked: &str) -> String {
+pub(crate) fn drawn<R: AllocGlobal + Abort>(rt: &R, worked: &str) -> String {
     format!(in rt.alloc(); "{HEAD}{worked}").expect(rt, "no memory")
 }
 
 /// The counter's network.
-const COUNTER_LINES: &str = r#"  "src" [label="src\ncount 1 3"];
+pub(crate) const COUNTER_LINES: &str = r#"  "src" [label="src\ncount 1 3"];
   "snk" [label="snk\nsink 3"];
   "src" -> "snk" [label="c0"];
 }
@@ -297,8 +297,6 @@ fn reads_command_lines(rt: HostRuntime) {
 fn says_how_many_workers(rt: HostRuntime) {
     let text = WordsFault::Workers.to_string(rt.alloc());
     let text = text.expect(&rt, "no memory");
-    assert!(rt;
-        text.as_str()
-            .starts_with("error: --workers takes a number from 1 to 16\n")
-    );
+    let line = "error: --workers takes a number from 1 to 16\n";
+    same(&rt, "line", text.as_str().starts_with(line), true);
 }

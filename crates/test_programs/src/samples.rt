@@ -4,7 +4,7 @@ ghost use Rattle.std.specs.Prelude.{◌≡◌, ◌≤◌};
 use crate::checks::same;
 use hox_args::{Choice, WordsFault, channel_and_file, read_words};
 use hox_run::{
-    AllKinds, Fault, FileFault, PresetFault, Progress, Request, Silent, SoFar, TokenFile,
+    AllKinds, Fault, FileFault, PresetFault, Progress, Request, Silent, SoFar, TokenFile, Told,
     channel_names, execute, load_by_ports, prepare, read_whole, serve, sketch_by_ports,
 };
 use kpn_net::{Listed, Net, Sort, Text};
@@ -16,7 +16,7 @@ use std::sync::atomic::{AtomicU64, Ordering};
 use std::thread::Threads;
 
 /// Two words of a file go through.
-const COPY: &str = r#"version = 1
+pub(crate) const COPY: &str = r#"version = 1
 budget = 100
 process = [{ name = "src", kind = "input" }, { name = "p", kind = "take", args = [2] }, { name = "snk", kind = "drain" }]
 channel = [{ name = "x", from = "src", to = "p" }, { name = "y", from = "p", to = "snk" }]
@@ -73,21 +73,43 @@ fn asked<R: Abort>(rt: &R, alloc: Global, tokens: &str, workers: usize) -> Reque
     }
 }
 
+/// What is told of the run of a description, which may not be refused.
+fn told_of<R: AllocGlobal + Wait + Clock + Threads + Abort + Sync, P: Progress>(
+    rt: &R,
+    text: &str,
+    request: &Request,
+    progress: &P,
+) -> Told
+    requires { (1 ≤ request.now.workers) × (request.now.workers ≤ 16) }
+{
+    let mut source = text.as_bytes();
+    let told = serve::<AllKinds, _, _, _>(rt, rt.alloc(), request, &mut source, progress);
+    let Ok(told) = told else {
+        panic!(rt; "refused");
+    };
+    told
+}
+
+/// Compares the exit status and the report.
+fn compare_report<R: Abort>(rt: &R, told: &Told, status: u8, lines: &str) {
+    same(rt, "status", told.status.code(), status);
+    same(rt, "report", told.report.as_str(), lines);
+}
+
+/// Compares the first output.
+fn compare_output<R: Abort>(rt: &R, told: &Told, lines: &str) {
+    let y = told.outputs.as_slice().first().expect(rt, "no output");
+    same(rt, "y", y.as_str(), lines);
+}
+
 /// Runs the network by so many workers, and compares what is told.
 fn tells<R: AllocGlobal + Wait + Clock + Threads + Abort + Sync>(rt: &R, workers: usize)
     requires { (1 ≤ workers) × (workers ≤ 16) }
 {
     let request = asked(rt, rt.alloc(), "1, first\n0x10", workers);
-    let mut source = COPY.as_bytes();
-    match serve::<AllKinds, _, _, _>(rt, rt.alloc(), &request, &mut source, &Silent) {
-        Ok(told) => {
-            same(rt, "status", told.status.code(), 0);
-            same(rt, "report", told.report.as_str(), COPY_LINES);
-            let y = told.outputs.as_slice().first().expect(rt, "no output");
-            same(rt, "y", y.as_str(), "1\n16\n");
-        }
-        Err(fault) => same(rt, "refused", fault.status().code(), 0),
-    }
+    let told = told_of(rt, COPY, &request, &Silent);
+    compare_report(rt, &told, 0, COPY_LINES);
+    compare_output(rt, &told, "1\n16\n");
 }
 
 #[test]
@@ -118,6 +140,19 @@ impl Progress for Listener {
     }
 }
 
+/// What is asked for of the process that goes on for ever: its channel is shown.
+fn shown<R: Abort>(rt: &R, alloc: Global, workers: usize) -> Request
+    ensures { result.workers ≡ workers }
+{
+    Request {
+        workers,
+        budget: None,
+        tokens: Listed::new(Vec::new(alloc)),
+        show: Some(text_of(rt, alloc, "a")),
+        outputs: Listed::new(Vec::new(alloc)),
+    }
+}
+
 /// Runs the process that goes on for ever by so many workers until it is cut, and compares what is told. Returns
 /// how often the listener was told something, and how many entries at last.
 fn is_cut<R: AllocGlobal + Wait + Clock + Threads + Abort + Sync>(
@@ -126,25 +161,13 @@ fn is_cut<R: AllocGlobal + Wait + Clock + Threads + Abort + Sync>(
 ) -> (u64, u64)
     requires { (1 ≤ workers) × (workers ≤ 16) }
 {
-    let request = Request {
-        workers,
-        budget: None,
-        tokens: Listed::new(Vec::new(rt.alloc())),
-        show: Some(text_of(rt, rt.alloc(), "a")),
-        outputs: Listed::new(Vec::new(rt.alloc())),
-    };
-    let mut source = LOOP.as_bytes();
+    let request = shown(rt, rt.alloc(), workers);
     let listener = Listener {
         told: AtomicU64::new(0),
         entries: AtomicU64::new(0),
     };
-    match serve::<AllKinds, _, _, _>(rt, rt.alloc(), &request, &mut source, &listener) {
-        Ok(told) => {
-            same(rt, "status", told.status.code(), 3);
-            same(rt, "report", told.report.as_str(), LOOP_LINES);
-        }
-        Err(fault) => same(rt, "refused", fault.status().code(), 3),
-    }
+    let told = told_of(rt, LOOP, &request, &listener);
+    compare_report(rt, &told, 3, LOOP_LINES);
     (
         listener.told.load(Ordering::SeqCst),
         listener.entries.load(Ordering::SeqCst),
@@ -158,14 +181,21 @@ fn a_run_that_is_cut_tells_what_it_has(rt: HostRuntime) {
     let _ = is_cut(&rt, 2);
 }
 
+/// The exit status for a fault of a file of tokens, and the fault.
+fn stop_in(fault: &Fault) -> (u8, Option<PresetFault>) {
+    match fault {
+        Fault::Tokens(stop) => (fault.status().code(), Some(*stop)),
+        _ => (0, None),
+    }
+}
+
 #[test]
 fn a_line_that_is_no_word_is_told(rt: HostRuntime) {
     let request = asked(&rt, rt.alloc(), "1\n2x\n3\n", 1);
     let mut source = COPY.as_bytes();
     let net: Result<Net<AllKinds>, Fault> = prepare(rt.alloc(), &request, &mut source);
-    let (status, stop) = match net {
-        Err(Fault::Tokens(stop)) => (Fault::Tokens(stop).status().code(), Some(stop)),
-        _ => (0, None),
+    let Err(fault) = net else {
+        panic!(rt; "accepted");
     };
     let due = PresetFault {
         file: 0,
@@ -174,7 +204,7 @@ fn a_line_that_is_no_word_is_told(rt: HostRuntime) {
             fault: kpn_tokens::LineFault::NotAWord,
         },
     };
-    same(&rt, "line", (status, stop), (2, Some(due)));
+    same(&rt, "line", stop_in(&fault), (2, Some(due)));
 }
 
 #[test]
@@ -183,14 +213,14 @@ fn a_network_is_run_by_two(rt: HostRuntime) {
     let mut source = COPY.as_bytes();
     let net: Result<Net<AllKinds>, Fault> = prepare(rt.alloc(), &request, &mut source);
     let Ok(net) = net else {
-        return same(&rt, "refused", true, false);
+        panic!(rt; "refused");
     };
     let names = channel_names(rt.alloc(), &net).expect(&rt, "no memory");
     are_x_and_y(&rt, "channels", names.as_slice());
-    match execute(&rt, rt.alloc(), net, 2, None, &[], &Silent) {
-        Ok(told) => same(&rt, "status", told.status.code(), 0),
-        Err(_) => same(&rt, "memory", true, false),
-    }
+    let Ok(told) = execute(&rt, rt.alloc(), net, 2, None, &[], &Silent) else {
+        panic!(rt; "no memory");
+    };
+    same(&rt, "status", told.status.code(), 0);
 }
 
 /// Compares these names with those of the two channels.
@@ -233,17 +263,22 @@ fn names_in(fault: &Fault) -> (usize, &[Text]) {
 #[test]
 fn a_name_that_no_channel_has_is_told_with_those_that_they_have(rt: HostRuntime) {
     for (place, number) in [("tokens", 1), ("show", 0), ("outputs", 1)] {
-        let request = misnamed(&rt, rt.alloc(), place);
-        let mut source = COPY.as_bytes();
-        match serve::<AllKinds, _, _, _>(&rt, rt.alloc(), &request, &mut source, &Silent) {
-            Ok(_) => same(&rt, place, true, false),
-            Err(fault) => {
-                let (found, names) = names_in(&fault);
-                same(&rt, place, found, number);
-                are_x_and_y(&rt, place, names);
-            }
-        }
+        let fault = fault_of(&rt, place);
+        let (found, names) = names_in(&fault);
+        same(&rt, place, found, number);
+        are_x_and_y(&rt, place, names);
     }
+}
+
+/// The fault where a name stands that no channel has.
+fn fault_of<R: AllocGlobal + Wait + Clock + Threads + Abort + Sync>(rt: &R, place: &str) -> Fault {
+    let request = misnamed(rt, rt.alloc(), place);
+    let mut source = COPY.as_bytes();
+    let told = serve::<AllKinds, _, _, _>(rt, rt.alloc(), &request, &mut source, &Silent);
+    let Err(fault) = told else {
+        panic!(rt; "accepted");
+    };
+    fault
 }
 
 /// A channel of flags, of which nothing says so but its ports.
@@ -255,23 +290,25 @@ channel = [{ name = "f", from = "src", to = "snk" }]
 #[test]
 fn a_channel_has_the_sort_of_its_ports(rt: HostRuntime) {
     let sketch = sketch_by_ports::<AllKinds>(rt.alloc(), BARE.as_bytes());
-    let channels = match &sketch {
-        Some(sketch) => sketch.channels.as_slice(),
-        None => &[],
-    };
-    let sort = channels.first().map(|channel| channel.sort);
-    same(&rt, "sort", sort, Some(Sort::Flags));
+    let sketch = sketch.expect(&rt, "no sketch");
+    let channels = sketch.channels.as_slice();
+    let channel = channels.first().expect(&rt, "no channel");
+    same(&rt, "sort", channel.sort, Sort::Flags);
     let mut source = BARE.as_bytes();
     let loaded: Result<Net<AllKinds>, _> = load_by_ports(rt.alloc(), &mut source);
     let Ok(net) = loaded else {
-        return same(&rt, "refused", true, false);
+        panic!(rt; "refused");
     };
-    let sort = if net.channels() > 0 {
+    same(&rt, "sort in the network", sort_of(&net), Some(Sort::Flags));
+}
+
+/// The sort of the first channel.
+fn sort_of(net: &Net<AllKinds>) -> Option<Sort> {
+    if net.channels() > 0 {
         Some(net.sort(0))
     } else {
         None
-    };
-    same(&rt, "sort in the network", sort, Some(Sort::Flags));
+    }
 }
 
 /// Words of a file within -100 and 100.
@@ -285,15 +322,9 @@ channel = [{ name = "x", from = "src", to = "p" }, { name = "y", from = "p", to 
 fn an_argument_may_be_negative(rt: HostRuntime) {
     let words = "18446744073709551466\n18446744073709551516\n7\n101\n";
     let request = asked(&rt, rt.alloc(), words, 1);
-    let mut source = WITHIN.as_bytes();
-    match serve::<AllKinds, _, _, _>(&rt, rt.alloc(), &request, &mut source, &Silent) {
-        Ok(told) => {
-            let y = told.outputs.as_slice().first().expect(&rt, "no output");
-            let due = "18446744073709551516\n18446744073709551516\n7\n100\n";
-            same(&rt, "y", y.as_str(), due);
-        }
-        Err(fault) => same(&rt, "refused", fault.status().code(), 0),
-    }
+    let told = told_of(&rt, WITHIN, &request, &Silent);
+    let due = "18446744073709551516\n18446744073709551516\n7\n100\n";
+    compare_output(&rt, &told, due);
 }
 
 #[test]
@@ -362,9 +393,10 @@ fn outputs_and_budget(alloc: Global, words: &[&str]) -> (usize, Option<u64>) {
 
 /// The exit status for arguments that are refused.
 fn status_of(alloc: Global, words: &[&str]) -> u8 {
-    match read_words(alloc, words) {
+    let read = read_words(alloc, words);
+    match &read {
         Ok(_) => 9,
-        Err(fault) => code_of(&fault),
+        Err(fault) => code_of(fault),
     }
 }
 

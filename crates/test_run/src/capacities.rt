@@ -6,31 +6,38 @@ use kpn_net::Token::Word;
 use kpn_run::Open;
 use std::alloc::Global;
 use std::process::Abort;
-use std::test::Fail;
+use std::rt::Clock;
+use std::sync::Wait;
+use std::thread::Threads;
 use test_texts::{COPIED_AND_WOVEN, ENDLESS, TWO_FULL_CHANNELS};
 
 /// The tokens that each counter writes.
-const COUNTED: &[Token] = &[Word(1), Word(2), Word(3)];
+static COUNTED: [Token; 3] = [Word(1), Word(2), Word(3)];
 
 /// What the weave of Parks's case writes.
-const WOVEN: &[Token] = &[Word(1), Word(2), Word(3), Word(1), Word(2), Word(3)];
+static WOVEN: [Token; 6] = [Word(1), Word(2), Word(3), Word(1), Word(2), Word(3)];
 
 /// A description with these capacities, in the order of its channels, in place of its own.
 fn with_capacities<R: Abort>(rt: &R, alloc: Global, text: &str, capacities: &[usize]) -> String {
     let mut described = String::new(alloc);
+    describe(rt, &mut described, text, capacities);
+    described
+}
+
+/// Writes a description with these capacities.
+fn describe<R: Abort>(rt: &R, described: &mut String, text: &str, capacities: &[usize]) {
     let mut channel = 0usize;
     for line in text.lines() {
         if !line.starts_with("capacity") {
-            fill(rt, &mut described, line, &[]);
-            fill(rt, &mut described, "\n", &[]);
+            fill(rt, described, line, &[]);
+            fill(rt, described, "\n", &[]);
         }
         if line.starts_with("to =") {
             let capacity = capacities.get(channel).copied().expect(rt, "no capacity");
-            fill(rt, &mut described, "capacity = A\n", &[capacity]);
+            fill(rt, described, "capacity = A\n", &[capacity]);
             channel = channel.saturating_add(1);
         }
     }
-    described
 }
 
 /// The report of Parks's case, up to its growth: only capacities depend on the starting capacities.
@@ -61,9 +68,7 @@ fn woven_lines<R: Abort>(rt: &R, alloc: Global, capacities: [usize; 4]) -> Strin
 
 /// Each of the 256 choices of capacities from 1 to 4, by one worker and by four.
 #[test]
-fn parks_case_from_all_capacities(rt: HostRuntime) -> Result<(), Fail> {
-    let alloc = rt.alloc();
-    let streams = [(0, COUNTED), (1, COUNTED), (2, COUNTED), (3, WOVEN)];
+fn parks_case_from_all_capacities(rt: HostRuntime) {
     for choice in 0..256usize {
         let capacities = [
             choice % 4 + 1,
@@ -71,17 +76,40 @@ fn parks_case_from_all_capacities(rt: HostRuntime) -> Result<(), Fail> {
             choice / 16 % 4 + 1,
             choice / 64 % 4 + 1,
         ];
-        let described = with_capacities(&rt, alloc, COPIED_AND_WOVEN, &capacities);
-        let lines = woven_lines(&rt, alloc, capacities);
-        for workers in [1, 4] {
-            let due = Whole {
-                text: lines.as_str(),
-                streams: &streams,
-            };
-            shows_whole(&rt, alloc, described.as_str(), workers, &Open, due)?;
-        }
+        shows_woven(&rt, rt.alloc(), capacities);
     }
-    Ok(())
+}
+
+/// Parks's case from these capacities.
+fn shows_woven<R: Threads + Wait + Clock + Abort + Sync>(
+    rt: &R,
+    alloc: Global,
+    capacities: [usize; 4],
+) {
+    let described = with_capacities(rt, alloc, COPIED_AND_WOVEN, &capacities);
+    let lines = woven_lines(rt, alloc, capacities);
+    let due = Whole {
+        text: lines.as_str(),
+        streams: &[
+            (0, COUNTED.as_slice()),
+            (1, COUNTED.as_slice()),
+            (2, COUNTED.as_slice()),
+            (3, WOVEN.as_slice()),
+        ],
+    };
+    shows_by_one_and_four(rt, alloc, described.as_str(), due);
+}
+
+/// Runs the network of a text by one worker and by four.
+fn shows_by_one_and_four<R: Threads + Wait + Clock + Abort + Sync>(
+    rt: &R,
+    alloc: Global,
+    text: &str,
+    due: Whole<'_>,
+) {
+    for workers in [1, 4] {
+        shows_whole(rt, alloc, text, workers, &Open, due);
+    }
 }
 
 /// The report of two counters of three into sinks of nothing, up to the growths.
@@ -100,48 +128,56 @@ fn two_full_lines<R: Abort>(rt: &R, alloc: Global, first: usize, second: usize) 
     let mut lines = String::new(alloc);
     let last = [first.max(3), second.max(3)];
     fill(rt, &mut lines, TWO_FULL_LINES, &last);
-    let mut entries = 10usize;
+    let growths = write_growths(rt, &mut lines, first, second);
+    fill(rt, &mut lines, "entries A\n", &[growths.wrapping_add(10)]);
+    lines
+}
+
+/// Writes the growths, and returns how many there are.
+fn write_growths<R: Abort>(rt: &R, lines: &mut String, first: usize, second: usize) -> usize {
+    let mut growths = 0usize;
     for to in 2..=3usize {
         for (grew, starts) in [("grew c0 A\n", first), ("grew c1 A\n", second)] {
             if starts < to {
-                fill(rt, &mut lines, grew, &[to]);
-                entries = entries.wrapping_add(1);
+                fill(rt, lines, grew, &[to]);
+                growths = growths.wrapping_add(1);
             }
         }
     }
-    fill(rt, &mut lines, "entries A\n", &[entries]);
-    lines
+    growths
 }
 
 /// Two channels that grow, from each capacity from 1 to 4, by one worker and by four.
 #[test]
-fn two_growing_channels_from_all_capacities(rt: HostRuntime) -> Result<(), Fail> {
-    let alloc = rt.alloc();
+fn two_growing_channels_from_all_capacities(rt: HostRuntime) {
     for first in 1..=4usize {
         for second in 1..=4usize {
-            let described = with_capacities(&rt, alloc, TWO_FULL_CHANNELS, &[first, second]);
-            let lines = two_full_lines(&rt, alloc, first, second);
-            for workers in [1, 4] {
-                let due = Whole {
-                    text: lines.as_str(),
-                    streams: &[(0, COUNTED), (1, COUNTED)],
-                };
-                shows_whole(&rt, alloc, described.as_str(), workers, &Open, due)?;
-            }
+            shows_two_full(&rt, rt.alloc(), first, second);
         }
     }
-    Ok(())
+}
+
+/// Two channels that grow, from these capacities.
+fn shows_two_full<R: Threads + Wait + Clock + Abort + Sync>(
+    rt: &R,
+    alloc: Global,
+    first: usize,
+    second: usize,
+) {
+    let described = with_capacities(rt, alloc, TWO_FULL_CHANNELS, &[first, second]);
+    let lines = two_full_lines(rt, alloc, first, second);
+    let due = Whole {
+        text: lines.as_str(),
+        streams: &[(0, COUNTED.as_slice()), (1, COUNTED.as_slice())],
+    };
+    shows_by_one_and_four(rt, alloc, described.as_str(), due);
 }
 
 /// Hamming's numbers never end; from capacities of one and of two the sink takes the same ten.
 #[test]
-fn an_endless_network_from_two_capacities(rt: HostRuntime) -> Result<(), Fail> {
-    let alloc = rt.alloc();
+fn an_endless_network_from_two_capacities(rt: HostRuntime) {
     for capacity in [1, 2] {
-        let described = with_capacities(&rt, alloc, ENDLESS, &[capacity; 12]);
-        for workers in [1, 4, 16] {
-            shows_endless(&rt, alloc, described.as_str(), workers)?;
-        }
+        let described = with_capacities(&rt, rt.alloc(), ENDLESS, &[capacity; 12]);
+        shows_endless(&rt, rt.alloc(), described.as_str());
     }
-    Ok(())
 }

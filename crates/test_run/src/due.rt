@@ -26,7 +26,7 @@ pub(crate) struct Due {
 }
 
 /// A counter of three into a sink of three.
-pub(crate) const COUNTER_ENDS: Due = Due {
+pub(crate) static COUNTER_ENDS: Due = Due {
     end: End::Terminated,
     entries: 8,
     processes: 2,
@@ -37,7 +37,7 @@ pub(crate) const COUNTER_ENDS: Due = Due {
 };
 
 /// Parks's case.
-pub(crate) const WOVEN_ENDS: Due = Due {
+pub(crate) static WOVEN_ENDS: Due = Due {
     end: End::Deadlock,
     entries: 33,
     processes: 4,
@@ -48,7 +48,7 @@ pub(crate) const WOVEN_ENDS: Due = Due {
 };
 
 /// A chain in which all processes can go on at first: each token of a channel's start comes out in turn.
-pub(crate) const READY_CHAIN_ENDS: Due = Due {
+pub(crate) static READY_CHAIN_ENDS: Due = Due {
     end: End::Deadlock,
     entries: 42,
     processes: 5,
@@ -79,7 +79,7 @@ stream c3 13 12 11 10 1 2 3
 };
 
 /// The channel of capacity one grows once.
-pub(crate) const SMALL_SINK_ENDS: Due = Due {
+pub(crate) static SMALL_SINK_ENDS: Due = Due {
     end: End::Terminated,
     entries: 7,
     processes: 2,
@@ -90,7 +90,7 @@ pub(crate) const SMALL_SINK_ENDS: Due = Due {
 };
 
 /// The smallest full channel grows first, and among equals the one of least number.
-pub(crate) const TWO_FULL_END: Due = Due {
+pub(crate) static TWO_FULL_END: Due = Due {
     end: End::Terminated,
     entries: 13,
     processes: 4,
@@ -113,7 +113,7 @@ stream c1 1 2 3
 };
 
 /// Running sums: they come out, with the start token in front of those that come back.
-pub(crate) const RUNNING_SUMS_END: Due = Due {
+pub(crate) static RUNNING_SUMS_END: Due = Due {
     end: End::Deadlock,
     entries: 26,
     processes: 4,
@@ -177,7 +177,7 @@ pub(crate) fn compare_stream<K: Kinds, R: Abort>(
     channel: usize,
     due: &[Token],
 ) -> Result<(), AllocError> {
-    assert!(rt; channel < finish.net().channels());
+    same(rt, "channel", channel < finish.net().channels(), true);
     let stream = stream_of(alloc, finish.net(), finish.history(), channel)?;
     same(rt, "stream", stream.as_slice(), due);
     Ok(())

@@ -49,13 +49,13 @@ static HISTORY: [Entry; 7] = [
     },
 ];
 
-const PLACES: [Place; 2] = [Place::Stopped, Place::Stopped];
+static PLACES: [Place; 2] = [Place::Stopped, Place::Stopped];
 
 /// The stream of the channel.
-const STREAM: &[Token] = &[Token::Word(1), Token::Word(2), Token::Word(3)];
+static STREAM: [Token; 3] = [Token::Word(1), Token::Word(2), Token::Word(3)];
 
 /// What is left in the channel.
-const REST: &[Token] = &[Token::Word(2), Token::Word(3)];
+static REST: [Token; 2] = [Token::Word(2), Token::Word(3)];
 
 const TEXT: &str = reports::SINK_OF_ONE_STREAM;
 
@@ -92,9 +92,9 @@ fn a_history_has_its_report(rt: HostRuntime) {
 /// Compares the stream of the channel, and what is left of it.
 fn compare_streams<R: Abort>(rt: &R, detail: &Detail) {
     let stream = detail.streams.as_slice().first().expect(rt, "no stream");
-    same(rt, "stream", stream.as_slice(), STREAM);
+    same(rt, "stream", stream.as_slice(), STREAM.as_slice());
     let rest = detail.rests.as_slice().first().expect(rt, "no rest");
-    same(rt, "rest", rest.as_slice(), REST);
+    same(rt, "rest", rest.as_slice(), REST.as_slice());
 }
 
 /// Compares the numbers and lists of a report.

@@ -3,15 +3,14 @@ use crate::texts::{Row, text_of_rows};
 use crate::whole::{Whole, shows_whole};
 use kpn_net::Token;
 use kpn_run::{Open, Prompt};
-use std::alloc::{AllocError, Global};
+use std::alloc::Global;
 use std::process::Abort;
 use std::rt::Clock;
 use std::sync::Wait;
-use std::test::Fail;
 use std::thread::Threads;
 
 /// Thirty-two counters of one, each into a sink of one.
-const PAIRS: &[Row] = &[
+static PAIRS: [Row; 4] = [
     Row {
         from: 0,
         to: 1,
@@ -35,7 +34,7 @@ const PAIRS: &[Row] = &[
 ];
 
 /// Their report: each passes one token on and stops.
-const PAIR_LINES: &[Row] = &[
+static PAIR_LINES: [Row; 5] = [
     Row {
         from: 0,
         to: 1,
@@ -63,37 +62,45 @@ const PAIR_LINES: &[Row] = &[
     },
 ];
 
-/// Runs the network of a text by one worker and by sixteen, also with bodies that are asked in place, and
-/// compares its report and the stream of a channel.
+/// Compares the report of the network of a text, and the stream of a channel, however it is run.
 fn shows_large<R: Threads + Wait + Clock + Abort + Sync>(
     rt: &R,
     alloc: Global,
     text: &[Row],
     lines: &[Row],
     stream: (usize, &[Token]),
-) -> Result<(), Fail> {
+) {
     let text = text_of_rows(rt, alloc, text);
     let lines = text_of_rows(rt, alloc, lines);
+    let due = Whole {
+        text: lines.as_str(),
+        streams: &[stream],
+    };
+    shows_by_one_and_sixteen(rt, alloc, text.as_str(), due);
+}
+
+/// Runs the network of a text by one worker and by sixteen, also with bodies that are asked in place.
+fn shows_by_one_and_sixteen<R: Threads + Wait + Clock + Abort + Sync>(
+    rt: &R,
+    alloc: Global,
+    text: &str,
+    due: Whole<'_>,
+) {
     for workers in [1, 16] {
-        let due = Whole {
-            text: lines.as_str(),
-            streams: &[stream],
-        };
-        shows_whole(rt, alloc, text.as_str(), workers, &Open, due)?;
-        shows_whole(rt, alloc, text.as_str(), workers, &Prompt, due)?;
+        shows_whole(rt, alloc, text, workers, &Open, due);
+        shows_whole(rt, alloc, text, workers, &Prompt, due);
     }
-    Ok(())
 }
 
 #[test]
-fn thirty_two_pairs(rt: HostRuntime) -> Result<(), Fail> {
+fn thirty_two_pairs(rt: HostRuntime) {
     let stream = (31, [Token::Word(1)].as_slice());
-    shows_large(&rt, rt.alloc(), PAIRS, PAIR_LINES, stream)
+    shows_large(&rt, rt.alloc(), &PAIRS, &PAIR_LINES, stream);
 }
 
 /// A counter of two hundred, 62 scales by one and a sink of two hundred in a chain, over 63 channels of
 /// capacity one.
-const CHAIN: &[Row] = &[
+static CHAIN: [Row; 5] = [
     Row {
         from: 0,
         to: 1,
@@ -122,7 +129,7 @@ const CHAIN: &[Row] = &[
 ];
 
 /// Its report: each scale waits for more, and nothing grows.
-const CHAIN_LINES: &[Row] = &[
+static CHAIN_LINES: [Row; 5] = [
     Row {
         from: 0,
         to: 1,
@@ -151,17 +158,17 @@ const CHAIN_LINES: &[Row] = &[
 ];
 
 /// The words from 1 to 200.
-fn two_hundred(alloc: Global) -> Result<Vec<Token>, AllocError> {
+fn two_hundred<R: Abort>(rt: &R, alloc: Global) -> Vec<Token> {
     let mut tokens = Vec::new(alloc);
     for word in 1..=200 {
-        tokens.push(Token::Word(word))?;
+        tokens.push(Token::Word(word)).expect(rt, "no memory");
     }
-    Ok(tokens)
+    tokens
 }
 
 #[test]
-fn a_chain_of_sixty_four(rt: HostRuntime) -> Result<(), Fail> {
-    let tokens = two_hundred(rt.alloc())?;
+fn a_chain_of_sixty_four(rt: HostRuntime) {
+    let tokens = two_hundred(&rt, rt.alloc());
     let stream = (62, tokens.as_slice());
-    shows_large(&rt, rt.alloc(), CHAIN, CHAIN_LINES, stream)
+    shows_large(&rt, rt.alloc(), &CHAIN, &CHAIN_LINES, stream);
 }

@@ -5,7 +5,7 @@ ghost use Rattle.kpn_body.specs.StandardKinds.{signature, Admitted};
 
 use crate::checks::same;
 use crate::due::{COUNTER_ENDS, Due, READY_CHAIN_ENDS};
-use crate::networks::{Parts, parts_of};
+use crate::networks::network;
 use crate::runs::run_bodies;
 use kpn_body::{Call, Standard, StandardBody, answer};
 use kpn_net::{Answer, Card, Kinds, Local, Net, Token};
@@ -14,13 +14,12 @@ use std::process::Abort;
 use std::rt::Clock;
 use std::sync::atomic::{AtomicU64, Ordering};
 use std::sync::{Arc, Wait};
-use std::test::Fail;
 use std::thread;
 use std::thread::Threads;
 use test_texts::{COUNTER_INTO_SINK, READY_CHAIN};
 
-/// A network, by how many workers it is run, its two processes whose closures wait for each other at
-/// their call of the number `at`, and the expected result of the run.
+/// A network, by how many workers it is run, and its two processes whose closures wait for each other at
+/// their call of the number `at`.
 #[derive(Clone, Copy)]
 struct Meeting {
     text: &'static str,
@@ -28,7 +27,6 @@ struct Meeting {
     left: usize,
     right: usize,
     at: u64,
-    due: &'static Due,
 }
 
 /// Which of the two a closure is, or neither.
@@ -100,29 +98,37 @@ fn meeting_body(
     Ok(StandardBody::new(card, call))
 }
 
+/// Which of the two the closure of a process is, or neither.
+fn side_of(meeting: Meeting, process: usize) -> Side {
+    if process == meeting.left {
+        Side::Left
+    } else if process == meeting.right {
+        Side::Right
+    } else {
+        Side::Neither
+    }
+}
+
 /// A body for each process, in order.
-fn meeting_bodies(
+fn meeting_bodies<R: Abort>(
+    rt: &R,
     alloc: Global,
     net: &Net<Standard>,
     meeting: Meeting,
     calls: &Arc<Calls>,
-) -> Result<Vec<StandardBody>, Fail> {
+) -> Vec<StandardBody> {
     let mut bodies = Vec::new(alloc);
     for process in 0..net.processes() {
         let card = net.card(process);
-        let side = if process == meeting.left {
-            Side::Left
-        } else if process == meeting.right {
-            Side::Right
-        } else {
-            Side::Neither
-        };
+        let side = side_of(meeting, process);
         if Standard::signature(&card).is_some() {
-            let calls = Arc::try_clone(calls)?;
-            bodies.push(meeting_body(alloc, card, meeting.at, side, calls)?)?;
+            let calls = Arc::try_clone(calls).expect(rt, "no memory");
+            let body = meeting_body(alloc, card, meeting.at, side, calls);
+            let body = body.expect(rt, "no memory");
+            bodies.push(body).expect(rt, "no memory");
         }
     }
-    Ok(bodies)
+    bodies
 }
 
 /// Runs a network whose two closures wait for each other. How often they were called decides whether
@@ -131,43 +137,41 @@ fn meets<R: Threads + Wait + Clock + Abort + Sync>(
     rt: &R,
     alloc: Global,
     meeting: Meeting,
-) -> Result<(), Fail> {
-    let calls = Arc::new(alloc, no_calls())?;
-    let Parts { net, bodies: _ } = parts_of(alloc, meeting.text)?;
-    let bodies = meeting_bodies(alloc, &net, meeting, &calls)?;
-    run_bodies(rt, alloc, net, bodies, meeting.workers, meeting.due)?;
+    due: &Due,
+) {
+    let calls = Arc::new(alloc, no_calls()).expect(rt, "no memory");
+    let net = network(rt, alloc, meeting.text);
+    let bodies = meeting_bodies(rt, alloc, &net, meeting, &calls);
+    run_bodies(rt, alloc, net, bodies, meeting.workers, due);
     same(rt, "seen", calls.seen.load(Ordering::SeqCst), 2);
-    Ok(())
 }
 
 /// A counter and its sink, by two workers.
-const COUNTER_MEETS: Meeting = Meeting {
+static COUNTER_MEETS: Meeting = Meeting {
     text: COUNTER_INTO_SINK,
     workers: 2,
     left: 0,
     right: 1,
     at: 1,
-    due: &COUNTER_ENDS,
 };
 
 /// Five processes, all of which can go on at first, by three workers. The two are next to each other:
 /// in a hand of two they would wait for ever.
-const CHAIN_MEETS: Meeting = Meeting {
+static CHAIN_MEETS: Meeting = Meeting {
     text: READY_CHAIN,
     workers: 3,
     left: 3,
     right: 4,
     at: 1,
-    due: &READY_CHAIN_ENDS,
 };
 
 #[test]
-fn two_workers_meet(rt: HostRuntime) -> Result<(), Fail> {
-    meets(&rt, rt.alloc(), COUNTER_MEETS)
+fn two_workers_meet(rt: HostRuntime) {
+    meets(&rt, rt.alloc(), COUNTER_MEETS, &COUNTER_ENDS);
 }
 
 #[test]
-fn two_workers_meet_at_the_second_call(rt: HostRuntime) -> Result<(), Fail> {
+fn two_workers_meet_at_the_second_call(rt: HostRuntime) {
     meets(
         &rt,
         rt.alloc(),
@@ -175,16 +179,17 @@ fn two_workers_meet_at_the_second_call(rt: HostRuntime) -> Result<(), Fail> {
             at: 2,
             ..COUNTER_MEETS
         },
-    )
+        &COUNTER_ENDS,
+    );
 }
 
 #[test]
-fn two_of_five_processes_meet(rt: HostRuntime) -> Result<(), Fail> {
-    meets(&rt, rt.alloc(), CHAIN_MEETS)
+fn two_of_five_processes_meet(rt: HostRuntime) {
+    meets(&rt, rt.alloc(), CHAIN_MEETS, &READY_CHAIN_ENDS);
 }
 
 #[test]
-fn two_of_five_processes_meet_at_the_second_call(rt: HostRuntime) -> Result<(), Fail> {
+fn two_of_five_processes_meet_at_the_second_call(rt: HostRuntime) {
     meets(
         &rt,
         rt.alloc(),
@@ -192,5 +197,6 @@ fn two_of_five_processes_meet_at_the_second_call(rt: HostRuntime) -> Result<(), 
             at: 2,
             ..CHAIN_MEETS
         },
-    )
+        &READY_CHAIN_ENDS,
+    );
 }

@@ -5,7 +5,7 @@ use kpn_body::Standard;
 use kpn_compute::{CardBody, bodies_of};
 use kpn_net::{Check, Net, read_sketch};
 use std::alloc::Global;
-use std::test::Fail;
+use std::process::Abort;
 
 /// A network, and a body for each of its processes in order.
 #[derive(Drop)]
@@ -14,10 +14,15 @@ pub(crate) struct Parts {
     pub(crate) bodies: Vec<CardBody<Standard>>,
 }
 
+/// The network of a text.
+pub(crate) fn network<R: Abort>(rt: &R, alloc: Global, text: &str) -> Net<Standard> {
+    let sketch = read_sketch(alloc, text.as_bytes()).expect(rt, "no sketch");
+    Net::check(alloc, &sketch).expect(rt, "no network")
+}
+
 /// The network of a text, with its bodies.
-pub(crate) fn parts_of(alloc: Global, text: &str) -> Result<Parts, Fail> {
-    let sketch = read_sketch(alloc, text.as_bytes())?;
-    let net = Net::check(alloc, &sketch)?;
-    let bodies = bodies_of(alloc, &net)?;
-    Ok(Parts { net, bodies })
+pub(crate) fn parts_of<R: Abort>(rt: &R, alloc: Global, text: &str) -> Parts {
+    let net = network(rt, alloc, text);
+    let bodies = bodies_of(alloc, &net).expect(rt, "no memory");
+    Parts { net, bodies }
 }

@@ -142,7 +142,7 @@ fn ends_for_memory<K: Kinds, R: Abort>(
     same(rt, "growths", growths_in(finish.history()), 0);
     let report = report(alloc, finish)?;
     same(rt, "end", report.end, End::Memory);
-    assert!(rt; report.detail.is_none());
+    same(rt, "no detail", report.detail.is_none(), true);
     Ok(())
 }
 
@@ -172,13 +172,25 @@ fn tell_again<K: Kinds, R: Abort>(
     alloc: Global,
     finish: &Finish<K>,
 ) -> Result<Refused, AllocError> {
-    let (reported, report) = report_again(rt, alloc, finish);
-    same(rt, "end", reported.end, End::Deadlock);
-    assert!(rt; reported.detail.is_some());
-    let (tokens, stream) = stream_again(rt, alloc, finish.net(), finish.history());
-    same(rt, "stream", tokens.as_slice(), WOVEN_ENDS.stream);
+    let report = tell_report(rt, alloc, finish);
+    let stream = tell_stream(rt, alloc, finish);
     compare(rt, alloc, finish, &WOVEN_ENDS)?;
     Ok(first_refused(&[report, stream]))
+}
+
+/// The report of such a run.
+fn tell_report<K: Kinds, R: Abort>(rt: &R, alloc: Global, finish: &Finish<K>) -> Refused {
+    let (told, refused) = report_again(rt, alloc, finish);
+    same(rt, "end", told.end, End::Deadlock);
+    same(rt, "detail", told.detail.is_some(), true);
+    refused
+}
+
+/// The stream of such a run.
+fn tell_stream<K: Kinds, R: Abort>(rt: &R, alloc: Global, finish: &Finish<K>) -> Refused {
+    let (tokens, refused) = stream_again(rt, alloc, finish.net(), finish.history());
+    same(rt, "stream", tokens.as_slice(), WOVEN_ENDS.stream);
+    refused
 }
 
 /// Loads and runs Parks's case, with its report and a stream. Fails if memory for the test itself was
@@ -191,12 +203,22 @@ fn run_refused<R: Threads + Wait + Clock + Abort + Sync>(
     let (net, load) = load_again(rt, alloc, COPIED_AND_WOVEN);
     let bodies = bodies_of(alloc, &net)?;
     let (finish, run) = finish_again(rt, alloc, net, bodies, workers);
+    tell_refused(rt, alloc, &finish, first_refused(&[load, run]))
+}
+
+/// Tells of a run of Parks's case before which this was refused.
+fn tell_refused<K: Kinds, R: Abort>(
+    rt: &R,
+    alloc: Global,
+    finish: &Finish<K>,
+    before: Refused,
+) -> Result<Refused, AllocError> {
     if finish.end() == End::Memory {
-        ends_for_memory(rt, alloc, &finish)?;
+        ends_for_memory(rt, alloc, finish)?;
         return Ok(Refused::Growth);
     }
-    let told = tell_again(rt, alloc, &finish)?;
-    Ok(first_refused(&[load, run, told]))
+    let told = tell_again(rt, alloc, finish)?;
+    Ok(first_refused(&[before, told]))
 }
 
 /// The word for what was refused.

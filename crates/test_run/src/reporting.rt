@@ -9,11 +9,10 @@ use kpn_run::{
 };
 use std::alloc::Global;
 use std::process::Abort;
-use std::test::Fail;
 use test_texts::COUNTER_INTO_SINK;
 
 /// What went through the channel.
-const TOKENS: [Token; 3] = [Token::Word(1), Token::Word(2), Token::Word(3)];
+static TOKENS: [Token; 3] = [Token::Word(1), Token::Word(2), Token::Word(3)];
 
 /// Compares the tokens of a channel that the network doesn't have.
 fn compare_no_stream<K: Kinds, R: Abort>(rt: &R, alloc: Global, finish: &Finish<K>) {
@@ -22,13 +21,11 @@ fn compare_no_stream<K: Kinds, R: Abort>(rt: &R, alloc: Global, finish: &Finish<
 }
 
 /// Compares the lists of a detail.
-fn compare_lists<R: Abort>(
-    rt: &R,
-    places: &Places,
-    steps: &Steps,
-    capacities: &Sizes,
-    growths: &Growths,
-) {
+fn compare_lists<R: Abort>(rt: &R, detail: &Detail) {
+    let places: &Places = &detail.places;
+    let steps: &Steps = &detail.steps;
+    let capacities: &Sizes = &detail.capacities;
+    let growths: &Growths = &detail.growths;
     let stopped = [Place::Stopped, Place::Stopped];
     same(rt, "places", places.as_slice(), stopped.as_slice());
     same(rt, "steps", steps.as_slice(), [4, 4].as_slice());
@@ -48,26 +45,22 @@ fn only<'a, R: Abort>(rt: &R, streams: &'a Streams) -> &'a Stream {
 /// Compares the report of a run.
 fn compare_report<K: Kinds, R: Abort>(rt: &R, alloc: Global, finish: &Finish<K>) {
     let Report { end, detail } = report(alloc, finish).expect(rt, "no memory");
-    let Detail {
-        places,
-        steps,
-        capacities,
-        streams,
-        rests,
-        growths,
-        entries,
-    } = detail.expect(rt, "no detail");
-    same(rt, "end", (end, entries), (End::Terminated, 8));
-    compare_lists(rt, &places, &steps, &capacities, &growths);
-    same(rt, "put", only(rt, &streams).as_slice(), TOKENS.as_slice());
-    same(rt, "left", only(rt, &rests).as_slice().len(), 0);
+    let detail = detail.as_ref().expect(rt, "no detail");
+    same(rt, "end", (end, detail.entries), (End::Terminated, 8));
+    compare_lists(rt, detail);
+    compare_streams(rt, &detail.streams, &detail.rests);
+}
+
+/// Compares what went through the channel, and what is left in it.
+fn compare_streams<R: Abort>(rt: &R, streams: &Streams, rests: &Streams) {
+    same(rt, "put", only(rt, streams).as_slice(), TOKENS.as_slice());
+    same(rt, "left", only(rt, rests).as_slice().len(), 0);
 }
 
 #[test]
-fn a_run_by_two_workers_is_told(rt: HostRuntime) -> Result<(), Fail> {
+fn a_run_by_two_workers_is_told(rt: HostRuntime) {
     Open.before_commit(0);
-    let finish = finish_text(&rt, rt.alloc(), COUNTER_INTO_SINK, 2, &Open)?;
+    let finish = finish_text(&rt, rt.alloc(), COUNTER_INTO_SINK, 2, &Open);
     compare_no_stream(&rt, rt.alloc(), &finish);
     compare_report(&rt, rt.alloc(), &finish);
-    Ok(())
 }

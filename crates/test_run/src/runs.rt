@@ -8,12 +8,11 @@ use kpn_body::{Body, Standard};
 use kpn_machine::OpenFault;
 use kpn_net::Net;
 use kpn_run::{Finish, Gate, Open, RunFault, run};
-use std::alloc::{AllocError, Global};
+use std::alloc::Global;
 use std::process::Abort;
 use std::rt::Clock;
 use std::sync::Wait;
 use std::sync::atomic::{AtomicU64, Ordering};
-use std::test::Fail;
 use std::thread::Threads;
 use test_texts::{
     COPIED_AND_WOVEN, COUNTER_INTO_SINK, COUNTER_INTO_SMALL_SINK, RUNNING_SUMS, TWO_FULL_CHANNELS,
@@ -75,9 +74,9 @@ pub(crate) fn finish_text<R: Threads + Wait + Clock + Abort + Sync, G: Gate>(
     text: &str,
     workers: usize,
     gate: &G,
-) -> Result<Finish<Standard>, Fail> {
-    let Parts { net, bodies } = parts_of(alloc, text)?;
-    Ok(finish_of(rt, alloc, net, bodies, workers, gate))
+) -> Finish<Standard> {
+    let Parts { net, bodies } = parts_of(rt, alloc, text);
+    finish_of(rt, alloc, net, bodies, workers, gate)
 }
 
 /// Runs the network of a text, and compares the run with its expected result.
@@ -88,10 +87,9 @@ pub(crate) fn shows<R: Threads + Wait + Clock + Abort + Sync, G: Gate>(
     workers: usize,
     gate: &G,
     due: &Due,
-) -> Result<(), Fail> {
-    let finish = finish_text(rt, alloc, text, workers, gate)?;
-    compare(rt, alloc, &finish, due)?;
-    Ok(())
+) {
+    let finish = finish_text(rt, alloc, text, workers, gate);
+    compare(rt, alloc, &finish, due).expect(rt, "no memory");
 }
 
 /// A run is refused for this reason, with its number, and all is handed back.
@@ -120,16 +118,21 @@ fn run_counted<B: Body, R: Threads + Wait + Clock + Abort + Sync>(
     bodies: Vec<B>,
     workers: usize,
     due: &Due,
-) -> Result<(), AllocError> {
+) {
     let counts = Counts {
         asked: AtomicU64::new(0),
     };
     let finish = finish_of(rt, alloc, net, bodies, workers, &counts);
-    let asked = counts.asked.load(Ordering::SeqCst);
+    compare_asked(rt, counts.asked.load(Ordering::SeqCst), due);
+    compare(rt, alloc, &finish, due).expect(rt, "no memory");
+}
+
+/// Compares how often a gate was asked with what is expected.
+fn compare_asked<R: Abort>(rt: &R, asked: u64, due: &Due) {
     let processes = due.processes as u64;
     let most = due.entries.saturating_add(processes);
-    assert!(rt; processes <= asked && asked <= most);
-    compare(rt, alloc, &finish, due)
+    let is_due = processes <= asked && asked <= most;
+    same(rt, "asked", (asked, is_due), (asked, true));
 }
 
 /// Runs a network first with no worker and with 17, then without one of its bodies, all of which is
@@ -141,18 +144,18 @@ pub(crate) fn run_bodies<B: Body, R: Threads + Wait + Clock + Abort + Sync>(
     bodies: Vec<B>,
     workers: usize,
     due: &Due,
-) -> Result<(), AllocError> {
+) {
     let (net, bodies) = refused(rt, alloc, net, bodies, 0, (Refusal::Workers, 1));
     let (net, mut bodies) = refused(rt, alloc, net, bodies, 17, (Refusal::Workers, 1));
     let last = bodies.pop().expect(rt, "no body");
     let due_refusal = (Refusal::Open(OpenFault::Bodies), 2);
     let (net, mut bodies) = refused(rt, alloc, net, bodies, workers, due_refusal);
     same(rt, "pushed", bodies.push(last).is_ok(), true);
-    run_counted(rt, alloc, net, bodies, workers, due)
+    run_counted(rt, alloc, net, bodies, workers, due);
 }
 
 #[test]
-fn any_number_of_workers(rt: HostRuntime) -> Result<(), Fail> {
+fn any_number_of_workers(rt: HostRuntime) {
     for (text, due) in [
         (COUNTER_INTO_SINK, &COUNTER_ENDS),
         (COPIED_AND_WOVEN, &WOVEN_ENDS),
@@ -161,9 +164,8 @@ fn any_number_of_workers(rt: HostRuntime) -> Result<(), Fail> {
         (RUNNING_SUMS, &RUNNING_SUMS_END),
     ] {
         for workers in [1, 2, 16] {
-            let Parts { net, bodies } = parts_of(rt.alloc(), text)?;
-            run_bodies(&rt, rt.alloc(), net, bodies, workers, due)?;
+            let Parts { net, bodies } = parts_of(&rt, rt.alloc(), text);
+            run_bodies(&rt, rt.alloc(), net, bodies, workers, due);
         }
     }
-    Ok(())
 }

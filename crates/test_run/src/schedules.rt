@@ -7,12 +7,11 @@ use kpn_net::Token::Word;
 use kpn_run::{Gate, Hold, Open};
 use std::hint::spin_loop;
 use std::sync::atomic::{AtomicU64, Ordering};
-use std::test::Fail;
 use std::thread;
 use test_texts::{COPIED_AND_WOVEN, COUNTER_INTO_SINK, GROWING_CHAIN};
 
 /// A chain whose channels grow in turn, the smallest full one first.
-const CHAIN_GROWS: Due = Due {
+static CHAIN_GROWS: Due = Due {
     end: End::Deadlock,
     entries: 76,
     processes: 5,
@@ -56,16 +55,15 @@ stream c3 1 2 3 4 5 6 7 8 9
 /// Two workers, with each answer of one process held up until another process has passed, for each
 /// ordered pair of the four processes of Parks's case.
 #[test]
-fn each_process_is_held_up_for_each_other(rt: HostRuntime) -> Result<(), Fail> {
+fn each_process_is_held_up_for_each_other(rt: HostRuntime) {
     for process in 0..4 {
         for other in 0..4 {
             if process != other {
                 let gate = Hold::new(process, other, 1, 1_000_000);
-                shows(&rt, rt.alloc(), COPIED_AND_WOVEN, 2, &gate, &WOVEN_ENDS)?;
+                shows(&rt, rt.alloc(), COPIED_AND_WOVEN, 2, &gate, &WOVEN_ENDS);
             }
         }
     }
-    Ok(())
 }
 
 /// A gate that holds process 0 up until process 1 has passed, and has process 1 pass late: after process 0
@@ -118,7 +116,7 @@ impl Gate for LateGate {
 
 /// The counter is held up until the sink has passed: none of its four answers goes on before.
 #[test]
-fn a_process_waits_until_the_other_has_passed(rt: HostRuntime) -> Result<(), Fail> {
+fn a_process_waits_until_the_other_has_passed(rt: HostRuntime) {
     let gate = LateGate {
         hold: Hold::new(0, 1, 1, 1_000_000_000_000),
         held_came: AtomicU64::new(0),
@@ -126,40 +124,38 @@ fn a_process_waits_until_the_other_has_passed(rt: HostRuntime) -> Result<(), Fai
         went_on: AtomicU64::new(0),
         went_early: AtomicU64::new(0),
     };
-    shows(&rt, rt.alloc(), COUNTER_INTO_SINK, 2, &gate, &COUNTER_ENDS)?;
+    shows(&rt, rt.alloc(), COUNTER_INTO_SINK, 2, &gate, &COUNTER_ENDS);
     same(&rt, "went on", gate.went_on.load(Ordering::SeqCst), 4);
     same(&rt, "went early", gate.went_early.load(Ordering::SeqCst), 0);
-    Ok(())
 }
 
 /// No process is held up, with two workers.
 #[test]
-fn two_workers_of_two_processes(rt: HostRuntime) -> Result<(), Fail> {
-    shows(&rt, rt.alloc(), COUNTER_INTO_SINK, 2, &Open, &COUNTER_ENDS)
+fn two_workers_of_two_processes(rt: HostRuntime) {
+    shows(&rt, rt.alloc(), COUNTER_INTO_SINK, 2, &Open, &COUNTER_ENDS);
 }
 
 /// No process is held up, with more workers than there are processes.
 #[test]
-fn sixteen_workers_of_two_processes(rt: HostRuntime) -> Result<(), Fail> {
-    shows(&rt, rt.alloc(), COUNTER_INTO_SINK, 16, &Open, &COUNTER_ENDS)
+fn sixteen_workers_of_two_processes(rt: HostRuntime) {
+    shows(&rt, rt.alloc(), COUNTER_INTO_SINK, 16, &Open, &COUNTER_ENDS);
 }
 
 #[test]
-fn sixteen_workers_of_parks_case(rt: HostRuntime) -> Result<(), Fail> {
-    shows(&rt, rt.alloc(), COPIED_AND_WOVEN, 16, &Open, &WOVEN_ENDS)
+fn sixteen_workers_of_parks_case(rt: HostRuntime) {
+    shows(&rt, rt.alloc(), COPIED_AND_WOVEN, 16, &Open, &WOVEN_ENDS);
 }
 
 /// Twenty runs of each of two networks whose channels grow: the same bytes each time. A thousand are made
 /// by `tests/repeat_runs_by_workers`.
 #[test]
-fn twenty_runs_by_sixteen_workers(rt: HostRuntime) -> Result<(), Fail> {
+fn twenty_runs_by_sixteen_workers(rt: HostRuntime) {
     for _run in 0..20 {
         for (text, due) in [
             (COPIED_AND_WOVEN, &WOVEN_ENDS),
             (GROWING_CHAIN, &CHAIN_GROWS),
         ] {
-            shows(&rt, rt.alloc(), text, 16, &Open, due)?;
+            shows(&rt, rt.alloc(), text, 16, &Open, due);
         }
     }
-    Ok(())
 }

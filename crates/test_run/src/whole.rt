@@ -7,11 +7,10 @@ use crate::runs::finish_text;
 use kpn_net::Token::Word;
 use kpn_net::{Deed, End, Entry, Kinds, Token};
 use kpn_run::{Finish, Gate, Open, report, stream_of};
-use std::alloc::{AllocError, Global};
+use std::alloc::Global;
 use std::process::Abort;
 use std::rt::Clock;
 use std::sync::Wait;
-use std::test::Fail;
 use std::thread::Threads;
 
 /// The whole expected result of a run, whatever the schedule.
@@ -31,34 +30,27 @@ pub(crate) fn shows_whole<R: Threads + Wait + Clock + Abort + Sync, G: Gate>(
     workers: usize,
     gate: &G,
     due: Whole<'_>,
-) -> Result<(), Fail> {
-    let finish = finish_text(rt, alloc, text, workers, gate)?;
-    compare_whole(rt, alloc, &finish, due)?;
-    Ok(())
+) {
+    let finish = finish_text(rt, alloc, text, workers, gate);
+    compare_whole(rt, alloc, &finish, due);
 }
 
-fn compare_whole<K: Kinds, R: Abort>(
-    rt: &R,
-    alloc: Global,
-    finish: &Finish<K>,
-    due: Whole<'_>,
-) -> Result<(), AllocError> {
+fn compare_whole<K: Kinds, R: Abort>(rt: &R, alloc: Global, finish: &Finish<K>, due: Whole<'_>) {
     same(
         rt,
         "receipts",
         finish.receipts(),
         finish.history().len() as u64,
     );
-    let text = text_of_run(alloc, finish, None)?;
+    let text = text_of_run(alloc, finish, None).expect(rt, "no memory");
     same(rt, "text", text.as_str(), due.text);
     for (channel, tokens) in due.streams {
-        compare_stream(rt, alloc, finish, *channel, tokens)?;
+        compare_stream(rt, alloc, finish, *channel, tokens).expect(rt, "no memory");
     }
-    Ok(())
 }
 
 /// The first ten of Hamming's numbers: the products of twos, threes and fives.
-const FIRST_TEN: [Token; 10] = [
+static FIRST_TEN: [Token; 10] = [
     Word(1),
     Word(2),
     Word(3),
@@ -71,58 +63,60 @@ const FIRST_TEN: [Token; 10] = [
     Word(12),
 ];
 
-/// Runs the network of Hamming's numbers until its budget of 1,000 is spent.
+/// Runs the network of Hamming's numbers by one worker, by four and by sixteen.
 pub(crate) fn shows_endless<R: Threads + Wait + Clock + Abort + Sync>(
     rt: &R,
     alloc: Global,
     text: &str,
+) {
+    for workers in [1, 4, 16] {
+        spends_budget(rt, alloc, text, workers);
+    }
+}
+
+/// Runs the network of Hamming's numbers until its budget of 1,000 is spent.
+fn spends_budget<R: Threads + Wait + Clock + Abort + Sync>(
+    rt: &R,
+    alloc: Global,
+    text: &str,
     workers: usize,
-) -> Result<(), Fail> {
-    let finish = finish_text(rt, alloc, text, workers, &Open)?;
-    compare_endless(rt, alloc, &finish)?;
-    compare_taken(rt, alloc, &finish)?;
-    Ok(())
+) {
+    let finish = finish_text(rt, alloc, text, workers, &Open);
+    compare_endless(rt, alloc, &finish);
+    compare_taken(rt, alloc, &finish);
 }
 
 /// The budget of 1,000 is spent, and there is no detail.
-fn compare_endless<K: Kinds, R: Abort>(
-    rt: &R,
-    alloc: Global,
-    finish: &Finish<K>,
-) -> Result<(), AllocError> {
+fn compare_endless<K: Kinds, R: Abort>(rt: &R, alloc: Global, finish: &Finish<K>) {
     let entries = finish.history().len();
-    assert!(rt; 1000 <= entries && entries <= 1002);
+    let is_spent = 1000 <= entries && entries <= 1002;
+    same(rt, "entries", (entries, is_spent), (entries, true));
     same(rt, "receipts", finish.receipts(), entries as u64);
     same(rt, "end", finish.end(), End::Budget);
-    let report = report(alloc, finish)?;
+    let report = report(alloc, finish).expect(rt, "no memory");
     same(rt, "end", report.end, End::Budget);
-    assert!(rt; report.detail.is_none());
-    Ok(())
+    same(rt, "no detail", report.detail.is_none(), true);
 }
 
 /// The sink, which reads channel 1, takes the ten numbers, and what is put there begins with them.
-fn compare_taken<K: Kinds, R: Abort>(
-    rt: &R,
-    alloc: Global,
-    finish: &Finish<K>,
-) -> Result<(), AllocError> {
-    let taken = taken_from(alloc, finish.history(), 1)?;
+fn compare_taken<K: Kinds, R: Abort>(rt: &R, alloc: Global, finish: &Finish<K>) {
+    let taken = taken_from(rt, alloc, finish.history(), 1);
     same(rt, "taken", taken.as_slice(), FIRST_TEN.as_slice());
-    assert!(rt; 1 < finish.net().channels());
-    let stream = stream_of(alloc, finish.net(), finish.history(), 1)?;
-    assert!(rt; stream.as_slice().starts_with(&FIRST_TEN));
-    Ok(())
+    same(rt, "channel", 1 < finish.net().channels(), true);
+    let stream = stream_of(alloc, finish.net(), finish.history(), 1).expect(rt, "no memory");
+    let begins = stream.as_slice().starts_with(&FIRST_TEN);
+    same(rt, "beginning", begins, true);
 }
 
 /// The tokens taken from a channel, in order.
-fn taken_from(alloc: Global, history: &[Entry], channel: usize) -> Result<Vec<Token>, AllocError> {
+fn taken_from<R: Abort>(rt: &R, alloc: Global, history: &[Entry], channel: usize) -> Vec<Token> {
     let mut tokens = Vec::new(alloc);
     for entry in history {
         if let Some(token) = token_taken(*entry, channel) {
-            tokens.push(token)?;
+            tokens.push(token).expect(rt, "no memory");
         }
     }
-    Ok(tokens)
+    tokens
 }
 
 /// The token that an entry takes from a channel.

@@ -43,26 +43,24 @@ fn sketch_of<R: Abort>(rt: &R, alloc: Global) -> Sketch {
     read_sketch(alloc, COUNTER_INTO_SINK.as_bytes()).expect(rt, "no sketch")
 }
 
-/// The first answers of the network of a sketch.
-fn answers_of<R: Abort>(rt: &R, alloc: Global, sketch: &Sketch) -> Vec<Answer> {
-    let net: Net<Standard> = Net::check(alloc, sketch).expect(rt, "no network");
-    first_answers(alloc, &net).expect(rt, "no memory")
-}
-
-/// Compares the first answers of the counter and of the sink.
-fn compare_first<R: Abort>(rt: &R, answers: &[Answer]) {
-    let expected = [([1, 0, 0, 0], Write(0, Word(5))), ([1, 0, 0, 0], Read(0))];
-    same(rt, "answers", answers.len(), expected.len());
-    for (answer, due) in answers.iter().zip(expected.iter()) {
-        same(rt, "answer", (answer.next, answer.act), *due);
-    }
-}
+/// The first answers of the counter and of the sink.
+static FIRST: [Answer; 2] = [
+    Answer {
+        next: [1, 0, 0, 0],
+        act: Write(0, Word(5)),
+    },
+    Answer {
+        next: [1, 0, 0, 0],
+        act: Read(0),
+    },
+];
 
 #[test]
 fn each_process_has_its_body(rt: HostRuntime) {
     let sketch = sketch_of(&rt, rt.alloc());
-    let answers = answers_of(&rt, rt.alloc(), &sketch);
-    compare_first(&rt, answers.as_slice());
+    let net: Net<Standard> = Net::check(rt.alloc(), &sketch).expect(&rt, "no network");
+    let answers = first_answers(rt.alloc(), &net).expect(&rt, "no memory");
+    same(&rt, "answers", answers.as_slice(), FIRST.as_slice());
 }
 
 /// A network of this family is refused for its arguments.

@@ -1,11 +1,14 @@
 //! What each kind for signals writes, alone, for the tokens of its inputs: worked out by hand, and by
 //! tests/interpreter.py. And the names, arguments, ports and lines of help.
+ghost use Rattle.std.specs.Prelude.{◌<◌};
+
 use crate::checks::same;
+use crate::kinds::{meant, ports_given};
 use kpn_compute::{Both, Computes};
 use kpn_model::Act::{Read, Stop, Write};
 use kpn_model::Token::{Flag, Word};
-use kpn_model::{Act, Answer, Card, Kinds, Local, Signature, Sort, Token};
-use kpn_signals::{HELP, Signal, Signals, answer};
+use kpn_model::{Act, Answer, Card, Local, Signature, Sort, Token};
+use kpn_signals::{HELP, Help, Signal, Signals, answer};
 use kpn_standard::Standard;
 use std::process::Abort;
 
@@ -451,79 +454,86 @@ fn arguments_of(text: &str) -> usize {
     }
 }
 
-/// What a name means in both families together.
-fn meant(name: &str) -> Option<(u16, usize)> {
-    Both::<Standard, Signals>::named(name)
-}
-
 const KINDS: u16 = 21;
+
+/// The lines of help, held once: a constant is made anew where it is named.
+static LINES: [Help; 21] = HELP;
+
+/// Compares a line of help with the kind of this number.
+fn compare_help<R: Abort>(rt: &R, number: u16, help: &Help)
+    requires { number < 21 }
+{
+    let arguments = arguments_of(help.arguments);
+    let found = [
+        meant::<Signals>(help.name),
+        meant::<Both<Standard, Signals>>(help.name),
+    ];
+    let due = [Some((number, arguments)), Some((2 * number + 1, arguments))];
+    same(rt, help.name, found, due);
+    let kind = Signal::numbered(number).expect(rt, "no kind");
+    same(rt, help.name, Signal::called(help.name), Some(kind));
+    same(rt, help.name, kind.plain(), kind);
+    let row = kind.row();
+    let ports = Signature {
+        ins: row.ins,
+        outs: row.outs,
+    };
+    same(rt, help.name, ports, ports_of(help.ports));
+}
 
 #[test]
 fn help_lists_the_kinds(rt: HostRuntime) {
     for number in 0..KINDS {
-        let help = HELP[usize::from(number)];
-        let arguments = arguments_of(help.arguments);
-        same(
-            &rt,
-            help.name,
-            Signals::named(help.name),
-            Some((number, arguments)),
-        );
-        same(
-            &rt,
-            help.name,
-            meant(help.name),
-            Some((2 * number + 1, arguments)),
-        );
-        let kind = Signal::numbered(number).expect(&rt, "no kind");
-        same(&rt, help.name, Signal::called(help.name), Some(kind));
-        let row = kind.row();
-        let ports = Signature {
-            ins: row.ins,
-            outs: row.outs,
-        };
-        same(&rt, help.name, ports, ports_of(help.ports));
+        compare_help(&rt, number, &LINES[usize::from(number)]);
     }
+    let plain = [
+        Signal::SignedConstant.plain(),
+        Signal::SignedHold.plain(),
+        Signal::SignedClip.plain(),
+    ];
+    let due = [Signal::Constant, Signal::Hold, Signal::Clip];
+    same(&rt, "plain", plain, due);
     same(&rt, "numbered", Signal::numbered(KINDS + 3), None);
-    same(&rt, "named", Signals::named("count"), None);
+    same(&rt, "named", meant::<Signals>("count"), None);
 }
+
+/// A kind's number, arguments, and whether they are accepted.
+static ARGUMENTS: [(u16, [u64; 3], bool); 24] = [
+    (2, [0, 0, 0], true),
+    (2, [1, 0, 0], false),
+    (4, [u64::MAX, 0, 0], true),
+    (4, [1, 1, 0], false),
+    (8, [63, 0, 0], true),
+    (8, [64, 0, 0], false),
+    (9, [64, 0, 0], false),
+    (15, [0, 0, 0], false),
+    (16, [0, 0, 0], false),
+    (16, [u64::MAX, 0, 0], true),
+    (18, [0, 0, 0], false),
+    (18, [4, 0, 0], true),
+    (18, [5, 0, 0], false),
+    (19, [64, 0, 0], false),
+    (20, [u64::MAX, 0, 0], true),
+    (20, [0, u64::MAX, 0], false),
+    (20, [1, 1, 1], false),
+    (21, [0, 0, 0], false),
+    (21, [LEAST, 1, 0], false),
+    (22, [GREATEST, 1, 0], true),
+    (23, [4, 1, 2], true),
+    (23, [1, 4, 2], false),
+    (23, [1, 4, 3], false),
+    (24, [0, 0, 0], false),
+];
 
 #[test]
 fn signals_accept_arguments(rt: HostRuntime) {
-    let rows = [
-        (2, [0, 0, 0], true),
-        (2, [1, 0, 0], false),
-        (4, [u64::MAX, 0, 0], true),
-        (4, [1, 1, 0], false),
-        (8, [63, 0, 0], true),
-        (8, [64, 0, 0], false),
-        (9, [64, 0, 0], false),
-        (15, [0, 0, 0], false),
-        (16, [0, 0, 0], false),
-        (16, [u64::MAX, 0, 0], true),
-        (18, [0, 0, 0], false),
-        (18, [4, 0, 0], true),
-        (18, [5, 0, 0], false),
-        (19, [64, 0, 0], false),
-        (20, [u64::MAX, 0, 0], true),
-        (20, [0, u64::MAX, 0], false),
-        (20, [1, 1, 1], false),
-        (21, [0, 0, 0], false),
-        (21, [LEAST, 1, 0], false),
-        (22, [GREATEST, 1, 0], true),
-        (23, [4, 1, 2], true),
-        (23, [1, 4, 2], false),
-        (23, [1, 4, 3], false),
-        (24, [0, 0, 0], false),
-    ];
-    for (kind, args, is_accepted) in rows {
-        let signature = Signals::signature(&Card { kind, args });
-        same(
-            &rt,
-            "accepted",
-            (kind, args, signature.is_some()),
-            (kind, args, is_accepted),
-        );
+    for (kind, args, due) in &ARGUMENTS {
+        let card = Card {
+            kind: *kind,
+            args: *args,
+        };
+        let is_accepted = ports_given::<Signals>(card).is_some();
+        same(&rt, "accepted", (card, is_accepted), (card, *due));
     }
 }
 

@@ -1,5 +1,6 @@
 //! Each line of each kind, with numbers of its own; the names, the arguments and the ports.
 use crate::checks::same;
+use crate::kinds::{meant, ports_given};
 use kpn_body::{
     add, copy, count, divides, merge, prefix, scale, select, sink, switch, take, weave,
 };
@@ -463,29 +464,31 @@ fn select_follows_its_lines(rt: HostRuntime) {
     );
 }
 
+/// A name, and the number of the kind that it means with how many arguments the kind takes.
+static NAMES: [(&str, Option<(u16, usize)>); 17] = [
+    ("count", Some((0, 2))),
+    ("sink", Some((1, 1))),
+    ("take", Some((2, 1))),
+    ("copy", Some((3, 0))),
+    ("prefix", Some((4, 1))),
+    ("add", Some((5, 0))),
+    ("scale", Some((6, 1))),
+    ("weave", Some((7, 2))),
+    ("merge", Some((8, 0))),
+    ("divides", Some((9, 1))),
+    ("switch", Some((10, 0))),
+    ("select", Some((11, 0))),
+    ("filter", None),
+    ("", None),
+    ("Count", None),
+    ("counts", None),
+    ("selec", None),
+];
+
 #[test]
 fn names_have_numbers_and_counts(rt: HostRuntime) {
-    let names = [
-        ("count", Some((0, 2))),
-        ("sink", Some((1, 1))),
-        ("take", Some((2, 1))),
-        ("copy", Some((3, 0))),
-        ("prefix", Some((4, 1))),
-        ("add", Some((5, 0))),
-        ("scale", Some((6, 1))),
-        ("weave", Some((7, 2))),
-        ("merge", Some((8, 0))),
-        ("divides", Some((9, 1))),
-        ("switch", Some((10, 0))),
-        ("select", Some((11, 0))),
-        ("filter", None),
-        ("", None),
-        ("Count", None),
-        ("counts", None),
-        ("selec", None),
-    ];
-    for (name, expected) in names {
-        same(&rt, name, Standard::named(name), expected);
+    for (name, due) in &NAMES {
+        same(&rt, name, meant::<Standard>(name), *due);
     }
 }
 
@@ -494,31 +497,36 @@ fn is_found(kind: Kind, number: u16, name: &str) -> bool {
     Kind::numbered(number) == Some(kind) && Kind::called(name) == Some(kind)
 }
 
+/// A kind, its number, its name, and how many arguments it takes.
+static KINDS: [(Kind, u16, &str, usize); 12] = [
+    (Kind::Count, 0, "count", 2),
+    (Kind::Sink, 1, "sink", 1),
+    (Kind::Take, 2, "take", 1),
+    (Kind::Copy, 3, "copy", 0),
+    (Kind::Prefix, 4, "prefix", 1),
+    (Kind::Add, 5, "add", 0),
+    (Kind::Scale, 6, "scale", 1),
+    (Kind::Weave, 7, "weave", 2),
+    (Kind::Merge, 8, "merge", 0),
+    (Kind::Divides, 9, "divides", 1),
+    (Kind::Switch, 10, "switch", 0),
+    (Kind::Select, 11, "select", 0),
+];
+
 #[test]
 fn kinds_have_rows(rt: HostRuntime) {
-    let kinds = [
-        (Kind::Count, 0, "count", 2),
-        (Kind::Sink, 1, "sink", 1),
-        (Kind::Take, 2, "take", 1),
-        (Kind::Copy, 3, "copy", 0),
-        (Kind::Prefix, 4, "prefix", 1),
-        (Kind::Add, 5, "add", 0),
-        (Kind::Scale, 6, "scale", 1),
-        (Kind::Weave, 7, "weave", 2),
-        (Kind::Merge, 8, "merge", 0),
-        (Kind::Divides, 9, "divides", 1),
-        (Kind::Switch, 10, "switch", 0),
-        (Kind::Select, 11, "select", 0),
-    ];
-    for (kind, number, name, arguments) in kinds {
+    for (kind, number, name, arguments) in &KINDS {
         let row = kind.row();
-        let has_row = row.number == number && row.arguments == arguments;
-        assert!(rt; has_row && is_found(kind, number, name), "{name}");
+        let found = (row.number, row.arguments, is_found(*kind, *number, name));
+        same(&rt, name, found, (*number, *arguments, true));
     }
-    assert!(rt; Kind::numbered(12).is_none());
-    assert!(rt; Kind::called("counts").is_none());
-    assert!(rt; Kind::Weave.accepts([1, 2, 0]));
-    assert!(rt; !Kind::Weave.accepts([1, 0, 0]));
+    let others = [
+        Kind::numbered(12).is_none(),
+        Kind::called("counts").is_none(),
+        Kind::Weave.accepts([1, 2, 0]),
+        Kind::Weave.accepts([1, 0, 0]),
+    ];
+    same(&rt, "others", others, [true, true, true, false]);
 }
 
 const W: Option<Sort> = Some(Sort::Words);
@@ -544,38 +552,49 @@ fn arguments_have_ports(rt: HostRuntime) {
         (11, [0, 0, 0], [W, W, F], [W, None, None]),
     ];
     for (kind, args, ins, outs) in ports_of {
-        let signature = Standard::signature(&Card { kind, args });
+        let card = Card { kind, args };
         let due = Some(Signature { ins, outs });
-        same(&rt, "ports", (kind, signature), (kind, due));
+        same(
+            &rt,
+            "ports",
+            (card, ports_given::<Standard>(card)),
+            (card, due),
+        );
     }
 }
 
+/// A kind's number, and arguments that it does not take.
+static REFUSED: [(u16, [u64; 3]); 19] = [
+    (0, [u64::MAX - 3, 4, 0]),
+    (0, [u64::MAX, u64::MAX, 0]),
+    (0, [0, 0, 1]),
+    (1, [3, 1, 0]),
+    (2, [3, 0, 1]),
+    (3, [1, 0, 0]),
+    (4, [4, 1, 0]),
+    (5, [0, 1, 0]),
+    (6, [2, 0, 1]),
+    (7, [0, 1, 0]),
+    (7, [1, 0, 0]),
+    (7, [1, 1, 1]),
+    (8, [0, 0, 1]),
+    (9, [0, 0, 0]),
+    (9, [2, 1, 0]),
+    (10, [1, 0, 0]),
+    (11, [0, 1, 0]),
+    (12, [0, 0, 0]),
+    (65535, [1, 1, 0]),
+];
+
 #[test]
 fn other_arguments_are_refused(rt: HostRuntime) {
-    let refused = [
-        (0, [u64::MAX - 3, 4, 0]),
-        (0, [u64::MAX, u64::MAX, 0]),
-        (0, [0, 0, 1]),
-        (1, [3, 1, 0]),
-        (2, [3, 0, 1]),
-        (3, [1, 0, 0]),
-        (4, [4, 1, 0]),
-        (5, [0, 1, 0]),
-        (6, [2, 0, 1]),
-        (7, [0, 1, 0]),
-        (7, [1, 0, 0]),
-        (7, [1, 1, 1]),
-        (8, [0, 0, 1]),
-        (9, [0, 0, 0]),
-        (9, [2, 1, 0]),
-        (10, [1, 0, 0]),
-        (11, [0, 1, 0]),
-        (12, [0, 0, 0]),
-        (65535, [1, 1, 0]),
-    ];
-    for (kind, args) in refused {
-        let signature = Standard::signature(&Card { kind, args });
-        same(&rt, "refused", (kind, signature), (kind, None));
+    for (kind, args) in &REFUSED {
+        let card = Card {
+            kind: *kind,
+            args: *args,
+        };
+        let found = (card, ports_given::<Standard>(card));
+        same(&rt, "refused", found, (card, None));
     }
 }
 

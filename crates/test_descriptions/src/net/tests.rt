@@ -85,7 +85,7 @@ capacity = 1
 ";
 
 /// The cards of the counter and of the sink.
-pub(crate) const CARDS: [Card; 2] = [
+pub(crate) static CARDS: [Card; 2] = [
     Card {
         kind: 0,
         args: [1, 3, 0],
@@ -97,7 +97,7 @@ pub(crate) const CARDS: [Card; 2] = [
 ];
 
 /// The ends of the channel.
-pub(crate) const ENDS: Ends = Ends {
+pub(crate) static ENDS: Ends = Ends {
     writer: 0,
     out: 0,
     reader: 1,

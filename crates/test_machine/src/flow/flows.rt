@@ -1,6 +1,6 @@
 //! Calls of a flow, with only such contracts as the tests need.
 use crate::checks::same;
-use crate::flow::networks::{Parts, parts_of};
+use crate::networks::{Parts, parts_of};
 use kpn_body::Standard;
 use kpn_compute::CardBody;
 use kpn_flow::{Flow, FlowFault};

@@ -1,10 +1,4 @@
-//! The networks of the tests.
-use crate::checks::same;
-use kpn_body::Standard;
-use kpn_compute::{CardBody, bodies_of};
-use kpn_net::{Check, Net, NetFault, read_sketch};
-use std::alloc::{AllocError, Global};
-use std::process::Abort;
+//! The networks of the tests of flows.
 
 /// Words come in over channel 0 of two places, and go out three times as great over channel 1 of one.
 pub(crate) const SCALE: &str = "version = 1
@@ -65,33 +59,3 @@ channel = [
     { name = \"c1\", from = \"k1\", to = \"s1\" },
 ]
 ";
-
-/// A network, and a body for each of its processes in order.
-#[derive(Drop)]
-pub(crate) struct Parts {
-    pub(crate) net: Net<Standard>,
-    pub(crate) bodies: Vec<CardBody<Standard>>,
-}
-
-/// The network of a description, with its bodies. Fails if memory was refused.
-pub(crate) fn parts_of<R: Abort>(rt: &R, alloc: Global, text: &str) -> Result<Parts, AllocError> {
-    let net = net_of(rt, alloc, text)?;
-    let bodies = bodies_of(alloc, &net)?;
-    Ok(Parts { net, bodies })
-}
-
-/// The network of a description that is refused only if memory is.
-fn net_of<R: Abort>(rt: &R, alloc: Global, text: &str) -> Result<Net<Standard>, AllocError> {
-    match check_text(alloc, text) {
-        Ok(net) => Ok(net),
-        Err(fault) => {
-            same(rt, "fault", fault, NetFault::Memory);
-            Err(AllocError)
-        }
-    }
-}
-
-fn check_text(alloc: Global, text: &str) -> Result<Net<Standard>, NetFault> {
-    let sketch = read_sketch(alloc, text.as_bytes())?;
-    Net::check(alloc, &sketch)
-}

@@ -1,9 +1,10 @@
 //! Each fault for which a flow is not opened.
 use crate::checks::same;
-use crate::flow::networks::{Parts, SCALE, parts_of};
+use crate::flow::networks::SCALE;
+use crate::networks::{Parts, parts_of};
 use kpn_body::{Body, Standard};
 use kpn_compute::CardBody;
-use kpn_flow::{Flow, FlowFault, FlowRefused};
+use kpn_flow::{Flow, FlowFault, FlowRefused, stops_at_once};
 use std::alloc::Global;
 use std::process::Abort;
 
@@ -39,22 +40,38 @@ fn fresh<R: Abort>(rt: &R, alloc: Global) -> Parts {
     parts_of(rt, alloc, SCALE).expect(rt, "no memory for the parts")
 }
 
+/// Inputs, outputs, and the fault that these have.
+static FAULTS: [(&[usize], &[usize], FlowFault); 8] = [
+    (&[2], &[], FlowFault::Channel),
+    (&[], &[1, 2], FlowFault::Channel),
+    (&[0, 0], &[], FlowFault::Twice),
+    (&[0], &[1, 1], FlowFault::Twice),
+    (&[0], &[1, 0], FlowFault::Twice),
+    (&[1], &[], FlowFault::Writer),
+    (&[0, 1], &[], FlowFault::Writer),
+    (&[], &[0], FlowFault::Reader),
+];
+
 #[test]
 fn inputs_and_outputs_are_checked(rt: HostRuntime) {
-    let rows: [(&[usize], &[usize], FlowFault); 8] = [
-        (&[2], &[], FlowFault::Channel),
-        (&[], &[1, 2], FlowFault::Channel),
-        (&[0, 0], &[], FlowFault::Twice),
-        (&[0], &[1, 1], FlowFault::Twice),
-        (&[0], &[1, 0], FlowFault::Twice),
-        (&[1], &[], FlowFault::Writer),
-        (&[0, 1], &[], FlowFault::Writer),
-        (&[], &[0], FlowFault::Reader),
-    ];
-    for (inputs, outputs, fault) in rows.iter() {
+    for (inputs, outputs, fault) in &FAULTS {
         let parts = fresh(&rt, rt.alloc());
         refuse(&rt, rt.alloc(), parts, inputs, outputs, *fault);
     }
+}
+
+/// Compares whether a process stops at once.
+fn stops<R: Abort>(rt: &R, parts: &Parts, process: usize, due: bool) {
+    assert!(rt; process < parts.bodies.len());
+    let found = stops_at_once(parts.bodies.as_slice(), process);
+    same(rt, "stops at once", found, due);
+}
+
+#[test]
+fn a_process_of_no_tokens_stops_at_once(rt: HostRuntime) {
+    let parts = fresh(&rt, rt.alloc());
+    stops(&rt, &parts, 0, true);
+    stops(&rt, &parts, 1, false);
 }
 
 #[test]

@@ -10,85 +10,154 @@ use kpn_report::places_of;
 use std::alloc::Global;
 use std::process::Abort;
 
-/// Goes on, and compares why the flow comes back.
-fn advance<R: Abort>(rt: &R, flow: &mut CardFlow, most: u64, due: Pause) {
-    same(rt, "pause", flow.advance(most), due);
+/// What is done with a flow, and what comes of it.
+enum Step {
+    /// It goes on by at most so many entries, and comes back for this cause.
+    Advance(u64, Pause),
+    /// Words are fed into an input that has room for them.
+    Feed(usize, &'static [u64]),
+    /// A word more is fed into an input that is full.
+    Full(usize, u64),
+    /// An output is drained, which holds these words and no more.
+    Drain(usize, &'static [u64]),
+    /// Whether the reader of a channel waits for a token.
+    Starved(usize, bool),
+    /// Whether the writer of a channel waits for room.
+    HeldUp(usize, bool),
+    /// Whether a channel has room for a token more.
+    Room(usize, bool),
+    /// Whether nothing more is done unless more is fed.
+    Exhausted(bool),
+    /// How many entries there were, and how many of them were growths.
+    Counts(u64, u64),
 }
+
+/// Does one thing with a flow, and compares what comes of it.
+fn take_step<R: Abort>(rt: &R, flow: &mut CardFlow, step: &Step) {
+    match step {
+        Step::Advance(most, due) => same(rt, "pause", flow.advance(*most), *due),
+        Step::Feed(channel, words) => feed_words(rt, flow, *channel, words),
+        Step::Full(channel, word) => same(rt, "full", feed(rt, flow, *channel, *word), false),
+        Step::Drain(channel, words) => drain_words(rt, flow, *channel, words),
+        Step::Starved(channel, due) => same(rt, "starved", flow.is_starved(*channel), *due),
+        Step::HeldUp(channel, due) => same(rt, "held up", flow.is_held_up(*channel), *due),
+        Step::Room(channel, due) => same(rt, "room", flow.has_room(*channel), *due),
+        Step::Exhausted(due) => same(rt, "exhausted", flow.is_exhausted(), *due),
+        Step::Counts(entries, growths) => {
+            let found = (flow.entries(), flow.growths());
+            same(rt, "counts", found, (*entries, *growths));
+        }
+    }
+}
+
+/// Does one thing after the other.
+fn play<R: Abort>(rt: &R, flow: &mut CardFlow, steps: &[Step]) {
+    for step in steps {
+        take_step(rt, flow, step);
+    }
+}
+
+const STARVED: Step = Step::Advance(1000, Pause::Starved);
+
+const BLOCKED: Step = Step::Advance(1000, Pause::Blocked);
+
+const TERMINATED: Step = Step::Advance(1000, Pause::Over(End::Terminated));
+
+const DEADLOCK: Step = Step::Advance(1000, Pause::Over(End::Deadlock));
+
+static SCALED: [Step; 18] = [
+    STARVED,
+    Step::Starved(0, true),
+    Step::Feed(0, &[5]),
+    Step::Room(0, true),
+    Step::Feed(0, &[7]),
+    Step::Room(0, false),
+    Step::Full(0, 9),
+    BLOCKED,
+    Step::HeldUp(1, true),
+    Step::Room(1, false),
+    Step::Drain(1, &[15]),
+    Step::Feed(0, &[9]),
+    BLOCKED,
+    Step::Drain(1, &[21]),
+    STARVED,
+    Step::Drain(1, &[27]),
+    STARVED,
+    // Two stops, and for each of three words a read and a write by the one that scales; none grew.
+    Step::Counts(8, 0),
+];
 
 #[test]
 fn words_are_scaled(rt: HostRuntime) {
     let mut flow = flow_of(&rt, rt.alloc(), SCALE, &[0], &[1]);
-    advance(&rt, &mut flow, 100, Pause::Starved);
-    same(&rt, "starved", flow.is_starved(0), true);
-    feed_words(&rt, &mut flow, 0, &[5, 7]);
-    same(&rt, "full", feed(&rt, &mut flow, 0, 9), false);
-    advance(&rt, &mut flow, 100, Pause::Blocked);
-    same(&rt, "held up", flow.is_held_up(1), true);
-    drain_words(&rt, &mut flow, 1, &[15]);
-    feed_words(&rt, &mut flow, 0, &[9]);
-    advance(&rt, &mut flow, 100, Pause::Blocked);
-    drain_words(&rt, &mut flow, 1, &[21]);
-    advance(&rt, &mut flow, 100, Pause::Starved);
-    drain_words(&rt, &mut flow, 1, &[27]);
-    advance(&rt, &mut flow, 100, Pause::Starved);
-    // Two stops, and for each of three words a read and a write by the one that scales; none grew.
-    same(&rt, "entries", flow.entries(), 8);
-    same(&rt, "growths", flow.growths(), 0);
+    play(&rt, &mut flow, &SCALED);
 }
+
+static REST_OF_A_BATCH: [Step; 4] = [
+    BLOCKED,
+    Step::Drain(1, &[15]),
+    STARVED,
+    Step::Drain(1, &[21]),
+];
 
 #[test]
 fn a_batch_is_fed_as_far_as_there_is_room(rt: HostRuntime) {
     let mut flow = flow_of(&rt, rt.alloc(), SCALE, &[0], &[1]);
     let batch = [Token::Word(5), Token::Word(7), Token::Word(9)];
-    same(
-        &rt,
-        "flag",
-        flow.may_feed_all(0, &[Token::Flag(true)]),
-        false,
-    );
+    let may_feed = flow.may_feed_all(0, &[Token::Flag(true)]);
+    same(&rt, "flag", may_feed, false);
     same(&rt, "first", feed_batch(&rt, &mut flow, 0, &batch), 2);
     same(&rt, "full", feed_batch(&rt, &mut flow, 0, &batch), 0);
-    advance(&rt, &mut flow, 100, Pause::Blocked);
-    drain_words(&rt, &mut flow, 1, &[15]);
-    advance(&rt, &mut flow, 100, Pause::Starved);
-    drain_words(&rt, &mut flow, 1, &[21]);
+    play(&rt, &mut flow, &REST_OF_A_BATCH);
 }
+
+static CUT: [Step; 7] = [
+    Step::Feed(0, &[5, 7]),
+    Step::Advance(0, Pause::Cut),
+    Step::Advance(1, Pause::Cut),
+    Step::Drain(1, &[]),
+    // Two stops, a read, a write and a read: one entry is left, and two are wanted.
+    Step::Advance(6, Pause::Cut),
+    Step::Advance(2, Pause::Blocked),
+    Step::Drain(1, &[15]),
+];
 
 #[test]
 fn a_flow_is_cut(rt: HostRuntime) {
     let mut flow = flow_of(&rt, rt.alloc(), SCALE, &[0], &[1]);
-    feed_words(&rt, &mut flow, 0, &[5, 7]);
-    advance(&rt, &mut flow, 0, Pause::Cut);
-    advance(&rt, &mut flow, 1, Pause::Cut);
-    drain_words(&rt, &mut flow, 1, &[]);
-    // Two stops, a read, a write and a read: one entry is left, and two are wanted.
-    advance(&rt, &mut flow, 6, Pause::Cut);
-    advance(&rt, &mut flow, 2, Pause::Blocked);
-    drain_words(&rt, &mut flow, 1, &[15]);
+    play(&rt, &mut flow, &CUT);
 }
+
+static SUMS: [Step; 11] = [
+    Step::Feed(0, &[1, 2, 3]),
+    STARVED,
+    Step::Starved(0, false),
+    Step::Starved(1, true),
+    Step::Feed(1, &[10, 20, 30]),
+    STARVED,
+    Step::Drain(5, &[11, 33, 66]),
+    Step::Feed(1, &[1]),
+    Step::Feed(0, &[0]),
+    STARVED,
+    Step::Drain(5, &[67]),
+];
 
 #[test]
 fn sums_come_of_two_inputs_and_go_back(rt: HostRuntime) {
     let mut flow = flow_of(&rt, rt.alloc(), RUNNING_SUM, &[0, 1], &[5]);
-    feed_words(&rt, &mut flow, 0, &[1, 2, 3]);
-    advance(&rt, &mut flow, 1000, Pause::Starved);
-    same(&rt, "a", flow.is_starved(0), false);
-    same(&rt, "b", flow.is_starved(1), true);
-    feed_words(&rt, &mut flow, 1, &[10, 20, 30]);
-    advance(&rt, &mut flow, 1000, Pause::Starved);
-    drain_words(&rt, &mut flow, 5, &[11, 33, 66]);
-    feed_words(&rt, &mut flow, 1, &[1]);
-    feed_words(&rt, &mut flow, 0, &[0]);
-    advance(&rt, &mut flow, 1000, Pause::Starved);
-    drain_words(&rt, &mut flow, 5, &[67]);
+    play(&rt, &mut flow, &SUMS);
 }
+
+static THREE_SUMS: [Step; 3] = [
+    Step::Feed(0, &[1, 2, 3]),
+    Step::Feed(1, &[10, 20, 30]),
+    STARVED,
+];
 
 #[test]
 fn an_output_is_drained_into_a_buffer(rt: HostRuntime) {
     let mut flow = flow_of(&rt, rt.alloc(), RUNNING_SUM, &[0, 1], &[5]);
-    feed_words(&rt, &mut flow, 0, &[1, 2, 3]);
-    feed_words(&rt, &mut flow, 1, &[10, 20, 30]);
-    advance(&rt, &mut flow, 1000, Pause::Starved);
+    play(&rt, &mut flow, &THREE_SUMS);
     let mut buffer = [Token::Word(0), Token::Word(0)];
     same(&rt, "two", drain_buffer(&rt, &mut flow, 5, &mut buffer), 2);
     let both = [Token::Word(11), Token::Word(33)];
@@ -98,28 +167,35 @@ fn an_output_is_drained_into_a_buffer(rt: HostRuntime) {
     same(&rt, "the rest stays", buffer.as_slice(), one.as_slice());
 }
 
+static TWO_READ: [Step; 4] = [
+    Step::Feed(0, &[1]),
+    STARVED,
+    Step::Feed(0, &[2]),
+    TERMINATED,
+];
+
 #[test]
 fn a_flow_terminates(rt: HostRuntime) {
     let mut flow = flow_of(&rt, rt.alloc(), SINK_OF_TWO, &[0], &[]);
-    feed_words(&rt, &mut flow, 0, &[1]);
-    advance(&rt, &mut flow, 100, Pause::Starved);
-    feed_words(&rt, &mut flow, 0, &[2]);
-    advance(&rt, &mut flow, 100, Pause::Over(End::Terminated));
+    play(&rt, &mut flow, &TWO_READ);
 }
+
+static GROWN: [Step; 8] = [
+    BLOCKED,
+    Step::HeldUp(0, true),
+    Step::HeldUp(1, true),
+    Step::Drain(0, &[7]),
+    TERMINATED,
+    Step::HeldUp(1, false),
+    Step::Drain(0, &[8]),
+    // Two writers and two sinks: four stops, four puts and one growth.
+    Step::Counts(9, 1),
+];
 
 #[test]
 fn a_channel_grows_where_the_outside_can_not_help(rt: HostRuntime) {
     let mut flow = flow_of(&rt, rt.alloc(), OUTPUT_AND_GROWTH, &[], &[0]);
-    advance(&rt, &mut flow, 100, Pause::Blocked);
-    same(&rt, "output", flow.is_held_up(0), true);
-    same(&rt, "within", flow.is_held_up(1), true);
-    drain_words(&rt, &mut flow, 0, &[7]);
-    advance(&rt, &mut flow, 100, Pause::Over(End::Terminated));
-    same(&rt, "within", flow.is_held_up(1), false);
-    drain_words(&rt, &mut flow, 0, &[8]);
-    // Two writers and two sinks: four stops, four puts and one growth.
-    same(&rt, "entries", flow.entries(), 9);
-    same(&rt, "growths", flow.growths(), 1);
+    play(&rt, &mut flow, &GROWN);
 }
 
 /// Compares the places of the processes.
@@ -128,41 +204,51 @@ fn assert_places<R: Abort>(rt: &R, alloc: Global, flow: &CardFlow, due: &[Place]
     same(rt, "places", places.as_slice(), due);
 }
 
+static TWO_AND_ONE: [Step; 2] = [Step::Feed(0, &[1, 2]), Step::Feed(1, &[10])];
+
+/// The second word of the first input waits in vain for one of the second.
+static WAITS_IN_VAIN: [Step; 4] = [
+    DEADLOCK,
+    Step::Starved(1, true),
+    Step::Exhausted(true),
+    Step::Drain(5, &[11]),
+];
+
+static PLACES: [Place; 6] = [
+    Place::Stopped,
+    Place::Stopped,
+    Place::Reads(1),
+    Place::Reads(2),
+    Place::Reads(3),
+    Place::Stopped,
+];
+
 #[test]
 fn an_input_ends_and_another_goes_on(rt: HostRuntime) {
     let mut flow = flow_of(&rt, rt.alloc(), RUNNING_SUM, &[0, 1], &[5]);
-    feed_words(&rt, &mut flow, 0, &[1, 2]);
-    feed_words(&rt, &mut flow, 1, &[10]);
+    play(&rt, &mut flow, &TWO_AND_ONE);
     flow.end_input(1);
     same(&rt, "ended", flow.is_input(1), false);
     same(&rt, "no more", flow.may_feed(1, Token::Word(0)), false);
     same(&rt, "another", flow.may_feed(0, Token::Word(0)), true);
-    // The second word of the first input waits in vain for one of the second.
-    advance(&rt, &mut flow, 1000, Pause::Over(End::Deadlock));
-    same(&rt, "starved", flow.is_starved(1), true);
-    same(&rt, "exhausted", flow.is_exhausted(), true);
-    drain_words(&rt, &mut flow, 5, &[11]);
-    let due = [
-        Place::Stopped,
-        Place::Stopped,
-        Place::Reads(1),
-        Place::Reads(2),
-        Place::Reads(3),
-        Place::Stopped,
-    ];
-    assert_places(&rt, rt.alloc(), &flow, &due);
+    play(&rt, &mut flow, &WAITS_IN_VAIN);
+    assert_places(&rt, rt.alloc(), &flow, &PLACES);
 }
+
+static HELD_UP: [Step; 5] = [
+    BLOCKED,
+    Step::Exhausted(false),
+    Step::Drain(1, &[15]),
+    DEADLOCK,
+    Step::Exhausted(true),
+];
 
 #[test]
 fn a_flow_that_is_held_up_is_not_exhausted(rt: HostRuntime) {
     let mut flow = flow_of(&rt, rt.alloc(), SCALE, &[0], &[1]);
     feed_words(&rt, &mut flow, 0, &[5, 7]);
     flow.end_input(0);
-    advance(&rt, &mut flow, 100, Pause::Blocked);
-    same(&rt, "held up", flow.is_exhausted(), false);
-    drain_words(&rt, &mut flow, 1, &[15]);
-    advance(&rt, &mut flow, 100, Pause::Over(End::Deadlock));
-    same(&rt, "exhausted", flow.is_exhausted(), true);
+    play(&rt, &mut flow, &HELD_UP);
 }
 
 #[test]

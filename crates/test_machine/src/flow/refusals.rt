@@ -1,7 +1,8 @@
 //! One request for memory is refused, whichever it is.
 use crate::checks::same;
 use crate::flow::flows::{CardFlow, drain_words, opened};
-use crate::flow::networks::{OUTPUT_AND_GROWTH, Parts, parts_of};
+use crate::flow::networks::OUTPUT_AND_GROWTH;
+use crate::networks::{Parts, parts_of};
 use kpn_flow::{Flow, FlowFault, Pause};
 use kpn_net::End;
 use std::alloc::{AllocError, Global};
@@ -31,8 +32,9 @@ fn open_again<R: Abort>(rt: &R, alloc: Global, parts: Parts) -> (CardFlow, Refus
     }
 }
 
-/// Goes on to the end, again if the growth was refused, and returns whether it was.
-fn grow<R: Abort>(rt: &R, flow: &mut CardFlow) -> bool {
+/// Goes on to the end, again if the growth was refused, and returns which request was refused: that of the
+/// growth, or what was refused at the opening.
+fn grow<R: Abort>(rt: &R, flow: &mut CardFlow, opening: Refused) -> Refused {
     same(rt, "output", flow.advance(100), Pause::Blocked);
     drain_words(rt, flow, 0, &[7]);
     let pause = flow.advance(100);
@@ -40,17 +42,14 @@ fn grow<R: Abort>(rt: &R, flow: &mut CardFlow) -> bool {
     let last = if is_refused { flow.advance(100) } else { pause };
     same(rt, "end", last, Pause::Over(End::Terminated));
     drain_words(rt, flow, 0, &[8]);
-    is_refused
+    if is_refused { Refused::Growth } else { opening }
 }
 
 /// Makes a flow that needs a growth, and returns which request was refused.
 fn growing_flow<R: Abort>(rt: &R, alloc: Global) -> Result<Refused, AllocError> {
     let parts = parts_of(rt, alloc, OUTPUT_AND_GROWTH)?;
-    let (mut flow, refused) = open_again(rt, alloc, parts);
-    if grow(rt, &mut flow) {
-        return Ok(Refused::Growth);
-    }
-    Ok(refused)
+    let (mut flow, opening) = open_again(rt, alloc, parts);
+    Ok(grow(rt, &mut flow, opening))
 }
 
 /// Passes whichever request for memory is refused, and prints which one was.

@@ -33,52 +33,62 @@ channel = [
 "#;
 
 /// The stream of the sums, in which these channels are fed and drained.
-fn opened(alloc: Global, fed: &str, drained: &str) -> Result<OpenStream<Kinds>, StreamFault> {
-    match read_sketch(alloc, SUMS.as_bytes()) {
-        Ok(sketch) => {
-            let (fed, drained) = (name(alloc, fed)?, name(alloc, drained)?);
-            open_stream::<Standard>(alloc, sketch, &[fed], &[drained])
-        }
-        Err(fault) => Err(StreamFault::Description(fault)),
-    }
+fn opened<R: Abort>(
+    rt: &R,
+    alloc: Global,
+    fed: &[Text],
+    drained: &[Text],
+) -> Result<OpenStream<Kinds>, StreamFault> {
+    let sketch = read_sketch(alloc, SUMS.as_bytes()).expect(rt, "no sketch");
+    open_stream::<Standard>(alloc, sketch, fed, drained)
 }
 
 /// The name of a channel.
-fn name(alloc: Global, name: &str) -> Result<Text, StreamFault> {
-    match String::from_str(alloc, name) {
-        Ok(name) => Ok(Text::new(name)),
-        Err(_) => Err(StreamFault::Memory),
-    }
+fn name<R: Abort>(rt: &R, alloc: Global, name: &str) -> Text {
+    Text::new(String::from_str(alloc, name).expect(rt, "no memory"))
+}
+
+/// One source, of a text.
+fn sources_of<'a, R: Abort>(rt: &R, alloc: Global, text: &'a str) -> Vec<&'a [u8]> {
+    let mut sources = Vec::new(alloc);
+    sources.push(text.as_bytes()).expect(rt, "no memory");
+    sources
+}
+
+/// One sink, of bytes.
+fn sinks_of<R: Abort>(rt: &R, alloc: Global) -> Vec<Vec<u8>> {
+    let mut sinks = Vec::new(alloc);
+    sinks.push(Vec::new(alloc)).expect(rt, "no memory");
+    sinks
+}
+
+/// What is left of the stream of the sums that was fed with a text.
+fn served_of<'a, R: Abort>(
+    rt: &R,
+    alloc: Global,
+    text: &'a str,
+) -> Served<Kinds, &'a [u8], Vec<u8>> {
+    let sources = sources_of(rt, alloc, text);
+    let sinks = sinks_of(rt, alloc);
+    let (fed, drained) = (name(rt, alloc, "x"), name(rt, alloc, "y"));
+    let stream = opened(rt, alloc, &[fed], &[drained]);
+    let stream = stream.ok().expect(rt, "no stream");
+    serve(alloc, stream, sources, sinks).expect(rt, "no memory")
 }
 
 /// Compares what was written to the one sink.
-fn wrote<R: Abort>(rt: &R, mut outlets: Vec<Outlet<Vec<u8>>>, due: &str) {
-    match outlets.pop() {
-        Some(outlet) => assert!(rt; outlet.into_sink().as_slice() == due.as_bytes()),
-        None => panic!(rt; "no sink"),
-    }
+fn wrote<R: Abort>(rt: &R, outlets: &mut Vec<Outlet<Vec<u8>>>, due: &str) {
+    let sink = outlets.pop().expect(rt, "no sink").into_sink();
+    same(rt, "written", sink.as_slice(), due.as_bytes());
 }
 
 /// Streams a text through the sums, compares what was written and why it ended, and returns whether nothing
 /// is left to do.
 fn streamed<R: Abort>(rt: &R, alloc: Global, text: &str, written: &str, due: Finish) -> bool {
-    let Ok(stream) = opened(alloc, "x", "y") else {
-        panic!(rt; "no stream");
-    };
-    let mut sources = Vec::new(alloc);
-    assert!(rt; sources.push(text.as_bytes()).is_ok());
-    let mut sinks: Vec<Vec<u8>> = Vec::new(alloc);
-    assert!(rt; sinks.push(Vec::new(alloc)).is_ok());
-    let served = serve(alloc, stream, sources, sinks).expect(rt, "no memory");
-    let Served {
-        flow,
-        inlets: _,
-        outlets,
-        finish,
-    } = served;
-    same(rt, "finish", finish, due);
-    wrote(rt, outlets, written);
-    flow.is_exhausted()
+    let mut served = served_of(rt, alloc, text);
+    same(rt, "finish", served.finish, due);
+    wrote(rt, &mut served.outlets, written);
+    served.flow.is_exhausted()
 }
 
 #[test]
@@ -103,29 +113,30 @@ fn named(refused: &Result<OpenStream<Kinds>, StreamFault>) -> &str {
         Err(StreamFault::Input(NameFault::Busy(0, writer))) => writer.as_str(),
         Err(StreamFault::Output(NameFault::Busy(0, reader))) => reader.as_str(),
         Err(StreamFault::Output(NameFault::NoChannel(0))) => "none",
+        Err(StreamFault::Twice) => "twice",
         _ => "",
     }
+}
+
+/// Compares what is named by the fault for which the stream is not opened with these channels.
+fn is_named<R: Abort>(rt: &R, alloc: Global, fed: &str, drained: &str, due: &str) {
+    let (fed, drained) = (name(rt, alloc, fed), name(rt, alloc, drained));
+    let refused = opened(rt, alloc, &[fed], &[drained]);
+    same(rt, "named", named(&refused), due);
 }
 
 #[test]
 fn names_of_channels_are_checked(rt: HostRuntime) {
     let alloc = rt.alloc();
-    same(
-        &rt,
-        "fed",
-        named(&opened(alloc, "now", "y")) == "both",
-        true,
-    );
-    same(
-        &rt,
-        "drained",
-        named(&opened(alloc, "x", "last")) == "sum",
-        true,
-    );
-    same(
-        &rt,
-        "unknown",
-        named(&opened(alloc, "x", "z")) == "none",
-        true,
-    );
+    is_named(&rt, alloc, "now", "y", "both");
+    is_named(&rt, alloc, "x", "last", "sum");
+    is_named(&rt, alloc, "x", "z", "none");
+}
+
+#[test]
+fn a_channel_is_named_twice(rt: HostRuntime) {
+    let alloc = rt.alloc();
+    let both = [name(&rt, alloc, "x"), name(&rt, alloc, "x")];
+    let refused = opened(&rt, alloc, &both, &[]);
+    same(&rt, "named", named(&refused), "twice");
 }

@@ -7,12 +7,17 @@ use std::process::Abort;
 
 /// What the arguments ask for, as a text.
 fn asked_for<R: Abort>(rt: &R, alloc: Global, words: &[&str]) -> String {
-    let text = match read_words(alloc, words) {
+    let read = read_words(alloc, words);
+    read_text(alloc, &read).expect(rt, "no memory")
+}
+
+/// What was read of the arguments, as a text.
+fn read_text(alloc: Global, read: &Result<Choice<'_>, WordsFault>) -> Result<String, AllocError> {
+    match read {
         Ok(Choice::Check) => String::from_str(alloc, "check"),
         Ok(Choice::Run { workers, show }) => format!(in alloc; "{workers} {}", show.unwrap_or("-")),
-        Err(fault) => refused_text(alloc, &fault),
-    };
-    text.expect(rt, "no memory")
+        Err(fault) => refused_text(alloc, fault),
+    }
 }
 
 /// The exit status, and whether it is because of the number of workers.
@@ -69,19 +74,23 @@ fn says_how_many_workers(rt: HostRuntime) {
     let text = WordsFault::Workers
         .to_string(rt.alloc())
         .expect(&rt, "no memory");
-    assert!(rt;
-        text.as_str()
-            .starts_with("error: --workers takes a number from 1 to 16\n")
-    );
+    let line = "error: --workers takes a number from 1 to 16\n";
+    same(&rt, "line", text.as_str().starts_with(line), true);
 }
 
 /// If memory is refused, that is the fault, and nothing else changes: to be run with each allocation
 /// failing in turn.
 #[test]
 fn tells_refused_memory_of_arguments(rt: HostRuntime) {
-    match read_words(rt.alloc(), ["kpn", "run", "--show", "c0"].as_slice()) {
-        Ok(Choice::Run { workers, show }) => assert!(rt; workers == 1 && show == Some("c0")),
-        Err(WordsFault::Parser(error)) => assert!(rt; error.kind() == ErrorKind::OutOfMemory),
-        _ => assert!(rt; false, "another answer"),
+    let read = read_words(rt.alloc(), ["kpn", "run", "--show", "c0"].as_slice());
+    same(&rt, "answer", shows_c0_or_is_refused(&read), true);
+}
+
+/// Whether the run is asked for, or memory was refused.
+fn shows_c0_or_is_refused(read: &Result<Choice<'_>, WordsFault>) -> bool {
+    match read {
+        Ok(Choice::Run { workers, show }) => *workers == 1 && *show == Some("c0"),
+        Err(WordsFault::Parser(error)) => error.kind() == ErrorKind::OutOfMemory,
+        _ => false,
     }
 }

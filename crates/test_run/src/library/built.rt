@@ -49,8 +49,17 @@ fn switched<R: Abort>(rt: &R, alloc: Global) -> Builder {
     let mut made = Builder::new(alloc);
     made.set_budget(77);
     made.set_step(2);
+    add_processes(rt, &mut made);
+    add_channels(rt, &mut made);
+    made
+}
+
+fn add_processes<R: Abort>(rt: &R, made: &mut Builder) {
     made.process("src", "count", &[1, 3]).expect(rt, "memory");
     made.process("dm", "switch", &[]).expect(rt, "memory");
+}
+
+fn add_channels<R: Abort>(rt: &R, made: &mut Builder) {
     let words = [TokenSketch::Integer(5), TokenSketch::Integer(6)];
     let held = NewChannel::new("c", "src", "dm").capacity(3).tokens(&words);
     made.channel(held).expect(rt, "memory");
@@ -60,7 +69,6 @@ fn switched<R: Abort>(rt: &R, alloc: Global) -> Builder {
         .flags()
         .tokens(&flag);
     made.channel(asked).expect(rt, "memory");
-    made
 }
 
 /// What was built is written as it would be by hand.
@@ -100,24 +108,33 @@ fn faults_are_told_by_name(rt: HostRuntime) {
     same(&rt, "memory", none.as_deref(), None);
 }
 
+/// Adds a counter of three, a sink for them, and their channel.
+fn add_counter<R: Abort>(rt: &R, made: &mut Builder) {
+    made.process("src", "count", &[1, 3]).expect(rt, "memory");
+    made.process("snk", "sink", &[3]).expect(rt, "memory");
+    let wire = NewChannel::new("c0", "src", "snk").capacity(9);
+    made.channel(wire).expect(rt, "memory");
+}
+
+/// Compares what was built of the counter.
+fn compare_network<R: Abort>(rt: &R, net: &Net<Standard>) {
+    same(rt, "processes", net.processes(), 2);
+    same(rt, "budget", net.budget(), 10_000);
+    same(rt, "ceiling", net.ceiling(), 1_000_000);
+    same(rt, "channel", net.find_channel("c0"), Some(0));
+    if net.channels() == 1 {
+        same(rt, "capacity", net.capacity(0), 9);
+        same(rt, "sort", net.sort(0), Sort::Words);
+    }
+}
+
 /// A network that is built is that of the text.
 #[test]
 fn what_was_built_is_a_network(rt: HostRuntime) {
-    let alloc = rt.alloc();
-    let mut made = Builder::new(alloc);
-    made.process("src", "count", &[1, 3]).expect(&rt, "memory");
-    made.process("snk", "sink", &[3]).expect(&rt, "memory");
-    let wire = NewChannel::new("c0", "src", "snk").capacity(9);
-    made.channel(wire).expect(&rt, "memory");
+    let mut made = Builder::new(rt.alloc());
+    add_counter(&rt, &mut made);
     let net: Net<Standard> = made.check().expect(&rt, "a fault");
-    same(&rt, "processes", net.processes(), 2);
-    same(&rt, "budget", net.budget(), 10_000);
-    same(&rt, "ceiling", net.ceiling(), 1_000_000);
-    same(&rt, "channel", net.find_channel("c0"), Some(0));
-    if net.channels() == 1 {
-        same(&rt, "capacity", net.capacity(0), 9);
-        same(&rt, "sort", net.sort(0), Sort::Words);
-    }
+    compare_network(&rt, &net);
 }
 
 /// Version 1 has no step and no start tokens.

@@ -43,7 +43,7 @@ fn shows_crew<R: Threads + Wait + Sync + Abort>(rt: &R, alloc: Global, seats: u1
     let met = AtomicU64::new(0);
     let crew = All { rt, met };
     let Ok(run) = run_by_crew(rt, alloc, net, bodies, seats, &crew) else {
-        return same(rt, "ran", false, true);
+        panic!(rt; "no run");
     };
     let met = crew.met.load(Ordering::SeqCst);
     same(rt, "met", met, u64::from(seats));
@@ -81,16 +81,20 @@ impl<'a, R: Wait + Sync> Crew<CardBody<Standard>> for Leaving<'a, R> {
 /// an empty one.
 #[test]
 fn a_crew_leaves_before_the_end(rt: HostRuntime) {
-    let alloc = rt.alloc();
     for seats in [0, 1] {
-        let net = counter(&rt, alloc, 3);
-        let bodies = bodies_of(alloc, &net).expect(&rt, "memory");
-        let Ok(run) = run_by_crew(&rt, alloc, net, bodies, seats, &Leaving { rt: &rt }) else {
-            return same(&rt, "ran", false, true);
-        };
-        same(&rt, "end", run.end(), None);
-        same(&rt, "entries", run.history().len(), usize::from(seats));
+        shows_leaving(&rt, rt.alloc(), seats);
     }
+}
+
+/// Looks at one run of a counter to three by so many seats, which leave after one commit.
+fn shows_leaving<R: Threads + Wait + Sync + Abort>(rt: &R, alloc: Global, seats: u16) {
+    let net = counter(rt, alloc, 3);
+    let bodies = bodies_of(alloc, &net).expect(rt, "memory");
+    let Ok(run) = run_by_crew(rt, alloc, net, bodies, seats, &Leaving { rt }) else {
+        panic!(rt; "no run");
+    };
+    same(rt, "end", run.end(), None);
+    same(rt, "entries", run.history().len(), usize::from(seats));
 }
 
 /// Bodies that don't fit come back, and no crew is asked.
@@ -102,7 +106,7 @@ fn a_crew_without_bodies_is_refused(rt: HostRuntime) {
     let crew = All { rt: &rt, met };
     let ran = run_by_crew(&rt, alloc, net, Vec::new(alloc), 2, &crew);
     let Err(OpenRefused { net, fault, .. }) = ran else {
-        return same(&rt, "refused", false, true);
+        panic!(rt; "not refused");
     };
     same(&rt, "fault", fault, OpenFault::Bodies);
     same(&rt, "processes", net.processes(), 2);

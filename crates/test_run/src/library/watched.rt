@@ -74,12 +74,16 @@ impl Observer for Witness {
 pub(crate) fn counter<R: Abort>(rt: &R, alloc: Global, numbers: i64) -> Net<Standard> {
     let mut made = Builder::new(alloc);
     made.set_budget(2_000_000);
+    add_counter(rt, &mut made, numbers);
+    made.check().expect(rt, "a fault")
+}
+
+fn add_counter<R: Abort>(rt: &R, made: &mut Builder, numbers: i64) {
     made.process("src", "count", &[1, numbers])
         .expect(rt, "memory");
     made.process("snk", "sink", &[numbers]).expect(rt, "memory");
     let wire = NewChannel::new("c0", "src", "snk");
     made.channel(wire).expect(rt, "memory");
-    made.check().expect(rt, "a fault")
 }
 
 /// Looks at one watched run of a counter to three: both processes write or read thrice and stop.
@@ -89,30 +93,36 @@ fn shows_counter<R: Wait + Clock + Threads + Sync + Abort>(rt: &R, alloc: Global
     let witness = Witness::new(u64::MAX);
     let ran = run_watched(rt, alloc, net, bodies, workers, &Open, often(), &witness);
     let Ok(run) = ran else {
-        return same(rt, "ran", false, true);
+        panic!(rt; "no run");
     };
+    compare_counter(rt, alloc, &run);
+    compare_shown(rt, &witness);
+    tells_counter(rt, alloc, &run);
+}
+
+/// Compares the end, the numbers and the stream of a run of a counter to three.
+fn compare_counter<R: Abort>(rt: &R, alloc: Global, run: &WatchedRun<Standard>) {
     same(rt, "end", run.end(), Some(End::Terminated));
     same(rt, "entries", run.history().len(), 8);
     same(rt, "receipts", run.receipts(), 8);
+    let stream = stream_of(alloc, run.net(), run.history(), 0).expect(rt, "memory");
+    let due = [Token::Word(1), Token::Word(2), Token::Word(3)];
+    same(rt, "stream", stream.as_slice(), &due);
+}
+
+/// Compares what an observer of such a run was shown.
+fn compare_shown<R: Abort>(rt: &R, witness: &Witness) {
     same(rt, "shown", witness.entries.load(Ordering::SeqCst), 8);
     same(rt, "shown end", witness.ended.load(Ordering::SeqCst), true);
     let asked = witness.asked.load(Ordering::SeqCst);
     same(rt, "asked", asked >= 2, true);
-    let stream = stream_of(alloc, run.net(), run.history(), 0).expect(rt, "memory");
-    let due = [Token::Word(1), Token::Word(2), Token::Word(3)];
-    same(rt, "stream", stream.as_slice(), &due);
-    tells_counter(rt, alloc, &run);
 }
 
 /// The report of a watched run is what docs/format.md says of this counter.
 pub(crate) fn tells_counter<R: Abort>(rt: &R, alloc: Global, run: &WatchedRun<Standard>) {
     let report = chronicle_report(alloc, run.chronicle()).expect(rt, "memory");
-    let Some(report) = report else {
-        return same(rt, "report", false, true);
-    };
-    let Some(detail) = &report.detail else {
-        return same(rt, "detail", false, true);
-    };
+    let report = report.expect(rt, "no report");
+    let detail = report.detail.as_ref().expect(rt, "no detail");
     let places = detail.places.as_slice();
     let text = text_of(alloc, run.net(), run.history(), places, report.end, Some(0));
     let text = text.expect(rt, "memory");
@@ -135,7 +145,7 @@ fn nothing_runs_if_the_observer_stops_at_once(rt: HostRuntime) {
     let witness = Witness::new(0);
     let ran = run_watched(&rt, alloc, net, bodies, 2, &Open, often(), &witness);
     let Err(WatchedFault::Stopped { net, bodies }) = ran else {
-        return same(&rt, "stopped", false, true);
+        panic!(rt; "not stopped");
     };
     same(&rt, "processes", net.processes(), 2);
     same(&rt, "bodies", bodies.len(), 2);
@@ -150,12 +160,9 @@ fn seventeen_workers_are_refused(rt: HostRuntime) {
     let bodies = bodies_of(alloc, &net).expect(&rt, "memory");
     let witness = Witness::new(0);
     let ran = run_watched(&rt, alloc, net, bodies, 17, &Open, often(), &witness);
-    same(
-        &rt,
-        "refused",
-        matches!(ran, Err(WatchedFault::Workers { .. })),
-        true,
-    );
+    let Err(WatchedFault::Workers { .. }) = ran else {
+        panic!(rt; "not refused");
+    };
     same(&rt, "asked", witness.asked.load(Ordering::SeqCst), 0);
 }
 
@@ -206,19 +213,27 @@ impl Gate for Slowly {
 fn slow_bodies<R: Abort>(rt: &R, alloc: Global, net: &Net<Standard>) -> Vec<Slow> {
     let mut bodies = Vec::new(alloc);
     for process in 0..net.processes() {
-        let card = net.card(process);
-        if Standard::signature(&card).is_some() {
-            bodies.push(Slow { card }).expect(rt, "memory");
-        }
+        push_slow(rt, &mut bodies, net.card(process));
     }
     bodies
+}
+
+fn push_slow<R: Abort>(rt: &R, bodies: &mut Vec<Slow>, card: Card) {
+    if Standard::signature(&card).is_some() {
+        bodies.push(Slow { card }).expect(rt, "memory");
+    }
 }
 
 /// What has come out is the beginning of what the counter writes.
 fn begins_as_counted<R: Abort>(rt: &R, alloc: Global, run: &WatchedRun<Standard>) -> u64 {
     let stream = stream_of(alloc, run.net(), run.history(), 0).expect(rt, "memory");
+    counted_from_one(rt, stream.as_slice())
+}
+
+/// How many tokens there are; they are the words from 1 on.
+fn counted_from_one<R: Abort>(rt: &R, tokens: &[Token]) -> u64 {
     let mut next = 1u64;
-    for token in stream.iter() {
+    for token in tokens {
         same(rt, "token", *token, Token::Word(next));
         next = next.saturating_add(1);
     }
@@ -232,8 +247,18 @@ fn shows_stopped<R: Wait + Clock + Threads + Sync + Abort>(rt: &R, alloc: Global
     let witness = Witness::new(100);
     let ran = run_watched(rt, alloc, net, bodies, workers, &Slowly, often(), &witness);
     let Ok(run) = ran else {
-        return same(rt, "ran", false, true);
+        panic!(rt; "no run");
     };
+    compare_stopped(rt, alloc, &run);
+    let shown = witness.entries.load(Ordering::SeqCst);
+    same(rt, "shown", shown, run.history().len() as u64);
+    nobody_is_out(rt, run.standings());
+    let put = begins_as_counted(rt, alloc, &run);
+    same(rt, "put", put >= 49, true);
+}
+
+/// Compares how a run that was stopped ended, and its numbers.
+fn compare_stopped<R: Abort>(rt: &R, alloc: Global, run: &WatchedRun<Standard>) {
     same(rt, "end", run.end(), None);
     let report = chronicle_report(alloc, run.chronicle()).expect(rt, "memory");
     same(rt, "report", report.is_some(), false);
@@ -241,18 +266,13 @@ fn shows_stopped<R: Wait + Clock + Threads + Sync + Abort>(rt: &R, alloc: Global
     same(rt, "some", entries >= 100, true);
     same(rt, "not all", entries < 1_000_000, true);
     same(rt, "receipts", run.receipts(), entries as u64);
-    let shown = witness.entries.load(Ordering::SeqCst);
-    same(rt, "shown", shown, entries as u64);
-    for standing in run.standings() {
-        same(
-            rt,
-            "nobody is out",
-            matches!(standing, Standing::Out),
-            false,
-        );
+}
+
+fn nobody_is_out<R: Abort>(rt: &R, standings: &[Standing]) {
+    for standing in standings {
+        let is_out = matches!(standing, Standing::Out);
+        same(rt, "nobody is out", is_out, false);
     }
-    let put = begins_as_counted(rt, alloc, &run);
-    same(rt, "put", put >= 49, true);
 }
 
 #[test]

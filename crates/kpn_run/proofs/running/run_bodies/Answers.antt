@@ -1,7 +1,8 @@
 -- The machine is one of this network.
-use Rattle.std.proofs.Common.{◌∙◌, ap, subst, sym}
+use Rattle.std.proofs.Common.{◌∙◌, ap, map, subst, sym}
 use Rattle.kpn_model.specs.Network.{Network, family_of}
-use Rattle.kpn_machine.specs.Opening.{cards_of}
+use Rattle.kpn_machine.specs.declared.opening.OpenFault.{OpenFault}
+use Rattle.kpn_machine.specs.Opening.{cards_of, IsOpenFault}
 use Rattle.kpn_machine.specs.MachineView.{MachineView}
 use Rattle.kpn_run.specs.Runs.{IsFinish, StaysWithinCapacities, SparesBudget, IsComparable}
 use Rattle.kpn_run.proofs.running.run_bodies.Goals as goal
@@ -39,3 +40,21 @@ returns-in-Ok-run_machine-clause-comparable g c =
 
 pub returns-in-Err-run_machine-clause-lost : goal.returns-in-Err-run_machine-clause-lost
 returns-in-Err-run_machine-clause-lost g c = λ a b is. (c.in-Ok.ensures.cards, c.in-Err-run_machine.ensures.lost a b is)
+
+pub returns-in-Err-clause-workers : goal.returns-in-Err-clause-workers
+returns-in-Err-clause-workers g c = λ n bs is. absurd (c.not_opened.ensures.workers n bs (cc))
+
+pub returns-in-Err-clause-open : goal.returns-in-Err-clause-open
+returns-in-Err-clause-open g c = λ n bs fault is.
+    let o = c.not_opened.ensures.open n bs fault (cc) in
+    let refused = c.in-Err.ensures in
+    (o.0 ∙ refused.net_back, o.1 ∙ refused.bodies_back, o.3, subst (λ (f : OpenFault). IsOpenFault c.args.net.processes (map g.B.Body.card c.args.bodies.items) f) (sym o.2) refused.fault)
+
+pub returns-in-Err-clause-lost : goal.returns-in-Err-clause-lost
+returns-in-Err-clause-lost g c = λ a b is. absurd (c.not_opened.ensures.lost a b (cc))
+
+pub returns-in-Err-clause-memory : goal.returns-in-Err-clause-memory
+returns-in-Err-clause-memory g c = λ n bs is.
+    let o = c.not_opened.ensures.memory n bs (cc) in
+    let refused = c.in-Err.ensures in
+    (o.0 ∙ refused.net_back, ap (map g.B.Body.card) (o.1 ∙ refused.bodies_back), subst (λ (f : OpenFault). IsOpenFault c.args.net.processes (map g.B.Body.card c.args.bodies.items) f) o.2 refused.fault)

@@ -1,11 +1,11 @@
--- A flow that was just opened meets its invariant.
+-- A flow that was just opened meets its invariant, and no channel was named twice.
 use Rattle.std.proofs.Common.{◌≡◌, length, map, refl}
 use Rattle.kpn_model.specs.Network.{family_of}
 use Rattle.kpn_model.specs.Semantics.{start}
 use Rattle.kpn_machine.specs.Opening.{cards_of}
 use Rattle.kpn_machine.proofs.Listed.{waiting_none}
 use Rattle.kpn_flow.specs.Flows.{AreEnds}
-use Rattle.kpn_flow.proofs.Faults.{are_ends}
+use Rattle.kpn_flow.proofs.Faults.{are_apart, are_ends}
 use Rattle.kpn_flow.proofs.Kept.{flowing_start}
 use Rattle.kpn_flow.proofs.flow.Flow.open.Goals as goal
 
@@ -24,3 +24,9 @@ returns-clause-ends g c =
     let kinds = family_of g.B.Kinds.Kinds.start g.B.Kinds.Kinds.answer_of in
     let cards : map g.B.Body.card c.args.bodies.items ≡ cards_of c.args.net.processes = rw c.as_slice.ensures.value at c.in_default.ensures.cards in
     are_ends kinds c.args.net (map g.B.Body.card c.args.bodies.items) c.args.inputs.now c.args.outputs.now cards (rw c.as_slice.ensures.value at c.in_default.ensures.none)
+
+pub returns-clause-apart : goal.returns-clause-apart
+returns-clause-apart g c =
+    let kinds = family_of g.B.Kinds.Kinds.start g.B.Kinds.Kinds.answer_of in
+    let cards : map g.B.Body.card c.args.bodies.items ≡ cards_of c.args.net.processes = rw c.as_slice.ensures.value at c.in_default.ensures.cards in
+    are_apart kinds c.args.net (map g.B.Body.card c.args.bodies.items) c.args.inputs.now c.args.outputs.now cards (rw c.as_slice.ensures.value at c.in_default.ensures.none)

@@ -1,0 +1,39 @@
+-- What comes of a choice comes of the arguments that make it.
+use Rattle.std.proofs.Common.{ℕ, Bool, List, Option, Result, Ok, Err, IfOk, IfErr}
+use Rattle.kpn_model.specs.declared.kinds.Card.{Card}
+use Rattle.kpn_model.specs.declared.kinds.Signature.{Signature}
+use Rattle.kpn_model.specs.Network.{Family}
+use Rattle.hox_args.specs.declared.arguments.Choice.{Choice}
+use Rattle.hox_args.specs.declared.arguments.Choice.TheVariants.{Check, Run, Draw, Stream}
+use Rattle.hox_args.specs.declared.arguments.WordsFault.{WordsFault}
+use Rattle.hox_args.specs.HoxChoices.{IsHoxChoice}
+use Rattle.hox_execute.specs.declared.serving.Outcome.{Outcome}
+use Rattle.hox_execute.specs.declared.stops.Stop.{Stop}
+use Rattle.hox_execute.specs.declared.stops.Stop.TheVariants.{InputTwice, Memory, NoPair, Refused, Unread, Words}
+use Rattle.hox_execute.specs.Files.{Effect}
+use Rattle.hox_execute.specs.Program.{Does, IsProgramStop, IsStopIn, Serves}
+
+no_words : (named : List ℕ → Option (ℕ × ℕ)) (signature : Card → Option Signature) (contents : List ℕ → Option (List ℕ)) (choice : Choice) (fault : WordsFault) → IsStopIn named signature contents choice (Words fault) → ⊥
+no_words named signature contents (Check file tokens) fault h = h
+no_words named signature contents (Run run) fault h = h
+no_words named signature contents (Draw draw) fault h = h
+no_words named signature contents (Stream stream) fault h = h
+
+module _ (words : List (List ℕ)) (choice : Choice) (chosen : IsHoxChoice words choice) (named : List ℕ → Option (ℕ × ℕ)) (signature : Card → Option Signature) (contents : List ℕ → Option (List ℕ)) where
+  pub served :
+      (kinds : Family) (steady : Bool) (before after : Option (List Effect)) (title : ℕ → List ℕ × ℕ) (r : Result Outcome Stop) → IfOk r (Does kinds named signature contents steady before after title choice)
+      → IfOk r (Serves kinds named signature contents steady before after title words)
+  served kinds steady before after title (Ok outcome) does = record { choice = choice; chosen = chosen; does = does }
+  served kinds steady before after title (Err stop) does = tt
+
+  stopped : (stop : Stop) → IsStopIn named signature contents choice stop → IsProgramStop named signature contents words stop
+  stopped (Words fault) h = absurd (no_words named signature contents choice fault h)
+  stopped (Refused refusal) h = (choice, chosen, h)
+  stopped (NoPair option text) h = (choice, chosen, h)
+  stopped InputTwice h = (choice, chosen, h)
+  stopped (Unread file fault) h = (choice, chosen, h)
+  stopped Memory h = (choice, chosen, h)
+
+  pub all_stopped : (r : Result Outcome Stop) → IfErr r (IsStopIn named signature contents choice) → IfErr r (IsProgramStop named signature contents words)
+  all_stopped (Ok outcome) h = tt
+  all_stopped (Err stop) h = stopped stop h

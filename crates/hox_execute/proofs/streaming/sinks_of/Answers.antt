@@ -1,0 +1,9 @@
+-- One sink more.
+use Rattle.hox_execute.specs.Streaming.{IsCreated}
+use Rattle.hox_execute.proofs.Zipped.{zipped_any}
+use Rattle.hox_execute.proofs.streaming.sinks_of.Goals as goal
+
+pub loop-k-preserved : goal.loop-k-preserved
+loop-k-preserved g c =
+    let l = c.loop-k in
+    zipped_any (IsCreated g.S.Output.Sink.seen) c.args.pairs.now l.k l.sinks.items c.push.new.self.items c.in-Ok.sink c.loop-k-test.true l.invariant c.in-Ok-push.ensures.items (λ pair. c.in-Ok.ensures)

@@ -1,0 +1,64 @@
+-- What the commands of `hox` do, from what is wanted and files to what is written.
+use Rattle.std.specs.Prelude.{◌≡◌, ℕ, Bool, List, [], ◌∷◌, Option, Result, Ok, Err, MatchResult}
+use Rattle.kpn_model.specs.declared.kinds.Card.{Card}
+use Rattle.kpn_model.specs.declared.kinds.Signature.{Signature}
+use Rattle.kpn_model.specs.Network.{Family, Network}
+use Rattle.kpn_picture.specs.declared.looks.Direction.{Direction}
+use Rattle.kpn_front.specs.declared.status.Status.{Status}
+use Rattle.kpn_front.specs.declared.status.Status.TheVariants.{Success}
+use Rattle.kpn_front.specs.Lines.{checked_line}
+use Rattle.hox_run.specs.declared.request.Fault.{Fault}
+use Rattle.hox_run.specs.declared.request.Request.{Request}
+use Rattle.hox_run.specs.declared.telling.Told.{Told}
+use Rattle.hox_run.specs.Serving.{GivesNet, GivesRun, IsFault}
+use Rattle.hox_draw.specs.Drawing.{DrawsPrepared}
+use Rattle.hox_execute.specs.declared.reading.Asked.{Asked}
+use Rattle.hox_execute.specs.declared.stops.Stop.{Stop}
+use Rattle.hox_execute.specs.declared.stops.Stop.TheVariants.{InputTwice, Memory, NoPair, Refused, Unread, Words}
+use Rattle.hox_execute.specs.Files.{Effect, standard, wrote}
+use Rattle.hox_execute.specs.Reports.{Writes, written_of}
+use Rattle.hox_execute.specs.Requests.{IsAsked, IsUnasked, ServesFile, Want}
+
+-- what comes of a network that was loaded: the text of its picture, or why there is none
+abbrev pub GivesDrawing : Family → (ℕ → List ℕ × ℕ) → Direction → Bool → Request → Network → Result (List ℕ) Fault → Type 0
+GivesDrawing kinds title direction is_run request net result = MatchResult result (DrawsPrepared kinds title direction is_run request net) (IsFault request net)
+
+-- a family's names and ports; what each file holds, if that is known; what is wanted; and the texts CHANNEL=FILE of tokens and of
+-- streams
+module _ (named : List ℕ → Option (ℕ × ℕ)) (signature : Card → Option Signature) (contents : List ℕ → Option (List ℕ)) (want : Want) (tokens outputs : List (List ℕ)) where
+  -- what is asked for is read, and this is what comes of the description and that
+  pub record Comes {X : Type 0} (gives : Request → Network → Result X Fault → Type 0) (asked : Asked) (result : Result X Fault) : Type 0 where
+    pub is_asked : IsAsked contents want tokens outputs asked
+    pub serves : ServesFile contents named signature (gives asked.request) want.file result
+
+  -- why nothing is done: what is asked for can't be read, or it is refused
+  abbrev pub IsStop : Stop → Type 0
+  IsStop (Refused refusal) = (refusal.file.now ≡ want.file) × Comes GivesNet refusal.asked (Err refusal.fault)
+  IsStop (NoPair option text) = IsUnasked contents want tokens outputs (NoPair option text)
+  IsStop InputTwice = IsUnasked contents want tokens outputs InputTwice
+  IsStop (Unread file fault) = IsUnasked contents want tokens outputs (Unread file fault)
+  IsStop Memory = Unit {0}
+  IsStop (Words fault) = ⊥
+
+  -- from what was done before to what was done after, with this status; whether it is known that no write fails
+  module _ (steady : Bool) (before after : Option (List Effect)) (status : Status) where
+    -- the description is a network, which is said
+    pub record HasChecked : Type 0 where
+      pub asked : Asked
+      pub net : Network
+      pub comes : Comes GivesNet asked (Ok net)
+      pub writes : Writes Success (wrote standard (checked_line net) ∷ []) steady before after status
+
+    -- the network is run, and what is told of it is written
+    pub record HasRun (kinds : Family) (is_quiet : Bool) : Type 0 where
+      pub asked : Asked
+      pub told : Told
+      pub comes : Comes (GivesRun kinds) asked (Ok told)
+      pub writes : Writes told.status (written_of is_quiet asked.outputs.items told) steady before after status
+
+    -- the network is drawn, as it is or as a run left it, and the picture is written
+    pub record HasDrawn (kinds : Family) (title : ℕ → List ℕ × ℕ) (direction : Direction) (is_run : Bool) : Type 0 where
+      pub asked : Asked
+      pub picture : List ℕ
+      pub comes : Comes (GivesDrawing kinds title direction is_run) asked (Ok picture)
+      pub writes : Writes Success (wrote standard picture ∷ []) steady before after status

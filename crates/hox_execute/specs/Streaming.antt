@@ -1,0 +1,194 @@
+-- What `hox stream` does, from what is chosen and files to what is written.
+use Rattle.std.specs.Prelude.{◌≡◌, ◌⊎◌, ℕ, codes, Bool, false, true, List, [], map, nat_lt, Option, IfSome, option_map, unwrap_or, Err}
+use Rattle.std.specs.List.{AllZip, Any}
+use Rattle.kpn_sketch.specs.declared.fault.NetFault.TheVariants.{Input}
+use Rattle.kpn_sketch.specs.declared.sketch.Sketch.{Sketch}
+use Rattle.kpn_sketch.specs.Description.{Describes}
+use Rattle.kpn_model.specs.declared.kinds.Card.{Card}
+use Rattle.kpn_model.specs.declared.kinds.Signature.{Signature}
+use Rattle.kpn_model.specs.Network.{Family, Network}
+use Rattle.kpn_net.specs.Sketched.{net_of}
+use Rattle.kpn_front.specs.Loading.{LoadsChanged}
+use Rattle.kpn_front.specs.Written.{SinkView}
+use Rattle.kpn_compute.specs.Both.{both_family, both_named, both_ports}
+use Rattle.kpn_flow.specs.Flows.{FlowView}
+use Rattle.hox_run.specs.Ports.{as_meant}
+use Rattle.hox_stream.specs.declared.finish.Finish.{Finish}
+use Rattle.hox_stream.specs.declared.starting.StreamFault.{StreamFault}
+use Rattle.hox_stream.specs.Exits.{exit_named, exit_ports, exits, with_exits}
+use Rattle.hox_stream.specs.Serves.{Serves, new_inlets, new_outlets}
+use Rattle.hox_stream.specs.Starts.{IsNoNetwork, IsStarted, IsStreamFault}
+use Rattle.hox_stream.specs.Views.{InletView, OutletView}
+use Rattle.hox_args.specs.declared.arguments.StreamChoice.{StreamChoice}
+use Rattle.hox_execute.specs.declared.pairs.Pair.{Pair}
+use Rattle.hox_execute.specs.declared.stops.Stop.TheVariants.{InputTwice, Memory, NoPair, Refused as WasRefused, Unread as NotRead, Words}
+use Rattle.hox_execute.specs.declared.streaming.Ends.{Ends}
+use Rattle.hox_execute.specs.declared.streaming.StreamStop.{StreamStop}
+use Rattle.hox_execute.specs.declared.streaming.StreamStop.TheVariants.{Asked, OutputTwice, Refused, Unopened as NotOpened, Unread, Unwritten}
+use Rattle.hox_execute.specs.declared.streaming.Unopened.{Unopened}
+use Rattle.hox_execute.specs.declared.streaming.Unopened.TheVariants.{Refused as IsRefused, Faulty, Memory as NoMemory}
+use Rattle.hox_execute.specs.Files.{standard}
+use Rattle.hox_execute.specs.Pairs.{ArePairs, IsUnpaired, channels_of, count_standard, is_named_twice}
+
+-- the file of a choice, or standard input
+abbrev pub file_of : StreamChoice → List ℕ
+file_of choice = unwrap_or (option_map (λ s. s.now) choice.file) standard
+
+abbrev pub inputs_of : StreamChoice → List (List ℕ)
+inputs_of choice = map (λ s. s.now) choice.inputs.items
+
+abbrev pub outputs_of : StreamChoice → List (List ℕ)
+outputs_of choice = map (λ s. s.now) choice.outputs.items
+
+-- the ends that are chosen: standard input and standard output are named once at most
+pub record AreEnds (choice : StreamChoice) (ends : Ends) : Type 0 where
+  pub inputs : ArePairs (inputs_of choice) ends.inputs.items
+  pub outputs : ArePairs (outputs_of choice) ends.outputs.items
+  pub one_input : is_named_twice (file_of choice) ends.inputs.items ≡ false
+  pub one_output : nat_lt 1 (count_standard ends.outputs.items) ≡ false
+
+-- why there are none: a text names no file, standard input or standard output is named twice, or memory was refused
+abbrev pub IsNoEnds : StreamChoice → StreamStop → Type 0
+IsNoEnds choice (Asked (NoPair option text)) = IsUnpaired (codes "in") (inputs_of choice) (NoPair option text) ⊎ IsUnpaired (codes "out") (outputs_of choice) (NoPair option text)
+IsNoEnds choice (Asked InputTwice) = (inputs : List Pair) × ArePairs (inputs_of choice) inputs × (is_named_twice (file_of choice) inputs ≡ true)
+IsNoEnds choice (Asked Memory) = Unit {0}
+IsNoEnds choice (Asked (NotRead file fault)) = ⊥
+IsNoEnds choice (Asked (WasRefused refusal)) = ⊥
+IsNoEnds choice (Asked (Words fault)) = ⊥
+IsNoEnds choice OutputTwice = (outputs : List Pair) × ArePairs (outputs_of choice) outputs × (nat_lt 1 (count_standard outputs) ≡ true)
+IsNoEnds choice (Refused file refused) = ⊥
+IsNoEnds choice (NotOpened ends channels fault) = ⊥
+IsNoEnds choice (Unread file) = ⊥
+IsNoEnds choice (Unwritten file) = ⊥
+
+-- a file that was opened to be read has what the file holds, if that is known; in one that was opened to be written is nothing
+pub record IsOpened {X : Type 0} (remaining : X → Option (List ℕ)) (has_failed : X → Bool) (contents : List ℕ → Option (List ℕ)) (pair : Pair) (source : X) : Type 0 where
+  pub bytes : remaining source ≡ contents pair.file.now
+  pub unfailed : has_failed source ≡ false
+
+abbrev pub IsEmpty : SinkView → Type 0
+IsEmpty sink = IfSome sink.contents (λ bytes. bytes ≡ [])
+
+abbrev pub IsCreated : {X : Type 0} → (X → SinkView) → Pair → X → Type 0
+IsCreated seen pair sink = IsEmpty (seen sink)
+
+-- a file of some pair can't be opened to be read, or to be written; or memory was refused
+abbrev pub IsOfPair : List Pair → List ℕ → Type 0
+IsOfPair pairs name = Any (λ (p : Pair). p.file.now ≡ name) pairs
+
+abbrev pub IsUnread : List Pair → StreamStop → Type 0
+IsUnread pairs (Unread file) = IsOfPair pairs file.now
+IsUnread pairs (Unwritten file) = ⊥
+IsUnread pairs (Asked stop) = stop ≡ Memory
+IsUnread pairs OutputTwice = ⊥
+IsUnread pairs (Refused file refused) = ⊥
+IsUnread pairs (NotOpened ends channels fault) = ⊥
+
+abbrev pub IsUnwritten : List Pair → StreamStop → Type 0
+IsUnwritten pairs (Unread file) = ⊥
+IsUnwritten pairs (Unwritten file) = IsOfPair pairs file.now
+IsUnwritten pairs (Asked stop) = stop ≡ Memory
+IsUnwritten pairs OutputTwice = ⊥
+IsUnwritten pairs (Refused file refused) = ⊥
+IsUnwritten pairs (NotOpened ends channels fault) = ⊥
+
+abbrev pub IsUnfit : Ends → StreamStop → Type 0
+IsUnfit ends (Unread file) = IsOfPair ends.inputs.items file.now
+IsUnfit ends (Unwritten file) = IsOfPair ends.outputs.items file.now
+IsUnfit ends (Asked stop) = stop ≡ Memory
+IsUnfit ends OutputTwice = ⊥
+IsUnfit ends (Refused file refused) = ⊥
+IsUnfit ends (NotOpened others channels fault) = ⊥
+
+-- the sources of a stream at its start, each with what its file holds
+abbrev pub sources_at : (List ℕ → Option (List ℕ)) → FlowView → List Pair → List InletView
+sources_at contents start pairs = new_inlets (λ (o : Option (List ℕ)). o) (λ _. false) start.network start.inputs (map (λ (p : Pair). contents p.file.now) pairs)
+
+-- a stream runs from its start between files to its end
+pub record RunsBetween (kinds : Family) (contents : List ℕ → Option (List ℕ)) (ends : Ends) (start t : FlowView) (ins : List InletView) (outs : List OutletView) (finish : Finish) : Type 0 where
+  pub sinks : List SinkView
+  pub empty : AllZip (λ (p : Pair) sink. IsEmpty sink) ends.outputs.items sinks
+  pub serves : Serves kinds start t (sources_at contents start ends.inputs.items) ins (new_outlets (λ (v : SinkView). v) start.outputs sinks) outs finish
+
+-- a text is refused as a description
+abbrev pub IsRefusedText : (List ℕ → Option (ℕ × ℕ)) → (Card → Option Signature) → List ℕ → Unopened → Type 0
+IsRefusedText named signature text (IsRefused refused) = LoadsChanged (as_meant named signature) named signature false text (Err refused.fault)
+IsRefusedText named signature text (Faulty channels fault) = ⊥
+IsRefusedText named signature text NoMemory = Unit {0}
+
+-- a description can't be read
+abbrev pub IsUnreadText : Unopened → Type 0
+IsUnreadText (IsRefused refused) = refused.fault ≡ Input
+IsUnreadText (Faulty channels fault) = ⊥
+IsUnreadText NoMemory = Unit {0}
+
+-- a family's names and ports
+module _ (named : List ℕ → Option (ℕ × ℕ)) (signature : Card → Option Signature) where
+  -- a text describes this sketch, as it is meant
+  abbrev pub IsSketchOf : List ℕ → Sketch → Type 0
+  IsSketchOf text sketch = (described : Sketch) × Describes text described × (sketch ≡ as_meant named signature described)
+
+  module _ (contents : List ℕ → Option (List ℕ)) (name : List ℕ) where
+    -- this is the text of the file, if what it holds is known
+    abbrev pub IsTextIn : List ℕ → Type 0
+    IsTextIn text = IfSome (contents name) (λ bytes. text ≡ bytes)
+
+    -- the text in the file describes this sketch
+    abbrev pub IsSketchIn : Sketch → Type 0
+    IsSketchIn sketch = (text : List ℕ) × IsTextIn text × IsSketchOf text sketch
+
+    -- the description is refused: it can't be read, or its text has the fault
+    abbrev pub IsRefusedIn : Unopened → Type 0
+    IsRefusedIn unopened = IsUnreadText unopened ⊎ ((text : List ℕ) × IsTextIn text × IsRefusedText named signature text unopened)
+
+module _ (kinds : Family) (named : List ℕ → Option (ℕ × ℕ)) where
+  -- the network of a stream, in which what only reads an output stops at once
+  abbrev pub streamed_net : Sketch → Ends → Network
+  streamed_net sketch ends = net_of (both_named named exit_named) (with_exits (channels_of ends.outputs.items) sketch)
+
+  -- the stream of a sketch at its start between these ends
+  abbrev pub StartsBetween : Sketch → Ends → FlowView → Type 0
+  StartsBetween sketch ends start = IsStarted (both_family kinds exits) (streamed_net sketch ends) (channels_of ends.inputs.items) (channels_of ends.outputs.items) start
+
+  module _ (signature : Card → Option Signature) where
+    -- the stream of a sketch between these ends has this fault
+    abbrev pub HasStreamFault : Sketch → Ends → StreamFault → Type 0
+    HasStreamFault sketch ends fault =
+        IsStreamFault (both_family kinds exits) (streamed_net sketch ends) (IsNoNetwork (both_named named exit_named) (both_ports signature exit_ports) (with_exits (channels_of ends.outputs.items) sketch))
+        (channels_of ends.inputs.items) (channels_of ends.outputs.items) fault
+
+    abbrev pub IsFaultyBetween : Sketch → Ends → Unopened → Type 0
+    IsFaultyBetween sketch ends (IsRefused refused) = ⊥
+    IsFaultyBetween sketch ends (Faulty channels fault) = HasStreamFault sketch ends fault
+    IsFaultyBetween sketch ends NoMemory = Unit {0}
+
+    module _ (contents : List ℕ → Option (List ℕ)) where
+      -- a stream is opened at its start between these ends
+      pub record Opens (name : List ℕ) (ends : Ends) (start : FlowView) : Type 0 where
+        pub sketch : Sketch
+        pub is_in : IsSketchIn named signature contents name sketch
+        pub started : StartsBetween sketch ends start
+
+      abbrev pub IsFaulty : List ℕ → Ends → StreamFault → Type 0
+      IsFaulty name ends fault = (sketch : Sketch) × IsSketchIn named signature contents name sketch × HasStreamFault sketch ends fault
+
+      abbrev pub IsUnopened : List ℕ → Ends → Unopened → Type 0
+      IsUnopened name ends (IsRefused refused) = IsRefusedIn named signature contents name (IsRefused refused)
+      IsUnopened name ends (Faulty channels fault) = IsFaulty name ends fault
+      IsUnopened name ends NoMemory = Unit {0}
+
+      -- what is chosen is streamed: between the ends that are chosen, from the start of the network of the description, to its end
+      pub record StreamsBetween (choice : StreamChoice) (ends : Ends) (t : FlowView) (ins : List InletView) (outs : List OutletView) (finish : Finish) : Type 0 where
+        pub chosen : AreEnds choice ends
+        pub start : FlowView
+        pub opens : Opens (file_of choice) ends start
+        pub runs : RunsBetween (both_family kinds exits) contents ends start t ins outs finish
+
+      -- why it is not
+      abbrev pub IsStreamStop : StreamChoice → StreamStop → Type 0
+      IsStreamStop choice (Asked stop) = IsNoEnds choice (Asked stop)
+      IsStreamStop choice OutputTwice = IsNoEnds choice OutputTwice
+      IsStreamStop choice (Refused file refused) = (file.now ≡ file_of choice) × IsRefusedIn named signature contents (file_of choice) (IsRefused refused)
+      IsStreamStop choice (NotOpened ends channels fault) = AreEnds choice ends × IsFaulty (file_of choice) ends fault
+      IsStreamStop choice (Unread file) = (ends : Ends) × AreEnds choice ends × IsOfPair ends.inputs.items file.now
+      IsStreamStop choice (Unwritten file) = (ends : Ends) × AreEnds choice ends × IsOfPair ends.outputs.items file.now

@@ -1,0 +1,90 @@
+//! Checking a description.
+ghost use Rattle.std.specs.Prelude.{◌≡◌, [], Result, IfOk, IfErr, OnErr, map};
+ghost use Rattle.kpn_front.specs.Lines.{checked_line};
+ghost use Rattle.kpn_model.specs.Network.{Network as NetworkV};
+ghost use Rattle.hox_run.specs.declared.request.Fault.{Fault as FaultV};
+ghost use Rattle.hox_run.specs.Serving.{GivesNet};
+ghost use Rattle.hox_execute.specs.Commands.{HasChecked, IsStop};
+ghost use Rattle.hox_execute.specs.Requests.{ServesFile, want_of};
+
+use crate::files::FileSystem;
+use crate::reading::{Wanted, asked_of};
+use crate::stops::{Refusal, Stop, unread};
+use crate::writing::write_text;
+use hox_run::{Fault, Request, prepare};
+use kpn_front::{Status, say_checked};
+use kpn_model::Kinds;
+use kpn_network::Net;
+use std::alloc::{AllocError, Global};
+
+/// How many bytes a line has room for: two numbers and the text around them.
+const LINE_BYTES: usize = 64;
+
+/// Writes that the description that is wanted, with the tokens of these files, is a network. Returns the exit status.
+///
+/// Errors: see [`Stop`].
+pub(crate) fn check<'a, K: Kinds, S: FileSystem>(
+    alloc: Global,
+    files: &mut S,
+    wanted: Wanted<'a>,
+    tokens: &[&'a str],
+) -> Result<Status, Stop<'a>>
+    ensures done { IfOk result (HasChecked K.named K.signature (S.contents files.old) (want_of wanted.entry) (map (λ t. t.now) tokens.now) [] (S.is_steady files.old) (S.effects files.old) (S.effects files.new)) }
+    ensures stop { IfErr result (IsStop K.named K.signature (S.contents files.old) (want_of wanted.entry) (map (λ t. t.now) tokens.now) []) }
+    ensures untouched { OnErr result (S.effects files.new ≡ S.effects files.old) }
+{
+    let asked = asked_of(alloc, files, wanted, tokens, &[])?;
+    match checked_line::<K, S>(alloc, files, &asked.request, wanted.file) {
+        Ok(line) => Ok(write_text(files, line.as_slice())),
+        Err(fault) => Err(Stop::Refused(Refusal {
+            file: wanted.file,
+            asked,
+            fault,
+        })),
+    }
+}
+
+/// The line that says that the description in this file is a network, with the tokens of a request.
+fn checked_line<K: Kinds, S: FileSystem>(
+    alloc: Global,
+    files: &S,
+    request: &Request,
+    name: &str,
+) -> Result<Vec<u8>, Fault>
+    ensures ok { IfOk result (λ line. (net : NetworkV) × ServesFile (S.contents files.now) K.named K.signature (GivesNet request.now) name.now (Ok net) × (line.items ≡ checked_line net)) }
+    ensures fault { IfErr result (λ fault. let refused : Result NetworkV FaultV = Err fault in ServesFile (S.contents files.now) K.named K.signature (GivesNet request.now) name.now refused) }
+{
+    let net = prepared_net::<K, S>(alloc, files, request, name)?;
+    match line_of(alloc, &net) {
+        Ok(line) => Ok(line),
+        Err(_) => Err(Fault::Memory),
+    }
+}
+
+/// The network of the description in this file, as a request wants it. A file that can't be opened counts as one that
+/// can't be read.
+fn prepared_net<K: Kinds, S: FileSystem>(
+    alloc: Global,
+    files: &S,
+    request: &Request,
+    name: &str,
+) -> Result<Net<K>, Fault>
+    ensures { ServesFile (S.contents files.now) K.named K.signature (GivesNet request.now) name.now result }
+{
+    match files.open(name) {
+        Ok(mut source) => prepare(alloc, request, &mut source),
+        Err(_) => Err(unread(alloc)),
+    }
+}
+
+/// The line that says that this is a network.
+fn line_of<K: Kinds>(alloc: Global, net: &Net<K>) -> Result<Vec<u8>, AllocError>
+    ensures { IfOk result (λ line. line.items ≡ checked_line net.now) }
+{
+    let mut line = Vec::with_capacity(alloc, LINE_BYTES)?;
+    if say_checked(net, &mut line) == Status::Success.code() {
+        Ok(line)
+    } else {
+        Err(AllocError)
+    }
+}

@@ -1,0 +1,78 @@
+//! Drawing a network.
+ghost use Rattle.std.specs.Prelude.{◌≡◌, ◌≤◌, [], IfOk, IfErr, OnErr, map};
+ghost use Rattle.kpn_model.specs.Network.{family_of};
+ghost use Rattle.hox_draw.specs.Drawing.{GivesPicture};
+ghost use Rattle.hox_run.specs.Serving.{HasFewWorkers};
+ghost use Rattle.hox_execute.specs.Commands.{HasDrawn, IsStop};
+ghost use Rattle.hox_execute.specs.Requests.{ServesFile, want_of};
+
+use crate::files::FileSystem;
+use crate::reading::{Wanted, asked_of};
+use crate::stops::{Refusal, Stop, unread};
+use crate::writing::write_text;
+use hox_draw::{Direction, draw as picture_of};
+use hox_run::{Fault, Request};
+use kpn_compute::Computes;
+use kpn_front::Status;
+use kpn_picture::Titled;
+use std::alloc::Global;
+use std::rt::Clock;
+use std::sync::Wait;
+use std::thread::Threads;
+
+/// Draws the network that is wanted, with the tokens of files, as it is or as a run left it, and writes the picture
+/// to standard output. Returns the exit status.
+///
+/// Errors: see [`Stop`].
+pub(crate) fn draw<'a, K: Computes + Titled, S: FileSystem, R: Wait + Clock + Threads + Sync>(
+    rt: &R,
+    alloc: Global,
+    files: &mut S,
+    wanted: Wanted<'a>,
+    tokens: &[&'a str],
+    direction: Direction,
+    is_run: bool,
+) -> Result<Status, Stop<'a>>
+    requires { (1 ≤ wanted.workers) × (wanted.workers ≤ 16) }
+    ensures done { IfOk result (λ status. HasDrawn K.named K.signature (S.contents files.old) (want_of wanted.entry) (map (λ t. t.now) tokens.now) [] (S.is_steady files.old) (S.effects files.old) (S.effects files.new) status (family_of K.start K.answer_of) K.title direction is_run) }
+    ensures stop { IfErr result (IsStop K.named K.signature (S.contents files.old) (want_of wanted.entry) (map (λ t. t.now) tokens.now) []) }
+    ensures untouched { OnErr result (S.effects files.new ≡ S.effects files.old) }
+{
+    let asked = asked_of(alloc, files, wanted, tokens, &[])?;
+    match drawn::<K, S, R>(
+        rt,
+        alloc,
+        files,
+        &asked.request,
+        wanted.file,
+        direction,
+        is_run,
+    ) {
+        Ok(picture) => Ok(write_text(files, picture.as_str().as_bytes())),
+        Err(fault) => Err(Stop::Refused(Refusal {
+            file: wanted.file,
+            asked,
+            fault,
+        })),
+    }
+}
+
+/// The picture of the network that the description in this file has, as a request wants it. A file that can't be
+/// opened counts as one that can't be read.
+fn drawn<K: Computes + Titled, S: FileSystem, R: Wait + Clock + Threads + Sync>(
+    rt: &R,
+    alloc: Global,
+    files: &S,
+    request: &Request,
+    name: &str,
+    direction: Direction,
+    is_run: bool,
+) -> Result<String, Fault>
+    requires { HasFewWorkers request.now }
+    ensures { ServesFile (S.contents files.now) K.named K.signature (GivesPicture (family_of K.start K.answer_of) K.title direction is_run request.now) name.now result }
+{
+    match files.open(name) {
+        Ok(mut source) => picture_of::<K, _, _>(rt, alloc, request, direction, is_run, &mut source),
+        Err(_) => Err(unread(alloc)),
+    }
+}

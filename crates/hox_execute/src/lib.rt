@@ -1,0 +1,22 @@
+//! What `hox` does, as one function: from its arguments and the bytes of files to what is written, to files and to
+//! standard output and standard error, and the exit status.
+#![tactic(auto)]
+
+mod checking;
+mod drawing;
+mod files;
+mod pairs;
+mod progress;
+mod reading;
+mod running;
+mod serving;
+mod stops;
+mod streaming;
+mod writing;
+
+pub use files::FileSystem;
+pub use pairs::{Pair, count_standard, is_named_twice, pairs_of};
+pub use reading::Asked;
+pub use serving::{Outcome, execute};
+pub use stops::{Refusal, Stop};
+pub use streaming::{Ends, StreamStop, Streamed, stream};

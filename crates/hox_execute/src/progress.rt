@@ -1,0 +1,23 @@
+//! Who is told how far a run has come.
+use hox_run::{Progress, SoFar};
+
+/// Told if the arguments ask for it, or if who is told wants it anyhow.
+#[derive(Drop)]
+pub(crate) struct Asking<'a, P> {
+    pub(crate) progress: &'a P,
+    pub(crate) is_asked: bool,
+}
+
+impl<'a, P: Progress> Progress for Asking<'a, P> {
+    fn is_wanted(&self) -> bool {
+        self.is_asked || self.progress.is_wanted()
+    }
+
+    fn is_due(&self) -> bool {
+        self.is_wanted() && self.progress.is_due()
+    }
+
+    fn tell(&self, so_far: SoFar) {
+        self.progress.tell(so_far);
+    }
+}

@@ -1,0 +1,180 @@
+//! From arguments to what is done.
+ghost use Rattle.std.specs.Prelude.{◌≡◌, ◌≤◌, IfOk, IfErr, IfSome, MatchResult, None, OnErr, map, option_map};
+ghost use Rattle.kpn_front.specs.declared.status.Status.{Status as StatusV};
+ghost use Rattle.kpn_model.specs.Network.{family_of};
+ghost use Rattle.hox_args.specs.HoxChoices.{HasFewHoxWorkers};
+ghost use Rattle.hox_execute.specs.Program.{Does, DrawsChoice, IsDrawStop, IsProgramStop, IsRunStop, IsStopIn, RunsChoice, Serves, want_in};
+ghost use Rattle.hox_execute.specs.Requests.{want_of};
+
+use crate::checking::check;
+use crate::drawing::draw;
+use crate::files::FileSystem;
+use crate::pairs::name_of;
+use crate::progress::Asking;
+use crate::reading::Wanted;
+use crate::running::run;
+use crate::stops::Stop;
+use hox_args::{Choice, DrawChoice, RunChoice, StreamChoice, read_words};
+use hox_run::Progress;
+use kpn_compute::Computes;
+use kpn_front::Status;
+use kpn_picture::Titled;
+use std::alloc::Global;
+use std::rt::Clock;
+use std::sync::Wait;
+use std::thread::Threads;
+
+/// What was done, or is to be done.
+#[derive(Drop)]
+pub enum Outcome<'a> {
+    /// All was done, and the program exits with this status: for `check` and `draw` 0, for `run` that of the verdict,
+    /// and 7 if a write failed.
+    Exits(Status),
+    /// This stream is to be run, and nothing was done yet.
+    Streams(StreamChoice<'a>),
+}
+
+/// Does what the arguments ask for; the first of them is the program's name. Of a family of kinds it checks, runs or
+/// draws the network of a description, with the tokens of files, and writes the report and streams to files. Files are
+/// read and written by `files`, and while a network runs `progress` is told how far it has come, if the arguments or
+/// it want that.
+///
+/// Errors: see [`Stop`]. Nothing is written then.
+pub fn execute<
+    'a,
+    K: Computes + Titled,
+    S: FileSystem,
+    R: Wait + Clock + Threads + Sync,
+    P: Progress,
+>(
+    rt: &R,
+    alloc: Global,
+    files: &mut S,
+    arguments: &'a [&'a str],
+    progress: &P,
+) -> Result<Outcome<'a>, Stop<'a>>
+    ensures done { IfOk result (Serves (family_of K.start K.answer_of) K.named K.signature (S.contents files.old) (S.is_steady files.old) (S.effects files.old) (S.effects files.new) K.title (map (λ w. w.now) arguments.entry.now)) }
+    ensures stop { IfErr result (IsProgramStop K.named K.signature (S.contents files.old) (map (λ w. w.now) arguments.entry.now)) }
+    ensures untouched { OnErr result (S.effects files.new ≡ S.effects files.old) }
+{
+    match read_words(alloc, arguments) {
+        Ok(choice) => execute_choice::<K, S, R, P>(rt, alloc, files, choice, progress),
+        Err(fault) => Err(Stop::Words(fault)),
+    }
+}
+
+/// Does what was chosen.
+fn execute_choice<
+    'a,
+    K: Computes + Titled,
+    S: FileSystem,
+    R: Wait + Clock + Threads + Sync,
+    P: Progress,
+>(
+    rt: &R,
+    alloc: Global,
+    files: &mut S,
+    choice: Choice<'a>,
+    progress: &P,
+) -> Result<Outcome<'a>, Stop<'a>>
+    requires { HasFewHoxWorkers choice }
+    ensures done { IfOk result (Does (family_of K.start K.answer_of) K.named K.signature (S.contents files.old) (S.is_steady files.old) (S.effects files.old) (S.effects files.new) K.title choice.entry) }
+    ensures stop { IfErr result (IsStopIn K.named K.signature (S.contents files.old) choice.entry) }
+    ensures untouched { OnErr result (S.effects files.new ≡ S.effects files.old) }
+{
+    match choice {
+        Choice::Check { file, tokens } => {
+            let wanted = network_in(file);
+            exits(check::<K, S>(alloc, files, wanted, tokens.as_slice()))
+        }
+        Choice::Run(run) => exits(run_choice::<K, S, R, P>(rt, alloc, files, &run, progress)),
+        Choice::Draw(draw) => exits(draw_choice::<K, S, R>(rt, alloc, files, &draw)),
+        Choice::Stream(stream) => Ok(Outcome::Streams(stream)),
+    }
+}
+
+/// The program exits with the status that was returned.
+fn exits<'a>(done: Result<Status, Stop<'a>>) -> Result<Outcome<'a>, Stop<'a>>
+    ensures { MatchResult result (λ outcome. (status : StatusV) × (outcome ≡ Outcome.Exits status) × (done.entry ≡ Ok status)) (λ stop. done.entry ≡ Err stop) }
+{
+    match done {
+        Ok(status) => Ok(Outcome::Exits(status)),
+        Err(stop) => Err(stop),
+    }
+}
+
+/// The network in this file is wanted, or on standard input.
+fn network_in<'a>(file: Option<&'a str>) -> Wanted<'a>
+    ensures { want_of result ≡ want_in (option_map (λ s. s.now) file.entry) 1 None None }
+{
+    Wanted {
+        file: name_of(file),
+        workers: 1,
+        budget: None,
+        show: None,
+    }
+}
+
+/// Runs a network as it was chosen.
+fn run_choice<'a, K: Computes, S: FileSystem, R: Wait + Clock + Threads + Sync, P: Progress>(
+    rt: &R,
+    alloc: Global,
+    files: &mut S,
+    choice: &RunChoice<'a>,
+    progress: &P,
+) -> Result<Status, Stop<'a>>
+    requires { (1 ≤ choice.now.workers) × (choice.now.workers ≤ 16) }
+    ensures done { IfOk result (RunsChoice (family_of K.start K.answer_of) K.named K.signature (S.contents files.old) (S.is_steady files.old) (S.effects files.old) (S.effects files.new) choice.now) }
+    ensures stop { IfErr result (IsRunStop K.named K.signature (S.contents files.old) choice.now) }
+    ensures untouched { OnErr result (S.effects files.new ≡ S.effects files.old) }
+{
+    let wanted = Wanted {
+        file: name_of(choice.file),
+        workers: choice.workers,
+        budget: choice.budget,
+        show: choice.show,
+    };
+    let asking = Asking {
+        progress,
+        is_asked: choice.progress,
+    };
+    run::<K, S, R, Asking<'_, P>>(
+        rt,
+        alloc,
+        files,
+        wanted,
+        choice.tokens.as_slice(),
+        choice.outputs.as_slice(),
+        choice.quiet,
+        &asking,
+    )
+}
+
+/// Draws a network as it was chosen.
+fn draw_choice<'a, K: Computes + Titled, S: FileSystem, R: Wait + Clock + Threads + Sync>(
+    rt: &R,
+    alloc: Global,
+    files: &mut S,
+    choice: &DrawChoice<'a>,
+) -> Result<Status, Stop<'a>>
+    requires { IfSome choice.now.workers (λ n. (1 ≤ n) × (n ≤ 16)) }
+    ensures done { IfOk result (DrawsChoice (family_of K.start K.answer_of) K.named K.signature (S.contents files.old) (S.is_steady files.old) (S.effects files.old) (S.effects files.new) K.title choice.now) }
+    ensures stop { IfErr result (IsDrawStop K.named K.signature (S.contents files.old) choice.now) }
+    ensures untouched { OnErr result (S.effects files.new ≡ S.effects files.old) }
+{
+    let wanted = Wanted {
+        file: name_of(choice.file),
+        workers: choice.workers.unwrap_or(1),
+        budget: None,
+        show: None,
+    };
+    draw::<K, S, R>(
+        rt,
+        alloc,
+        files,
+        wanted,
+        choice.tokens.as_slice(),
+        choice.direction,
+        choice.workers.is_some(),
+    )
+}

@@ -1,0 +1,255 @@
+//! Worked command lines of hox between files in memory: what is written, in order, and the exit status.
+ghost use Rattle.std.specs.Prelude.{◌≡◌, ◌++◌, ◌∷◌, [], OnErr, OnOk};
+
+use crate::checks::same;
+use crate::drawing::{COUNTER, COUNTER_LINES, drawn};
+use crate::samples::COPY;
+use hox_args::StreamChoice;
+use hox_execute::{
+    FileSystem, Outcome, Stop, StreamStop, count_standard, execute, is_named_twice, pairs_of,
+    stream,
+};
+use hox_run::{AllKinds, Silent};
+use kpn_net::{Listed, Text};
+use std::alloc::{AllocError, Global};
+use std::io;
+use std::process::Abort;
+use std::rt::Clock;
+use std::sync::Wait;
+use std::thread::Threads;
+
+/// Bytes that were written under a name, or said.
+#[derive(Drop)]
+struct Done {
+    is_said: bool,
+    name: Text,
+    bytes: Listed<u8>,
+}
+
+/// A file of tokens, t, and a description under every other name but none, which can't be opened; and what was done.
+#[derive(Drop)]
+struct Memory<'a> {
+    alloc: Global,
+    description: &'a [u8],
+    tokens: &'a [u8],
+    done: Vec<Done>,
+}
+
+impl<'a> Memory<'a> {
+    /// Notes what was done.
+    fn note(&mut self, is_said: bool, name: &str, bytes: &[u8]) -> Result<(), AllocError>
+        ensures kept { OnErr result (self.new.done.items ≡ self.old.done.items) }
+        ensures done { OnOk result (self.new.done.items ≡ self.old.done.items ++ record { is_said = is_said; name = name.now; bytes = bytes.now } ∷ []) }
+    {
+        let name = Text::new(String::from_str(self.alloc, name)?);
+        let bytes = Listed::new(Vec::from_slice(self.alloc, bytes)?);
+        self.done.push(Done {
+            is_said,
+            name,
+            bytes,
+        })?;
+        Ok(())
+    }
+}
+
+impl<'a> FileSystem for Memory<'a> {
+    ghost use Rattle.std.specs.Prelude.{Some, false, codes, map, if◌then◌else◌};
+    ghost use Rattle.std.specs.Str.{bytes_eq};
+    ghost use Rattle.hox_execute.specs.Files.{said, wrote};
+
+    type Input = &'a [u8];
+
+    type Output = Vec<u8>;
+
+    ghost contents = { λ m name. Some (if bytes_eq name (codes "t") then m.tokens.now else m.description.now) };
+
+    ghost effects = { λ m. Some (map (λ d. if d.is_said then said d.bytes else wrote d.name d.bytes) m.done.items) };
+
+    ghost is_steady = { λ _. false };
+
+    fn open(&self, name: &str) -> io::Result<&'a [u8]> {
+        match name {
+            "none" => Err(io::ErrorKind::NotFound.into()),
+            "t" => Ok(self.tokens),
+            _ => Ok(self.description),
+        }
+    }
+
+    fn create(&self, _name: &str) -> io::Result<Vec<u8>> {
+        Ok(Vec::new(self.alloc))
+    }
+
+    fn write(&mut self, name: &str, bytes: &[u8]) -> io::Result<()> {
+        self.note(false, name, bytes)?;
+        Ok(())
+    }
+
+    fn say(&mut self, text: &str) -> io::Result<()> {
+        self.note(true, "", text.as_bytes())?;
+        Ok(())
+    }
+}
+
+/// What was done, as a text: after `> NAME` what was written under it, and after `!` what was said.
+fn trace_of(alloc: Global, memory: &Memory<'_>) -> Result<String, AllocError> {
+    let mut trace = String::new(alloc);
+    for done in memory.done.as_slice() {
+        trace.push_str(if done.is_said { "!" } else { "> " })?;
+        trace.push_str(done.name.as_str())?;
+        trace.push_str("\n")?;
+        push_bytes(&mut trace, done.bytes.as_slice())?;
+    }
+    Ok(trace)
+}
+
+/// Appends bytes of a text.
+fn push_bytes(trace: &mut String, bytes: &[u8]) -> Result<(), AllocError> {
+    match std::str::from_utf8(bytes) {
+        Ok(text) => trace.push_str(text),
+        Err(_) => trace.push_str("no text"),
+    }
+}
+
+/// The exit status, or 9 if a stream is to be run.
+fn status_of(outcome: &Result<Outcome<'_>, Stop<'_>>) -> u8 {
+    match outcome {
+        Ok(Outcome::Exits(status)) => status.code(),
+        Ok(Outcome::Streams(_)) => 9,
+        Err(stop) => stop.status().code(),
+    }
+}
+
+/// A file of two words, and a description.
+fn memory_of<'a>(alloc: Global, description: &'a str) -> Memory<'a> {
+    Memory {
+        alloc,
+        description: description.as_bytes(),
+        tokens: b"1, first\n0x10",
+        done: Vec::new(alloc),
+    }
+}
+
+/// Does what a command line asks for, and compares the exit status and what was done.
+fn does<R: AllocGlobal + Wait + Clock + Threads + Abort + Sync>(
+    rt: &R,
+    description: &str,
+    line: &str,
+    status: u8,
+    due: &str,
+) {
+    let alloc = rt.alloc();
+    let words: Vec<&str> = line.split(' ').collect(alloc).expect(rt, "no memory");
+    let mut memory = memory_of(alloc, description);
+    let outcome = execute::<AllKinds, _, _, _>(rt, alloc, &mut memory, words.as_slice(), &Silent);
+    same(rt, line, status_of(&outcome), status);
+    let trace = trace_of(alloc, &memory).expect(rt, "no memory");
+    same(rt, line, trace.as_str(), due);
+}
+
+/// Command lines on a network through which two words go, with the exit status and what is done.
+static ROWS: [(&str, u8, &str); 12] = [
+    (
+        "hox check d --tokens x=t",
+        0,
+        "> -\nok 3 processes 2 channels\n",
+    ),
+    (
+        "hox run d --tokens x=t --out y=o",
+        0,
+        "> -\nend deadlock\nprocess src stopped steps 1\nprocess p stopped steps 5\nprocess snk reads y steps 2\nchannel x put 0 left 0 capacity 2\nchannel y put 2 left 0 capacity 1\nentries 8\nverdict ran dry\n> o\n1\n16\n",
+    ),
+    (
+        "hox run --workers 2 --tokens x=t --out y=-",
+        0,
+        "!\nend deadlock\nprocess src stopped steps 1\nprocess p stopped steps 5\nprocess snk reads y steps 2\nchannel x put 0 left 0 capacity 2\nchannel y put 2 left 0 capacity 1\nentries 8\nverdict ran dry\n> -\n1\n16\n",
+    ),
+    (
+        "hox run d --tokens x=t --out y=o --out x=p --quiet",
+        0,
+        "> o\n1\n16\n> p\n1\n16\n",
+    ),
+    (
+        "hox run d --tokens x=t --budget 1 --quiet --out y=o",
+        3,
+        "> o\n",
+    ),
+    ("hox run d --tokens x", 1, ""),
+    ("hox run d --tokens x=none", 2, ""),
+    ("hox run - --tokens x=-", 1, ""),
+    ("hox run d --tokens x=t --out z=o", 1, ""),
+    ("hox draw none", 2, ""),
+    ("hox check --workers 2 d", 1, ""),
+    ("hox stream d --in x=t", 9, ""),
+];
+
+#[test]
+fn does_what_a_command_line_asks_for(rt: HostRuntime) {
+    for (line, status, due) in &ROWS {
+        does(&rt, COPY, line, *status, due);
+    }
+}
+
+#[test]
+fn writes_a_picture(rt: HostRuntime) {
+    let picture = drawn(&rt, COUNTER_LINES);
+    let due = format!(in rt.alloc(); "> -\n{picture}").expect(&rt, "no memory");
+    does(&rt, COUNTER, "hox draw d", 0, due.as_str());
+}
+
+/// What is written to the one output of a stream from the file of two words to an output of these texts; or why it is
+/// not run.
+fn streamed<R: AllocGlobal + Abort>(rt: &R, input: &'static str, output: &'static str) -> String {
+    let alloc = rt.alloc();
+    let choice = StreamChoice {
+        file: None,
+        inputs: vec![in alloc; input].expect(rt, "no memory"),
+        outputs: vec![in alloc; output].expect(rt, "no memory"),
+        quiet: true,
+    };
+    let written = match stream::<AllKinds, _>(alloc, &memory_of(alloc, COPY), &choice) {
+        Ok(mut streamed) => match streamed.served.outlets.pop() {
+            Some(outlet) => String::from_utf8(outlet.into_sink()).ok(),
+            None => None,
+        },
+        Err(stop) => String::from_str(alloc, why(&stop)).ok(),
+    };
+    written.expect(rt, "no text")
+}
+
+/// Why a stream is not run, in a word.
+fn why(stop: &StreamStop<'_>) -> &'static str {
+    match stop {
+        StreamStop::Asked(_) => "asked",
+        StreamStop::OutputTwice => "output twice",
+        StreamStop::Refused { .. } => "refused",
+        StreamStop::Unopened { .. } => "unopened",
+        StreamStop::Unread { .. } => "unread",
+        StreamStop::Unwritten { .. } => "unwritten",
+    }
+}
+
+#[test]
+fn streams_from_file_to_file(rt: HostRuntime) {
+    for (input, output, due) in [
+        ("x=t", "y=o", "1\n16\n"),
+        ("x=t", "y", "asked"),
+        ("x=none", "y=o", "unread"),
+        ("z=t", "y=o", "unopened"),
+    ] {
+        same(&rt, input, streamed(&rt, input, output).as_str(), due);
+    }
+}
+
+/// Channels and files that texts name, and how many of them are standard input.
+#[test]
+fn pairs_name_channels_and_files(rt: HostRuntime) {
+    let pairs = pairs_of(rt.alloc(), "in", &["x=-", "z=a=b"]);
+    let Ok(pairs) = pairs else {
+        panic!(rt; "refused");
+    };
+    let pairs = pairs.as_slice();
+    same(&rt, "file", pairs.get(1).map(|pair| pair.file), Some("a=b"));
+    same(&rt, "standard", count_standard(pairs), 1);
+    same(&rt, "twice", is_named_twice("-", pairs), true);
+    same(&rt, "once", is_named_twice("d", pairs), false);
+}
