@@ -357,7 +357,7 @@ impl<B: Body> Machine<B> {
         self.bodies[process] = Some(finished.into_body());
         self.commits += 1;
         if self.end.is_some() {
-            self.standings.update(process, Standing::Ready);
+            lay_back(&mut self.standings, process);
             return Outcome::LaidBack;
         }
         let (outcome, end) = work(
@@ -371,6 +371,15 @@ impl<B: Body> Machine<B> {
         self.end = end;
         outcome
     }
+}
+
+/// Makes a process ready whose answer came after the end of the run.
+#[inline(always)]
+fn lay_back(standings: &mut Roster, process: usize)
+    requires { process < length standings.old }
+    ensures { standings.new ≡ set standings.old process Ready }
+{
+    standings.update(process, Standing::Ready);
 }
 
 impl<B: Body> Machine<B> {
@@ -522,6 +531,14 @@ impl<B: Body> Machine<B> {
         self.standings.if_ready(self.again?)
     }
 
+    // Whether more answers are to be taken: fewer than `most` were, and the run has not ended.
+    #[inline(always)]
+    fn is_to_go_on(&self, taken: u64, most: u64) -> bool
+        ensures { IsTrue result ↔ (taken < most) × (self.now.end ≡ None) }
+    {
+        taken < most && self.end.is_none()
+    }
+
     /// Asks ready processes where their bodies lie, one after the other, and takes their answers as
     /// `commit` does, until `most` answers were taken, no process is ready or the run has ended. Returns
     /// how many answers were taken. Processes that are out stay out. No contract says which ready process
@@ -538,7 +555,7 @@ impl<B: Body> Machine<B> {
     {
         let mut again = self.asked_last();
         let mut taken = 0;
-        while taken < most && self.end().is_none() {
+        while self.is_to_go_on(taken, most) {
             let Some(process) = self.turn(again) else {
                 break;
             };

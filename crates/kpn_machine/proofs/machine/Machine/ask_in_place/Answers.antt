@@ -1,18 +1,19 @@
 -- Each round goes on with the run, and leaves out those that were out.
-use Rattle.std.proofs.Common.{◌≡◌, None, arith}
+use Rattle.std.proofs.Common.{◌≡◌, ◌<◌, None, arith}
 use Rattle.kpn_machine.proofs.Finishing.{round_goes, round_commits, round_keeps_out}
 use Rattle.kpn_machine.proofs.machine.Machine.ask_in_place.Goals as goal
 
-pub loop-taken-preserved : goal.loop-taken-preserved
-loop-taken-preserved g c =
+pub loop-self-preserved : goal.loop-self-preserved
+loop-self-preserved g c =
     let r = rw c.turn.ensures.same at c.ask-again.ensures.round in
-    let before = c.loop-taken.invariant in
-    let none : c.loop-taken.self.end ≡ None = grind arith in
+    let before = c.loop-self.invariant in
+    let within : c.loop-self.taken < c.args.most = grind arith in
+    let none : c.loop-self.self.end ≡ None = grind arith in
     record {
       again = c.ask-again.ensures.again;
       goes = round_goes r before.goes;
       commits = let one = round_commits r in omega (arith, before.commits);
-      few = omega arith;
+      few = omega (arith, within);
       out = λ p. let out = round_keeps_out r p in (λ is. (before.out p).0 (out.0 is), λ was. out.1 ((before.out p).1 was));
       ended = λ some. absurd (some (rw (before.none (before.ended some)) at none));
       none = λ zero. absurd (omega (arith, zero));

@@ -5,8 +5,8 @@ use Rattle.kpn_state.specs.Standings.{standing}
 use Rattle.kpn_machine.specs.Commits.{ContinuesRun}
 use Rattle.kpn_machine.proofs.machine.Machine.ask_in_place.Given as goal
 
-abbrev pub invariant-loop-taken : goal.invariant-loop-taken
-invariant-loop-taken g l = record {
+abbrev pub invariant-loop-self : goal.invariant-loop-self
+invariant-loop-self g l = record {
   again : IfSome l.again (λ p. standing l.self.standings p ≡ Ready);
   goes : ContinuesRun (family_of g.B.Kinds.Kinds.start g.B.Kinds.Kinds.answer_of) l.initial.self l.self;
   commits : l.self.commits ≡ l.initial.self.commits + l.taken;
@@ -16,5 +16,5 @@ invariant-loop-taken g l = record {
   none : l.taken ≡ 0 → l.self ≡ l.initial.self;
 }
 
-abbrev pub decreases-loop-taken : goal.decreases-loop-taken
-decreases-loop-taken g l = l.most - l.taken
+abbrev pub decreases-loop-self : goal.decreases-loop-self
+decreases-loop-self g l = l.most - l.taken

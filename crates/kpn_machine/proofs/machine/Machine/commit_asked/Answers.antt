@@ -22,9 +22,9 @@ overflow_add-self g c =
 pub invariant_of-self : goal.invariant_of-self
 invariant_of-self g c =
     let out : IsOutAt c.self.inside.net c.self.inside.store.state c.self.inside.standings c.args.finished = rw (← c.self.view_is) at c.requires in (
-      rw (map-set, c.update.ensures, c.process-process.ensures, c.into_body.ensures) (sound_back c.self.invariant.0 c.args.finished out (some_of _ (sym c.is_some.ensures ∙ c.if-is_some.true))),
+      rw (map-set, c.lay_back.ensures, c.process-process.ensures, c.into_body.ensures) (sound_back c.self.invariant.0 c.args.finished out (some_of _ (sym c.is_some.ensures ∙ c.if-is_some.true))),
       c.self.invariant.1,
-      rw (c.update.ensures, c.process-process.ensures) (waiting_moved c.self.invariant.2 c.args.finished.process _ (rw out.out) refl),
+      rw (c.lay_back.ensures, c.process-process.ensures) (waiting_moved c.self.invariant.2 c.args.finished.process _ (rw out.out) refl),
     )
 
 pub returns-then-is_some-clause-appends : goal.returns-then-is_some-clause-appends
@@ -34,7 +34,7 @@ pub returns-then-is_some-clause-back : goal.returns-then-is_some-clause-back
 returns-then-is_some-clause-back g c =
     let out : IsOutAt c.self.inside.net c.self.inside.store.state c.self.inside.standings c.args.finished = rw (← c.self.view_is) at c.requires in
     let here = standing_set_same c.self.inside.standings c.args.finished.process Ready (out_within c.self.invariant.0 c.args.finished out) in
-    rw (c.update.ensures, c.process-process.ensures, here) (λ e. cc)
+    rw (c.lay_back.ensures, c.process-process.ensures, here) (λ e. cc)
 
 pub invariant_of-self-2 : goal.invariant_of-self-2
 invariant_of-self-2 g c =
