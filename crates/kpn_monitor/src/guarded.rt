@@ -3,7 +3,8 @@
 //! Whenever the lock is free, the history is a run of the network from its start; an end is justified
 //! and stays; the total of the book of entries is the length of the history; the run has ended if the
 //! book of overs is not empty; and what is published is the history with the phase of its end.
-ghost use Rattle.std.specs.Prelude.{Bool, ℕ, ◌≡◌, ◌≢◌, ◌+◌, ◌<◌, ◌≤◌, ◌↔◌, [], ◌∷◌, ◌++◌, true, false, length, Some, IfNone, Ok, IfSome, IfOk, IfErr, IsErr, OnOk, OnErr, IsSome, MatchOption, MatchResult};
+ghost use Rattle.std.specs.Prelude.{Bool, ℕ, ◌≡◌, ◌≢◌, ◌+◌, ◌^◌, ◌<◌, ◌≤◌, ◌↔◌, [], ◌∷◌, ◌++◌, true, false, length, Some, IfNone, Ok, IfSome, IfOk, IfErr, IsErr, OnOk, OnErr, IsSome, MatchOption, MatchResult};
+ghost use mathlib.Core.List.{IsPrefix};
 ghost use Rattle.kpn_model.specs.Network.{family_of};
 ghost use Rattle.std.specs.List.{All, sum_by};
 ghost use Rattle.kpn_model.specs.declared.history.End.{End as EndV};
@@ -166,9 +167,7 @@ impl<B: Body, E: EntryLedger, O: Ledger> Guarded<B, E, O> {
             return Err(Stranger { finished });
         }
         let outcome = give_one(&mut self.machine, finished);
-        let ended = self.machine.end();
-        self.machine.net().assure_valid();
-        self.publisher.publish(board, self.machine.history(), ended);
+        publish(&self.machine, &mut self.publisher, board);
         seat.add_entries(&mut self.entries, count_of(outcome));
         Ok(outcome)
     }
@@ -191,10 +190,8 @@ impl<B: Body, E: EntryLedger, O: Ledger> Guarded<B, E, O> {
         hand.forget();
         let before = self.machine.history().len();
         let refused = give_all(&mut self.machine, hand);
-        let ended = self.machine.end();
-        self.machine.net().assure_valid();
+        publish(&self.machine, &mut self.publisher, board);
         let history = self.machine.history();
-        self.publisher.publish(board, history, ended);
         seat.add_entries(&mut self.entries, (history.len() - before) as u64);
         refused
     }
@@ -211,7 +208,8 @@ impl<B: Body, E: EntryLedger, O: Ledger> Guarded<B, E, O> {
         let Some(end) = self.machine.end() else {
             return Next::Nothing;
         };
-        if seat.meet_end(&mut self.overs, &mut self.over_count) {
+        let is_met = seat.meet_end(&mut self.overs, &mut self.over_count);
+        if is_met {
             Next::Over(end)
         } else {
             Next::Nothing
@@ -306,10 +304,8 @@ impl<B: Body, E: EntryLedger, O: Ledger> Guarded<B, E, O> {
                 Next::Nothing | Next::Tasks => Went::Nowhere,
             };
         }
-        let ended = self.machine.end();
-        self.machine.net().assure_valid();
+        publish(&self.machine, &mut self.publisher, board);
         let after = self.machine.history();
-        self.publisher.publish(board, after, ended);
         let more = (after.len() - before) as u64;
         seat.add_entries(&mut self.entries, more);
         Went::On { waited }
@@ -460,6 +456,20 @@ impl<B: Body, E: EntryLedger, O: Ledger> Guarded<B, E, O> {
         } = self;
         (machine.into_chronicle(), publisher)
     }
+}
+
+/// Publishes the history of a machine, which goes on from the published one, with its end.
+fn publish<B: Body>(machine: &Machine<B>, publisher: &mut CountingPublisher, board: &Board)
+    requires board { publisher.old.board ≡ board.now }
+    requires goes_on { IsPrefix publisher.old.entries machine.now.history }
+    requires ended { publisher.old.phase ≢ Running → (machine.now.history ≡ publisher.old.entries) × (phase_of machine.now.end ≡ publisher.old.phase) }
+    ensures published { publisher.new ≡ record publisher.old { entries = machine.now.history; phase = phase_of machine.now.end } }
+    ensures faithful { IsFaithful (family_of B.Kinds.start B.Kinds.answer_of) B.Kinds.admits machine.now }
+    ensures short { length machine.now.history < 2 ^ 22 }
+{
+    let ended = machine.end();
+    machine.net().assure_valid();
+    publisher.publish(board, machine.history(), ended);
 }
 
 /// Gives an answer to the machine that asked for it.

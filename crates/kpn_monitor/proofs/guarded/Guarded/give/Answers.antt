@@ -9,16 +9,16 @@ use Rattle.kpn_monitor.proofs.Handing.{gave, some_end}
 use Rattle.kpn_monitor.proofs.guarded.Guarded.give.Goals as goal
 
 pub publish-requires-clause-goes_on : goal.publish-requires-clause-goes_on
-publish-requires-clause-goes_on g c =
+publish-requires-clause-goes_on g c κs within =
     let gone = gave (family_of g.B.Kinds.Kinds.start g.B.Kinds.Kinds.answer_of) _ _ _ _ _ _ c.give_all-refused.ensures.machine in
-    subst (λ l. IsPrefix l c.history-history.result.now) (sym c.self.invariant.1.entries) (subst (λ l. IsPrefix c.self.inside.machine.history l) (sym c.history-history.ensures) gone.history)
+    subst (λ l. IsPrefix l c.give_all-refused.new.machine.history) (sym c.self.invariant.1.entries) gone.history
 
 pub publish-requires-clause-ended : goal.publish-requires-clause-ended
-publish-requires-clause-ended g c = λ ended.
+publish-requires-clause-ended g c κs within = λ ended.
     let gone = gave (family_of g.B.Kinds.Kinds.start g.B.Kinds.Kinds.answer_of) _ _ _ _ _ _ c.give_all-refused.ensures.machine in
     let shown = c.self.invariant.1 in
     let same = gone.ended (λ none. ended (shown.phase ∙ ap phase_of none)) in
-    (c.history-history.ensures ∙ same.0 ∙ sym shown.entries, ap phase_of (c.end-ended.ensures.end ∙ same.1) ∙ sym shown.phase)
+    (same.0 ∙ sym shown.entries, ap phase_of same.1 ∙ sym shown.phase)
 
 pub overflow_sub-history : goal.overflow_sub-history
 overflow_sub-history g c =
@@ -31,14 +31,14 @@ invariant_of-self g c =
     let kept = c.self.invariant.0 in (
       record {
         network = c.give_all-refused.ensures.network ∙ kept.network;
-        faithful = c.end-ended.ensures.faithful;
+        faithful = c.publish.ensures.faithful;
         ended = λ met. subst IsSome (sym (gone.ended (some_end c.self.inside.machine.end (kept.ended met))).1) (kept.ended met);
         counted = omega (arith, c.add_entries.ensures.book, kept.counted, gone.count, ap length c.history-before.ensures, ap length c.history-history.ensures);
       },
       record {
-        board_is = ap (λ (p : Published). p.board) c.publish.ensures ∙ c.self.invariant.1.board_is;
-        entries = ap (λ (p : Published). p.entries) c.publish.ensures ∙ c.history-history.ensures;
-        phase = ap (λ (p : Published). p.phase) c.publish.ensures ∙ ap phase_of c.end-ended.ensures.end;
+        board_is = ap (λ (p : Published). p.board) c.publish.ensures.published ∙ c.self.invariant.1.board_is;
+        entries = ap (λ (p : Published). p.entries) c.publish.ensures.published;
+        phase = ap (λ (p : Published). p.phase) c.publish.ensures.published;
       },
       c.self.invariant.2,
       c.self.invariant.3,
