@@ -1,8 +1,8 @@
 //! Running a network, and writing the report.
-ghost use Rattle.std.specs.Prelude.{◌≡◌, ◌≢◌, ◌<◌, ◌≤◌, Some, None, IfOk, IsSome, map, option_map, string_bytes};
+ghost use Rattle.std.specs.Prelude.{◌≡◌, ◌≢◌, ◌<◌, ◌≤◌, Some, None, IfOk, IfErr, IsSome, map, option_map, string_bytes};
 ghost use Rattle.kpn_model.specs.Network.{family_of};
 ghost use Rattle.kpn_machine.specs.Opening.{cards_of};
-ghost use Rattle.kpn_execute.specs.Execution.{status_of_end, Executes, TellsEnded, TellsShown, TellsRun, Writes};
+ghost use Rattle.kpn_execute.specs.Execution.{status_of_end, number_of_channel, IsChannelToShow, Executes, TellsEnded, TellsShown, TellsRun, Writes};
 
 use kpn_body::Body;
 use kpn_front::{Sink, Status, say, say_lost, say_no_channel, say_refused};
@@ -83,11 +83,25 @@ pub(crate) fn execute_request<B: Body, S: Sink, R: Wait + Clock + Threads + Sync
     requires workers { (1 ≤ request.workers) × (request.workers ≤ 16) }
     ensures { Executes (family_of B.Kinds.start B.Kinds.answer_of) request.net request.workers (option_map (λ s. s.now) show.entry) (S.seen sink.old) (S.seen sink.new) result }
 {
+    match channel_to_show(&request.net, show) {
+        Ok(channel) => tell(rt, alloc, request, gate, channel, sink),
+        Err(name) => say_no_channel(name, sink),
+    }
+}
+
+/// The channel to show, if there is one; or the name to which no channel answers.
+fn channel_to_show<'a, K: Kinds>(
+    net: &Net<K>,
+    show: Option<&'a str>,
+) -> Result<Option<usize>, &'a str>
+    ensures channel { IfOk result (IsChannelToShow net.now (option_map (λ s. s.now) show.entry)) }
+    ensures unknown { IfErr result (λ name. (option_map (λ s. s.now) show.entry ≡ Some name.now) × (number_of_channel net.now name.now ≡ None)) }
+{
     match show {
-        None => tell(rt, alloc, request, gate, None, sink),
-        Some(name) => match request.net.find_channel(name) {
-            Some(channel) => tell(rt, alloc, request, gate, Some(channel), sink),
-            None => say_no_channel(name, sink),
+        None => Ok(None),
+        Some(name) => match net.find_channel(name) {
+            Some(channel) => Ok(Some(channel)),
+            None => Err(name),
         },
     }
 }

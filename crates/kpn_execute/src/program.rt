@@ -1,7 +1,9 @@
 //! The program, from its arguments and its input to what it writes.
 ghost use Rattle.std.specs.Prelude.{◌≡◌, ◌≢◌, ◌+◌, [], Some, None, string_bytes, IfSome, IfOk, IfErr, OnErr, map};
 ghost use Rattle.kpn_args.specs.Choices.{HasFewWorkers, IsChoice, IsWordsFault};
+ghost use Rattle.kpn_front.specs.Lines.{refused_line, status_of_fault};
 ghost use Rattle.kpn_front.specs.Loading.{ConsumesAtMost, longest};
+ghost use Rattle.kpn_front.specs.Written.{Says};
 ghost use Rattle.kpn_args.specs.declared.arguments.Choice.{Choice as ChoiceV};
 ghost use Rattle.kpn_execute.specs.Execution.{Writes};
 ghost use Rattle.kpn_execute.specs.Program.{Serves, TellsOf};
@@ -9,7 +11,7 @@ ghost use Rattle.kpn_execute.specs.Program.{Serves, TellsOf};
 use crate::standard::execute_standard;
 use kpn_args::{Choice, WordsFault, read_words};
 use kpn_body::Standard;
-use kpn_front::{Sink, Source, load_or_refuse, say_checked, say_refused};
+use kpn_front::{Refused, Sink, Source, load_or_refuse, say_checked, say_refused};
 use kpn_message::message_of;
 use kpn_net::{Net, NetFault};
 use std::alloc::Global;
@@ -80,23 +82,27 @@ fn serve_choice<I: Source, O: Sink, R: Wait + Clock + Threads + Sync>(
 {
     let net: Net<Standard> = match load_or_refuse(alloc, source) {
         Ok(net) => net,
-        Err(refused) => {
-            return Served {
-                status: say_refused(&refused.fault, sink),
-                fault: Some(refused.fault),
-                message: message_of::<Standard>(
-                    alloc,
-                    refused.text.as_slice(),
-                    refused.fault,
-                    KINDS,
-                ),
-            };
-        }
+        Err(refused) => return serve_refused(alloc, &refused, sink),
     };
     Served {
         status: serve_net(rt, alloc, choice, net, sink),
         fault: None,
         message: None,
+    }
+}
+
+/// Writes that a description was refused, and says what is wrong with it.
+fn serve_refused<O: Sink>(alloc: Global, refused: &Refused, sink: &mut O) -> Served
+    ensures memory { result.fault ≡ Some NetFault.Memory → result.message ≡ None }
+    ensures input { result.fault ≡ Some NetFault.Input → result.message ≡ None }
+    ensures said { IfSome result.message (λ message. string_bytes message ≢ []) }
+    ensures fault { result.fault ≡ Some refused.now.fault }
+    ensures says { Says (status_of_fault refused.now.fault) (refused_line refused.now.fault) (O.seen sink.old) (O.seen sink.new) result.status }
+{
+    Served {
+        status: say_refused(&refused.fault, sink),
+        fault: Some(refused.fault),
+        message: message_of::<Standard>(alloc, refused.text.as_slice(), refused.fault, KINDS),
     }
 }
 
