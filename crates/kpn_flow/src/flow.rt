@@ -16,7 +16,7 @@ ghost use Rattle.kpn_flow.specs.Waits.{starves, holds_up, waits_to_read};
 use crate::counts::Counts;
 use crate::ends::{FlowFault, fault_of, is_among, remove};
 use crate::going::go_on;
-use crate::opening::{Start, prepare};
+use crate::opening::{Lists, Start, prepare};
 use crate::pause::Pause;
 use crate::waits::{all_wait_to_read, holds_up, starves};
 use kpn_body::Body;
@@ -111,10 +111,13 @@ impl<B: Body> Flow<B> {
             store,
             standings,
             waiting,
+            lists,
+        } = begun;
+        let Lists {
             inputs,
             unended,
             outputs,
-        } = begun;
+        } = lists;
         Ok(Flow {
             net,
             store,

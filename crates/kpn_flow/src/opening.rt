@@ -20,6 +20,12 @@ pub(crate) struct Start {
     pub(crate) store: Store,
     pub(crate) standings: Roster,
     pub(crate) waiting: Waiting,
+    pub(crate) lists: Lists,
+}
+
+/// The inputs of a flow, those of them that have not ended, and its outputs.
+#[derive(Drop)]
+pub(crate) struct Lists {
     pub(crate) inputs: Vec<usize>,
     pub(crate) unended: Vec<usize>,
     pub(crate) outputs: Vec<usize>,
@@ -36,9 +42,9 @@ pub(crate) fn prepare<K: Kinds>(
     ensures standings { IfOk result (λ r. r.standings ≡ replicate (length net.now.processes) Ready) }
     ensures candidates { IfOk result (λ r. r.waiting.candidates ≡ candidate_list [] (length net.now.processes)) }
     ensures marks { IfOk result (λ r. r.waiting.marks ≡ mark_lists (replicate (length net.now.channels) false) (replicate (length net.now.channels) false)) }
-    ensures inputs { IfOk result (λ r. r.inputs.items ≡ inputs.now) }
-    ensures unended { IfOk result (λ r. r.unended.items ≡ inputs.now) }
-    ensures outputs { IfOk result (λ r. r.outputs.items ≡ outputs.now) }
+    ensures inputs { IfOk result (λ r. r.lists.inputs.items ≡ inputs.now) }
+    ensures unended { IfOk result (λ r. r.lists.unended.items ≡ inputs.now) }
+    ensures outputs { IfOk result (λ r. r.lists.outputs.items ≡ outputs.now) }
     ensures admitted { OnOk result ((p : ℕ) → p < length net.now.processes → K.admits (card_of net.now p) (K.start (card_of net.now p)) None) }
 {
     let statuses = start_statuses(alloc, net)?;
@@ -48,6 +54,17 @@ pub(crate) fn prepare<K: Kinds>(
         store: Store::new(statuses, rings, history, 2),
         standings: Roster::new(alloc, net.processes())?,
         waiting: Waiting::new(alloc, net.processes(), net.channels())?,
+        lists: lists_of(alloc, inputs, outputs)?,
+    })
+}
+
+/// The lists of a flow of which no input has ended.
+fn lists_of(alloc: Global, inputs: &[usize], outputs: &[usize]) -> Result<Lists, AllocError>
+    ensures inputs { IfOk result (λ r. r.inputs.items ≡ inputs.now) }
+    ensures unended { IfOk result (λ r. r.unended.items ≡ inputs.now) }
+    ensures outputs { IfOk result (λ r. r.outputs.items ≡ outputs.now) }
+{
+    Ok(Lists {
         inputs: Vec::from_slice(alloc, inputs)?,
         unended: Vec::from_slice(alloc, inputs)?,
         outputs: Vec::from_slice(alloc, outputs)?,
