@@ -1,5 +1,5 @@
 //! Arguments that name a channel and a file.
-ghost use Rattle.std.specs.Prelude.{◌≡◌, ◌<◌, ◌⊎◌, map, IfOk, IfErr, IfSome, None, unwrap_or, option_map, length};
+ghost use Rattle.std.specs.Prelude.{◌≡◌, ◌<◌, ◌⊎◌, map, IfOk, IfErr, IfSome, None, unwrap_or, option_map, length, nat_lt};
 ghost use Rattle.std.specs.List.{AllZip};
 ghost use Rattle.hox_execute.specs.Files.{standard};
 ghost use Rattle.hox_execute.specs.Pairs.{ArePairs, HasEquals, IsPair, IsUnpaired, count_standard, is_named_twice};
@@ -65,6 +65,13 @@ pub fn count_standard(pairs: &[Pair<'_>]) -> usize
     ensures { result ≡ count_standard pairs.now }
 {
     pairs.iter().filter(|pair| pair.file == STANDARD).count()
+}
+
+/// Whether pairs name standard output more than once.
+pub(crate) fn is_written_twice(pairs: &[Pair<'_>]) -> bool
+    ensures { result ≡ nat_lt 1 (count_standard pairs.now) }
+{
+    count_standard(pairs) > 1
 }
 
 /// Returns whether standard input is named more than once, by the file of the description and by pairs.

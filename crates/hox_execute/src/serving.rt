@@ -1,9 +1,9 @@
 //! From arguments to what is done.
-ghost use Rattle.std.specs.Prelude.{◌≡◌, ◌≤◌, IfOk, IfErr, IfSome, MatchResult, None, OnErr, map, option_map};
+ghost use Rattle.std.specs.Prelude.{◌≡◌, ◌≤◌, IfOk, IfErr, IfSome, MatchResult, None, OnErr, is_some, map, option_map};
 ghost use Rattle.kpn_front.specs.declared.status.Status.{Status as StatusV};
 ghost use Rattle.kpn_model.specs.Network.{family_of};
 ghost use Rattle.hox_args.specs.HoxChoices.{HasFewHoxWorkers};
-ghost use Rattle.hox_execute.specs.Program.{Does, DrawsChoice, IsDrawStop, IsProgramStop, IsRunStop, IsStopIn, RunsChoice, Serves, want_in};
+ghost use Rattle.hox_execute.specs.Program.{Does, DrawsChoice, IsDrawStop, IsProgramStop, IsRunStop, IsStopIn, RunsChoice, Serves, want_in, want_of_run};
 ghost use Rattle.hox_execute.specs.Requests.{want_of};
 
 use crate::checking::check;
@@ -128,12 +128,6 @@ fn run_choice<'a, K: Computes, S: FileSystem, R: Wait + Clock + Threads + Sync, 
     ensures stop { IfErr result (IsRunStop K.named K.signature (S.contents files.old) choice.now) }
     ensures untouched { OnErr result (S.effects files.new ≡ S.effects files.old) }
 {
-    let wanted = Wanted {
-        file: name_of(choice.file),
-        workers: choice.workers,
-        budget: choice.budget,
-        show: choice.show,
-    };
     let asking = Asking {
         progress,
         is_asked: choice.progress,
@@ -142,12 +136,25 @@ fn run_choice<'a, K: Computes, S: FileSystem, R: Wait + Clock + Threads + Sync, 
         rt,
         alloc,
         files,
-        wanted,
+        wanted_of(choice),
         choice.tokens.as_slice(),
         choice.outputs.as_slice(),
         choice.quiet,
         &asking,
     )
+}
+
+/// What a run that was chosen wants of its network.
+fn wanted_of<'a>(choice: &RunChoice<'a>) -> Wanted<'a>
+    ensures want { want_of result ≡ want_of_run choice.now }
+    ensures workers { result.workers ≡ choice.now.workers }
+{
+    Wanted {
+        file: name_of(choice.file),
+        workers: choice.workers,
+        budget: choice.budget,
+        show: choice.show,
+    }
 }
 
 /// Draws a network as it was chosen.
@@ -175,6 +182,13 @@ fn draw_choice<'a, K: Computes + Titled, S: FileSystem, R: Wait + Clock + Thread
         wanted,
         choice.tokens.as_slice(),
         choice.direction,
-        choice.workers.is_some(),
+        is_run(choice),
     )
+}
+
+/// Whether a network is drawn as a run left it.
+fn is_run(choice: &DrawChoice<'_>) -> bool
+    ensures { result ≡ is_some choice.now.workers }
+{
+    choice.workers.is_some()
 }

@@ -2,10 +2,11 @@
 ghost use Rattle.std.specs.Prelude.{◌≡◌, IfOk, IfErr, IfSome};
 ghost use Rattle.std.specs.List.{AllZip};
 ghost use Rattle.kpn_model.specs.Network.{family_of};
+ghost use Rattle.hox_execute.specs.Pairs.{channels_of};
 ghost use Rattle.hox_execute.specs.Streaming.{AreEnds, IsCreated, IsFaultyBetween, IsNoEnds, IsOpened, IsRefusedIn, IsRefusedText, IsSketchIn, IsSketchOf, IsStreamStop, IsUnfit, IsUnopened, IsUnread, IsUnreadText, IsUnwritten, Opens, RunsBetween, StartsBetween, StreamsBetween};
 
 use crate::files::FileSystem;
-use crate::pairs::{Pair, count_standard, is_named_twice, name_of, pairs_of};
+use crate::pairs::{Pair, is_named_twice, is_written_twice, name_of, pairs_of};
 use crate::reading::{names_of, read_file};
 use crate::stops::Stop;
 use hox_args::StreamChoice;
@@ -15,7 +16,7 @@ use kpn_compute::{Both, Computes};
 use kpn_front::{Refused, Sink, Source};
 use kpn_model::{Kinds, Listed, Text};
 use kpn_net::{Net, NetFault, Sketch};
-use std::alloc::Global;
+use std::alloc::{AllocError, Global};
 
 /// The ends of a stream: from which files tokens come into which channels, and to which files which channels go.
 #[derive(Drop)]
@@ -102,7 +103,7 @@ fn ends_of<'a>(alloc: Global, choice: &StreamChoice<'a>) -> Result<Ends<'a>, Str
     if is_named_twice(name_of(choice.file), inputs.as_slice()) {
         return Err(StreamStop::Asked(Stop::InputTwice));
     }
-    if count_standard(outputs.as_slice()) > 1 {
+    if is_written_twice(outputs.as_slice()) {
         return Err(StreamStop::OutputTwice);
     }
     Ok(Ends { inputs, outputs })
@@ -151,7 +152,7 @@ fn open_described<K: Computes>(
 {
     let Described { sketch, channels } = described;
     let (Ok(fed), Ok(drained)) = (
-        names_of(alloc, ends.inputs.as_slice()),
+        fed_names(alloc, ends),
         names_of(alloc, ends.outputs.as_slice()),
     ) else {
         return Err(Unopened::Memory);
@@ -160,6 +161,13 @@ fn open_described<K: Computes>(
         Ok(start) => Ok(start),
         Err(fault) => Err(Unopened::Faulty(channels, fault)),
     }
+}
+
+/// The names of the channels that are fed.
+fn fed_names(alloc: Global, ends: &Ends<'_>) -> Result<Vec<Text>, AllocError>
+    ensures { IfOk result (λ names. names.items ≡ channels_of ends.now.inputs.items) }
+{
+    names_of(alloc, ends.inputs.as_slice())
 }
 
 /// What the description in this file describes.
@@ -229,12 +237,24 @@ fn run_between<'a, F: Computes, S: FileSystem>(
     ensures done { IfOk result (λ s. (s.ends ≡ ends.entry) × RunsBetween (family_of F.start F.answer_of) (S.contents files.now) ends.entry start s.served.flow s.served.inlets.items s.served.outlets.items s.served.finish) }
     ensures stop { IfErr result (IsUnfit ends.entry) }
 {
-    let sources = sources_of(alloc, files, ends.inputs.as_slice())?;
+    let sources = sources_between(alloc, files, &ends)?;
     let sinks = sinks_of(alloc, files, ends.outputs.as_slice())?;
     match serve(alloc, start, sources, sinks) {
         Ok(served) => Ok(Streamed { ends, served }),
         Err(_) => Err(StreamStop::Asked(Stop::Memory)),
     }
+}
+
+/// The files from which tokens come, opened to be read.
+fn sources_between<'a, S: FileSystem>(
+    alloc: Global,
+    files: &S,
+    ends: &Ends<'a>,
+) -> Result<Vec<S::Input>, StreamStop<'a>>
+    ensures ok { IfOk result (λ v. AllZip (IsOpened S.Input.remaining S.Input.has_failed (S.contents files.now)) ends.now.inputs.items v.items) }
+    ensures stop { IfErr result (IsUnread ends.now.inputs.items) }
+{
+    sources_of(alloc, files, ends.inputs.as_slice())
 }
 
 /// The files of these pairs, opened to be read.

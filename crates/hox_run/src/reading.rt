@@ -1,5 +1,5 @@
 //! Reading a file of tokens to its end.
-ghost use Rattle.std.specs.Prelude.{◌≡◌, ◌≢◌, ◌<◌, ◌≤◌, ◌+◌, true, IfOk, IfSome, length};
+ghost use Rattle.std.specs.Prelude.{◌≡◌, ◌≢◌, ◌<◌, ◌≤◌, ◌+◌, false, true, IsTrue, IfOk, IfSome, length};
 ghost use Rattle.kpn_front.specs.Loading.{ConsumesAtMost};
 
 use kpn_front::Source;
@@ -32,7 +32,7 @@ pub fn read_whole<S: Source>(alloc: Global, source: &mut S) -> Result<Vec<u8>, R
 {
     let mut text = Vec::new(alloc);
     let mut chunk = [0; CHUNK];
-    while text.len() <= LONGEST_FILE {
+    while goes_on(text.len()) {
         let room = CHUNK.min(LONGEST_FILE + 1 - text.len());
         match source.read(&mut chunk[..room]) {
             Ok(0) => return Ok(text),
@@ -45,4 +45,12 @@ pub fn read_whole<S: Source>(alloc: Global, source: &mut S) -> Result<Vec<u8>, R
         }
     }
     Err(ReadFault::TooLong)
+}
+
+/// Whether a text of so many bytes is read on: a file may have as many.
+fn goes_on(len: usize) -> bool
+    ensures on { IsTrue result → len ≤ LONGEST_FILE }
+    ensures over { result ≡ false → LONGEST_FILE < len }
+{
+    len <= LONGEST_FILE
 }

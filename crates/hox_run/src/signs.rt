@@ -1,5 +1,5 @@
 //! Arguments below 0.
-ghost use Rattle.std.specs.Prelude.{◌≡◌, IfOk, map};
+ghost use Rattle.std.specs.Prelude.{◌≡◌, [], IfOk, map};
 ghost use Rattle.hox_run.specs.Signs.{carried, count_below, is_below, signed_args, signed_kind, signed_process, with_signs};
 
 use kpn_model::{Kinds, Listed, Text};
@@ -52,17 +52,24 @@ fn signed_process<K: Kinds>(
     if !is_below(process.args.as_slice(), 0) {
         return Ok(process);
     }
-    let signed = ProcessSketch {
-        name: Text::new(String::new(alloc)),
-        kind: signed_kind(alloc, process.kind.as_str())?,
-        args: Listed::new(signed_args(alloc, process.args.as_slice())?),
-    };
+    let signed = signed_form(alloc, &process)?;
     if has_wrong_args::<K>(&signed) {
         return Ok(process);
     }
     Ok(ProcessSketch {
         name: process.name,
         ..signed
+    })
+}
+
+/// A process without a name, of the kind that takes arguments below 0, with those of this process.
+fn signed_form(alloc: Global, process: &ProcessSketch) -> Result<ProcessSketch, AllocError>
+    ensures { IfOk result (λ r. r ≡ record { name = []; kind = signed_kind process.now.kind; args = signed_args process.now.args }) }
+{
+    Ok(ProcessSketch {
+        name: Text::new(String::new(alloc)),
+        kind: signed_kind(alloc, process.kind.as_str())?,
+        args: Listed::new(signed_args(alloc, process.args.as_slice())?),
     })
 }
 

@@ -1,5 +1,5 @@
 -- Why a flow is not opened whose channels may be fed and drained.
-use Rattle.std.proofs.Common.{◌≡◌, ◌&&◌, ◌||◌, ◌⊎◌, ℕ, Bool, true, false, nat_lt, List, [], ◌∷◌, ◌++◌, length, map, take, get_or, Option, Some, None, Result, Ok, Err, IfOk, IfErr, if◌then◌else◌, inl, inr, refl, sym, ap, ◌∙◌, subst, ◌<◌, ◌+◌}
+use Rattle.std.proofs.Common.{◌≡◌, ◌&&◌, ◌||◌, ◌⊎◌, ℕ, Bool, true, false, nat_lt, List, [], ◌∷◌, ◌++◌, length, map, take, get_or, Option, Some, None, Result, Ok, Err, IfOk, IfErr, if◌then◌else◌, inl, inr, ⊎_elim, refl, sym, ap, ◌∙◌, subst, ◌<◌, ◌+◌}
 use Rattle.std.proofs.lemmas.Bool.{and_right, or_from, or_parts}
 use Rattle.std.proofs.lemmas.List.{get_or_read, length-map, map-append, map_more}
 use Rattle.std.proofs.lemmas.List.Folds.{list_any-append}
@@ -78,6 +78,12 @@ module _ (kinds : Family) (net : Network) (inputs outputs : List ℕ) (no_in : l
   -- a channel is named twice, or memory was refused
   pub few_faults : (cards : List Card) → cards ≡ cards_in net → (f : FlowFault) → IsFlowFault kinds net cards inputs outputs f → ((f ≡ Twice) × (is_twice inputs outputs ≡ true)) ⊎ (f ≡ Memory)
   few_faults cards same f h = at_cards f (subst (λ (l : List Card). IsFlowFault kinds net l inputs outputs f) same h)
+
+  -- and the fault of the stream says which
+  pub start_fault_of : (cards : List Card) → cards ≡ cards_in net → (f : FlowFault) → IsFlowFault kinds net cards inputs outputs f → (fault : StreamFault) → (f ≡ Twice → fault ≡ NamedTwice) → (f ≡ Memory → fault ≡ NoMemory)
+      → IsStartFault inputs outputs fault
+  start_fault_of cards same f h fault twice memory =
+      ⊎_elim (λ x. subst (λ (e : StreamFault). IsStartFault inputs outputs e) (sym (twice x.0)) x.1) (λ x. subst (λ (e : StreamFault). IsStartFault inputs outputs e) (sym (memory x)) tt) (few_faults cards same f h)
 
 module _ (kinds : Family) (net : Network) (fed drained : List (List ℕ)) where
   -- a flow at its start is one of the stream

@@ -1,12 +1,12 @@
 //! The start of a stream.
-ghost use Rattle.std.specs.Prelude.{◌≡◌, ◌<◌, false, [], Some, IfOk, IfErr, IfSome, length, map, get_or};
+ghost use Rattle.std.specs.Prelude.{◌≡◌, ◌<◌, ◌⊎◌, false, [], Some, IfOk, IfErr, IfSome, length, map, get_or};
 ghost use Rattle.std.specs.List.{list_any};
 ghost use Rattle.kpn_compute.specs.Both.{both_family, both_named, both_ports};
 ghost use Rattle.kpn_model.specs.Network.{channel_of, family_of};
 ghost use Rattle.kpn_flow.specs.Ends.{is_no_channel};
 ghost use Rattle.kpn_net.specs.Sketched.{net_of};
 ghost use Rattle.hox_stream.specs.Exits.{exit_named, exit_ports, exits, with_exits};
-ghost use Rattle.hox_stream.specs.Starts.{AreNamed, IsFresh, IsNameFault, IsNameOf, IsNoNetwork, IsStarted, IsStartFault, IsStreamFault, cards_in, is_busy, number_of_channel, outer_process};
+ghost use Rattle.hox_stream.specs.Starts.{AreNamed, IsFresh, IsNameFault, IsNameOf, IsNoNetwork, IsStart, IsStarted, IsStartFault, IsStreamFault, cards_in, is_busy, number_of_channel, outer_process};
 
 use crate::exits::Exits;
 use crate::opening::net_with_exits;
@@ -135,17 +135,49 @@ fn start<F: Computes>(
     ensures outputs { IfOk result (λ s. s.outputs ≡ outputs.items) }
     ensures fault { IfErr result (IsStartFault inputs.items outputs.items) }
 {
-    match Flow::open(alloc, net, bodies, inputs.as_slice(), outputs.as_slice()) {
+    match flow_between(alloc, net, bodies, inputs.as_slice(), outputs.as_slice()) {
         Ok(flow) => Ok(OpenStream {
             flow,
             inputs,
             outputs,
         }),
-        Err(refused) => match refused.fault {
-            FlowFault::Twice => Err(StreamFault::Twice),
-            FlowFault::Memory => Err(StreamFault::Memory),
-            _ => unreachable!(),
-        },
+        Err(fault) => Err(fault),
+    }
+}
+
+/// The flow of a network at its start, from these inputs to these outputs.
+fn flow_between<F: Computes>(
+    alloc: Global,
+    net: Net<F>,
+    bodies: Vec<CardBody<F>>,
+    inputs: &[usize],
+    outputs: &[usize],
+) -> Result<Flow<CardBody<F>>, StreamFault>
+    requires cards { map ⟦<CardBody<F> as Body>⟧.card bodies.items ≡ cards_in net }
+    requires inputs { list_any (is_no_channel net) inputs.now ≡ false }
+    requires outputs { list_any (is_no_channel net) outputs.now ≡ false }
+    requires fed { list_any (is_busy (family_of F.start F.answer_of) net Way.In) inputs.now ≡ false }
+    requires drained { list_any (is_busy (family_of F.start F.answer_of) net Way.Out) outputs.now ≡ false }
+    ensures fresh { IfOk result (IsFresh (family_of F.start F.answer_of) net) }
+    ensures start { IfOk result (λ flow. IsStart (family_of F.start F.answer_of) flow inputs.now outputs.now) }
+    ensures fault { IfErr result (IsStartFault inputs.now outputs.now) }
+{
+    match Flow::open(alloc, net, bodies, inputs, outputs) {
+        Ok(flow) => Ok(flow),
+        Err(refused) => Err(fault_of(refused.fault)),
+    }
+}
+
+/// Why a stream is not opened whose flow has this fault.
+fn fault_of(fault: FlowFault) -> StreamFault
+    requires { (fault ≡ FlowFault.Twice) ⊎ (fault ≡ FlowFault.Memory) }
+    ensures twice { fault ≡ FlowFault.Twice → result ≡ StreamFault.Twice }
+    ensures memory { fault ≡ FlowFault.Memory → result ≡ StreamFault.Memory }
+{
+    match fault {
+        FlowFault::Twice => StreamFault::Twice,
+        FlowFault::Memory => StreamFault::Memory,
+        _ => unreachable!(),
     }
 }
 

@@ -1,11 +1,12 @@
 //! Sketches as texts.
-ghost use Rattle.std.specs.Prelude.{◌≡◌, ◌↔◌, false, Err, IfOk, length, string_bytes};
+ghost use Rattle.std.specs.Prelude.{◌≡◌, ◌↔◌, false, Err, IfOk, OnOk, length, string_bytes};
 ghost use Rattle.std.specs.List.{list_all};
+ghost use Rattle.toml.specs.Data.{no_members};
 ghost use Rattle.toml.specs.View.{table_view};
 ghost use Rattle.kpn_sketch.specs.Description.{Describes};
 ghost use Rattle.kpn_builder.specs.Written.{has_no_tokens, is_describable, sketch_members, version_members};
 
-use crate::value::{ToValue, put};
+use crate::value::put_held;
 use kpn_model::version::is_two;
 use kpn_sketch::{ChannelSketch, Sketch};
 use std::alloc::{AllocError, Global};
@@ -69,31 +70,36 @@ fn is_describable(sketch: &Sketch) -> bool
     is_two(sketch.version) || (sketch.step == 1 && none_has_tokens(sketch.channels.as_slice()))
 }
 
-/// The members at the top whose keys come last.
-fn version_members(alloc: Global, sketch: &Sketch) -> Result<Table, AllocError>
-    ensures { IfOk result (λ t. table_view t ≡ version_members sketch.now) }
+/// Puts the members at the top whose keys come last into a table.
+fn put_version(alloc: Global, table: &mut Table, sketch: &Sketch) -> Result<(), AllocError>
+    requires { table_view table.old ≡ no_members }
+    ensures { OnOk result (table_view table.new ≡ version_members sketch.now) }
 {
     let two = is_two(sketch.version);
-    let mut table = Table::new(alloc);
-    let version = sketch.version.to_value(alloc, two)?;
-    put(alloc, &mut table, "version", version)?;
+    put_held(alloc, table, "version", &sketch.version, two)?;
     if two {
-        put(alloc, &mut table, "step", sketch.step.to_value(alloc, two)?)?;
+        put_held(alloc, table, "step", &sketch.step, two)?;
     }
-    Ok(table)
+    Ok(())
+}
+
+/// Puts the members of a sketch into a table.
+fn put_sketch(alloc: Global, table: &mut Table, sketch: &Sketch) -> Result<(), AllocError>
+    requires { table_view table.old ≡ no_members }
+    ensures { OnOk result (table_view table.new ≡ sketch_members sketch.now) }
+{
+    let two = is_two(sketch.version);
+    put_version(alloc, table, sketch)?;
+    put_held(alloc, table, "process", &sketch.processes, two)?;
+    put_held(alloc, table, "channel", &sketch.channels, two)?;
+    put_held(alloc, table, "budget", &sketch.budget, two)
 }
 
 /// The document of a sketch.
 fn table_of(alloc: Global, sketch: &Sketch) -> Result<Table, AllocError>
     ensures { IfOk result (λ t. table_view t ≡ sketch_members sketch.now) }
 {
-    let two = is_two(sketch.version);
-    let mut table = version_members(alloc, sketch)?;
-    let processes = sketch.processes.to_value(alloc, two)?;
-    put(alloc, &mut table, "process", processes)?;
-    let channels = sketch.channels.to_value(alloc, two)?;
-    put(alloc, &mut table, "channel", channels)?;
-    let budget = sketch.budget.to_value(alloc, two)?;
-    put(alloc, &mut table, "budget", budget)?;
+    let mut table = Table::new(alloc);
+    put_sketch(alloc, &mut table, sketch)?;
     Ok(table)
 }

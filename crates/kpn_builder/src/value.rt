@@ -1,8 +1,8 @@
 //! The parts of a sketch as values of TOML.
 ghost use Rattle.std.specs.Prelude.{◌≡◌, Bool, IfOk, OnOk, map};
-ghost use Rattle.toml.specs.Data.{Data, string};
+ghost use Rattle.toml.specs.Data.{Data, no_members, string, table as as_table};
 ghost use Rattle.toml.specs.View.{view, table_view};
-ghost use Rattle.kpn_builder.specs.Written.{with_member, last_members};
+ghost use Rattle.kpn_builder.specs.Written.{channel_value, last_members, process_value, with_member};
 
 use kpn_model::{Listed, Sort, Text};
 use kpn_sketch::{ChannelSketch, ProcessSketch, TokenSketch};
@@ -31,6 +31,19 @@ pub(crate) fn put(
         Ok(_) => Ok(()),
         Err(_) => Err(AllocError),
     }
+}
+
+/// Puts what a description holds of this into a table.
+pub(crate) fn put_held<T: ToValue>(
+    alloc: Global,
+    table: &mut Table,
+    key: &str,
+    held: &T,
+    two: bool,
+) -> Result<(), AllocError>
+    ensures { OnOk result (table_view table.new ≡ with_member key.now (T.value two held.now) (table_view table.old)) }
+{
+    put(alloc, table, key, held.to_value(alloc, two)?)
 }
 
 fn string_value(alloc: Global, text: &str) -> Result<Value, AllocError>
@@ -114,24 +127,59 @@ impl ToValue for ProcessSketch {
 
     fn to_value(&self, alloc: Global, two: bool) -> Result<Value, AllocError> {
         let mut table = Table::new(alloc);
-        put(alloc, &mut table, "name", self.name.to_value(alloc, two)?)?;
-        put(alloc, &mut table, "kind", self.kind.to_value(alloc, two)?)?;
-        put(alloc, &mut table, "args", self.args.to_value(alloc, two)?)?;
+        put_process(alloc, &mut table, self, two)?;
         Ok(Value::from(table))
     }
 }
 
-/// The members of a channel whose keys come last.
-fn last_members(alloc: Global, channel: &ChannelSketch, two: bool) -> Result<Table, AllocError>
-    ensures { IfOk result (λ t. table_view t ≡ last_members two channel.now) }
+/// Puts the members of a process into a table.
+fn put_process(
+    alloc: Global,
+    table: &mut Table,
+    process: &ProcessSketch,
+    two: bool,
+) -> Result<(), AllocError>
+    requires { table_view table.old ≡ no_members }
+    ensures { OnOk result (as_table (table_view table.new) ≡ process_value process.now) }
 {
-    let mut table = Table::new(alloc);
+    put_held(alloc, table, "name", &process.name, two)?;
+    put_held(alloc, table, "kind", &process.kind, two)?;
+    put_held(alloc, table, "args", &process.args, two)
+}
+
+/// Puts the members of a channel whose keys come last into a table.
+fn put_last(
+    alloc: Global,
+    table: &mut Table,
+    channel: &ChannelSketch,
+    two: bool,
+) -> Result<(), AllocError>
+    requires { table_view table.old ≡ no_members }
+    ensures { OnOk result (table_view table.new ≡ last_members two channel.now) }
+{
     if two {
-        let tokens = channel.tokens.to_value(alloc, two)?;
-        put(alloc, &mut table, "tokens", tokens)?;
+        put_held(alloc, table, "tokens", &channel.tokens, two)?;
     }
-    put(alloc, &mut table, "to", channel.to.to_value(alloc, two)?)?;
-    Ok(table)
+    put_held(alloc, table, "to", &channel.to, two)
+}
+
+/// Puts the members of a channel into a table.
+fn put_channel(
+    alloc: Global,
+    table: &mut Table,
+    channel: &ChannelSketch,
+    two: bool,
+) -> Result<(), AllocError>
+    requires { table_view table.old ≡ no_members }
+    ensures { OnOk result (as_table (table_view table.new) ≡ channel_value two channel.now) }
+{
+    put_last(alloc, table, channel, two)?;
+    put_held(alloc, table, "sort", &channel.sort, two)?;
+    put_held(alloc, table, "out", &channel.out, two)?;
+    put_held(alloc, table, "name", &channel.name, two)?;
+    put_held(alloc, table, "in", &channel.input, two)?;
+    put_held(alloc, table, "from", &channel.from, two)?;
+    put_held(alloc, table, "capacity", &channel.capacity, two)
 }
 
 impl ToValue for ChannelSketch {
@@ -140,14 +188,8 @@ impl ToValue for ChannelSketch {
     ghost value = { channel_value };
 
     fn to_value(&self, alloc: Global, two: bool) -> Result<Value, AllocError> {
-        let mut table = last_members(alloc, self, two)?;
-        put(alloc, &mut table, "sort", self.sort.to_value(alloc, two)?)?;
-        put(alloc, &mut table, "out", self.out.to_value(alloc, two)?)?;
-        put(alloc, &mut table, "name", self.name.to_value(alloc, two)?)?;
-        put(alloc, &mut table, "in", self.input.to_value(alloc, two)?)?;
-        put(alloc, &mut table, "from", self.from.to_value(alloc, two)?)?;
-        let capacity = self.capacity.to_value(alloc, two)?;
-        put(alloc, &mut table, "capacity", capacity)?;
+        let mut table = Table::new(alloc);
+        put_channel(alloc, &mut table, self, two)?;
         Ok(Value::from(table))
     }
 }

@@ -1,5 +1,5 @@
 //! Reading a network from a source.
-ghost use Rattle.std.specs.Prelude.{◌≡◌, ◌≢◌, false, ◌≤◌, ◌<◌, ◌+◌, ◌⊎◌, true, IfOk, IfErr, IfSome, length};
+ghost use Rattle.std.specs.Prelude.{◌≡◌, ◌≢◌, false, ◌≤◌, ◌<◌, ◌+◌, ◌⊎◌, true, IsTrue, IfOk, IfErr, IfSome, length};
 ghost use Rattle.kpn_front.specs.Loading.{Loads, ConsumesAtMost, longest, without_text, IsTextOf};
 
 use crate::streams::Source;
@@ -76,7 +76,7 @@ pub fn read_text<S: Source>(alloc: Global, source: &mut S) -> Result<Vec<u8>, Ne
 {
     let mut text = Vec::new(alloc);
     let mut chunk = [0; CHUNK];
-    while text.len() <= LONGEST_TEXT {
+    while goes_on(text.len()) {
         let room = CHUNK.min(LONGEST_TEXT + 1 - text.len());
         match source.read(&mut chunk[..room]) {
             Ok(0) => return Ok(text),
@@ -89,4 +89,12 @@ pub fn read_text<S: Source>(alloc: Global, source: &mut S) -> Result<Vec<u8>, Ne
         }
     }
     Err(NetFault::Input)
+}
+
+/// Whether a text of so many bytes is read on: a description may have as many.
+fn goes_on(len: usize) -> bool
+    ensures on { IsTrue result → len ≤ longest }
+    ensures over { result ≡ false → longest < len }
+{
+    len <= LONGEST_TEXT
 }

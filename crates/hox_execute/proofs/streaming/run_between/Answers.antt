@@ -14,8 +14,8 @@ returns-in-Ok-clause-done g c =
     let outputs = c.args.ends.outputs.items in
     let sources = c.in_ok-sources.sources.items in
     let sinks = c.in_ok-sinks.sinks.items in
-    let opened : AllZip (IsOpened g.S.Input.Source.remaining g.S.Input.Source.has_failed contents) inputs sources = rw c.as_slice.ensures.value at c.in_ok-sources.ensures.ok in
-    let created : AllZip (IsCreated seen) outputs sinks = rw c.as_slice-2.ensures.value at c.in_ok-sinks.ensures.ok in
+    let opened : AllZip (IsOpened g.S.Input.Source.remaining g.S.Input.Source.has_failed contents) inputs sources = c.in_ok-sources.ensures.ok in
+    let created : AllZip (IsCreated seen) outputs sinks = rw c.as_slice.ensures.value at c.in_ok-sinks.ensures.ok in
     let ins = same_sources g.S.Input.Source.remaining g.S.Input.Source.has_failed contents start.network start.inputs inputs sources opened in
     let outs = same_sinks seen start.outputs sinks in
     (refl, record { sinks = map seen sinks; empty = all_empty seen outputs sinks created; serves = rw (ins, outs) at c.in-Ok.ensures })
