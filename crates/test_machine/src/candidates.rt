@@ -90,7 +90,7 @@ channel = [
 ";
 
 /// The smallest channel grows first, and of equal ones the one of least number.
-const GROWTHS: [Entry; 6] = [
+static GROWTHS: [Entry; 6] = [
     Entry::Grew { channel: 1, to: 2 },
     Entry::Grew { channel: 1, to: 3 },
     Entry::Grew { channel: 2, to: 3 },

@@ -25,7 +25,7 @@ struct EndOfRun {
 }
 
 /// The sink reads one token, so that the channel grows.
-const TERMINATED: EndOfRun = EndOfRun {
+static TERMINATED: EndOfRun = EndOfRun {
     name: "terminated",
     text: SINK_OF_ONE,
     end: End::Terminated,
@@ -37,7 +37,7 @@ const TERMINATED: EndOfRun = EndOfRun {
 };
 
 /// The sink reads all three tokens.
-const ALL_READ: EndOfRun = EndOfRun {
+static ALL_READ: EndOfRun = EndOfRun {
     name: "all read",
     text: SINK_OF_THREE,
     end: End::Terminated,
@@ -49,7 +49,7 @@ const ALL_READ: EndOfRun = EndOfRun {
 };
 
 /// The sink waits for a fourth token.
-const DEADLOCK: EndOfRun = EndOfRun {
+static DEADLOCK: EndOfRun = EndOfRun {
     name: "deadlock",
     text: SINK_OF_FOUR,
     end: End::Deadlock,

@@ -49,14 +49,14 @@ pub(crate) struct Misfit {
     pub(crate) cards: &'static [Card],
 }
 
-const TOO_FEW: Misfit = Misfit {
+static TOO_FEW: Misfit = Misfit {
     name: "too few",
     fault: OpenFault::Bodies,
     number: 1,
     cards: &[COUNTER],
 };
 
-const TURNED: Misfit = Misfit {
+static TURNED: Misfit = Misfit {
     name: "turned",
     fault: OpenFault::Card,
     number: 2,

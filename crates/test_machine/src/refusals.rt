@@ -20,7 +20,7 @@ enum Refused {
 }
 
 /// What is handed back if memory is refused.
-const NO_MEMORY: Misfit = Misfit {
+static NO_MEMORY: Misfit = Misfit {
     name: "no memory",
     fault: OpenFault::Memory,
     number: 3,

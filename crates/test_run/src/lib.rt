@@ -1,4 +1,4 @@
-//! Tests of runs by several workers, and of what a program of one's own calls.
+//! Tests of runs by several workers, of monitors that they share, and of what a program of one's own calls.
 #![tactic(auto)]
 
 #[cfg(test)]
@@ -15,6 +15,8 @@ mod large;
 mod library;
 #[cfg(test)]
 mod meeting;
+#[cfg(test)]
+mod monitor;
 #[cfg(test)]
 mod networks;
 #[cfg(test)]

@@ -18,11 +18,10 @@ use test_texts::{
     COPIED_AND_WOVEN, COUNTER_INTO_SINK, COUNTER_INTO_SMALL_SINK, RUNNING_SUMS, TWO_FULL_CHANNELS,
 };
 
-/// A gate that counts how often it is asked: once for each answer, so at least once for each process,
-/// and at most as often as there are entries and processes.
+/// A gate that counts how often it is asked, which is once for each answer.
 #[derive(Drop)]
-struct Counts {
-    asked: AtomicU64,
+pub(crate) struct Counts {
+    pub(crate) asked: AtomicU64,
 }
 
 impl Gate for Counts {
@@ -127,7 +126,8 @@ fn run_counted<B: Body, R: Threads + Wait + Clock + Abort + Sync>(
     compare(rt, alloc, &finish, due).expect(rt, "no memory");
 }
 
-/// Compares how often a gate was asked with what is expected.
+/// Compares how often a gate was asked with what is expected: at least once for each process, and at most as often
+/// as there are entries and processes.
 fn compare_asked<R: Abort>(rt: &R, asked: u64, due: &Due) {
     let processes = due.processes as u64;
     let most = due.entries.saturating_add(processes);

@@ -1,0 +1,8 @@
+//! Tests of monitors that threads and watchers share.
+mod boards;
+mod exchanges;
+mod monitors;
+mod refusals;
+mod scenes;
+mod strangers;
+mod watchers;

@@ -1,0 +1,228 @@
+//! Calls of a monitor, with only such contracts as the scenes need.
+ghost use Rattle.std.specs.Prelude.{◌≡◌};
+ghost use Rattle.kpn_machine.specs.MachineView.{IsFresh};
+
+use crate::checks::same;
+use crate::networks::{Parts, parts_of};
+use crate::runs::Counts;
+use kpn_body::{Body, Finished, Standard, Task};
+use kpn_compute::CardBody;
+use kpn_machine::{Machine, Outcome, Stranger};
+use kpn_monitor::{Closed, EntryLedger, Monitor, Opening, Seat, Taken};
+use kpn_net::{End, Kinds, Net};
+use kpn_run::{Open, Worked, work};
+use kpn_watch::{Progress, Watcher};
+use std::alloc::Global;
+use std::process::Abort;
+use std::sync::Wait;
+use std::sync::atomic::{AtomicU64, Ordering};
+use std::sync::ledger::Ledger;
+
+/// What is read from a monitor that was closed.
+#[derive(Clone, Copy, Debug, PartialEq, Eq)]
+pub(crate) struct Ended {
+    pub(crate) end: Option<End>,
+    pub(crate) receipts: u64,
+    pub(crate) entries: usize,
+    pub(crate) processes: usize,
+}
+
+/// What a monitor of the network of a text is opened with.
+pub(crate) fn opening_of<R: Abort>(
+    rt: &R,
+    alloc: Global,
+    text: &str,
+) -> Opening<CardBody<Standard>> {
+    let Parts { net, bodies } = parts_of(rt, alloc, text);
+    locked(rt, alloc, opened(rt, alloc, net, bodies))
+}
+
+/// Opens a machine.
+pub(crate) fn opened<B: Body, R: Abort>(
+    rt: &R,
+    alloc: Global,
+    net: Net<B::Kinds>,
+    bodies: Vec<B>,
+) -> Machine<B>
+    ensures { IsFresh result }
+{
+    let Ok(machine) = Machine::open(alloc, net, bodies) else {
+        panic!(rt; "no machine");
+    };
+    machine
+}
+
+/// Puts a machine under a lock.
+pub(crate) fn locked<B: Body, R: Abort>(rt: &R, alloc: Global, machine: Machine<B>) -> Opening<B>
+    requires { IsFresh machine }
+{
+    let Ok(opening) = Opening::new(alloc, machine) else {
+        panic!(rt; "no opening");
+    };
+    opening
+}
+
+/// Splits a seat in two.
+pub(crate) fn two_seats<E: EntryLedger, O: Ledger, R: Abort>(
+    rt: &R,
+    mut seat: Seat<E, O>,
+) -> (Seat<E, O>, Seat<E, O>) {
+    let Some(other) = seat.split() else {
+        panic!(rt; "one seat alone");
+    };
+    (seat, other)
+}
+
+/// A new watcher.
+pub(crate) fn watcher_of<B: Body, E: EntryLedger, O: Ledger, R: Wait + Abort>(
+    rt: &R,
+    monitor: &Monitor<B, E, O>,
+) -> Watcher
+    ensures { result.board ≡ E.board }
+{
+    let Ok(watcher) = monitor.watch(rt) else {
+        panic!(rt; "no watcher");
+    };
+    watcher
+}
+
+/// What a watcher sees.
+pub(crate) fn seen_by<B: Body, E: EntryLedger, O: Ledger>(
+    monitor: &Monitor<B, E, O>,
+    watcher: &mut Watcher,
+) -> Progress
+    requires { watcher.old.board ≡ E.board }
+    ensures { watcher.new.board ≡ E.board }
+{
+    monitor.look(watcher)
+}
+
+/// The next task of a run that goes on.
+pub(crate) fn next_task<B: Body, E: EntryLedger, O: Ledger, R: Wait + Abort>(
+    rt: &R,
+    monitor: &Monitor<B, E, O>,
+    seat: &mut Seat<E, O>,
+) -> Task<B> {
+    let Taken::Task(task) = monitor.take(rt, seat) else {
+        panic!(rt; "no task");
+    };
+    task
+}
+
+/// Commits an answer that was asked for.
+pub(crate) fn outcome_of<B: Body, E: EntryLedger, O: Ledger, R: Wait + Abort>(
+    rt: &R,
+    monitor: &Monitor<B, E, O>,
+    finished: Finished<B>,
+    seat: &mut Seat<E, O>,
+) -> Outcome {
+    let Ok(outcome) = monitor.commit(rt, finished, seat) else {
+        panic!(rt; "a stranger");
+    };
+    outcome
+}
+
+/// Commits an answer that wasn't asked for, which comes back.
+pub(crate) fn handed_back<B: Body, E: EntryLedger, O: Ledger, R: Wait + Abort>(
+    rt: &R,
+    monitor: &Monitor<B, E, O>,
+    finished: Finished<B>,
+    seat: &mut Seat<E, O>,
+) -> Finished<B> {
+    let Err(Stranger { finished }) = monitor.commit(rt, finished, seat) else {
+        panic!(rt; "not a stranger");
+    };
+    finished
+}
+
+/// Works with one seat to the end of the run; no answer may be refused, and the gate is asked `due` times.
+pub(crate) fn work_counted<B: Body, E: EntryLedger, O: Ledger, R: Wait + Abort>(
+    rt: &R,
+    monitor: &Monitor<B, E, O>,
+    seat: Seat<E, O>,
+    due: u64,
+) -> Seat<E, O> {
+    let gate = Counts {
+        asked: AtomicU64::new(0),
+    };
+    let Worked { seat, stranger } = work(rt, monitor, seat, &gate);
+    same(rt, "refused", stranger.is_some(), false);
+    same(rt, "asked", gate.asked.load(Ordering::SeqCst), due);
+    seat
+}
+
+/// Works with one seat to the end of the run; no answer may be refused.
+pub(crate) fn work_alone<B: Body, E: EntryLedger, O: Ledger, R: Wait + Abort>(
+    rt: &R,
+    monitor: &Monitor<B, E, O>,
+    seat: Seat<E, O>,
+) -> Seat<E, O> {
+    let Worked { seat, stranger } = work(rt, monitor, seat, &Open);
+    same(rt, "refused", stranger.is_some(), false);
+    seat
+}
+
+/// A list of these seats, for which there must be memory.
+pub(crate) fn list_of<E: EntryLedger, O: Ledger, R: Abort, const N: usize>(
+    rt: &R,
+    alloc: Global,
+    seats: [Seat<E, O>; N],
+) -> Vec<Seat<E, O>> {
+    let Ok(seats) = Vec::from_array(alloc, seats) else {
+        panic!(rt; "no memory");
+    };
+    seats
+}
+
+/// Closes a monitor with this seat, which has all parts.
+pub(crate) fn close_alone<B: Body, E: EntryLedger, O: Ledger, R: Abort>(
+    rt: &R,
+    alloc: Global,
+    monitor: Monitor<B, E, O>,
+    seat: Seat<E, O>,
+) -> Closed<B::Kinds, E> {
+    close_with(rt, monitor, list_of(rt, alloc, [seat]))
+}
+
+/// The result of a monitor that is closed with this seat, which has all parts.
+pub(crate) fn ended_alone<B: Body, E: EntryLedger, O: Ledger, R: Abort>(
+    rt: &R,
+    alloc: Global,
+    monitor: Monitor<B, E, O>,
+    seat: Seat<E, O>,
+) -> Ended {
+    let closed = close_alone(rt, alloc, monitor, seat);
+    ended_of(&closed)
+}
+
+/// Closes a monitor with these seats, which have all parts.
+pub(crate) fn close_with<B: Body, E: EntryLedger, O: Ledger, R: Abort>(
+    rt: &R,
+    monitor: Monitor<B, E, O>,
+    seats: Vec<Seat<E, O>>,
+) -> Closed<B::Kinds, E> {
+    let Ok(closed) = monitor.close(seats) else {
+        panic!(rt; "not closed");
+    };
+    closed
+}
+
+/// Reads the result of a monitor that was closed.
+pub(crate) fn ended_of<K: Kinds, E: EntryLedger>(closed: &Closed<K, E>) -> Ended {
+    Ended {
+        end: closed.end(),
+        receipts: closed.receipts(),
+        entries: closed.history().len(),
+        processes: closed.net().processes(),
+    }
+}
+
+/// What a watcher is shown of the whole history.
+pub(crate) fn shown_to<K: Kinds, E: EntryLedger>(
+    closed: &mut Closed<K, E>,
+    watcher: Watcher,
+) -> Progress
+    requires { watcher.board ≡ E.board }
+{
+    closed.settle(watcher)
+}

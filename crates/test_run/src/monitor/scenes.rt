@@ -1,0 +1,416 @@
+//! What is played on a monitor.
+//!
+//! The names of a monitor's ledgers are type parameters, so each scene is a function that is generic
+//! over them.
+ghost use Rattle.std.specs.Prelude.{◌≡◌, ◌<◌, ◌++◌, ◌∷◌, [], All, IfSome};
+
+use crate::checks::same;
+use crate::monitor::exchanges::{SHOWN, asked_in_place, exchanged};
+use crate::monitor::monitors::{
+    Ended, close_alone, close_with, ended_alone, ended_of, list_of, next_task, opening_of,
+    outcome_of, seen_by, shown_to, two_seats, watcher_of, work_alone, work_counted,
+};
+use kpn_body::Body;
+use kpn_machine::{End, Outcome};
+use kpn_monitor::{CloseFault, Closed, EntryLedger, Monitor, Opening, Seat, Taken, Unclosed};
+use kpn_net::Kinds;
+use kpn_watch::{Phase, Progress, Watcher};
+use std::alloc::Global;
+use std::marker::Brand;
+use std::process::Abort;
+use std::rt::Clock;
+use std::sync::Wait;
+use std::sync::ledger::Ledger;
+use std::thread::{Threads, join};
+use test_texts::{COPIED_AND_WOVEN, COUNTER_INTO_SINK};
+
+#[derive(Clone, Copy)]
+enum Scene {
+    /// A watcher looks a thousand times while two threads work on Parks's case to its end.
+    Watched,
+    /// One seat commits one answer, the other works to the end, with a gate that is asked once for each
+    /// of the seven answers that are left, and the monitor is first closed without it, which is refused.
+    MissingSeat,
+    /// One seat works to the end, with a gate that is asked once for each of eight answers, and the
+    /// monitor is closed without the other, whose shares are empty.
+    EmptySeat,
+    /// One seat commits one answer, or drops its task, and the monitor is closed with no end.
+    OneTask { dropped: bool },
+    /// As many watchers as there may be, of Parks's case.
+    MostWatchers,
+    /// One hand is exchanged until a counter of three has written into a sink of three.
+    Exchanged,
+    /// One seat has the bodies of the same network asked in place.
+    InPlace,
+}
+
+static NOTHING: Progress = Progress {
+    entries: 0,
+    growths: 0,
+    phase: Phase::Running,
+};
+
+/// After one entry.
+static ONE: Progress = Progress {
+    entries: 1,
+    growths: 0,
+    phase: Phase::Running,
+};
+
+static WOVEN: Progress = Progress {
+    entries: 33,
+    growths: 1,
+    phase: Phase::Deadlock,
+};
+
+static WOVEN_ENDED: Ended = Ended {
+    end: Some(End::Deadlock),
+    receipts: 33,
+    entries: 33,
+    processes: 4,
+};
+
+/// A counter of three into a sink of three.
+pub(crate) static COUNTER_ENDED: Ended = Ended {
+    end: Some(End::Terminated),
+    receipts: 8,
+    entries: 8,
+    processes: 2,
+};
+
+/// Opens a monitor, and plays a scene on it.
+fn play<B: Body, R: Threads + Wait + Clock + Abort + Sync>(
+    rt: &R,
+    alloc: Global,
+    opening: Opening<B>,
+    scene: Scene,
+) {
+    play_opened::<B, Brand, Brand, R>(rt, alloc, opening, scene)
+}
+
+/// Plays a scene on the monitor of an opening.
+fn play_opened<
+    B: Body,
+    E: EntryLedger + Send + Sync,
+    O: Ledger + Send + Sync,
+    R: Threads + Wait + Clock + Abort + Sync,
+>(rt: &R, alloc: Global, opening: Opening<B>, scene: Scene)
+    requires network { opening.machine.network ≡ E.net }
+    requires board { opening.board ≡ E.board }
+    requires entries { (opening.entries.name ≡ E.name) × (opening.entries.parts ≡ E.parts) }
+    requires overs { (opening.overs.name ≡ O.name) × (opening.overs.parts ≡ O.parts) }
+{
+    let (monitor, seat) = Monitor::<B, E, O>::open(opening);
+    match scene {
+        Scene::Watched => watched(rt, alloc, monitor, seat),
+        Scene::MissingSeat => missing_seat(rt, alloc, monitor, seat),
+        Scene::EmptySeat => empty_seat(rt, alloc, monitor, seat),
+        Scene::OneTask { dropped } => one_task(rt, alloc, monitor, seat, dropped),
+        Scene::MostWatchers => most_watchers(rt, alloc, monitor, seat),
+        Scene::Exchanged => exchanged(rt, alloc, monitor, seat),
+        Scene::InPlace => asked_in_place(rt, alloc, monitor, seat),
+    }
+}
+
+/// Looks a thousand times, and returns whether neither number ever fell.
+fn looks<B: Body, E: EntryLedger, O: Ledger>(
+    monitor: &Monitor<B, E, O>,
+    mut watcher: Watcher,
+) -> (bool, Watcher)
+    requires { watcher.board ≡ E.board }
+    ensures { result.1.board ≡ E.board }
+{
+    let mut rising = true;
+    let mut last = seen_by(monitor, &mut watcher);
+    for _ in 0..1000 {
+        let seen = seen_by(monitor, &mut watcher);
+        rising = rising && last.entries <= seen.entries && last.growths <= seen.growths;
+        last = seen;
+    }
+    (rising, watcher)
+}
+
+/// Two seats work in threads of their own; no answer may be refused.
+fn work_in_two<
+    B: Body,
+    E: EntryLedger + Send + Sync,
+    O: Ledger + Send + Sync,
+    R: Threads + Wait + Abort + Sync,
+>(
+    rt: &R,
+    monitor: &Monitor<B, E, O>,
+    one: Seat<E, O>,
+    other: Seat<E, O>,
+) -> (Seat<E, O>, Seat<E, O>) {
+    join(
+        rt,
+        || work_alone(rt, monitor, one),
+        || work_alone(rt, monitor, other),
+    )
+}
+
+/// Two seats work while a watcher looks a thousand times.
+fn work_watched<
+    B: Body,
+    E: EntryLedger + Send + Sync,
+    O: Ledger + Send + Sync,
+    R: Threads + Wait + Abort + Sync,
+>(
+    rt: &R,
+    monitor: &Monitor<B, E, O>,
+    one: Seat<E, O>,
+    other: Seat<E, O>,
+    watcher: Watcher,
+) -> (Seat<E, O>, Seat<E, O>, Watcher)
+    requires { watcher.board ≡ E.board }
+    ensures { result.2.board ≡ E.board }
+{
+    let (looked, worked) = join(
+        rt,
+        || -> (bool, Watcher)
+            requires { watcher.board ≡ E.board }
+            ensures { result.1.board ≡ E.board }
+        { looks(monitor, watcher) },
+        || work_in_two(rt, monitor, one, other),
+    );
+    let (rising, watcher) = looked;
+    same(rt, "rising", rising, true);
+    let (one, other) = worked;
+    (one, other, watcher)
+}
+
+fn watched<
+    B: Body,
+    E: EntryLedger + Send + Sync,
+    O: Ledger + Send + Sync,
+    R: Threads + Wait + Abort + Sync,
+>(rt: &R, alloc: Global, monitor: Monitor<B, E, O>, seat: Seat<E, O>) {
+    let (one, other) = two_seats(rt, seat);
+    let first = watcher_of(rt, &monitor);
+    let mut second = watcher_of(rt, &monitor);
+    same(rt, "seen", seen_by(&monitor, &mut second), NOTHING);
+    let (one, other, mut first) = work_watched(rt, &monitor, one, other, first);
+    same(rt, "seen", seen_by(&monitor, &mut first), WOVEN);
+    let mut closed = close_with(rt, monitor, list_of(rt, alloc, [one, other]));
+    same(rt, "ended", ended_of(&closed), WOVEN_ENDED);
+    same(rt, "shown", shown_to(&mut closed, first), WOVEN);
+    same(rt, "shown", shown_to(&mut closed, second), WOVEN);
+}
+
+/// Closes a monitor with one of two seats, which is refused, and all is handed back.
+fn not_closed<B: Body, E: EntryLedger, O: Ledger, R: Abort>(
+    rt: &R,
+    monitor: Monitor<B, E, O>,
+    seats: Vec<Seat<E, O>>,
+) -> Unclosed<B, E, O> {
+    monitor
+        .close(seats)
+        .err()
+        .expect(rt, "closed without a seat")
+}
+
+/// Commits the counter's first answer.
+fn commits_one<B: Body, E: EntryLedger, O: Ledger, R: Wait + Abort>(
+    rt: &R,
+    monitor: &Monitor<B, E, O>,
+    seat: &mut Seat<E, O>,
+) {
+    let task = next_task(rt, monitor, seat);
+    let outcome = outcome_of(rt, monitor, task.call(), seat);
+    same(rt, "outcome", outcome, Outcome::Done(1));
+}
+
+/// The end that a seat meets.
+fn end_met<B: Body, E: EntryLedger, O: Ledger, R: Wait + Abort>(
+    rt: &R,
+    monitor: &Monitor<B, E, O>,
+    seat: &mut Seat<E, O>,
+) -> End {
+    let Taken::Over(end) = monitor.take(rt, seat) else {
+        panic!(rt; "not over");
+    };
+    end
+}
+
+fn missing_seat<B: Body, E: EntryLedger, O: Ledger, R: Wait + Abort>(
+    rt: &R,
+    alloc: Global,
+    monitor: Monitor<B, E, O>,
+    seat: Seat<E, O>,
+) {
+    let (mut other, seat) = two_seats(rt, seat);
+    let mut watcher = watcher_of(rt, &monitor);
+    commits_one(rt, &monitor, &mut other);
+    same(rt, "one", seen_by(&monitor, &mut watcher), ONE);
+    let mut seat = work_counted(rt, &monitor, seat, 7);
+    same(
+        rt,
+        "over",
+        end_met(rt, &monitor, &mut seat),
+        End::Terminated,
+    );
+    same(rt, "shown", seen_by(&monitor, &mut watcher), SHOWN);
+    let mut closed = close_at_last(rt, alloc, monitor, seat, other);
+    same(rt, "ended", ended_of(&closed), COUNTER_ENDED);
+    same(rt, "settled", shown_to(&mut closed, watcher), SHOWN);
+}
+
+/// Closes a monitor with one of two seats, which is refused, and then with both.
+fn close_at_last<B: Body, E: EntryLedger, O: Ledger, R: Abort>(
+    rt: &R,
+    alloc: Global,
+    monitor: Monitor<B, E, O>,
+    seat: Seat<E, O>,
+    other: Seat<E, O>,
+) -> Closed<B::Kinds, E> {
+    let unclosed = not_closed(rt, monitor, list_of(rt, alloc, [other]));
+    same(rt, "fault", unclosed.fault(), CloseFault::SeatsMissing);
+    same(rt, "number", unclosed.fault().number(), 1);
+    let Unclosed { monitor, mut seats } = unclosed;
+    same(rt, "pushed", seats.push(seat).is_ok(), true);
+    close_with(rt, monitor, seats)
+}
+
+fn empty_seat<B: Body, E: EntryLedger, O: Ledger, R: Wait + Abort>(
+    rt: &R,
+    alloc: Global,
+    monitor: Monitor<B, E, O>,
+    seat: Seat<E, O>,
+) {
+    let (_other, seat) = two_seats(rt, seat);
+    let seat = work_counted(rt, &monitor, seat, 8);
+    let ended = ended_alone(rt, alloc, monitor, seat);
+    same(rt, "ended", ended, COUNTER_ENDED);
+}
+
+fn one_task<B: Body, E: EntryLedger, O: Ledger, R: Wait + Abort>(
+    rt: &R,
+    alloc: Global,
+    monitor: Monitor<B, E, O>,
+    mut seat: Seat<E, O>,
+    dropped: bool,
+) {
+    answer_once(rt, &monitor, &mut seat, dropped);
+    let ended = ended_alone(rt, alloc, monitor, seat);
+    has_no_end(rt, ended, dropped);
+}
+
+/// Takes a task, and drops it or commits its answer.
+fn answer_once<B: Body, E: EntryLedger, O: Ledger, R: Wait + Abort>(
+    rt: &R,
+    monitor: &Monitor<B, E, O>,
+    seat: &mut Seat<E, O>,
+    dropped: bool,
+) {
+    let task = next_task(rt, monitor, seat);
+    if !dropped {
+        outcome_of(rt, monitor, task.call(), seat);
+    }
+}
+
+/// The run has not ended, and has no entry if the one task was dropped.
+fn has_no_end<R: Abort>(rt: &R, ended: Ended, dropped: bool) {
+    let receipts = if dropped { 0 } else { ended.receipts };
+    let found = (ended.end, ended.entries as u64, ended.receipts);
+    same(rt, "ended", found, (None, receipts, receipts));
+}
+
+/// Makes 64 watchers.
+fn watch_all<B: Body, E: EntryLedger, O: Ledger, R: Wait + Abort>(
+    rt: &R,
+    alloc: Global,
+    monitor: &Monitor<B, E, O>,
+) -> Vec<Watcher>
+    ensures { All (λ w. w.board ≡ E.board) result.items }
+{
+    let mut watchers = Vec::new(alloc);
+    for _ in 0..64 {
+        keep(rt, &mut watchers, watcher_of(rt, monitor));
+    }
+    watchers
+}
+
+/// Adds a watcher to a list, for which there must be memory.
+fn keep<R: Abort>(rt: &R, watchers: &mut Vec<Watcher>, watcher: Watcher)
+    ensures { watchers.new.items ≡ watchers.old.items ++ watcher ∷ [] }
+{
+    if watchers.push(watcher).is_err() {
+        panic!(rt; "no memory");
+    }
+}
+
+/// Looks with each watcher, and moves them to the other list.
+fn all_look<B: Body, E: EntryLedger, O: Ledger, R: Abort>(
+    rt: &R,
+    monitor: &Monitor<B, E, O>,
+    mut watchers: Vec<Watcher>,
+    looked: &mut Vec<Watcher>,
+)
+    requires before { All (λ w. w.board ≡ E.board) watchers.items }
+    requires after { All (λ w. w.board ≡ E.board) looked.old.items }
+    ensures { All (λ w. w.board ≡ E.board) looked.new.items }
+{
+    while let Some(mut watcher) = watchers.pop() {
+        same(rt, "looked", seen_by(monitor, &mut watcher), NOTHING);
+        keep(rt, looked, watcher);
+    }
+}
+
+/// Settles each watcher.
+fn all_settle<K: Kinds, E: EntryLedger, R: Abort>(
+    rt: &R,
+    closed: &mut Closed<K, E>,
+    mut watchers: Vec<Watcher>,
+)
+    requires { All (λ w. w.board ≡ E.board) watchers.items }
+{
+    while let Some(watcher) = watchers.pop() {
+        same(rt, "settled", shown_to(closed, watcher), WOVEN);
+    }
+}
+
+/// Makes as many watchers as there may be, each of which looks once.
+fn looking_watchers<B: Body, E: EntryLedger, O: Ledger, R: Wait + Abort>(
+    rt: &R,
+    alloc: Global,
+    monitor: &Monitor<B, E, O>,
+) -> Vec<Watcher>
+    ensures { All (λ w. w.board ≡ E.board) result.items }
+{
+    let watchers = watch_all(rt, alloc, monitor);
+    let full = monitor.watch(rt).is_err();
+    same(rt, "watchers", (full, watchers.len()), (true, 64));
+    let mut looked = Vec::new(alloc);
+    all_look(rt, monitor, watchers, &mut looked);
+    same(rt, "looked", looked.len(), 64);
+    looked
+}
+
+fn most_watchers<B: Body, E: EntryLedger, O: Ledger, R: Wait + Abort>(
+    rt: &R,
+    alloc: Global,
+    monitor: Monitor<B, E, O>,
+    seat: Seat<E, O>,
+) {
+    let watchers = looking_watchers(rt, alloc, &monitor);
+    let seat = work_alone(rt, &monitor, seat);
+    let mut closed = close_alone(rt, alloc, monitor, seat);
+    all_settle(rt, &mut closed, watchers);
+}
+
+#[test]
+fn scenes_on_monitors(rt: HostRuntime) {
+    for (text, scene) in [
+        (COPIED_AND_WOVEN, Scene::Watched),
+        (COUNTER_INTO_SINK, Scene::MissingSeat),
+        (COUNTER_INTO_SINK, Scene::EmptySeat),
+        (COUNTER_INTO_SINK, Scene::OneTask { dropped: false }),
+        (COUNTER_INTO_SINK, Scene::OneTask { dropped: true }),
+        (COPIED_AND_WOVEN, Scene::MostWatchers),
+        (COUNTER_INTO_SINK, Scene::Exchanged),
+        (COUNTER_INTO_SINK, Scene::InPlace),
+    ] {
+        let opening = opening_of(&rt, rt.alloc(), text);
+        play(&rt, rt.alloc(), opening, scene);
+    }
+}
