@@ -64,30 +64,10 @@ pub(crate) fn told_of<K: Kinds>(
     let standings = chronicle.standings();
     let places = places_of(alloc, net, standings)?;
     let judged = judge(alloc, net, history, standings, places.as_slice(), end, show)?;
-    match told_with(alloc, net, history, judged, outputs) {
-        Ok(told) => Ok(told),
-        Err(error) => Err(error),
-    }
-}
-
-/// What is told of a run that was judged so, with the streams of these channels.
-fn told_with<K: Kinds>(
-    alloc: Global,
-    net: &Net<K>,
-    history: &[Entry],
-    judged: Judged,
-    channels: &[usize],
-) -> Result<Told, AllocError>
-    requires { All (λ c. c < length net.now.channels) channels.now }
-    ensures status { IfOk result (λ told. told.status ≡ status_of_verdict judged.verdict) }
-    ensures report { IfOk result (λ told. told.report ≡ judged.report) }
-    ensures outputs { IfOk result (λ told. told.outputs.items ≡ map (stream_text net.now history.now) channels.now) }
-{
-    let outputs = outputs_of(alloc, net, history, channels)?;
     Ok(Told {
         status: status_of(judged.verdict),
         report: judged.report,
-        outputs,
+        outputs: outputs_of(alloc, net, history, outputs)?,
     })
 }
 

@@ -1,5 +1,5 @@
 -- What is told of the run's history.
-use Rattle.std.proofs.Common.{◌≡◌, ◌++◌, true, string_bytes, sym, ap, ◌∙◌}
+use Rattle.std.proofs.Common.{◌≡◌, ◌++◌, true, string_bytes, sym}
 use Rattle.kpn_model.specs.Network.{family_of}
 use Rattle.kpn_model.specs.Endings.{has_report}
 use Rattle.kpn_model.specs.Verdicts.{IsVerdict}
@@ -10,8 +10,8 @@ use Rattle.hox_run.specs.Telling.{places_in}
 use Rattle.hox_run.proofs.ToldRuns.{moved, told_so}
 use Rattle.hox_run.proofs.telling.told_of.Goals as goal
 
-pub returns-in-Ok : goal.returns-in-Ok
-returns-in-Ok g c =
+pub returns : goal.returns
+returns g c =
     let kinds = (family_of g.K.Kinds.start g.K.Kinds.answer_of) in
     let s = c.args.chronicle.now in
     let faithful = c.in-Some.ensures.faithful in
@@ -31,6 +31,6 @@ returns-in-Ok g c =
     c.determinacy_of.ensures.all_comparable c.determinacy_of.ensures.one_digest (sym c.in-Some.ensures.end)
     (rw (c.net-net.ensures, c.standings-standings.ensures) at c.in_ok-places.ensures)
     judged
-    c.in-Ok.ensures.status
-    (λ has. ap (λ r. string_bytes r) c.in-Ok.ensures.report ∙ told has)
-    (rw (c.net-net.ensures, c.history-history.ensures) at c.in-Ok.ensures.outputs)
+    c.status_of.ensures
+    told
+    (rw (c.net-net.ensures, c.history-history.ensures) at c.in_ok-outputs_of.ensures)
