@@ -18,8 +18,7 @@ pub(crate) fn flow_of<R: Abort>(
     inputs: &[usize],
     outputs: &[usize],
 ) -> CardFlow {
-    let parts = parts_of(rt, alloc, text).expect(rt, "no memory for the parts");
-    opened(rt, alloc, parts, inputs, outputs)
+    opened(rt, alloc, parts_of(rt, alloc, text), inputs, outputs)
 }
 
 /// Opens a flow; only memory may be refused.
