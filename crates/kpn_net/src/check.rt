@@ -120,6 +120,16 @@ fn tokens_in(alloc: Global, sketches: &[TokenSketch]) -> Result<Vec<Token>, NetF
     Ok(tokens)
 }
 
+/// The tokens of a channel's sketch, in order. Fails if memory was refused.
+fn tokens_of(alloc: Global, sketch: &ChannelSketch) -> Result<Listed<Token>, NetFault>
+    ensures ok { IfOk result (λ l. l ≡ map token_in sketch.now.tokens) }
+    ensures fit { IfOk result (λ l. All Fits l) }
+    ensures memory { IfErr result (λ e. e ≡ NetFault.Memory) }
+{
+    let tokens = tokens_in(alloc, sketch.tokens.as_slice())?;
+    Ok(Listed::new(tokens))
+}
+
 /// The channel of a sketch, between these processes. Fails if memory was refused.
 fn channel_in(
     alloc: Global,
@@ -138,7 +148,7 @@ fn channel_in(
         input: sketch.input.unsigned_abs() as usize,
         sort: sketch.sort,
         capacity: sketch.capacity.unsigned_abs() as usize,
-        tokens: Listed::new(tokens_in(alloc, sketch.tokens.as_slice())?),
+        tokens: tokens_of(alloc, sketch)?,
     })
 }
 
