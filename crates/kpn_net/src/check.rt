@@ -1,5 +1,5 @@
 //! The check of a sketch, which makes a network of it.
-ghost use Rattle.std.specs.Prelude.{All, ◌≡◌, ◌≢◌, Some, None, IfOk, IfErr, map, position};
+ghost use Rattle.std.specs.Prelude.{All, ◌≡◌, ◌≢◌, ◌++◌, ◌∷◌, [], Some, None, IfOk, IfErr, OnOk, map, position};
 ghost use Rattle.std.specs.Str.{bytes_eq};
 ghost use Rattle.kpn_model.specs.Lawful.{CardFits, Fits};
 ghost use Rattle.kpn_model.specs.Valid.{IsValid};
@@ -163,12 +163,26 @@ fn processes_of<K: Kinds>(
 {
     let mut processes = Vec::new(alloc);
     for sketch in sketches {
-        let process = process_in::<K>(alloc, sketch)?;
-        if processes.push(process).is_err() {
-            return Err(NetFault::Memory);
-        }
+        add_process::<K>(alloc, sketch, &mut processes)?;
     }
     Ok(processes)
+}
+
+/// Adds the process of a sketch. Fails if memory was refused.
+fn add_process<K: Kinds>(
+    alloc: Global,
+    sketch: &ProcessSketch,
+    processes: &mut Vec<Process>,
+) -> Result<(), NetFault>
+    ensures added { OnOk result (processes.new.items ≡ processes.old.items ++ process_in K.named sketch.now ∷ []) }
+    ensures fit { OnOk result (All (λ p. CardFits p.card) processes.old.items → All (λ p. CardFits p.card) processes.new.items) }
+    ensures memory { IfErr result (λ e. e ≡ NetFault.Memory) }
+{
+    let process = process_in::<K>(alloc, sketch)?;
+    if processes.push(process).is_err() {
+        return Err(NetFault::Memory);
+    }
+    Ok(())
 }
 
 /// The channels of some sketches, in order, between these processes. Fails if memory was refused.
@@ -183,12 +197,27 @@ fn channels_of(
 {
     let mut channels = Vec::new(alloc);
     for sketch in sketches {
-        let channel = channel_in(alloc, processes, sketch)?;
-        if channels.push(channel).is_err() {
-            return Err(NetFault::Memory);
-        }
+        add_channel(alloc, processes, sketch, &mut channels)?;
     }
     Ok(channels)
+}
+
+/// Adds the channel of a sketch, between these processes. Fails if memory was refused.
+fn add_channel(
+    alloc: Global,
+    processes: &[ProcessSketch],
+    sketch: &ChannelSketch,
+    channels: &mut Vec<Channel>,
+) -> Result<(), NetFault>
+    ensures added { OnOk result (channels.new.items ≡ channels.old.items ++ channel_in processes.now sketch.now ∷ []) }
+    ensures fits { OnOk result (All Fits (channel_in processes.now sketch.now).tokens) }
+    ensures memory { IfErr result (λ e. e ≡ NetFault.Memory) }
+{
+    let channel = channel_in(alloc, processes, sketch)?;
+    if channels.push(channel).is_err() {
+        return Err(NetFault::Memory);
+    }
+    Ok(())
 }
 
 /// A text once more. Fails if memory was refused.
