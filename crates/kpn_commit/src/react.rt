@@ -1,11 +1,12 @@
 //! What an answer does at once: a deed, or the process is parked; and the deed of the parked process
 //! that it enables.
-ghost use Rattle.std.specs.Prelude.{◌≡◌, ◌≢◌, ◌<◌, ◌≤◌, ◌+◌, length, Some, None, IsTrue, true, false};
+ghost use Rattle.std.specs.Prelude.{◌≡◌, ◌≢◌, ◌↔◌, ◌<◌, ◌≤◌, ◌+◌, ℕ, length, set, Contains, Some, None, IsTrue, true, false};
 ghost use Rattle.kpn_model.specs.Network.{family_of};
 ghost use Rattle.kpn_model.specs.declared.kinds.Answer.{Answer as AnswerV};
-ghost use Rattle.kpn_model.specs.Semantics.{wants, status, IsPossible};
+ghost use Rattle.kpn_model.specs.Semantics.{wants, status, capacity, IsPossible};
 ghost use Rattle.kpn_model.specs.declared.history.Status.TheVariants.{Done};
 ghost use Rattle.kpn_state.specs.declared.standing.Standing.TheVariants.{Parked};
+ghost use Rattle.kpn_state.specs.Marks.{mark_lists};
 ghost use Rattle.kpn_state.specs.Standings.{StandingsFit, standing, is_busy, partner, HasChannel};
 ghost use Rattle.kpn_commit.specs.Waiting.{AreWaiting, HasMark, partner_marked};
 ghost use Rattle.kpn_commit.specs.Reactions.{Reacts, Resumes};
@@ -140,15 +141,26 @@ fn resume<K: Kinds>(
         return false;
     };
     match deed {
-        Deed::Put { channel, .. } => {
-            let (_, capacity) = store.tokens_and_capacity(channel);
-            waiting.candidates.remove(capacity, channel);
-            waiting.marks.note_writer(channel, false);
-        }
+        Deed::Put { channel, .. } => unlist(store, waiting, channel),
         Deed::Took { channel, .. } => waiting.marks.note_reader(channel, false),
         Deed::Stopped => {}
     }
     true
+}
+
+/// Once its writer was served, a channel is no candidate any more, and the writer has no mark there.
+#[inline(always)]
+fn unlist(store: &Store, waiting: &mut Waiting, channel: usize)
+    requires channels { channel < length store.now.state.channels }
+    requires marks { channel < length waiting.old.marks.writers }
+    ensures pairs { (x : ℕ × ℕ) → Contains waiting.new.candidates.pairs x ↔ ((x ≢ (capacity store.now.state channel, channel)) × Contains waiting.old.candidates.pairs x) }
+    ensures many { Contains waiting.old.candidates.pairs (capacity store.now.state channel, channel) → length waiting.new.candidates.pairs + 1 ≡ length waiting.old.candidates.pairs }
+    ensures limit { waiting.new.candidates.limit ≡ waiting.old.candidates.limit }
+    ensures marks { waiting.new.marks ≡ mark_lists waiting.old.marks.readers (set waiting.old.marks.writers channel false) }
+{
+    let (_, capacity) = store.tokens_and_capacity(channel);
+    waiting.candidates.remove(capacity, channel);
+    waiting.marks.note_writer(channel, false);
 }
 
 /// The same answer, put together of its parts. To park a copy of the whole, all its bytes would have to

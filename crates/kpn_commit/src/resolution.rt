@@ -1,7 +1,8 @@
 //! What follows when no process is ready or out.
-ghost use Rattle.std.specs.Prelude.{◌≡◌, ◌<◌, ◌≤◌, ◌+◌, min, length, None, false};
+ghost use Rattle.std.specs.Prelude.{◌≡◌, ◌≢◌, ◌↔◌, ◌<◌, ◌≤◌, ◌+◌, ℕ, min, length, set, Contains, None, false};
 ghost use Rattle.kpn_model.specs.Network.{family_of};
 ghost use Rattle.std.specs.List.{list_any};
+ghost use Rattle.kpn_state.specs.Marks.{mark_lists};
 ghost use Rattle.kpn_state.specs.Standings.{StandingsFit, is_busy};
 ghost use Rattle.kpn_commit.specs.Waiting.{AreWaiting};
 ghost use Rattle.kpn_commit.specs.Resolving.{Resolves};
@@ -32,6 +33,18 @@ fn enlarged(capacity: usize, step: usize, ceiling: usize) -> usize
     } else {
         ceiling
     }
+}
+
+/// A channel that grew is no candidate any more, and its writer has no mark there.
+fn unlist(waiting: &mut Waiting, capacity: usize, channel: usize)
+    requires { channel < length waiting.old.marks.writers }
+    ensures pairs { (x : ℕ × ℕ) → Contains waiting.new.candidates.pairs x ↔ ((x ≢ (capacity, channel)) × Contains waiting.old.candidates.pairs x) }
+    ensures many { Contains waiting.old.candidates.pairs (capacity, channel) → length waiting.new.candidates.pairs + 1 ≡ length waiting.old.candidates.pairs }
+    ensures limit { waiting.new.candidates.limit ≡ waiting.old.candidates.limit }
+    ensures marks { waiting.new.marks ≡ mark_lists waiting.old.marks.readers (set waiting.old.marks.writers channel false) }
+{
+    waiting.candidates.remove(capacity, channel);
+    waiting.marks.note_writer(channel, false);
 }
 
 /// Ends the run, or lets the chosen channel grow and its writer put its token. The run also ends if the
@@ -70,8 +83,7 @@ fn resolve_idle<K: Kinds>(
     let Ok(()) = store.grow(channel, to) else {
         return Resolution::Ended(End::Memory);
     };
-    waiting.candidates.remove(capacity, channel);
-    waiting.marks.note_writer(channel, false);
+    unlist(waiting, capacity, channel);
     let Some(_) = advance(net, store, standings, writer, answer) else {
         unreachable!()
     };

@@ -1,5 +1,5 @@
 //! The check of a sketch, which makes a network of it.
-ghost use Rattle.std.specs.Prelude.{All, ◌≡◌, ◌≢◌, Some, None, IfOk, IfErr, map, position};
+ghost use Rattle.std.specs.Prelude.{All, ◌≡◌, ◌≢◌, ◌++◌, ◌∷◌, [], Some, None, IfOk, IfErr, OnOk, map, position};
 ghost use Rattle.std.specs.Str.{bytes_eq};
 ghost use Rattle.kpn_model.specs.Lawful.{CardFits, Fits};
 ghost use Rattle.kpn_model.specs.Valid.{IsValid};
@@ -120,6 +120,16 @@ fn tokens_in(alloc: Global, sketches: &[TokenSketch]) -> Result<Vec<Token>, NetF
     Ok(tokens)
 }
 
+/// The tokens of a channel's sketch, in order. Fails if memory was refused.
+fn tokens_of(alloc: Global, sketch: &ChannelSketch) -> Result<Listed<Token>, NetFault>
+    ensures ok { IfOk result (λ l. l ≡ map token_in sketch.now.tokens) }
+    ensures fit { IfOk result (λ l. All Fits l) }
+    ensures memory { IfErr result (λ e. e ≡ NetFault.Memory) }
+{
+    let tokens = tokens_in(alloc, sketch.tokens.as_slice())?;
+    Ok(Listed::new(tokens))
+}
+
 /// The channel of a sketch, between these processes. Fails if memory was refused.
 fn channel_in(
     alloc: Global,
@@ -138,7 +148,7 @@ fn channel_in(
         input: sketch.input.unsigned_abs() as usize,
         sort: sketch.sort,
         capacity: sketch.capacity.unsigned_abs() as usize,
-        tokens: Listed::new(tokens_in(alloc, sketch.tokens.as_slice())?),
+        tokens: tokens_of(alloc, sketch)?,
     })
 }
 
@@ -153,12 +163,26 @@ fn processes_of<K: Kinds>(
 {
     let mut processes = Vec::new(alloc);
     for sketch in sketches {
-        let process = process_in::<K>(alloc, sketch)?;
-        if processes.push(process).is_err() {
-            return Err(NetFault::Memory);
-        }
+        add_process::<K>(alloc, sketch, &mut processes)?;
     }
     Ok(processes)
+}
+
+/// Adds the process of a sketch. Fails if memory was refused.
+fn add_process<K: Kinds>(
+    alloc: Global,
+    sketch: &ProcessSketch,
+    processes: &mut Vec<Process>,
+) -> Result<(), NetFault>
+    ensures added { OnOk result (processes.new.items ≡ processes.old.items ++ process_in K.named sketch.now ∷ []) }
+    ensures fit { OnOk result (All (λ p. CardFits p.card) processes.old.items → All (λ p. CardFits p.card) processes.new.items) }
+    ensures memory { IfErr result (λ e. e ≡ NetFault.Memory) }
+{
+    let process = process_in::<K>(alloc, sketch)?;
+    if processes.push(process).is_err() {
+        return Err(NetFault::Memory);
+    }
+    Ok(())
 }
 
 /// The channels of some sketches, in order, between these processes. Fails if memory was refused.
@@ -173,12 +197,27 @@ fn channels_of(
 {
     let mut channels = Vec::new(alloc);
     for sketch in sketches {
-        let channel = channel_in(alloc, processes, sketch)?;
-        if channels.push(channel).is_err() {
-            return Err(NetFault::Memory);
-        }
+        add_channel(alloc, processes, sketch, &mut channels)?;
     }
     Ok(channels)
+}
+
+/// Adds the channel of a sketch, between these processes. Fails if memory was refused.
+fn add_channel(
+    alloc: Global,
+    processes: &[ProcessSketch],
+    sketch: &ChannelSketch,
+    channels: &mut Vec<Channel>,
+) -> Result<(), NetFault>
+    ensures added { OnOk result (channels.new.items ≡ channels.old.items ++ channel_in processes.now sketch.now ∷ []) }
+    ensures fits { OnOk result (All Fits (channel_in processes.now sketch.now).tokens) }
+    ensures memory { IfErr result (λ e. e ≡ NetFault.Memory) }
+{
+    let channel = channel_in(alloc, processes, sketch)?;
+    if channels.push(channel).is_err() {
+        return Err(NetFault::Memory);
+    }
+    Ok(())
 }
 
 /// A text once more. Fails if memory was refused.

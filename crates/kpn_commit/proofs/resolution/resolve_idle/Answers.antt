@@ -46,8 +46,8 @@ returns-in_default-grow-clause-resolves g c =
 pub choose-requires-after_bounds : goal.choose-requires-after_bounds
 choose-requires-after_bounds g c κs within = candidate_within c.requires.waiting.candidates
 
-pub note_writer-requires : goal.note_writer-requires
-note_writer-requires g c = let l = c.requires.waiting.marks.each_writer in omega (arith, l, c.in-Some.ensures.channel)
+pub unlist-requires : goal.unlist-requires
+unlist-requires g c = let l = c.requires.waiting.marks.each_writer in omega (arith, l, c.in-Some.ensures.channel)
 
 pub unreachable-requires : goal.unreachable-requires
 unreachable-requires g c =
@@ -95,6 +95,6 @@ returns-clause-waiting g c =
     let did = c.in-Some-advance.ensures in
     let best = chosen c.requires.waiting.candidates c.in-Some.ensures.ordered _ c.in-Some.ensures.first in
     let parked = rw c.as_slice.ensures.value at c.in-Some-parked.ensures.some in
-    rw (did.entry, did.standing, c.in-Ok.ensures.ok, c.note_writer.ensures)
-    (waiting_after_put c.requires.keeps c.in-Some.channel c.in-Some.writer c.enlarged-to.result best.0 c.in-Some-parked.answer parked c.requires.waiting c.in-Some-advance.field-0 c.remove.new.self
-    (rw c.tokens_and_capacity-capacity.ensures.capacity at c.remove.ensures.pairs) (rw c.tokens_and_capacity-capacity.ensures.capacity at c.remove.ensures.many) c.remove.ensures.limit)
+    rw (did.entry, did.standing, c.in-Ok.ensures.ok, c.unlist.ensures.marks)
+    (waiting_after_put c.requires.keeps c.in-Some.channel c.in-Some.writer c.enlarged-to.result best.0 c.in-Some-parked.answer parked c.requires.waiting c.in-Some-advance.field-0 c.unlist.new.waiting.candidates
+    (rw c.tokens_and_capacity-capacity.ensures.capacity at c.unlist.ensures.pairs) (rw c.tokens_and_capacity-capacity.ensures.capacity at c.unlist.ensures.many) c.unlist.ensures.limit)
