@@ -36,7 +36,7 @@ leaves_of kinds admits s places faithful are = record {
       (λ idle. at ∙ ap (place_of s.network p) (sym (faithful.wanted p idle)));
 }
 
-module _ (kinds : Family) (net : Network) (show : Option ℕ) where
+module _ (kinds : Family) (net : Network) (show : List ℕ) where
   -- what is written after a verdict follows it
   pub follows_from : (cause : End) (E : List Entry) (M : State) (left : ℕ → Option Place) → Leaves kinds net M left → Follows kinds net show cause E M (after_verdict net cause E left show)
   follows_from Budget E M left leaves = (left, leaves, refl)

@@ -1,5 +1,5 @@
 -- What is told of a run that is over is told of each.
-use Rattle.std.proofs.Common.{◌≡◌, ℕ, true, List, [], ◌++◌, map, get_or, Option, Some, refl, sym, ap, ◌∙◌, subst, string_bytes}
+use Rattle.std.proofs.Common.{◌≡◌, ℕ, true, List, [], ◌++◌, map, get_or, Option, Some, None, codes, slice_index_or, refl, sym, ap, ◌∙◌, subst, string_bytes}
 use Rattle.std.proofs.Math.Path.{fun_ext}
 use Rattle.std.specs.List.{flat_map}
 use Rattle.kpn_model.specs.declared.token.Token.{Token}
@@ -26,7 +26,7 @@ use Rattle.kpn_report.specs.Text.{end_line, digest_text, report_text}
 use Rattle.kpn_verdict.specs.VerdictText.{verdict_line}
 use Rattle.kpn_tokens.specs.TokenLines.{token_line}
 use Rattle.hox_run.specs.declared.telling.Told.{Told}
-use Rattle.hox_run.specs.Cuts.{after_verdict, left_at}
+use Rattle.hox_run.specs.Cuts.{after_verdict, before_verdict, left_at, tokens_line}
 use Rattle.hox_run.proofs.Cutting.{follows_from, leaves_of, nothing_after, nothing_follows}
 use Rattle.hox_run.specs.Telling.{TellsOf, TellsRun, places_in, status_of_verdict, stream_text}
 
@@ -46,24 +46,36 @@ judged_anyhow net places others Deadlock verdict same judged =
 
 module _ (kinds : Family) (net : Network) where
   -- the text of a run that is over, from its digest
-  abbrev text_of : Option ℕ → Digest → List ℕ
-  text_of show d = end_line d.cause ++ digest_text net d show
+  abbrev text_of : Digest → List ℕ
+  text_of d = end_line d.cause ++ digest_text net d None
 
-  over_text : (cause : End) (E : List Entry) (M : State) (show : Option ℕ) → IsOver kinds net M cause → report_text kinds net cause E M show ≡ text_of show (digest kinds net cause E M)
-  over_text Terminated E M show over = refl
-  over_text Deadlock E M show over = refl
-  over_text Ceiling E M show over = refl
-  over_text Budget E M show over = elim over [ ]
-  over_text Memory E M show over = elim over [ ]
+  over_text : (cause : End) (E : List Entry) (M : State) → IsOver kinds net M cause → report_text kinds net cause E M None ≡ text_of (digest kinds net cause E M)
+  over_text Terminated E M over = refl
+  over_text Deadlock E M over = refl
+  over_text Ceiling E M over = refl
+  over_text Budget E M over = elim over [ ]
+  over_text Memory E M over = elim over [ ]
 
-  module _ (show : Option ℕ) (outputs : List ℕ) (told : Told) (one : OneDigest kinds) where
+  -- the streams that are shown of a run that is over, from its digest
+  abbrev shown_of : List ℕ → Digest → List ℕ
+  shown_of show d = flat_map (λ c. tokens_line net (codes "stream ") (slice_index_or d.streams c []) c) show
+
+  over_shown : (show : List ℕ) (cause : End) (E : List Entry) (M : State) → IsOver kinds net M cause → before_verdict net cause E show ≡ shown_of show (digest kinds net cause E M)
+  over_shown show Terminated E M over = refl
+  over_shown show Deadlock E M over = refl
+  over_shown show Ceiling E M over = refl
+  over_shown show Budget E M over = elim over [ ]
+  over_shown show Memory E M over = elim over [ ]
+
+  module _ (show outputs : List ℕ) (told : Told) (one : OneDigest kinds) where
     pub told_of_each : (cause b : End) (E F : List Entry) (M N : State) (verdict : Verdict) → IsFinal kinds net E M cause → IsFinal kinds net F N b
         → TellsOf kinds net show outputs told cause E M verdict → TellsOf kinds net show outputs told b F N verdict
     told_of_each cause b E F M N verdict e f tells =
         let same : digest kinds net cause E M ≡ digest kinds net b F N = one net E F M N cause b e f in
         let streams : each_channel net (λ c. stream net E c) ≡ each_channel net (λ c. stream net F c) = ap (λ (d : Digest). d.streams) same in
         let places : places_in kinds net M ≡ places_in kinds net N = ap (λ (d : Digest). d.places) same in
-        let texts : report_text kinds net cause E M show ≡ report_text kinds net b F N show = over_text cause E M show e.over ∙ ap (text_of show) same ∙ sym (over_text b F N show f.over) in
+        let texts : report_text kinds net cause E M None ≡ report_text kinds net b F N None = over_text cause E M e.over ∙ ap text_of same ∙ sym (over_text b F N f.over) in
+        let shown : before_verdict net cause E show ≡ before_verdict net b F show = over_shown show cause E M e.over ∙ ap (shown_of show) same ∙ sym (over_shown show b F N f.over) in
         let at : (c : ℕ) → stream net E c ≡ stream net F c = λ c. each_stream kinds net (start kinds net) E M e.run c ∙ ap (λ (ss : List (List Token)). get_or ss c []) streams ∙ sym (each_stream kinds net (start kinds net) F N f.run c) in
         let outs : stream_text net E ≡ stream_text net F = fun_ext (λ c. ap (flat_map token_line) (at c)) in
         record {
@@ -71,17 +83,19 @@ module _ (kinds : Family) (net : Network) where
           status_is = tells.status_is;
           after = tells.after;
           follows = nothing_follows kinds net show F N b tells.after f.over (nothing_after kinds net show E M cause tells.after e.over tells.follows);
-          report_is = tells.report_is ∙ ap (λ t. t ++ verdict_line net (places_in kinds net M) verdict ++ tells.after) texts ∙ ap (λ (p : List Place). report_text kinds net b F N show ++ verdict_line net p verdict ++ tells.after) places;
+          report_is = tells.report_is ∙ ap (λ t. t ++ before_verdict net cause E show ++ verdict_line net (places_in kinds net M) verdict ++ tells.after) texts
+              ∙ ap (λ t. report_text kinds net b F N None ++ t ++ verdict_line net (places_in kinds net M) verdict ++ tells.after) shown
+              ∙ ap (λ (p : List Place). report_text kinds net b F N None ++ before_verdict net b F show ++ verdict_line net p verdict ++ tells.after) places;
           outputs_are = tells.outputs_are ∙ ap (λ (o : ℕ → List ℕ). map o outputs) outs;
         }
 
 -- so is what is told of the run of a machine that has ended
 pub told_so :
-    (kinds : Family) (admits : Card → List ℕ → Option Token → Type 0) (s : MachineView) (cause : End) (places : List Place) (verdict : Verdict) (show : Option ℕ) (outputs : List ℕ) (told : Told)
+    (kinds : Family) (admits : Card → List ℕ → Option Token → Type 0) (s : MachineView) (cause : End) (places : List Place) (verdict : Verdict) (show outputs : List ℕ) (told : Told)
     → IsFaithful kinds admits s → TakesLeastRoom kinds s.network s.history s.state → ApproachLeastSolution kinds s.network s.history s.state → AllPrefixComparable kinds → OneDigest kinds
     → s.end ≡ Some cause → places ≡ each_process s.network (λ p. place_of s.network p (parked_answer (standing s.standings p)))
     → IsVerdict s.network places cause verdict → told.status ≡ status_of_verdict verdict
-    → ((has_report cause ≡ true → places ≡ places_in kinds s.network s.state) → string_bytes told.report ≡ report_text kinds s.network cause s.history s.state show ++ verdict_line s.network places verdict ++ after_verdict s.network cause s.history (left_at s.standings places) show)
+    → ((has_report cause ≡ true → places ≡ places_in kinds s.network s.state) → string_bytes told.report ≡ report_text kinds s.network cause s.history s.state None ++ before_verdict s.network cause s.history show ++ verdict_line s.network places verdict ++ after_verdict s.network cause s.history (left_at s.standings places) show)
     → told.outputs.items ≡ map (stream_text s.network s.history) outputs → TellsRun kinds s.network show outputs told
 told_so kinds admits s cause places verdict show outputs told faithful room streams comparable one ended places_are judged status_is report outputs_are =
     let net = s.network in
@@ -96,7 +110,7 @@ told_so kinds admits s cause places verdict show outputs told faithful room stre
       status_is = status_is;
       after = after;
       follows = follows_from kinds net show cause s.history s.state left (leaves_of kinds admits s places faithful places_are);
-      report_is = report same ∙ ap (λ (l : List ℕ). report_text kinds net cause s.history s.state show ++ l ++ after) both.1;
+      report_is = report same ∙ ap (λ (l : List ℕ). report_text kinds net cause s.history s.state None ++ before_verdict net cause s.history show ++ l ++ after) both.1;
       outputs_are = outputs_are;
     } in
     record {

@@ -1,10 +1,10 @@
--- What is told of a run that was cut: where it left each process, and the stream so far.
+-- What is told of a run before and after its verdict: the streams of channels, and of a run that was cut where it left each process.
 use Rattle.std.specs.Prelude.{◌≡◌, ◌<◌, ℕ, codes, List, [], ◌++◌, if◌then◌else◌, length, slice_index_or, Option, Some, None, IfSome}
 use Rattle.std.specs.List.{flat_map}
 use Rattle.kpn_model.specs.declared.token.Token.{Token}
 use Rattle.kpn_model.specs.declared.history.Entry.{Entry}
 use Rattle.kpn_model.specs.declared.history.End.{End}
-use Rattle.kpn_model.specs.declared.history.End.TheVariants.{Budget}
+use Rattle.kpn_model.specs.declared.history.End.TheVariants.{Budget, Memory}
 use Rattle.kpn_model.specs.declared.history.Place.{Place}
 use Rattle.kpn_model.specs.declared.history.Place.TheVariants.{Stopped}
 use Rattle.kpn_model.specs.Network.{Family, Network}
@@ -33,18 +33,25 @@ module _ (net : Network) where
   abbrev pub left_line : (ℕ → Option Place) → ℕ → List ℕ
   left_line left p = codes "process " ++ process_name net p ++ codes " " ++ left_text (left p) ++ codes "\n"
 
-  abbrev pub prefix_line : List Token → ℕ → List ℕ
-  prefix_line tokens c = codes "prefix " ++ channel_name net c ++ flat_map token_part tokens ++ codes "\n"
+  -- a line with these tokens of channel c, which begins with a word
+  abbrev pub tokens_line : List ℕ → List Token → ℕ → List ℕ
+  tokens_line word tokens c = word ++ channel_name net c ++ flat_map token_part tokens ++ codes "\n"
 
-  -- the stream so far of the channel to show, if there is one
-  abbrev pub prefix_of : List Entry → Option ℕ → List ℕ
-  prefix_of E None = []
-  prefix_of E (Some c) = prefix_line (slice_index_or (each_channel net (λ b. stream net E b)) c []) c
+  -- such a line for the stream of each of these channels
+  abbrev pub streams_text : List ℕ → List Entry → List ℕ → List ℕ
+  streams_text word E channels = flat_map (λ c. tokens_line word (slice_index_or (each_channel net (λ b. stream net E b)) c []) c) channels
 
-  abbrev pub cut_text : List Entry → (ℕ → Option Place) → Option ℕ → List ℕ
-  cut_text E left show = lines_upto (left_line left) (length net.processes) ++ prefix_of E show
+  -- the streams of the channels to show, of a run that has a report
+  abbrev pub before_verdict : End → List Entry → List ℕ → List ℕ
+  before_verdict Budget E show = []
+  before_verdict Memory E show = []
+  before_verdict _ E show = streams_text (codes "stream ") E show
+
+  -- how a cut left the processes, and the streams so far of the channels to show
+  abbrev pub cut_text : List Entry → (ℕ → Option Place) → List ℕ → List ℕ
+  cut_text E left show = lines_upto (left_line left) (length net.processes) ++ streams_text (codes "prefix ") E show
 
   -- the text that follows the verdict
-  abbrev pub after_verdict : End → List Entry → (ℕ → Option Place) → Option ℕ → List ℕ
+  abbrev pub after_verdict : End → List Entry → (ℕ → Option Place) → List ℕ → List ℕ
   after_verdict Budget E left show = cut_text E left show
   after_verdict _ E left show = []

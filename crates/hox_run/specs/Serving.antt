@@ -36,17 +36,16 @@ pub record Prepares (request : Request) (net other : Network) : Type 0 where
 abbrev pub AreNamed : Network → List (List ℕ) → List ℕ → Type 0
 AreNamed net names channels = map (number_of_channel net) names ≡ map Some channels
 
--- the channel of a name, if there is a name
-abbrev pub IsNamed : Network → Option (List ℕ) → Option ℕ → Type 0
-IsNamed net None channel = channel ≡ None
-IsNamed net (Some name) channel = (channel ≢ None) × (channel ≡ number_of_channel net name)
+-- the name at place k is that of no channel
+abbrev pub LacksChannel : Network → List (List ℕ) → ℕ → Type 0
+LacksChannel net names k = (k < length names) × (number_of_channel net (get_or names k []) ≡ None)
 
 -- the names of a network's channels, in order
 abbrev pub channel_names : Network → List (List ℕ)
 channel_names net = map (λ c. c.name) net.channels
 
 -- when each fault is found in a request to run the network of a description: in the files, from the first on; in the budget; in the
--- names of the channel to show and of those to write; or memory was refused, or a worker's answer, at any time. With a name that no
+-- names of the channels to show and of those to write; or memory was refused, or a worker's answer, at any time. With a name that no
 -- channel has it gives those that the channels have
 abbrev pub IsFault : Request → Network → Fault → Type 0
 IsFault request net (Description refused) = ⊥
@@ -55,10 +54,8 @@ IsFault request net (Budget greatest) =
     (preset : Network) × PresetAll request.tokens net preset × (greatest ≡ greatest_budget preset.ceiling)
     × (n : ℕ) × (request.budget ≡ Some n) × ((n ≡ 0) ⊎ (greatest < n))
 IsFault request net (NoHolder file names) = Stops request.tokens net file NoChannel × (names ≡ channel_names net)
-IsFault request net (NoShown names) =
-    (other : Network) × Prepares request net other × (name : List ℕ) × (request.show ≡ Some name) × (number_of_channel other name ≡ None) × (names ≡ channel_names other)
-IsFault request net (NoOutput k names) =
-    (other : Network) × Prepares request net other × (k < length request.outputs) × (number_of_channel other (get_or request.outputs k []) ≡ None) × (names ≡ channel_names other)
+IsFault request net (NoShown k names) = (other : Network) × Prepares request net other × LacksChannel other request.show k × (names ≡ channel_names other)
+IsFault request net (NoOutput k names) = (other : Network) × Prepares request net other × LacksChannel other request.outputs k × (names ≡ channel_names other)
 IsFault request net Memory = Unit {0}
 IsFault request net Lost = 1 < request.workers
 
@@ -66,8 +63,8 @@ IsFault request net Lost = 1 < request.workers
 pub record Tells (kinds : Family) (request : Request) (net : Network) (told : Told) : Type 0 where
   pub other : Network
   pub prepares : Prepares request net other
-  pub show : Option ℕ
-  pub shown : IsNamed other request.show show
+  pub show : List ℕ
+  pub shown : AreNamed other request.show show
   pub outputs : List ℕ
   pub named : AreNamed other request.outputs outputs
   pub tells : TellsRun kinds other show outputs told

@@ -1,5 +1,5 @@
 -- What is told of a run.
-use Rattle.std.specs.Prelude.{◌≡◌, ℕ, true, List, [], ◌++◌, map, Option, string_bytes}
+use Rattle.std.specs.Prelude.{◌≡◌, ℕ, true, List, [], ◌++◌, map, Option, None, string_bytes}
 use Rattle.std.specs.List.{flat_map}
 use Rattle.kpn_model.specs.declared.history.Entry.{Entry}
 use Rattle.kpn_model.specs.declared.history.End.{End}
@@ -22,7 +22,7 @@ use Rattle.kpn_tokens.specs.TokenLines.{token_line}
 use Rattle.kpn_front.specs.declared.status.Status.{Status}
 use Rattle.kpn_front.specs.declared.status.Status.TheVariants.{Success, BudgetSpent, MemoryRefused, Deadlocked, AtCeiling}
 use Rattle.hox_run.specs.declared.telling.Told.{Told}
-use Rattle.hox_run.specs.Cuts.{Leaves, cut_text}
+use Rattle.hox_run.specs.Cuts.{Leaves, before_verdict, cut_text}
 
 -- the exit status of a run with this verdict
 abbrev pub status_of_verdict : Verdict → Status
@@ -42,19 +42,19 @@ module _ (kinds : Family) (net : Network) where
   abbrev pub places_in : State → List Place
   places_in M = each_process net (λ p. place_of net p (wants kinds net M p))
 
-  -- this follows the verdict: of a run that was cut, how it left each process, and the stream so far of the channel to show
-  abbrev pub Follows : Option ℕ → End → List Entry → State → List ℕ → Type 0
+  -- this follows the verdict: of a run that was cut, how it left each process, and the streams so far of the channels to show
+  abbrev pub Follows : List ℕ → End → List Entry → State → List ℕ → Type 0
   Follows show Budget E M text = (left : ℕ → Option Place) × Leaves kinds net M left × (text ≡ cut_text net E left show)
   Follows show cause E M text = text ≡ []
 
-  module _ (show : Option ℕ) (outputs : List ℕ) (told : Told) where
+  module _ (show outputs : List ℕ) (told : Told) where
     -- it is told of the run E to M, which ended for this cause, with this verdict on it
     pub record TellsOf (cause : End) (E : List Entry) (M : State) (verdict : Verdict) : Type 0 where
       pub judged : IsVerdict net (places_in M) cause verdict
       pub status_is : told.status ≡ status_of_verdict verdict
       pub after : List ℕ
       pub follows : Follows show cause E M after
-      pub report_is : string_bytes told.report ≡ report_text kinds net cause E M show ++ verdict_line net (places_in M) verdict ++ after
+      pub report_is : string_bytes told.report ≡ report_text kinds net cause E M None ++ before_verdict net cause E show ++ verdict_line net (places_in M) verdict ++ after
       pub outputs_are : told.outputs.items ≡ map (stream_text net E) outputs
 
     -- a run from the start ended for a cause that justifies its end; it took no more room than the network needs, its streams

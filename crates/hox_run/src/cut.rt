@@ -1,20 +1,18 @@
-//! What is told of a run that was cut: where it left each process, and the stream so far.
+//! What is told of a run that was cut: where it left each process, and the streams so far.
 ghost use Rattle.std.specs.Prelude.{◌≡◌, ◌++◌, ◌<◌, OnOk, length, string_bytes};
-ghost use Rattle.std.specs.List.{flat_map};
-ghost use Rattle.kpn_model.specs.NamesAndLines.{channel_name, lines_upto};
-ghost use Rattle.kpn_report.specs.Text.{token_part};
-ghost use Rattle.hox_run.specs.Cuts.{after_verdict, left_at, left_line, left_text, prefix_line, prefix_of};
+ghost use Rattle.kpn_model.specs.NamesAndLines.{lines_upto};
+ghost use Rattle.hox_run.specs.Cuts.{after_verdict, left_at, left_line, left_text};
 
-use kpn_model::{End, Entry, Kinds, Place, Token};
+use crate::shown::{channel_name, push_streams};
+use kpn_model::{End, Entry, Kinds, Place};
 use kpn_network::Net;
-use kpn_report::stream_of;
 use kpn_state::Standing;
 use std::alloc::{AllocError, Global};
 use std::fmt::Write;
 
 /// Appends what follows the verdict on a run with this end. If it was cut, this is a line for each process,
-/// which says whether it was ready, has stopped, or for which channel it waits; and if `show` is given a line
-/// `prefix` with what went through that channel so far. Else it is nothing.
+/// which says whether it was ready, has stopped, or for which channel it waits; and for each channel of `show` a
+/// line `prefix` with what went through it so far. Else it is nothing.
 ///
 /// Errors: memory was refused.
 pub(crate) fn push_after_verdict<K: Kinds>(
@@ -25,14 +23,14 @@ pub(crate) fn push_after_verdict<K: Kinds>(
     standings: &[Standing],
     places: &[Place],
     end: End,
-    show: Option<usize>,
+    show: &[usize],
 ) -> Result<(), AllocError>
-    ensures { OnOk result (string_bytes out.new ≡ string_bytes out.old ++ after_verdict net.now end history.now (left_at standings.now places.now) show) }
+    ensures { OnOk result (string_bytes out.new ≡ string_bytes out.old ++ after_verdict net.now end history.now (left_at standings.now places.now) show.now) }
 {
     match end {
         End::Budget => {
             push_left(out, net, standings, places)?;
-            push_prefix(alloc, out, net, history, show)
+            push_streams(alloc, out, net, history, show, "prefix ")
         }
         End::Terminated | End::Deadlock | End::Ceiling | End::Memory => Ok(()),
     }
@@ -98,70 +96,5 @@ fn push_left_text<K: Kinds>(
             let channel = channel_name(net, c);
             write!(out, "writes {channel}")
         }
-    }
-}
-
-/// Appends the line of the stream so far, if a channel is to be shown.
-fn push_prefix<K: Kinds>(
-    alloc: Global,
-    out: &mut String,
-    net: &Net<K>,
-    history: &[Entry],
-    show: Option<usize>,
-) -> Result<(), AllocError>
-    ensures { OnOk result (string_bytes out.new ≡ string_bytes out.old ++ prefix_of net.now history.now show) }
-{
-    match show {
-        Some(c) => {
-            let tokens = stream_of(alloc, net, history, c)?;
-            push_stream(out, net, tokens.as_slice(), c)
-        }
-        None => Ok(()),
-    }
-}
-
-/// Appends a line with these tokens of a channel.
-fn push_stream<K: Kinds>(
-    out: &mut String,
-    net: &Net<K>,
-    tokens: &[Token],
-    c: usize,
-) -> Result<(), AllocError>
-    ensures { OnOk result (string_bytes out.new ≡ string_bytes out.old ++ prefix_line net.now tokens.now c) }
-{
-    let name = channel_name(net, c);
-    write!(out, "prefix {name}")?;
-    push_tokens(out, tokens)?;
-    out.push_str("\n")
-}
-
-/// Appends some tokens, each after a space.
-fn push_tokens(out: &mut String, tokens: &[Token]) -> Result<(), AllocError>
-    ensures { OnOk result (string_bytes out.new ≡ string_bytes out.old ++ flat_map token_part tokens.now) }
-{
-    for token in tokens {
-        push_token(out, *token)?;
-    }
-    Ok(())
-}
-
-/// Appends a space and a token.
-fn push_token(out: &mut String, token: Token) -> Result<(), AllocError>
-    ensures { OnOk result (string_bytes out.new ≡ string_bytes out.old ++ token_part token) }
-{
-    match token {
-        Token::Word(word) => write!(out, " {word}"),
-        Token::Flag(flag) => write!(out, " {flag}"),
-    }
-}
-
-/// The name of a channel; nothing if the network has no such channel.
-fn channel_name<K: Kinds>(net: &Net<K>, c: usize) -> &str
-    ensures { result.now ≡ channel_name net.now c }
-{
-    if c < net.channels() {
-        net.channel_name(c)
-    } else {
-        ""
     }
 }

@@ -13,6 +13,7 @@ mod reading;
 mod request;
 mod running;
 mod serving;
+mod shown;
 mod signs;
 mod telling;
 

@@ -15,14 +15,14 @@ pub struct TokenFile {
 }
 
 /// How a described network is to be run: by 1 to 16 workers; with this budget, in entries of a history, in
-/// place of that of the description; with the tokens of these files in its channels at first; with the stream
-/// of this channel in the report; and with the streams of these channels as texts of their own.
+/// place of that of the description; with the tokens of these files in its channels at first; with the streams
+/// of these channels in the report; and with the streams of these channels as texts of their own.
 #[derive(Drop)]
 pub struct Request {
     pub workers: usize,
     pub budget: Option<u64>,
     pub tokens: Listed<TokenFile>,
-    pub show: Option<Text>,
+    pub show: Listed<Text>,
     pub outputs: Listed<Text>,
 }
 
@@ -38,8 +38,9 @@ pub enum Fault {
     /// No channel has the name that the token file of this number gives, counted from 0; the names of those
     /// that there are, in order.
     NoHolder(usize, Listed<Text>),
-    /// No channel has the name of the one to show; the names of those that there are, in order.
-    NoShown(Listed<Text>),
+    /// No channel has the name of the one to show of this number, counted from 0; the names of those that there
+    /// are, in order.
+    NoShown(usize, Listed<Text>),
     /// No channel has the name of the output of this number, counted from 0; the names of those that there
     /// are, in order.
     NoOutput(usize, Listed<Text>),
@@ -60,7 +61,8 @@ impl Fault {
                 _ => Status::Refused,
             },
             Fault::Tokens(stop) => status_of_file(stop.fault),
-            Fault::NoHolder(..) | Fault::NoShown(_) | Fault::NoOutput(..) => Status::WrongArguments,
+            Fault::NoHolder(..) | Fault::NoShown(..) | Fault::NoOutput(..) =>
+                Status::WrongArguments,
             Fault::Budget(_) => Status::WrongArguments,
             Fault::Memory => Status::MemoryRefused,
             Fault::Lost => Status::Lost,

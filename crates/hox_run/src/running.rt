@@ -35,7 +35,7 @@ pub enum RunFault {
 }
 
 /// Runs a network by 1 to 16 workers, and returns what is told of the run: its exit status, its report with
-/// the verdict on it and the stream of channel `show` if it is given, and the stream of each channel of
+/// the verdict on it and the streams of the channels of `show`, and the stream of each channel of
 /// `outputs`, one token a line. A single worker is the calling thread.
 ///
 /// If the run came to its own end, the same is told of each run of the network that is over, whatever the
@@ -49,13 +49,13 @@ pub fn execute<K: Computes, R: Wait + Clock + Threads + Sync, P: Progress>(
     alloc: Global,
     net: Net<K>,
     workers: usize,
-    show: Option<usize>,
+    show: &[usize],
     outputs: &[usize],
     progress: &P,
 ) -> Result<Told, RunFault>
     requires workers { (1 ≤ workers) × (workers ≤ 16) }
     requires within { All (λ c. c < length net.channels) outputs.now }
-    ensures told { IfOk result (TellsRun (family_of K.start K.answer_of) net show outputs.now) }
+    ensures told { IfOk result (TellsRun (family_of K.start K.answer_of) net show.now outputs.now) }
     ensures lost { result ≡ Err RunFault.Lost → 1 < workers }
 {
     let Ok(bodies) = bodies_of(alloc, &net) else {
@@ -75,12 +75,12 @@ fn execute_alone<K: Computes, P: Progress>(
     alloc: Global,
     net: Net<K>,
     bodies: Vec<CardBody<K>>,
-    show: Option<usize>,
+    show: &[usize],
     outputs: &[usize],
     progress: &P,
 ) -> Result<Told, AllocError>
     requires within { All (λ c. c < length net.channels) outputs.now }
-    ensures { IfOk result (TellsRun (family_of K.start K.answer_of) net show outputs.now) }
+    ensures { IfOk result (TellsRun (family_of K.start K.answer_of) net show.now outputs.now) }
 {
     let Ok(mut machine) = Machine::open(alloc, net, bodies) else {
         return Err(AllocError);
@@ -121,13 +121,13 @@ fn execute_by_workers<K: Computes, R: Wait + Clock + Threads + Sync>(
     net: Net<K>,
     bodies: Vec<CardBody<K>>,
     workers: usize,
-    show: Option<usize>,
+    show: &[usize],
     outputs: &[usize],
 ) -> Result<Told, RunFault>
     requires cards { map ⟦<CardBody<K> as Body>⟧.card bodies.items ≡ map (λ p. p.card) net.processes }
     requires workers { (1 < workers) × (workers ≤ 16) }
     requires within { All (λ c. c < length net.channels) outputs.now }
-    ensures { IfOk result (TellsRun (family_of K.start K.answer_of) net show outputs.now) }
+    ensures { IfOk result (TellsRun (family_of K.start K.answer_of) net show.now outputs.now) }
 {
     match run(rt, alloc, net, bodies, workers, &Prompt) {
         Ok(finish) => {
@@ -147,14 +147,14 @@ fn execute_watched<K: Computes, R: Wait + Clock + Threads + Sync, P: Progress>(
     net: Net<K>,
     bodies: Vec<CardBody<K>>,
     workers: usize,
-    show: Option<usize>,
+    show: &[usize],
     outputs: &[usize],
     progress: &P,
 ) -> Result<Told, RunFault>
     requires cards { map ⟦<CardBody<K> as Body>⟧.card bodies.items ≡ map (λ p. p.card) net.processes }
     requires workers { (1 < workers) × (workers ≤ 16) }
     requires within { All (λ c. c < length net.channels) outputs.now }
-    ensures { IfOk result (TellsRun (family_of K.start K.answer_of) net show outputs.now) }
+    ensures { IfOk result (TellsRun (family_of K.start K.answer_of) net show.now outputs.now) }
 {
     let observer = OnBoard { progress };
     let period = Duration::from_millis(PERIOD);
@@ -173,11 +173,11 @@ fn execute_watched<K: Computes, R: Wait + Clock + Threads + Sync, P: Progress>(
 fn told_of_watched<K: Computes>(
     alloc: Global,
     ran: &WatchedRun<K>,
-    show: Option<usize>,
+    show: &[usize],
     outputs: &[usize],
 ) -> Result<Told, RunFault>
     requires within { All (λ c. c < length ran.now.machine.network.channels) outputs.now }
-    ensures { IfOk result (TellsRun (family_of K.start K.answer_of) ran.now.machine.network show outputs.now) }
+    ensures { IfOk result (TellsRun (family_of K.start K.answer_of) ran.now.machine.network show.now outputs.now) }
 {
     if ran.end().is_none() {
         return Err(RunFault::Lost);

@@ -1,5 +1,5 @@
 //! Running a described network as it is asked for, from bytes to bytes.
-ghost use Rattle.std.specs.Prelude.{◌≡◌, ◌<◌, ◌+◌, ◌⊎◌, ℕ, List, [], Some, None, OnOk, IfOk, IfErr, IfSome, MatchResult, length, get_or};
+ghost use Rattle.std.specs.Prelude.{◌≡◌, ◌<◌, ◌+◌, ◌⊎◌, ℕ, OnOk, IfOk, IfErr, IfSome, MatchResult, length};
 ghost use Rattle.std.specs.List.{All};
 ghost use Rattle.kpn_model.specs.Network.{family_of, Network as NetworkV};
 ghost use Rattle.kpn_model.specs.Valid.{IsValid};
@@ -7,7 +7,7 @@ ghost use Rattle.kpn_network.specs.Parts.{network_of};
 ghost use Rattle.kpn_execute.specs.Execution.{number_of_channel};
 ghost use Rattle.kpn_front.specs.Loading.{ConsumesAtMost, longest};
 ghost use Rattle.hox_run.specs.Presets.{PresetAll};
-ghost use Rattle.hox_run.specs.Serving.{AreNamed, GivesNet, GivesRun, HasFewWorkers, IsFault, IsNamed, Prepares, Serves, channel_names};
+ghost use Rattle.hox_run.specs.Serving.{AreNamed, GivesNet, GivesRun, HasFewWorkers, IsFault, LacksChannel, Prepares, Serves, channel_names};
 
 use crate::described::load_by_ports;
 use crate::names::channel_names;
@@ -80,14 +80,14 @@ fn serve_net<K: Computes, R: Wait + Clock + Threads + Sync, P: Progress>(
     ensures { GivesRun (family_of K.start K.answer_of) request.now net.now result }
 {
     let net = prepare_net(alloc, request, net)?;
-    let show = shown_in(alloc, &net, request)?;
+    let show = shown_in(alloc, &net, request.show.as_slice())?;
     let outputs = outputs_in(alloc, &net, request.outputs.as_slice())?;
     match execute(
         rt,
         alloc,
         net,
         request.workers,
-        show,
+        show.as_slice(),
         outputs.as_slice(),
         progress,
     ) {
@@ -153,39 +153,51 @@ fn hold_files<K: Kinds>(
     }
 }
 
-/// The channel to show, if one is asked for.
-fn shown_in<K: Kinds>(
-    alloc: Global,
-    net: &Net<K>,
-    request: &Request,
-) -> Result<Option<usize>, Fault>
-    ensures ok { IfOk result (IsNamed net.now request.now.show) }
-    ensures fault { IfErr result (λ e. (e ≡ Fault.Memory) ⊎ ((name : List ℕ) × (e ≡ Fault.NoShown (channel_names net.now)) × (request.now.show ≡ Some name) × (number_of_channel net.now name ≡ None))) }
+/// The channels to show.
+fn shown_in<K: Kinds>(alloc: Global, net: &Net<K>, names: &[Text]) -> Result<Vec<usize>, Fault>
+    ensures named { IfOk result (λ v. AreNamed net.now names.now v.items) }
+    ensures fault { IfErr result (λ e. (e ≡ Fault.Memory) ⊎ ((k : ℕ) × (e ≡ Fault.NoShown k (channel_names net.now)) × LacksChannel net.now names.now k)) }
 {
-    let Some(name) = &request.show else {
-        return Ok(None);
-    };
-    match net.find_channel(name.as_str()) {
-        Some(channel) => Ok(Some(channel)),
-        None => Err(Fault::NoShown(names_in(alloc, net)?)),
+    match channels_in(alloc, net, names) {
+        Ok(shown) => Ok(shown),
+        Err(Missing::Channel(k)) => Err(Fault::NoShown(k, names_in(alloc, net)?)),
+        Err(Missing::Memory) => Err(Fault::Memory),
     }
 }
 
-/// The channels of these names.
+/// The channels whose streams are wanted as texts of their own.
 fn outputs_in<K: Kinds>(alloc: Global, net: &Net<K>, names: &[Text]) -> Result<Vec<usize>, Fault>
     ensures named { IfOk result (λ v. AreNamed net.now names.now v.items) }
     ensures within { IfOk result (λ v. All (λ c. c < length net.now.channels) v.items) }
-    ensures fault { IfErr result (λ e. (e ≡ Fault.Memory) ⊎ ((k : ℕ) × (e ≡ Fault.NoOutput k (channel_names net.now)) × (k < length names.now) × (number_of_channel net.now (get_or names.now k []) ≡ None))) }
+    ensures fault { IfErr result (λ e. (e ≡ Fault.Memory) ⊎ ((k : ℕ) × (e ≡ Fault.NoOutput k (channel_names net.now)) × LacksChannel net.now names.now k)) }
+{
+    match channels_in(alloc, net, names) {
+        Ok(outputs) => Ok(outputs),
+        Err(Missing::Channel(k)) => Err(Fault::NoOutput(k, names_in(alloc, net)?)),
+        Err(Missing::Memory) => Err(Fault::Memory),
+    }
+}
+
+/// Why names are not those of channels: no channel has the name at this place, or memory was refused.
+#[derive(Clone, Copy)]
+enum Missing {
+    Channel(usize),
+    Memory,
+}
+
+/// The channels of these names.
+fn channels_in<K: Kinds>(alloc: Global, net: &Net<K>, names: &[Text]) -> Result<Vec<usize>, Missing>
+    ensures named { IfOk result (λ v. AreNamed net.now names.now v.items) }
+    ensures within { IfOk result (λ v. All (λ c. c < length net.now.channels) v.items) }
+    ensures missing { IfErr result (λ e. (e ≡ Missing.Memory) ⊎ ((k : ℕ) × (e ≡ Missing.Channel k) × LacksChannel net.now names.now k)) }
 {
     let mut channels = Vec::new(alloc);
     for k in 0..names.len() {
-        match find_within(net, names[k].as_str()) {
-            Some(channel) => {
-                if channels.push(channel).is_err() {
-                    return Err(Fault::Memory);
-                }
-            }
-            None => return Err(Fault::NoOutput(k, names_in(alloc, net)?)),
+        let Some(channel) = find_within(net, names[k].as_str()) else {
+            return Err(Missing::Channel(k));
+        };
+        if channels.push(channel).is_err() {
+            return Err(Missing::Memory);
         }
     }
     Ok(channels)

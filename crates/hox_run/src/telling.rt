@@ -1,5 +1,5 @@
 //! What is told of a run that ended.
-ghost use Rattle.std.specs.Prelude.{◌≡◌, ◌<◌, ◌++◌, ℕ, true, IfOk, IsSome, OnOk, length, map, string_bytes};
+ghost use Rattle.std.specs.Prelude.{◌≡◌, ◌<◌, ◌++◌, ℕ, true, None, IfOk, IsSome, OnOk, length, map, string_bytes};
 ghost use Rattle.std.specs.List.{All, flat_map};
 ghost use Rattle.kpn_model.specs.Network.{Family, family_of};
 ghost use Rattle.kpn_model.specs.Semantics.{State};
@@ -8,10 +8,11 @@ ghost use Rattle.kpn_model.specs.Verdicts.{IsVerdict};
 ghost use Rattle.kpn_report.specs.Text.{report_text};
 ghost use Rattle.kpn_verdict.specs.VerdictText.{verdict_line};
 ghost use Rattle.kpn_tokens.specs.TokenLines.{token_line};
-ghost use Rattle.hox_run.specs.Cuts.{after_verdict, left_at};
+ghost use Rattle.hox_run.specs.Cuts.{after_verdict, before_verdict, left_at};
 ghost use Rattle.hox_run.specs.Telling.{TellsRun, places_in, status_of_verdict, stream_text};
 
 use crate::cut::push_after_verdict;
+use crate::shown::push_before_verdict;
 use kpn_front::Status;
 use kpn_laws::{determinacy_of, least_room_of, least_solution_of};
 use kpn_machine::Chronicle;
@@ -25,7 +26,7 @@ use std::alloc::{AllocError, Global};
 
 /// What is told of a run: the exit status, the report with the line of the verdict, and for each channel
 /// that was asked for its stream, one token a line. The report on a run that was cut says too where it left each
-/// process, and what went so far through the channel to show.
+/// process, and what went so far through the channels to show.
 #[derive(Drop)]
 pub struct Told {
     pub status: Status,
@@ -40,18 +41,18 @@ struct Judged {
     report: String,
 }
 
-/// Returns what is told of a run that ended, with the stream of channel `show` in the report if it is given.
+/// Returns what is told of a run that ended, with the streams of the channels of `show` in the report.
 ///
 /// Errors: memory was refused.
 pub(crate) fn told_of<K: Kinds>(
     alloc: Global,
     chronicle: &Chronicle<K>,
-    show: Option<usize>,
+    show: &[usize],
     outputs: &[usize],
 ) -> Result<Told, AllocError>
     requires ended { IsSome chronicle.now.end }
     requires within { All (λ c. c < length chronicle.now.network.channels) outputs.now }
-    ensures { IfOk result (TellsRun (family_of K.start K.answer_of) chronicle.now.network show outputs.now) }
+    ensures { IfOk result (TellsRun (family_of K.start K.answer_of) chronicle.now.network show.now outputs.now) }
 {
     let Some(end) = chronicle.end() else {
         unreachable!()
@@ -79,13 +80,13 @@ fn judge<K: Kinds>(
     standings: &[Standing],
     places: &[Place],
     end: End,
-    show: Option<usize>,
+    show: &[usize],
 ) -> Result<Judged, AllocError>
     ensures verdict { IfOk result (λ judged. IsVerdict net.now places.now end judged.verdict) }
-    ensures report { IfOk result (λ judged. (kinds : Family) (M : State) → (has_report end ≡ true → places.now ≡ places_in kinds net.now M) → string_bytes judged.report ≡ report_text kinds net.now end history.now M show ++ verdict_line net.now places.now judged.verdict ++ after_verdict net.now end history.now (left_at standings.now places.now) show) }
+    ensures report { IfOk result (λ judged. (kinds : Family) (M : State) → (has_report end ≡ true → places.now ≡ places_in kinds net.now M) → string_bytes judged.report ≡ report_text kinds net.now end history.now M None ++ before_verdict net.now end history.now show.now ++ verdict_line net.now places.now judged.verdict ++ after_verdict net.now end history.now (left_at standings.now places.now) show.now) }
 {
     let verdict = verdict_of(net, places, end);
-    let mut report = text_of(alloc, net, history, places, end, show)?;
+    let mut report = text_of(alloc, net, history, places, end, None)?;
     push_judged(
         alloc,
         &mut report,
@@ -100,7 +101,7 @@ fn judge<K: Kinds>(
     Ok(Judged { verdict, report })
 }
 
-/// Appends the line of a verdict, and what follows it.
+/// Appends the streams of channels, the line of a verdict, and what follows it.
 fn push_judged<K: Kinds>(
     alloc: Global,
     out: &mut String,
@@ -109,11 +110,12 @@ fn push_judged<K: Kinds>(
     standings: &[Standing],
     places: &[Place],
     end: End,
-    show: Option<usize>,
+    show: &[usize],
     verdict: Verdict,
 ) -> Result<(), AllocError>
-    ensures { OnOk result (string_bytes out.new ≡ string_bytes out.old ++ verdict_line net.now places.now verdict ++ after_verdict net.now end history.now (left_at standings.now places.now) show) }
+    ensures { OnOk result (string_bytes out.new ≡ string_bytes out.old ++ before_verdict net.now end history.now show.now ++ verdict_line net.now places.now verdict ++ after_verdict net.now end history.now (left_at standings.now places.now) show.now) }
 {
+    push_before_verdict(alloc, out, net, history, end, show)?;
     push_line(alloc, out, net, places, verdict)?;
     push_after_verdict(alloc, out, net, history, standings, places, end, show)
 }

@@ -1,11 +1,11 @@
 -- What is told of the run's history.
-use Rattle.std.proofs.Common.{◌≡◌, ◌++◌, true, string_bytes, sym}
+use Rattle.std.proofs.Common.{◌≡◌, ◌++◌, true, None, string_bytes, sym}
 use Rattle.kpn_model.specs.Network.{family_of}
 use Rattle.kpn_model.specs.Endings.{has_report}
 use Rattle.kpn_model.specs.Verdicts.{IsVerdict}
 use Rattle.kpn_report.specs.Text.{report_text}
 use Rattle.kpn_verdict.specs.VerdictText.{verdict_line}
-use Rattle.hox_run.specs.Cuts.{after_verdict, left_at}
+use Rattle.hox_run.specs.Cuts.{after_verdict, before_verdict, left_at}
 use Rattle.hox_run.specs.Telling.{places_in}
 use Rattle.hox_run.proofs.ToldRuns.{moved, told_so}
 use Rattle.hox_run.proofs.telling.told_of.Goals as goal
@@ -24,9 +24,9 @@ returns g c =
     let places_are = c.as_slice.ensures.value in
     let standings_are = c.standings-standings.ensures in
     let judged = moved (λ net E ps. IsVerdict net ps cause verdict) s.network _ s.history _ places _ net_is history_is places_are c.in_ok-judged.ensures.verdict in
-    let told = moved (λ net E ps. (has_report cause ≡ true → ps ≡ places_in kinds net s.state) → string_bytes report ≡ report_text kinds net cause E s.state c.args.show ++ verdict_line net ps verdict ++ after_verdict net cause E (left_at s.standings ps) c.args.show)
+    let told = moved (λ net E ps. (has_report cause ≡ true → ps ≡ places_in kinds net s.state) → string_bytes report ≡ report_text kinds net cause E s.state None ++ before_verdict net cause E c.args.show.now ++ verdict_line net ps verdict ++ after_verdict net cause E (left_at s.standings ps) c.args.show.now)
     s.network _ s.history _ places _ net_is history_is places_are (rw standings_are at (c.in_ok-judged.ensures.report kinds s.state)) in
-    told_so kinds g.K.Kinds.admits s cause places verdict c.args.show c.args.outputs.now _ faithful
+    told_so kinds g.K.Kinds.admits s cause places verdict c.args.show.now c.args.outputs.now _ faithful
     (c.least_room_of.ensures.each_run _ _ _ faithful.run) (c.least_solution_of.ensures.each_run _ _ _ faithful.run)
     c.determinacy_of.ensures.all_comparable c.determinacy_of.ensures.one_digest (sym c.in-Some.ensures.end)
     (rw (c.net-net.ensures, c.standings-standings.ensures) at c.in_ok-places.ensures)

@@ -1,0 +1,115 @@
+//! Lines with the streams of channels.
+ghost use Rattle.std.specs.Prelude.{◌≡◌, ◌++◌, [], OnOk, slice_index_or, string_bytes};
+ghost use Rattle.std.specs.List.{flat_map};
+ghost use Rattle.kpn_model.specs.History.{each_channel, stream};
+ghost use Rattle.kpn_model.specs.NamesAndLines.{channel_name};
+ghost use Rattle.kpn_report.specs.Text.{token_part};
+ghost use Rattle.hox_run.specs.Cuts.{before_verdict, streams_text, tokens_line};
+
+use kpn_model::{End, Entry, Kinds, Token};
+use kpn_network::Net;
+use kpn_report::stream_of;
+use std::alloc::{AllocError, Global};
+use std::fmt::Write;
+
+/// Appends, of a run with this end that has a report, a line `stream` for each channel of `show`.
+///
+/// Errors: memory was refused.
+pub(crate) fn push_before_verdict<K: Kinds>(
+    alloc: Global,
+    out: &mut String,
+    net: &Net<K>,
+    history: &[Entry],
+    end: End,
+    show: &[usize],
+) -> Result<(), AllocError>
+    ensures { OnOk result (string_bytes out.new ≡ string_bytes out.old ++ before_verdict net.now end history.now show.now) }
+{
+    match end {
+        End::Terminated | End::Deadlock | End::Ceiling => {
+            push_streams(alloc, out, net, history, show, "stream ")
+        }
+        End::Budget | End::Memory => Ok(()),
+    }
+}
+
+/// Appends a line for the stream of each of these channels, which begins with this word.
+///
+/// Errors: memory was refused.
+pub(crate) fn push_streams<K: Kinds>(
+    alloc: Global,
+    out: &mut String,
+    net: &Net<K>,
+    history: &[Entry],
+    channels: &[usize],
+    word: &str,
+) -> Result<(), AllocError>
+    ensures { OnOk result (string_bytes out.new ≡ string_bytes out.old ++ streams_text net.now word.now history.now channels.now) }
+{
+    for channel in channels {
+        push_stream(alloc, out, net, history, *channel, word)?;
+    }
+    Ok(())
+}
+
+/// Appends the line of a channel's stream.
+fn push_stream<K: Kinds>(
+    alloc: Global,
+    out: &mut String,
+    net: &Net<K>,
+    history: &[Entry],
+    channel: usize,
+    word: &str,
+) -> Result<(), AllocError>
+    ensures { OnOk result (string_bytes out.new ≡ string_bytes out.old ++ tokens_line net.now word.now (slice_index_or (each_channel net.now (λ b. stream net.now history.now b)) channel []) channel) }
+{
+    let tokens = stream_of(alloc, net, history, channel)?;
+    push_line(out, net, tokens.as_slice(), channel, word)
+}
+
+/// Appends a line with these tokens of a channel.
+fn push_line<K: Kinds>(
+    out: &mut String,
+    net: &Net<K>,
+    tokens: &[Token],
+    channel: usize,
+    word: &str,
+) -> Result<(), AllocError>
+    ensures { OnOk result (string_bytes out.new ≡ string_bytes out.old ++ tokens_line net.now word.now tokens.now channel) }
+{
+    out.push_str(word)?;
+    out.push_str(channel_name(net, channel))?;
+    push_tokens(out, tokens)?;
+    out.push_str("\n")
+}
+
+/// Appends some tokens, each after a space.
+fn push_tokens(out: &mut String, tokens: &[Token]) -> Result<(), AllocError>
+    ensures { OnOk result (string_bytes out.new ≡ string_bytes out.old ++ flat_map token_part tokens.now) }
+{
+    for token in tokens {
+        push_token(out, *token)?;
+    }
+    Ok(())
+}
+
+/// Appends a space and a token.
+fn push_token(out: &mut String, token: Token) -> Result<(), AllocError>
+    ensures { OnOk result (string_bytes out.new ≡ string_bytes out.old ++ token_part token) }
+{
+    match token {
+        Token::Word(word) => write!(out, " {word}"),
+        Token::Flag(flag) => write!(out, " {flag}"),
+    }
+}
+
+/// The name of a channel; nothing if the network has no such channel.
+pub(crate) fn channel_name<K: Kinds>(net: &Net<K>, c: usize) -> &str
+    ensures { result.now ≡ channel_name net.now c }
+{
+    if c < net.channels() {
+        net.channel_name(c)
+    } else {
+        ""
+    }
+}
