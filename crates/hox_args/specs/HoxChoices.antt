@@ -47,7 +47,7 @@ pub record IsRunOf (rows : List Row) (run : RunChoice) : Type 0 where
   pub file : option_map (λ s. s.now) run.file ≡ first_of (codes "file") rows
   pub tokens : map (λ s. s.now) run.tokens.items ≡ texts_of (codes "tokens") rows
   pub outputs : map (λ s. s.now) run.outputs.items ≡ texts_of (codes "out") rows
-  pub show : option_map (λ s. s.now) run.show ≡ first_of (codes "show") rows
+  pub show : map (λ s. s.now) run.show.items ≡ texts_of (codes "show") rows
   pub budget : BudgetFrom (first_of (codes "budget") rows) run.budget
   pub workers : WorkersFrom (first_of (codes "workers") rows) run.workers
   pub progress : run.progress ≡ is_given (codes "progress") rows

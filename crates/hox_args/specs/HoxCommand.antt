@@ -22,7 +22,7 @@ hox_check_command = with_rule (with_rule (new_app (codes "check")) (list_rule (c
 
 -- `run` with its options on files and streams; with those on the budget and on workers too; and with all
 abbrev pub hox_run_streams : App
-hox_run_streams = with_rule (with_rule (with_rule (new_app (codes "run")) (list_rule (codes "tokens"))) (list_rule (codes "out"))) (option_rule (codes "show"))
+hox_run_streams = with_rule (with_rule (with_rule (new_app (codes "run")) (list_rule (codes "tokens"))) (list_rule (codes "out"))) (list_rule (codes "show"))
 
 abbrev pub hox_run_bounds : App
 hox_run_bounds = with_rule (with_rule hox_run_streams (option_rule (codes "budget"))) (option_rule (codes "workers"))

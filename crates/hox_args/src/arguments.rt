@@ -22,7 +22,7 @@ pub const MAX_WORKERS: usize = 16;
 
 /// A run that the arguments ask for: the file of the description, or standard input if it is absent or `-`;
 /// which files have the first tokens of which channels, and to which files which channels are written, each
-/// as `CHANNEL=FILE`; the channel whose stream the report has; the budget in place of that of the
+/// as `CHANNEL=FILE`; the channels whose streams the report has; the budget in place of that of the
 /// description; the number of workers, 1 to [`MAX_WORKERS`]; whether it is shown how far the run is, also where
 /// standard error is no terminal; and whether no report is wanted.
 #[derive(Debug, Drop)]
@@ -30,7 +30,7 @@ pub struct RunChoice<'a> {
     pub file: Option<&'a str>,
     pub tokens: Vec<&'a str>,
     pub outputs: Vec<&'a str>,
-    pub show: Option<&'a str>,
+    pub show: Vec<&'a str>,
     pub budget: Option<u64>,
     pub workers: usize,
     pub progress: bool,
@@ -184,8 +184,8 @@ fn run_choice<'a>(alloc: Global, entries: &ArgMatches<'a>) -> Result<Choice<'a>,
     let budget = budget_in(text_in(entries, "budget"))?;
     let tokens = texts_in(alloc, entries, "tokens")?;
     let outputs = texts_in(alloc, entries, "out")?;
+    let show = texts_in(alloc, entries, "show")?;
     let file = text_in(entries, "file");
-    let show = text_in(entries, "show");
     let progress = has_flag(entries, "progress");
     let quiet = has_flag(entries, "quiet");
     Ok(Choice::Run(RunChoice {

@@ -76,10 +76,10 @@ fn run_streams<'a>(alloc: Global) -> Result<Command<'a>, AllocError>
         "Runs the network of a description, reports how it ended, and writes its streams",
         KINDS_AND_FILES,
     );
-    let show = "The report has the stream of this channel";
+    let show = "The report has the stream of this channel; may be given again";
     let run = with(run, tokens(alloc))?;
     let run = with(run, out(alloc))?;
-    with(run, option(alloc, "show", "CHANNEL", show))
+    with(run, list(alloc, "show", "CHANNEL", show))
 }
 
 fn draw<'a>(alloc: Global) -> Result<Command<'a>, AllocError>
@@ -120,7 +120,7 @@ fn stream<'a>(alloc: Global) -> Result<Command<'a>, AllocError>
     );
     let input =
         "The channel gets the tokens of the file as they come, one a line, - is standard input; may be given again";
-    let stream = with(stream, list(alloc, "in", input))?;
+    let stream = with(stream, list(alloc, "in", "CHANNEL=FILE", input))?;
     let stream = with(stream, out(alloc))?;
     let stream = with(stream, quiet(alloc))?;
     with(stream, file(alloc))
@@ -151,7 +151,7 @@ fn tokens<'a>(alloc: Global) -> Arg<'a>
     ensures local { result.global ≡ false }
 {
     let help = "The channel holds the tokens of the file at first, one a line; may be given again";
-    list(alloc, "tokens", help)
+    list(alloc, "tokens", "CHANNEL=FILE", help)
 }
 
 fn out<'a>(alloc: Global) -> Arg<'a>
@@ -160,7 +160,7 @@ fn out<'a>(alloc: Global) -> Arg<'a>
 {
     let help =
         "Writes the stream of the channel to the file, one token a line, - is standard output; may be given again";
-    list(alloc, "out", help)
+    list(alloc, "out", "CHANNEL=FILE", help)
 }
 
 fn workers<'a>(alloc: Global) -> Arg<'a>
@@ -178,15 +178,15 @@ fn quiet<'a>(alloc: Global) -> Arg<'a>
     flag(alloc, "quiet", "Writes no report")
 }
 
-/// An option `--name CHANNEL=FILE` that may be given again.
-fn list<'a>(alloc: Global, name: &'a str, help: &'a str) -> Arg<'a>
+/// An option `--name VALUE` that may be given again.
+fn list<'a>(alloc: Global, name: &'a str, value: &'a str, help: &'a str) -> Arg<'a>
     ensures rule { rule_of result ≡ list_rule name.now }
     ensures local { result.global ≡ false }
 {
     Arg::new(alloc, name)
         .long(name)
         .action(ArgAction::Append)
-        .value_name("CHANNEL=FILE")
+        .value_name(value)
         .help(help)
 }
 
