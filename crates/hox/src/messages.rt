@@ -38,7 +38,7 @@ fn say_fault<R: Eprint + AllocGlobal>(rt: &R, file: &str, asked: &Asked<'_>, fau
                 "hox: --budget must be 1 to {greatest}; in version 2 it may be {GREATEST_HIGH_BUDGET}"
             );
         }
-        Fault::NoHolder(..) | Fault::NoShown(_) | Fault::NoOutput(..) => {
+        Fault::NoHolder(..) | Fault::NoShown(..) | Fault::NoOutput(..) => {
             say_unknown(rt, &asked.request, fault);
         }
         Fault::Memory => {
@@ -57,7 +57,7 @@ fn say_unknown<R: Eprint>(rt: &R, request: &Request, fault: &Fault) {
             Some(file) => (&file.channel, channels),
             None => return,
         },
-        Fault::NoShown(channels) => match &request.show {
+        Fault::NoShown(shown, channels) => match request.show.as_slice().get(*shown) {
             Some(name) => (name, channels),
             None => return,
         },

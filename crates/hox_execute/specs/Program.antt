@@ -18,15 +18,15 @@ use Rattle.hox_execute.specs.Files.{Effect, standard}
 use Rattle.hox_execute.specs.Requests.{Want}
 
 -- the network of the description in this file, or on standard input
-abbrev pub want_in : Option (List ℕ) → ℕ → Option ℕ → Option (List ℕ) → Want
+abbrev pub want_in : Option (List ℕ) → ℕ → Option ℕ → List (List ℕ) → Want
 want_in file workers budget show = record { file = unwrap_or file standard; workers = workers; budget = budget; show = show }
 
 abbrev pub want_of_run : RunChoice → Want
-want_of_run run = want_in (option_map (λ s. s.now) run.file) run.workers run.budget (option_map (λ s. s.now) run.show)
+want_of_run run = want_in (option_map (λ s. s.now) run.file) run.workers run.budget (map (λ s. s.now) run.show.items)
 
 -- a network is drawn by one worker if it is drawn as it is
 abbrev pub want_of_draw : DrawChoice → Want
-want_of_draw draw = want_in (option_map (λ s. s.now) draw.file) (unwrap_or draw.workers 1) None None
+want_of_draw draw = want_in (option_map (λ s. s.now) draw.file) (unwrap_or draw.workers 1) None []
 
 -- a family, its names and ports; what each file holds, if that is known; whether it is known that no write fails; and what was done
 -- before and after
@@ -42,7 +42,7 @@ module _ (kinds : Family) (named : List ℕ → Option (ℕ × ℕ)) (signature 
 
     -- what was chosen is done, or is left to be streamed, with nothing done
     abbrev pub Does : Choice → Outcome → Type 0
-    Does (Check file tokens) (Exits status) = HasChecked named signature contents (want_in (option_map (λ s. s.now) file) 1 None None) (map (λ s. s.now) tokens.items) [] steady before after status
+    Does (Check file tokens) (Exits status) = HasChecked named signature contents (want_in (option_map (λ s. s.now) file) 1 None []) (map (λ s. s.now) tokens.items) [] steady before after status
     Does (Check file tokens) (Streams stream) = ⊥
     Does (Run run) (Exits status) = RunsChoice run status
     Does (Run run) (Streams stream) = ⊥
@@ -66,7 +66,7 @@ module _ (named : List ℕ → Option (ℕ × ℕ)) (signature : Card → Option
   IsDrawStop draw stop = IsStop named signature contents (want_of_draw draw) (map (λ s. s.now) draw.tokens.items) [] stop
 
   abbrev pub IsStopIn : Choice → Stop → Type 0
-  IsStopIn (Check file tokens) stop = IsStop named signature contents (want_in (option_map (λ s. s.now) file) 1 None None) (map (λ s. s.now) tokens.items) [] stop
+  IsStopIn (Check file tokens) stop = IsStop named signature contents (want_in (option_map (λ s. s.now) file) 1 None []) (map (λ s. s.now) tokens.items) [] stop
   IsStopIn (Run run) stop = IsRunStop run stop
   IsStopIn (Draw draw) stop = IsDrawStop draw stop
   IsStopIn (Stream chosen) stop = ⊥

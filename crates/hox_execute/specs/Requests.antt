@@ -1,5 +1,5 @@
 -- What is asked for, and the files that are read for it.
-use Rattle.std.specs.Prelude.{◌≡◌, ◌<◌, ◌⊎◌, ℕ, codes, Bool, false, true, List, length, Option, IfSome, option_map, Result}
+use Rattle.std.specs.Prelude.{◌≡◌, ◌<◌, ◌⊎◌, ℕ, codes, Bool, false, true, List, length, map, Option, IfSome, Result}
 use Rattle.std.specs.List.{AllZip, Any}
 use Rattle.kpn_model.specs.declared.kinds.Card.{Card}
 use Rattle.kpn_model.specs.declared.kinds.Signature.{Signature}
@@ -23,10 +23,10 @@ pub record Want : Type 0 where
   pub file : List ℕ
   pub workers : ℕ
   pub budget : Option ℕ
-  pub show : Option (List ℕ)
+  pub show : List (List ℕ)
 
 abbrev pub want_of : Wanted → Want
-want_of wanted = record { file = wanted.file.now; workers = wanted.workers; budget = wanted.budget; show = option_map (λ s. s.now) wanted.show }
+want_of wanted = record { file = wanted.file.now; workers = wanted.workers; budget = wanted.budget; show = map (λ s. s.now) wanted.show.now }
 
 -- what is asked for besides tokens
 pub record AsksRest (want : Want) (outputs : List Pair) (request : Request) : Type 0 where

@@ -26,7 +26,7 @@ const LINE_BYTES: usize = 64;
 pub(crate) fn check<'a, K: Kinds, S: FileSystem>(
     alloc: Global,
     files: &mut S,
-    wanted: Wanted<'a>,
+    wanted: Wanted<'a, '_>,
     tokens: &[&'a str],
 ) -> Result<Status, Stop<'a>>
     ensures done { IfOk result (HasChecked K.named K.signature (S.contents files.old) (want_of wanted.entry) (map (λ t. t.now) tokens.now) [] (S.is_steady files.old) (S.effects files.old) (S.effects files.new)) }

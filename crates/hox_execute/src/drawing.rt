@@ -28,7 +28,7 @@ pub(crate) fn draw<'a, K: Computes + Titled, S: FileSystem, R: Wait + Clock + Th
     rt: &R,
     alloc: Global,
     files: &mut S,
-    wanted: Wanted<'a>,
+    wanted: Wanted<'a, '_>,
     tokens: &[&'a str],
     direction: Direction,
     is_run: bool,

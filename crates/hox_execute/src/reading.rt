@@ -1,5 +1,5 @@
 //! What is asked for, with the files of tokens.
-ghost use Rattle.std.specs.Prelude.{◌≡◌, ◌<◌, IfOk, IfErr, IfSome, map, length, get_or, option_map};
+ghost use Rattle.std.specs.Prelude.{◌≡◌, ◌<◌, IfOk, IfErr, IfSome, map, length, get_or};
 ghost use Rattle.std.specs.List.{AllZip};
 ghost use Rattle.hox_execute.specs.Pairs.{channels_of};
 ghost use Rattle.hox_execute.specs.declared.pairs.Pair.{Pair as PairV};
@@ -13,13 +13,13 @@ use kpn_model::{Listed, Text};
 use std::alloc::{AllocError, Global};
 
 /// What a command wants of the network of a description: the name of the description's file, how many workers, which
-/// budget in place of the description's, and the stream of which channel in the report.
+/// budget in place of the description's, and the streams of which channels in the report.
 #[derive(Clone, Copy, Debug)]
-pub(crate) struct Wanted<'a> {
+pub(crate) struct Wanted<'a, 'b> {
     pub(crate) file: &'a str,
     pub(crate) workers: usize,
     pub(crate) budget: Option<u64>,
-    pub(crate) show: Option<&'a str>,
+    pub(crate) show: &'b [&'a str],
 }
 
 /// What is asked of a network, with the tokens of files that were read; and the files of its first tokens, and of
@@ -38,7 +38,7 @@ pub struct Asked<'a> {
 pub(crate) fn asked_of<'a, S: FileSystem>(
     alloc: Global,
     files: &S,
-    wanted: Wanted<'a>,
+    wanted: Wanted<'a, '_>,
     tokens: &[&'a str],
     outputs: &[&'a str],
 ) -> Result<Asked<'a>, Stop<'a>>
@@ -62,7 +62,7 @@ pub(crate) fn asked_of<'a, S: FileSystem>(
 fn request_of<'a, S: FileSystem>(
     alloc: Global,
     files: &S,
-    wanted: Wanted<'a>,
+    wanted: Wanted<'a, '_>,
     tokens: &[Pair<'a>],
     outputs: &[Pair<'a>],
 ) -> Result<Request, Stop<'a>>
@@ -79,7 +79,7 @@ fn request_of<'a, S: FileSystem>(
 /// What is asked for, with the tokens of files that were read.
 fn request_with(
     alloc: Global,
-    wanted: Wanted<'_>,
+    wanted: Wanted<'_, '_>,
     files: Vec<TokenFile>,
     outputs: &[Pair<'_>],
 ) -> Result<Request, AllocError>
@@ -92,19 +92,20 @@ fn request_with(
         workers: wanted.workers,
         budget: wanted.budget,
         tokens: Listed::new(files),
-        show,
+        show: Listed::new(show),
         outputs: Listed::new(names),
     })
 }
 
-/// The name of the channel to show, if there is one.
-fn shown_by(alloc: Global, show: Option<&str>) -> Result<Option<Text>, AllocError>
-    ensures { IfOk result (λ name. name ≡ option_map (λ s. s.now) show.entry) }
+/// The names of the channels to show.
+fn shown_by(alloc: Global, show: &[&str]) -> Result<Vec<Text>, AllocError>
+    ensures { IfOk result (λ v. v.items ≡ map (λ s. s.now) show.now) }
 {
-    match show {
-        Some(name) => Ok(Some(text_of(alloc, name)?)),
-        None => Ok(None),
+    let mut shown = Vec::new(alloc);
+    for name in show {
+        shown.push(text_of(alloc, *name)?)?;
     }
+    Ok(shown)
 }
 
 /// The names of the channels of pairs.

@@ -25,7 +25,7 @@ pub(crate) fn run<'a, K: Computes, S: FileSystem, R: Wait + Clock + Threads + Sy
     rt: &R,
     alloc: Global,
     files: &mut S,
-    wanted: Wanted<'a>,
+    wanted: Wanted<'a, '_>,
     tokens: &[&'a str],
     outputs: &[&'a str],
     is_quiet: bool,

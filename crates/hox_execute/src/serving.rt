@@ -1,5 +1,5 @@
 //! From arguments to what is done.
-ghost use Rattle.std.specs.Prelude.{◌≡◌, ◌≤◌, IfOk, IfErr, IfSome, MatchResult, None, OnErr, is_some, map, option_map};
+ghost use Rattle.std.specs.Prelude.{◌≡◌, ◌≤◌, IfOk, IfErr, IfSome, MatchResult, None, OnErr, [], is_some, map, option_map};
 ghost use Rattle.kpn_front.specs.declared.status.Status.{Status as StatusV};
 ghost use Rattle.kpn_model.specs.Network.{family_of};
 ghost use Rattle.hox_args.specs.HoxChoices.{HasFewHoxWorkers};
@@ -104,14 +104,14 @@ fn exits<'a>(done: Result<Status, Stop<'a>>) -> Result<Outcome<'a>, Stop<'a>>
 }
 
 /// The network in this file is wanted, or on standard input.
-fn network_in<'a>(file: Option<&'a str>) -> Wanted<'a>
-    ensures { want_of result ≡ want_in (option_map (λ s. s.now) file.entry) 1 None None }
+fn network_in<'a, 'b>(file: Option<&'a str>) -> Wanted<'a, 'b>
+    ensures { want_of result ≡ want_in (option_map (λ s. s.now) file.entry) 1 None [] }
 {
     Wanted {
         file: name_of(file),
         workers: 1,
         budget: None,
-        show: None,
+        show: &[],
     }
 }
 
@@ -145,7 +145,7 @@ fn run_choice<'a, K: Computes, S: FileSystem, R: Wait + Clock + Threads + Sync, 
 }
 
 /// What a run that was chosen wants of its network.
-fn wanted_of<'a>(choice: &RunChoice<'a>) -> Wanted<'a>
+fn wanted_of<'a, 'b>(choice: &'b RunChoice<'a>) -> Wanted<'a, 'b>
     ensures want { want_of result ≡ want_of_run choice.now }
     ensures workers { result.workers ≡ choice.now.workers }
 {
@@ -153,7 +153,7 @@ fn wanted_of<'a>(choice: &RunChoice<'a>) -> Wanted<'a>
         file: name_of(choice.file),
         workers: choice.workers,
         budget: choice.budget,
-        show: choice.show,
+        show: choice.show.as_slice(),
     }
 }
 
@@ -173,7 +173,7 @@ fn draw_choice<'a, K: Computes + Titled, S: FileSystem, R: Wait + Clock + Thread
         file: name_of(choice.file),
         workers: choice.workers.unwrap_or(1),
         budget: None,
-        show: None,
+        show: &[],
     };
     draw::<K, S, R>(
         rt,
