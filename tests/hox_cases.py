@@ -95,7 +95,8 @@ def with_tokens(choices, request, network):
 
 
 def with_outputs(choices, request, network):
-    """Asks for streams of the network: in files, at most one on standard output, and one in the report."""
+    """Asks for streams of the network: in files, at most one on standard output, and up to three in the report, of which
+    two may be one channel's."""
     names = [it["name"] for it in tables(network, "channel") if is_name(it.get("name"))]
     chosen = names if choices.random() < 0.4 else choices.sample(names, choices.randint(0, min(len(names), 4)))
     request.outputs = [(name, f"out{n}") for n, name in enumerate(chosen[:12])]
@@ -104,8 +105,10 @@ def with_outputs(choices, request, network):
         request.outputs[n] = request.outputs[n][0], "-"
     if choices.random() < 0.01:
         request.outputs.append(("nowhere", "out"))
-    if names and choices.random() < 0.6:
-        request.show = choices.choice(names) if choices.random() < 0.99 else "nowhere"
+    if names:
+        request.show = choices.choices(names, k=choices.choice([0, 0, 1, 1, 2, 3]))
+    if choices.random() < 0.01:
+        request.show.insert(choices.randint(0, len(request.show)), "nowhere")
     request.quiet = choices.random() < 0.15
 
 

@@ -22,7 +22,7 @@ class Request:
     tokens: list = field(default_factory=list)  # a channel and a file, for each file of tokens
     outputs: list = field(default_factory=list)  # a channel and a file, for each stream that is written
     files: dict = field(default_factory=dict)  # the texts of the files of tokens
-    show: str = None
+    show: list = field(default_factory=list)  # the channels whose streams the report has
     budget: int = None
     quiet: bool = False
 
@@ -32,7 +32,7 @@ class Request:
         if command == "check":
             return words
         words += [it for channel, file in self.outputs for it in ("--out", f"{channel}={file}")]
-        words += ["--show", self.show] if self.show is not None else []
+        words += [it for name in self.show for it in ("--show", name)]
         words += ["--budget", str(self.budget)] if self.budget is not None else []
         return [*words, "--workers", str(workers), *["--quiet"] * self.quiet]
 
@@ -167,6 +167,10 @@ def stream_of(net, name):
     return channel.begins_with + channel.put
 
 
+def tokens_line(word, name, tokens):
+    return " ".join([word, name, *map(token_text, tokens)])
+
+
 def due(request, report, streams):
     """What is written where, of a report and the text of the stream of each output."""
     to_output = b"".join(streams[name] for name, file in request.outputs if file == "-")
@@ -182,7 +186,8 @@ class Ended:
     def __init__(self, request, net, cause):
         self.verdict = verdict_of(net, cause)
         self.status = 0 if self.verdict == "ran dry" else STATUS[cause]
-        report = net.report(cause, request.show) + f"verdict {self.verdict}\n".encode()
+        shown = text_of(tokens_line("stream", name, stream_of(net, name)) for name in request.show)
+        report = net.report(cause, None) + shown + f"verdict {self.verdict}\n".encode()
         streams = {name: text_of(map(token_text, stream_of(net, name))) for name, _ in request.outputs}
         self.due = due(request, report, streams)
 
@@ -205,7 +210,7 @@ def places_of(process):
 class Cut:
     """A run that its budget cut: of each stream and that of the interpreter's own run, which is longer, one begins with the
     other; and the streams have as many tokens as so many entries have that are no reads. The report says of each process
-    that it was ready, has stopped or waits at a channel of its own, and then the stream so far."""
+    that it was ready, has stopped or waits at a channel of its own, and then the streams so far that it shows, in order."""
 
     def __init__(self, request, net, budget):
         self.net, self.budget = net, budget
@@ -221,17 +226,19 @@ class Cut:
         output, errors, files = due(request, report, texts)
         if written != Written(output, errors, STATUS["budget"], files):
             return f"expected status 3, {output} on standard output, {errors} on standard error, and the files {sorted(files)}"
-        shown = {} if request.quiet else self.shown_in(request, report.decode())
+        shown = [] if request.quiet else self.shown_in(request, report.decode())
         if shown is None:
             return f"expected a report of a run that was cut, and not {report}"
-        streams = [*((name, text.decode().splitlines(keepends=True)) for name, text in texts.items()), *shown.items()]
+        streams = [*((name, text.decode().splitlines(keepends=True)) for name, text in texts.items()), *shown]
         return next(filter(None, (self.fault_of(name, lines) for name, lines in streams)), self.fault_of_count(texts))
 
     def shown_in(self, request, report):
-        """The stream that a report shows, by the name of its channel; none if it is no report of a run that was cut."""
+        """The streams that a report shows, each beside the name of its channel; none if it is no report of a run that was
+        cut."""
         lines = "".join(f"process {it.name} (?:{'|'.join(places_of(it))})\n" for it in self.net.processes)
-        shown = re.fullmatch(f"end budget\nverdict cut\n{lines}" + (f"prefix {request.show}((?: .+)?)\n" if request.show else "()"), report)
-        return shown and ({request.show: [f"{it}\n" for it in shown[1].split()]} if request.show else {})
+        prefixes = "".join(f"prefix {name}((?: .+)?)\n" for name in request.show)
+        found = re.fullmatch(f"end budget\nverdict cut\n{lines}{prefixes}", report)
+        return found and [(name, [f"{it}\n" for it in text.split()]) for name, text in zip(request.show, found.groups())]
 
     def fault_of(self, name, lines):
         whole = [f"{token_text(it)}\n" for it in stream_of(self.net, name)]
@@ -256,7 +263,7 @@ def outcomes(request, seed, versions):
         budget = sketch["budget"] if request.budget is None else request.budget
         if not 1 <= budget <= GREATEST_BUDGET[sketch["version"]]:
             raise Stopped(1, "--budget must be 1 to ")
-        for name in [request.show] * (request.show is not None) + [name for name, _ in request.outputs]:
+        for name in [*request.show, *(name for name, _ in request.outputs)]:
             channel_named(sketch, name)
     except Stopped as stopped:
         return [stopped]

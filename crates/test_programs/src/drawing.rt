@@ -49,7 +49,7 @@ fn plain(alloc: Global, workers: usize) -> Request
         workers,
         budget: None,
         tokens: Listed::new(Vec::new(alloc)),
-        show: None,
+        show: Listed::new(Vec::new(alloc)),
         outputs: Listed::new(Vec::new(alloc)),
     }
 }
@@ -203,7 +203,7 @@ fn with_samples<R: AllocGlobal + Abort>(rt: &R) -> Request
         workers: 1,
         budget: None,
         tokens: Listed::new(files),
-        show: None,
+        show: Listed::new(Vec::new(alloc)),
         outputs: Listed::new(Vec::new(alloc)),
     }
 }

@@ -147,7 +147,7 @@ fn does<R: AllocGlobal + Wait + Clock + Threads + Abort + Sync>(
 }
 
 /// Command lines on a network through which two words go, with the exit status and what is done.
-static ROWS: [(&str, u8, &str); 12] = [
+static ROWS: [(&str, u8, &str); 14] = [
     (
         "hox check d --tokens x=t",
         0,
@@ -164,6 +164,11 @@ static ROWS: [(&str, u8, &str); 12] = [
         "!\nend deadlock\nprocess src stopped steps 1\nprocess p stopped steps 5\nprocess snk reads y steps 2\nchannel x put 0 left 0 capacity 2\nchannel y put 2 left 0 capacity 1\nentries 8\nverdict ran dry\n> -\n1\n16\n",
     ),
     (
+        "hox run d --tokens x=t --show y --show x",
+        0,
+        "> -\nend deadlock\nprocess src stopped steps 1\nprocess p stopped steps 5\nprocess snk reads y steps 2\nchannel x put 0 left 0 capacity 2\nchannel y put 2 left 0 capacity 1\nentries 8\nstream y 1 16\nstream x 1 16\nverdict ran dry\n",
+    ),
+    (
         "hox run d --tokens x=t --out y=o --out x=p --quiet",
         0,
         "> o\n1\n16\n> p\n1\n16\n",
@@ -177,6 +182,7 @@ static ROWS: [(&str, u8, &str); 12] = [
     ("hox run d --tokens x=none", 2, ""),
     ("hox run - --tokens x=-", 1, ""),
     ("hox run d --tokens x=t --out z=o", 1, ""),
+    ("hox run d --tokens x=t --show y --show z", 1, ""),
     ("hox draw none", 2, ""),
     ("hox check --workers 2 d", 1, ""),
     ("hox stream d --in x=t", 9, ""),

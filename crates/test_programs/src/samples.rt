@@ -32,6 +32,19 @@ entries 8
 verdict ran dry
 ";
 
+/// The same on three words, with the streams of y and x.
+const SHOWN_LINES: &str = "end deadlock
+process src stopped steps 1
+process p stopped steps 5
+process snk reads y steps 2
+channel x put 0 left 1 capacity 3
+channel y put 2 left 0 capacity 1
+entries 8
+stream y 5 6
+stream x 5 6 7
+verdict ran dry
+";
+
 /// One process, which goes on for ever: it is cut after three entries, a put, a take and a put.
 const LOOP: &str = r#"version = 1
 budget = 3
@@ -43,10 +56,20 @@ const LOOP_LINES: &str = "end budget
 verdict cut
 process p ready
 prefix a 7 7
+prefix a 7 7
 ";
 
 fn text_of<R: Abort>(rt: &R, alloc: Global, text: &str) -> Text {
     Text::new(String::from_str(alloc, text).expect(rt, "no memory"))
+}
+
+/// Texts of one's own.
+fn texts_of<R: Abort>(rt: &R, alloc: Global, texts: &[&str]) -> Listed<Text> {
+    let mut own = Vec::new(alloc);
+    for text in texts {
+        own.push(text_of(rt, alloc, *text)).expect(rt, "no memory");
+    }
+    Listed::new(own)
 }
 
 /// What is asked for: channel x has these tokens, and channel y is wanted.
@@ -60,16 +83,12 @@ fn asked<R: Abort>(rt: &R, alloc: Global, tokens: &str, workers: usize) -> Reque
         text: Listed::new(bytes),
     };
     files.push(file).expect(rt, "no memory");
-    let mut outputs = Vec::new(alloc);
-    outputs
-        .push(text_of(rt, alloc, "y"))
-        .expect(rt, "no memory");
     Request {
         workers,
         budget: None,
         tokens: Listed::new(files),
-        show: None,
-        outputs: Listed::new(outputs),
+        show: Listed::new(Vec::new(alloc)),
+        outputs: texts_of(rt, alloc, &["y"]),
     }
 }
 
@@ -118,6 +137,14 @@ fn words_of_a_file_go_through(rt: HostRuntime) {
     tells(&rt, 2);
 }
 
+#[test]
+fn the_streams_of_two_channels_are_shown(rt: HostRuntime) {
+    let mut request = asked(&rt, rt.alloc(), "5\n6\n7\n", 1);
+    request.show = texts_of(&rt, rt.alloc(), &["y", "x"]);
+    let told = told_of(&rt, COPY, &request, &Silent);
+    compare_report(&rt, &told, 0, SHOWN_LINES);
+}
+
 /// Counts how often it is told how far a run has come, and keeps the entries that it was told last.
 #[derive(Drop)]
 struct Listener {
@@ -140,7 +167,7 @@ impl Progress for Listener {
     }
 }
 
-/// What is asked for of the process that goes on for ever: its channel is shown.
+/// What is asked for of the process that goes on for ever: its channel is shown twice.
 fn shown<R: Abort>(rt: &R, alloc: Global, workers: usize) -> Request
     ensures { result.workers ≡ workers }
 {
@@ -148,7 +175,7 @@ fn shown<R: Abort>(rt: &R, alloc: Global, workers: usize) -> Request
         workers,
         budget: None,
         tokens: Listed::new(Vec::new(alloc)),
-        show: Some(text_of(rt, alloc, "a")),
+        show: texts_of(rt, alloc, &["a", "a"]),
         outputs: Listed::new(Vec::new(alloc)),
     }
 }
@@ -217,7 +244,7 @@ fn a_network_is_run_by_two(rt: HostRuntime) {
     };
     let names = channel_names(rt.alloc(), &net).expect(&rt, "no memory");
     are_x_and_y(&rt, "channels", names.as_slice());
-    let Ok(told) = execute(&rt, rt.alloc(), net, 2, None, &[], &Silent) else {
+    let Ok(told) = execute(&rt, rt.alloc(), net, 2, &[], &[], &Silent) else {
         panic!(rt; "no memory");
     };
     same(&rt, "status", told.status.code(), 0);
@@ -231,8 +258,8 @@ fn are_x_and_y<R: Abort>(rt: &R, row: &str, names: &[Text]) {
     }
 }
 
-/// What is asked for where a name stands that no channel has: second among the files of tokens, as that of the
-/// channel to show, or second among the outputs.
+/// What is asked for where a name stands that no channel has: second among the files of tokens, the channels to
+/// show, or the outputs.
 fn misnamed<R: Abort>(rt: &R, alloc: Global, place: &str) -> Request
     ensures { result.workers ≡ 1 }
 {
@@ -244,7 +271,7 @@ fn misnamed<R: Abort>(rt: &R, alloc: Global, place: &str) -> Request
             let file = TokenFile { channel, text };
             request.tokens.push(file).expect(rt, "no memory");
         }
-        "show" => request.show = Some(channel),
+        "show" => request.show = texts_of(rt, alloc, &["y", "z"]),
         _ => request.outputs.push(channel).expect(rt, "no memory"),
     }
     request
@@ -254,7 +281,7 @@ fn misnamed<R: Abort>(rt: &R, alloc: Global, place: &str) -> Request
 fn names_in(fault: &Fault) -> (usize, &[Text]) {
     match fault {
         Fault::NoHolder(file, names) => (*file, names.as_slice()),
-        Fault::NoShown(names) => (0, names.as_slice()),
+        Fault::NoShown(shown, names) => (*shown, names.as_slice()),
         Fault::NoOutput(output, names) => (*output, names.as_slice()),
         _ => (0, &[]),
     }
@@ -262,7 +289,7 @@ fn names_in(fault: &Fault) -> (usize, &[Text]) {
 
 #[test]
 fn a_name_that_no_channel_has_is_told_with_those_that_they_have(rt: HostRuntime) {
-    for (place, number) in [("tokens", 1), ("show", 0), ("outputs", 1)] {
+    for (place, number) in [("tokens", 1), ("show", 1), ("outputs", 1)] {
         let fault = fault_of(&rt, place);
         let (found, names) = names_in(&fault);
         same(&rt, place, found, number);
