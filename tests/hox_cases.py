@@ -107,8 +107,8 @@ def with_outputs(choices, request, network):
         request.outputs.append(("nowhere", "out"))
     if names:
         request.show = choices.choices(names, k=choices.choice([0, 0, 1, 1, 2, 3]))
-    if choices.random() < 0.01:
-        request.show.insert(choices.randint(0, len(request.show)), "nowhere")
+    if request.show and choices.random() < 0.02:
+        request.show[choices.randrange(len(request.show))] = "nowhere"
     request.quiet = choices.random() < 0.15
 
 
