@@ -1,5 +1,4 @@
-//! Tests of machines and of flows, of runs by several workers, of monitors that these share, and of what a program of
-//! one's own calls.
+//! Tests of runs by several workers, of monitors that they share, and of what a program of one's own calls.
 #![tactic(auto)]
 
 #[cfg(test)]
@@ -9,15 +8,11 @@ mod checks;
 #[cfg(test)]
 mod due;
 #[cfg(test)]
-mod flow;
-#[cfg(test)]
 mod histories;
 #[cfg(test)]
 mod large;
 #[cfg(test)]
 mod library;
-#[cfg(test)]
-mod machine;
 #[cfg(test)]
 mod meeting;
 #[cfg(test)]

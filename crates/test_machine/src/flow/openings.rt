@@ -36,6 +36,10 @@ fn refuse<R: Abort>(
     }
 }
 
+fn fresh<R: Abort>(rt: &R, alloc: Global) -> Parts {
+    parts_of(rt, alloc, SCALE).expect(rt, "no memory for the parts")
+}
+
 /// Inputs, outputs, and the fault that these have.
 static FAULTS: [(&[usize], &[usize], FlowFault); 8] = [
     (&[2], &[], FlowFault::Channel),
@@ -51,7 +55,7 @@ static FAULTS: [(&[usize], &[usize], FlowFault); 8] = [
 #[test]
 fn inputs_and_outputs_are_checked(rt: HostRuntime) {
     for (inputs, outputs, fault) in &FAULTS {
-        let parts = parts_of(&rt, rt.alloc(), SCALE);
+        let parts = fresh(&rt, rt.alloc());
         refuse(&rt, rt.alloc(), parts, inputs, outputs, *fault);
     }
 }
@@ -65,17 +69,17 @@ fn stops<R: Abort>(rt: &R, parts: &Parts, process: usize, due: bool) {
 
 #[test]
 fn a_process_of_no_tokens_stops_at_once(rt: HostRuntime) {
-    let parts = parts_of(&rt, rt.alloc(), SCALE);
+    let parts = fresh(&rt, rt.alloc());
     stops(&rt, &parts, 0, true);
     stops(&rt, &parts, 1, false);
 }
 
 #[test]
 fn bodies_are_checked_first(rt: HostRuntime) {
-    let mut few = parts_of(&rt, rt.alloc(), SCALE);
+    let mut few = fresh(&rt, rt.alloc());
     few.bodies.pop();
     refuse(&rt, rt.alloc(), few, &[2], &[], FlowFault::Bodies);
-    let mut turned = parts_of(&rt, rt.alloc(), SCALE);
+    let mut turned = fresh(&rt, rt.alloc());
     turned.bodies.reverse();
     refuse(&rt, rt.alloc(), turned, &[2], &[], FlowFault::Card);
 }

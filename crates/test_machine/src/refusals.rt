@@ -1,10 +1,9 @@
 //! One request for memory is refused, whichever it is.
 use crate::checks::same;
-use crate::machine::entries::{PUT_1, PUT_2, SINK_STOPPED, TOOK_1};
-use crate::machine::machines::{CardMachine, CardTask, commit_of, opened, take_none};
-use crate::machine::networks::{COUNTER, SINK_OF_ONE};
-use crate::machine::openings::{Misfit, assert_handed_back};
-use crate::networks::{Parts, parts_or_refused};
+use crate::entries::{PUT_1, PUT_2, SINK_STOPPED, TOOK_1};
+use crate::machines::{CardMachine, CardTask, commit_of, opened, take_none};
+use crate::networks::{COUNTER, Parts, SINK_OF_ONE, parts_of};
+use crate::openings::{Misfit, assert_handed_back};
 use kpn_machine::Outcome::{Done, Parked};
 use kpn_machine::{Machine, OpenFault};
 use kpn_net::{Card, End};
@@ -107,7 +106,7 @@ fn growing_run<R: Abort>(
 /// Makes a run that needs a growth, with room for its tasks, and returns which request was refused.
 fn run_with_room<R: Abort>(rt: &R, alloc: Global) -> Result<Refused, AllocError> {
     let mut tasks = Vec::with_capacity(alloc, 2)?;
-    let parts = parts_or_refused(rt, alloc, SINK_OF_ONE)?;
+    let parts = parts_of(rt, alloc, SINK_OF_ONE)?;
     Ok(growing_run(rt, alloc, parts, &mut tasks))
 }
 

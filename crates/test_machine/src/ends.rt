@@ -1,8 +1,8 @@
 //! Runs to their end in the calling thread.
 use crate::checks::same;
-use crate::machine::entries::{GREW, PUT_1};
-use crate::machine::machines::{CardMachine, finish_alone, machine_of};
-use crate::machine::networks::{SINK_OF_FOUR, SINK_OF_ONE, SINK_OF_THREE};
+use crate::entries::{GREW, PUT_1};
+use crate::machines::{CardMachine, finish_alone, machine_of};
+use crate::networks::{SINK_OF_FOUR, SINK_OF_ONE, SINK_OF_THREE};
 use kpn_body::Standard;
 use kpn_machine::{Chronicle, End, Entry, Standing};
 use kpn_net::Act::Read;

@@ -1,8 +1,7 @@
 //! What a machine is opened with, and what it hands back.
 use crate::checks::same;
-use crate::machine::machines::{CardMachine, assert_fresh, machine_of, opened};
-use crate::machine::networks::{COUNTER, SINK, SINK_OF_THREE};
-use crate::networks::{Parts, parts_of};
+use crate::machines::{CardMachine, assert_fresh, fresh_parts, machine_of, opened};
+use crate::networks::{COUNTER, Parts, SINK, SINK_OF_THREE};
 use kpn_body::{Body, Standard};
 use kpn_compute::CardBody;
 use kpn_machine::{Machine, OpenFault, OpenRefused, Outcome, cards_of};
@@ -87,13 +86,13 @@ fn open_misfit<R: Abort>(rt: &R, alloc: Global, parts: Parts, due: &Misfit) {
 }
 
 fn open_with_too_few<R: Abort>(rt: &R, alloc: Global) {
-    let mut parts = parts_of(rt, alloc, SINK_OF_THREE);
+    let mut parts = fresh_parts(rt, alloc, SINK_OF_THREE);
     parts.bodies.pop();
     open_misfit(rt, alloc, parts, &TOO_FEW);
 }
 
 fn open_with_turned<R: Abort>(rt: &R, alloc: Global) {
-    let mut parts = parts_of(rt, alloc, SINK_OF_THREE);
+    let mut parts = fresh_parts(rt, alloc, SINK_OF_THREE);
     parts.bodies.reverse();
     open_misfit(rt, alloc, parts, &TURNED);
 }

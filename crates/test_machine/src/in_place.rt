@@ -1,7 +1,7 @@
 //! Bodies that are asked where they lie.
 use crate::checks::same;
-use crate::machine::machines::{CardMachine, machine_of, outcome_of, take};
-use crate::machine::networks::SINK_OF_THREE;
+use crate::machines::{CardMachine, machine_of, outcome_of, take};
+use crate::networks::SINK_OF_THREE;
 use kpn_net::End;
 use std::process::Abort;
 

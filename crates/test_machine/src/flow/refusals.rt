@@ -2,7 +2,7 @@
 use crate::checks::same;
 use crate::flow::flows::{CardFlow, drain_words, opened};
 use crate::flow::networks::OUTPUT_AND_GROWTH;
-use crate::networks::{Parts, parts_or_refused};
+use crate::networks::{Parts, parts_of};
 use kpn_flow::{Flow, FlowFault, Pause};
 use kpn_net::End;
 use std::alloc::{AllocError, Global};
@@ -47,7 +47,7 @@ fn grow<R: Abort>(rt: &R, flow: &mut CardFlow, opening: Refused) -> Refused {
 
 /// Makes a flow that needs a growth, and returns which request was refused.
 fn growing_flow<R: Abort>(rt: &R, alloc: Global) -> Result<Refused, AllocError> {
-    let parts = parts_or_refused(rt, alloc, OUTPUT_AND_GROWTH)?;
+    let parts = parts_of(rt, alloc, OUTPUT_AND_GROWTH)?;
     let (mut flow, opening) = open_again(rt, alloc, parts);
     Ok(grow(rt, &mut flow, opening))
 }

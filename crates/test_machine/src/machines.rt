@@ -19,7 +19,12 @@ pub(crate) type CardFinished = Finished<CardBody<Standard>>;
 
 /// Opens a machine of the network of a description.
 pub(crate) fn machine_of<R: Abort>(rt: &R, alloc: Global, text: &str) -> CardMachine {
-    opened(rt, alloc, parts_of(rt, alloc, text))
+    opened(rt, alloc, fresh_parts(rt, alloc, text))
+}
+
+/// The network of a description, with its bodies.
+pub(crate) fn fresh_parts<R: Abort>(rt: &R, alloc: Global, text: &str) -> Parts {
+    parts_of(rt, alloc, text).expect(rt, "no memory for the parts")
 }
 
 /// Opens a machine; only memory may be refused.

@@ -18,7 +18,8 @@ pub(crate) fn flow_of<R: Abort>(
     inputs: &[usize],
     outputs: &[usize],
 ) -> CardFlow {
-    opened(rt, alloc, parts_of(rt, alloc, text), inputs, outputs)
+    let parts = parts_of(rt, alloc, text).expect(rt, "no memory for the parts");
+    opened(rt, alloc, parts, inputs, outputs)
 }
 
 /// Opens a flow; only memory may be refused.

@@ -1,7 +1,7 @@
 //! Who waits at the channels: the candidates for a growth and the marks, by hand, and the growths of a network of three
 //! full channels.
 use crate::checks::same;
-use crate::machine::machines::{finish_alone, machine_of};
+use crate::machines::{finish_alone, machine_of};
 use kpn_net::{End, Entry};
 use kpn_state::{Candidates, Marks, Waiting};
 use std::alloc::Global;

@@ -1,10 +1,10 @@
 //! The standings of the processes, from the opening to the end.
 use crate::checks::same;
-use crate::machine::entries::PUT_1;
-use crate::machine::machines::{
+use crate::entries::PUT_1;
+use crate::machines::{
     CardMachine, CardTask, commit_of, lay, machine_of, take, take_all, take_none,
 };
-use crate::machine::networks::{BUDGET_OF_ONE, SINK_OF_THREE};
+use crate::networks::{BUDGET_OF_ONE, SINK_OF_THREE};
 use kpn_machine::Outcome::{Done, LaidBack};
 use kpn_machine::Standing;
 use kpn_machine::Standing::{Out, Ready, Stopped};

@@ -1,8 +1,8 @@
 //! Histories, commit by commit.
 use crate::checks::same;
-use crate::machine::entries::{COUNTER_STOPPED, GREW, PUT_1, PUT_2, PUT_3, SINK_STOPPED, TOOK_1};
-use crate::machine::machines::{CardMachine, commit_of, machine_of};
-use crate::machine::networks::{SINK_OF_ONE, SINK_OF_THREE};
+use crate::entries::{COUNTER_STOPPED, GREW, PUT_1, PUT_2, PUT_3, SINK_STOPPED, TOOK_1};
+use crate::machines::{CardMachine, commit_of, machine_of};
+use crate::networks::{SINK_OF_ONE, SINK_OF_THREE};
 use kpn_machine::Outcome;
 use kpn_machine::Outcome::{Done, Parked};
 use kpn_net::{End, Entry};

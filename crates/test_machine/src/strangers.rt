@@ -3,13 +3,12 @@ ghost use Rattle.std.specs.Prelude.{IsSome, None};
 ghost use Rattle.kpn_machine.specs.MachineView.{IsOut};
 
 use crate::checks::same;
-use crate::machine::entries::PUT_1;
-use crate::machine::machines::{
-    CardFinished, CardMachine, CardTask, answer_of, commit_of, handed_back, machine_of, outcome_of,
-    take, take_all,
+use crate::entries::PUT_1;
+use crate::machines::{
+    CardFinished, CardMachine, CardTask, answer_of, commit_of, fresh_parts, handed_back,
+    machine_of, outcome_of, take, take_all,
 };
-use crate::machine::networks::{COUNTER, SINK_OF_THREE};
-use crate::networks::parts_of;
+use crate::networks::{COUNTER, SINK_OF_THREE};
 use kpn_body::{Body, Finished, Task};
 use kpn_compute::{CardBody, Computes};
 use kpn_machine::Outcome::{Done, Parked};
@@ -35,7 +34,7 @@ fn unsent<K: Computes>(body: CardBody<K>) -> Task<CardBody<K>> {
 
 /// The counter's first task, with a body that belongs to no machine.
 fn task_of_another_body<R: Abort>(rt: &R, alloc: Global) -> CardTask {
-    let mut parts = parts_of(rt, alloc, SINK_OF_THREE);
+    let mut parts = fresh_parts(rt, alloc, SINK_OF_THREE);
     parts.bodies.pop();
     let counter = parts.bodies.pop().expect(rt, "no body");
     unsent(counter)
