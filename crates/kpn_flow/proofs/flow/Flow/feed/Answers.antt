@@ -67,3 +67,6 @@ returns-clause-fed g c =
       omega (arith, c.tokens_and_capacity-held.ensures.tokens, c.tokens_and_capacity-held.ensures.capacity, c.if-held-capacity.false),
       ap (λ (x : StateAndHistory). x.state) c.feed.ensures.fed,
     ))
+
+pub feed-requires-clause-space : goal.feed-requires-clause-space
+feed-requires-clause-space g c κs within = omega (arith, c.tokens_and_capacity-held.ensures.tokens, c.tokens_and_capacity-held.ensures.capacity, c.if-held-capacity.false)
