@@ -45,13 +45,6 @@ plain SignedHold = Hold
 plain SignedClip = Clip
 plain kind = kind
 
--- the first twelve kinds, and the others
-abbrev pub first_kinds : List Signal
-first_kinds = Input ∷ InputFlags ∷ Drain ∷ DrainFlags ∷ Constant ∷ CountUp ∷ Sub ∷ Mul ∷ Shift ∷ Left ∷ Less ∷ Equal ∷ []
-
-abbrev pub other_kinds : List Signal
-other_kinds = Not ∷ And ∷ Or ∷ Decimate ∷ Repeat ∷ Hold ∷ Delay ∷ LowPass ∷ Clip ∷ SignedConstant ∷ SignedHold ∷ SignedClip ∷ []
-
 abbrev pub all_kinds : List Signal
 all_kinds = Input ∷ InputFlags ∷ Drain ∷ DrainFlags ∷ Constant ∷ CountUp ∷ Sub ∷ Mul ∷ Shift ∷ Left ∷ Less ∷ Equal ∷ Not ∷ And ∷ Or ∷ Decimate ∷ Repeat ∷ Hold ∷ Delay ∷ LowPass ∷ Clip ∷ SignedConstant ∷ SignedHold ∷ SignedClip ∷ []
 

@@ -1,8 +1,6 @@
 //! The table of the kinds for signals.
 ghost use Rattle.std.specs.Prelude.{◌≡◌, Some, IfSome};
-ghost use Rattle.kpn_signals.specs.Table.{row_of, numbered, called, first_kinds, other_kinds, plain};
-ghost use Rattle.std.specs.List.{find};
-ghost use Rattle.std.specs.Str.{bytes_eq};
+ghost use Rattle.kpn_signals.specs.Table.{row_of, numbered, called, plain};
 ghost use Rattle.kpn_signals.specs.Signatures.{accepts, are_bounds, number_named};
 ghost use Rattle.kpn_signals.specs.Family.{start_of};
 
@@ -207,13 +205,6 @@ impl Signal {
     pub fn called(name: &str) -> Option<Signal>
         ensures { result ≡ called name.now }
     {
-        Signal::called_among_first(name).or(Signal::called_among_others(name))
-    }
-
-    /// The kind with this name among the first twelve.
-    fn called_among_first(name: &str) -> Option<Signal>
-        ensures { result ≡ find (λ kind. bytes_eq name.now (row_of kind).name) first_kinds }
-    {
         match name {
             "input" => Some(Signal::Input),
             "input_flags" => Some(Signal::InputFlags),
@@ -227,15 +218,6 @@ impl Signal {
             "left" => Some(Signal::Left),
             "less" => Some(Signal::Less),
             "equal" => Some(Signal::Equal),
-            _ => None,
-        }
-    }
-
-    /// The kind with this name among the others.
-    fn called_among_others(name: &str) -> Option<Signal>
-        ensures { result ≡ find (λ kind. bytes_eq name.now (row_of kind).name) other_kinds }
-    {
-        match name {
             "not" => Some(Signal::Not),
             "and" => Some(Signal::And),
             "or" => Some(Signal::Or),
