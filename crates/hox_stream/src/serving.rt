@@ -47,13 +47,15 @@ pub fn serve<F: Computes, I: Source + Drop, O: Sink + Drop>(
 ) -> Result<Served<F, I, O>, AllocError>
     ensures { IfOk result (λ r. Serves (family_of F.start F.answer_of) opened r.flow (new_inlets I.remaining I.has_failed opened.network opened.inputs sources.items) r.inlets.items (new_outlets O.seen opened.outputs sinks.items) r.outlets.items r.finish) }
 {
+    let Ports {
+        mut inlets,
+        mut outlets,
+    } = ports_of(alloc, &opened, sources, sinks)?;
     let OpenStream {
         mut flow,
-        inputs,
-        outputs,
+        inputs: _,
+        outputs: _,
     } = opened;
-    let mut inlets = inlets_of(alloc, flow.net(), inputs.as_slice(), sources)?;
-    let mut outlets = outlets_of(alloc, outputs.as_slice(), sinks)?;
     let finish = stream(
         alloc,
         &mut flow,
@@ -65,6 +67,30 @@ pub fn serve<F: Computes, I: Source + Drop, O: Sink + Drop>(
         inlets,
         outlets,
         finish,
+    })
+}
+
+/// The sources and the sinks of a stream, each for its channel.
+#[derive(Drop)]
+struct Ports<I: Source, O: Sink> {
+    inlets: Vec<Inlet<I>>,
+    outlets: Vec<Outlet<O>>,
+}
+
+/// The sources and the sinks of a stream at its start.
+fn ports_of<F: Computes, I: Source + Drop, O: Sink + Drop>(
+    alloc: Global,
+    opened: &OpenStream<F>,
+    sources: Vec<I>,
+    sinks: Vec<O>,
+) -> Result<Ports<I, O>, AllocError>
+    ensures inlets { IfOk result (λ r. r.inlets.items ≡ new_inlets I.remaining I.has_failed opened.now.network opened.now.inputs sources.items) }
+    ensures outlets { IfOk result (λ r. r.outlets.items ≡ new_outlets O.seen opened.now.outputs sinks.items) }
+{
+    let net = opened.flow.net();
+    Ok(Ports {
+        inlets: inlets_of(alloc, net, opened.inputs.as_slice(), sources)?,
+        outlets: outlets_of(alloc, opened.outputs.as_slice(), sinks)?,
     })
 }
 

@@ -15,10 +15,10 @@ use Rattle.kpn_state.specs.declared.standing.Standing.TheVariants.{Ready, Out, P
 use Rattle.kpn_state.specs.Standings.{standing, is_busy, parked_answer, StandingsFit}
 use Rattle.kpn_state.proofs.Placed.{idle_at}
 use Rattle.kpn_state.proofs.Contradictions.{none_some, true_false}
-use Rattle.kpn_commit.proofs.Idle.{wants_parked}
+use Rattle.kpn_commit.proofs.Idle.{idle_quiet, wants_parked}
 use Rattle.kpn_flow.specs.declared.pause.Pause.{Pause}
 use Rattle.kpn_flow.specs.declared.pause.Pause.TheVariants.{Cut, Starved, Blocked, Over}
-use Rattle.kpn_flow.specs.Pauses.{IsStarving, IsStarved, IsHeldUp, NoneCanHelp, TellWants}
+use Rattle.kpn_flow.specs.Pauses.{IsAwaited, IsRest, IsStarving, IsStarved, IsHeldUp, NoneCanHelp, TellWants}
 use Rattle.kpn_flow.specs.Pieces.{IsExhausted}
 use Rattle.kpn_flow.specs.Waits.{is_at, is_read, reads_from, writes_to, is_parked_with, starves, holds_up, waits_to_read}
 use Rattle.kpn_flow.proofs.Among.{any_found, none_found}
@@ -133,6 +133,13 @@ module _ (kinds : Family) (admits : Card → List ℕ → Option Token → Type 
 
   pub some_held_up : (outputs : List ℕ) → list_any (holds_up net standings) outputs ≡ true → (c : ℕ) × IsHeldUp kinds net outputs M c
   some_held_up outputs e = let x = any_found (holds_up net standings) outputs e in (x.0, record { output = x.1; writer = (channel_of net x.0).writer; blocked = held_there x.0 x.2 })
+
+  -- what is awaited from outside is why nothing goes on
+  pub awaited_rests : (inputs outputs : List ℕ) → list_any is_busy standings ≡ false → (pause : Pause) → IsAwaited net standings inputs outputs pause → IsRest kinds net inputs outputs M pause
+  awaited_rests inputs outputs idle Cut e = absurd e
+  awaited_rests inputs outputs idle Starved e = (idle_quiet k idle, some_starved inputs e)
+  awaited_rests inputs outputs idle Blocked e = (idle_quiet k idle, not_starved idle inputs e.0, some_held_up outputs e.1)
+  awaited_rests inputs outputs idle (Over end) e = absurd e
 
   -- a process that is neither ready nor out wants what it answered
   wants_told : (p : ℕ) (x : Standing) → standing standings p ≡ x → is_busy x ≡ false → wants kinds net M p ≡ parked_answer x

@@ -1,5 +1,6 @@
 -- How far a flow goes by itself, and why it comes back.
-use Rattle.std.specs.Prelude.{◌≡◌, ℕ, ◌+◌, ◌≤◌, true, List, [], ◌∷◌, Some, length}
+use Rattle.std.specs.Prelude.{◌≡◌, ℕ, ◌+◌, ◌≤◌, true, false, List, [], ◌∷◌, Some, length}
+use Rattle.std.specs.List.{list_any}
 use Rattle.kpn_model.specs.declared.kinds.Act.TheVariants.{Read}
 use Rattle.kpn_model.specs.declared.kinds.Answer.{Answer}
 use Rattle.kpn_model.specs.declared.history.Entry.{Entry}
@@ -13,6 +14,7 @@ use Rattle.kpn_flow.specs.declared.counts.Counts.{Counts}
 use Rattle.kpn_flow.specs.declared.pause.Pause.{Pause}
 use Rattle.kpn_flow.specs.declared.pause.Pause.TheVariants.{Cut, Starved, Blocked, Over}
 use Rattle.kpn_flow.specs.Flows.{is_among, counted}
+use Rattle.kpn_flow.specs.Waits.{holds_up, starves}
 
 module _ (kinds : Family) (net : Network) where
   -- p wants to read from c, which is empty
@@ -66,6 +68,13 @@ module _ (kinds : Family) (net : Network) where
     IsPause most done M Starved = IsRest M Starved
     IsPause most done M Blocked = IsRest M Blocked
     IsPause most done M (Over end) = IsRest M (Over end)
+
+-- what is awaited from outside, as the standings tell: that an input is fed, or else that an output is drained
+abbrev pub IsAwaited : Network → List Standing → List ℕ → List ℕ → Pause → Type 0
+IsAwaited net standings inputs outputs Cut = ⊥
+IsAwaited net standings inputs outputs Starved = list_any (starves net standings) inputs ≡ true
+IsAwaited net standings inputs outputs Blocked = (list_any (starves net standings) inputs ≡ false) × (list_any (holds_up net standings) outputs ≡ true)
+IsAwaited net standings inputs outputs (Over end) = ⊥
 
 -- the standings tell what each process wants, unless the flow was cut
 abbrev pub TellWants : Family → Network → State → List Standing → Pause → Type 0

@@ -8,8 +8,8 @@ ghost use Rattle.kpn_state.specs.Standings.{standing, is_busy};
 ghost use Rattle.kpn_commit.specs.Waiting.{AreWaiting};
 ghost use Rattle.kpn_machine.specs.Opening.{cards_of};
 ghost use Rattle.kpn_flow.specs.Flows.{IsSettledIn};
-ghost use Rattle.kpn_flow.specs.Pauses.{OpenRun, IsRest, TellWants};
-ghost use Rattle.kpn_flow.specs.Waits.{is_not_parked};
+ghost use Rattle.kpn_flow.specs.Pauses.{OpenRun, IsAwaited, IsRest, TellWants};
+ghost use Rattle.kpn_flow.specs.Waits.{holds_up, is_not_parked, starves};
 
 use crate::pause::Pause;
 use crate::waits::{any_holds_up, any_starves};
@@ -18,7 +18,28 @@ use kpn_commit::react::react;
 use kpn_commit::resolution::{Resolution, resolve};
 use kpn_model::{Act, Kinds, Status};
 use kpn_network::Net;
-use kpn_state::{Roster, Store, Waiting};
+use kpn_state::{Roster, Standing, Store, Waiting};
+
+/// What is awaited from outside, as the standings tell: that an input is fed, or else that an output is
+/// drained; `None` if neither lets a process go on.
+fn awaited<K: Kinds>(
+    net: &Net<K>,
+    standings: &[Standing],
+    inputs: &[usize],
+    outputs: &[usize],
+) -> Option<Pause>
+    ensures some { IfSome result (IsAwaited net.now standings.now inputs.now outputs.now) }
+    ensures not_fed { IfNone result (list_any (starves net.now standings.now) inputs.now ≡ false) }
+    ensures not_drained { IfNone result (list_any (holds_up net.now standings.now) outputs.now ≡ false) }
+{
+    if any_starves(net, standings, inputs) {
+        return Some(Pause::Starved);
+    }
+    if any_holds_up(net, standings, outputs) {
+        return Some(Pause::Blocked);
+    }
+    None
+}
 
 /// What follows when no process is ready: it is found why nothing goes on, or the chosen channel grows,
 /// which it does only if neither feeding nor draining lets a process go on (after Parks 1995).
@@ -50,11 +71,8 @@ fn rest<K: Kinds>(
     ensures goes { IfNone result (sum_by is_not_parked standings.new + 1 ≤ sum_by is_not_parked standings.old + 2 * length store.new.history) }
     ensures grown { grown.new ≡ grown.old + length (growths store.new.history) }
 {
-    if any_starves(net, standings.as_slice(), inputs) {
-        return Some(Pause::Starved);
-    }
-    if any_holds_up(net, standings.as_slice(), outputs) {
-        return Some(Pause::Blocked);
+    if let Some(pause) = awaited(net, standings.as_slice(), inputs, outputs) {
+        return Some(pause);
     }
     match resolve(net, store, standings, waiting) {
         Resolution::Ended(end) => Some(Pause::Over(end)),

@@ -1,5 +1,5 @@
 -- The machine's invariant is kept while processes go out and come back, and while they are asked where they stand.
-use Rattle.std.proofs.Common.{◌≡◌, ◌≢◌, ◌⊎◌, ◌↔◌, ⊎_elim, inl, inr, List, length, length-append, refl, ap, ◌∙◌, arith, ℕ, ◌+◌, ◌<◌, ◌≤◌, true, false, Some, None, Option, set, length-set, map, get_or}
+use Rattle.std.proofs.Common.{◌≡◌, ◌≢◌, ◌⊎◌, ◌↔◌, ⊎_elim, inl, inr, List, length, length-append, refl, sym, ap, ◌∙◌, arith, ℕ, ◌+◌, ◌<◌, ◌≤◌, true, false, Some, None, Option, set, length-set, map, get_or}
 use Rattle.std.specs.Option.{is_some, option_map}
 use Rattle.std.specs.List.{list_any}
 use Rattle.kpn_model.specs.declared.token.Token.{Token}
@@ -271,3 +271,18 @@ body_wants card {net = net} bodies h p below ready slot b at some s local last i
     let here = slot_at card bodies p slot (omega arith) at in
     let same : card_of net p ≡ card b = cc in
     rw (← is, live, same, e)
+
+-- and that it may be asked
+pub body_admits :
+    {kinds : Family} {admits : Card → List ℕ → Option Token → Type 0} {X : Type 0} (card : X → Card) {net : Network} {M : State} {E : List Entry} {l : List Standing} {end : Option End} {commits limit : ℕ} (bodies : List (Option X))
+    → IsSound kinds admits (machine_view net M E l end commits) limit (map (option_map card) bodies) → (p : ℕ) → p < length l → standing l p ≡ Ready
+    → (slot : Option X) (b : X) → slot ≡ get_or bodies p slot → slot ≡ Some b → (s : Status) (local : List ℕ) (last : Option Token) → s ≡ status M p → s ≡ Live local last
+    → admits (card b) local last
+body_admits card {net = net} bodies h p below ready slot b at some s local last is live =
+    let many = h.keeps.one_each in
+    let slots = h.many_bodies in
+    let all = length-map bodies (option_map card) in
+    let has = h.has_bodies p (omega arith) (λ f. cc) in
+    let here = slot_at card bodies p slot (omega arith) at in
+    let same : card_of net p ≡ card b = cc in
+    rw same at (h.keeps.well_typed.locals p local last (sym is ∙ live))

@@ -1,7 +1,10 @@
 //! Where a fault of a sketch is.
-ghost use Rattle.std.specs.Prelude.{◌≡◌, length, IfSome, IfNone};
+ghost use Rattle.std.specs.Prelude.{◌≡◌, ◌||◌, length, not, pos, IfSome, IfNone};
 ghost use Rattle.std.specs.List.{list_any};
-ghost use Rattle.kpn_message.specs.Location.{clashes_at, IsFirst, HoldsNowhere, process_has_fault, channel_has_fault, IsLocation};
+ghost use Rattle.kpn_message.specs.Location.{clashes_at, holds_at, IsFirst, HoldsNowhere, process_has_fault, channel_has_fault, IsLocation};
+ghost use Rattle.kpn_model.specs.Name.{is_name};
+ghost use Rattle.kpn_model.specs.Version.{ceiling_in};
+ghost use Rattle.kpn_net.specs.Faults.{is_outside, same_process, same_channel, same_out, same_in};
 
 use kpn_net::faults::{
     Clash, SameIn, SameName, SameOut, has_unknown_kind, has_unused_port, has_wrong_args,
@@ -67,13 +70,23 @@ pub(crate) fn process_has_fault<K: Kinds>(sketch: &Sketch, fault: NetFault, p: u
         return false;
     };
     match fault {
-        NetFault::Name => {
-            !is_name(process.name.as_str()) || clashes_at::<ProcessSketch, SameName>(processes, p)
-        }
+        NetFault::Name => is_process_misnamed(processes, p),
         NetFault::Kind => has_unknown_kind::<K>(process),
         NetFault::Args => has_wrong_args::<K>(process),
         NetFault::Unused => has_unused_port::<K>(sketch, process),
         _ => false,
+    }
+}
+
+/// Whether process `p` has no name, or that of an earlier one.
+fn is_process_misnamed(processes: &[ProcessSketch], p: usize) -> bool
+    ensures { result ≡ (holds_at (λ x. not (is_name x.name)) processes.now p || clashes_at same_process processes.now p) }
+{
+    match processes.get(p) {
+        Some(process) => {
+            !is_name(process.name.as_str()) || clashes_at::<ProcessSketch, SameName>(processes, p)
+        }
+        None => false,
     }
 }
 
@@ -86,19 +99,41 @@ pub(crate) fn channel_has_fault<K: Kinds>(sketch: &Sketch, fault: NetFault, c: u
         return false;
     };
     match fault {
-        NetFault::Name => {
-            !is_name(channel.name.as_str()) || clashes_at::<ChannelSketch, SameName>(channels, c)
-        }
+        NetFault::Name => is_channel_misnamed(channels, c),
         NetFault::NoEnd => lacks_end::<K>(sketch, channel),
-        NetFault::Twice => {
-            clashes_at::<ChannelSketch, SameOut>(channels, c)
-                || clashes_at::<ChannelSketch, SameIn>(channels, c)
-        }
+        NetFault::Twice => shares_an_end(channels, c),
         NetFault::Sorts => has_wrong_sort::<K>(sketch, channel),
-        NetFault::Capacity => has_wrong_capacity(sketch.version, channel),
+        NetFault::Capacity => is_capacity_wrong(sketch, channel),
         NetFault::Tokens => has_wrong_tokens(channel),
         _ => false,
     }
+}
+
+/// Whether channel `c` has no name, or that of an earlier one.
+fn is_channel_misnamed(channels: &[ChannelSketch], c: usize) -> bool
+    ensures { result ≡ (holds_at (λ x. not (is_name x.name)) channels.now c || clashes_at same_channel channels.now c) }
+{
+    match channels.get(c) {
+        Some(channel) => {
+            !is_name(channel.name.as_str()) || clashes_at::<ChannelSketch, SameName>(channels, c)
+        }
+        None => false,
+    }
+}
+
+/// Whether channel `c` begins or ends where an earlier one does.
+fn shares_an_end(channels: &[ChannelSketch], c: usize) -> bool
+    ensures { result ≡ (clashes_at same_out channels.now c || clashes_at same_in channels.now c) }
+{
+    clashes_at::<ChannelSketch, SameOut>(channels, c)
+        || clashes_at::<ChannelSketch, SameIn>(channels, c)
+}
+
+/// Whether the version of a sketch has no such capacity as a channel's.
+fn is_capacity_wrong(sketch: &Sketch, channel: &ChannelSketch) -> bool
+    ensures { result ≡ is_outside (pos 1) (pos (ceiling_in sketch.now.version)) channel.now.capacity }
+{
+    has_wrong_capacity(sketch.version, channel)
 }
 
 /// Whether item `k` clashes with an earlier one.

@@ -104,5 +104,7 @@ module _ (net : Network) (history : List Entry) (i : ℕ) (d : Entry) (within : 
   pub streams_next : (old new : List (List Token)) → KeepsStreams net (take i history) old → new ≡ streams_after old (get_or history i d) → KeepsStreams net (take (i + 1) history) new
   streams_next old new k is = rw (take_more history i d within, is) (streams_kept net (take i history) old k (get_or history i d))
 
-  pub stream_next : (c : ℕ) (old new : List Token) → old ≡ stream net (take i history) c → new ≡ old ++ put_on (get_or history i d ∷ []) c → new ≡ stream net (take (i + 1) history) c
-  stream_next c old new e is = rw (take_more history i d within, is, e) (simp pushes)
+pub put_next :
+    (history : List Entry) (i : ℕ) (d : Entry) → i < length history → (c : ℕ) (first old new : List Token) → old ≡ first ++ put_on (take i history) c
+    → new ≡ old ++ put_on (get_or history i d ∷ []) c → new ≡ first ++ put_on (take (i + 1) history) c
+put_next history i d within c first old new e is = rw (take_more history i d within, is, e) (simp pushes)

@@ -79,6 +79,19 @@ pub(crate) fn push_channel<K: Kinds>(
     )
 }
 
+/// Appends the line of a growth.
+fn push_growth<K: Kinds>(
+    out: &mut String,
+    net: &Net<K>,
+    growth: (usize, usize),
+) -> Result<(), AllocError>
+    ensures { OnOk result (string_bytes out.new ≡ string_bytes out.old ++ growth_line net.now growth) }
+{
+    let name = channel_name(net, growth.0);
+    let to = growth.1;
+    write!(out, "grew {name} {to}\n")
+}
+
 /// Appends a line for each growth, in order.
 pub(crate) fn push_growths<K: Kinds>(
     out: &mut String,
@@ -88,9 +101,7 @@ pub(crate) fn push_growths<K: Kinds>(
     ensures { OnOk result (string_bytes out.new ≡ string_bytes out.old ++ flat_map (growth_line net.now) growths.now) }
 {
     for growth in growths {
-        let name = channel_name(net, growth.0);
-        let to = growth.1;
-        write!(out, "grew {name} {to}\n")?;
+        push_growth(out, net, *growth)?;
     }
     Ok(())
 }

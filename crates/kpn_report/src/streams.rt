@@ -13,13 +13,21 @@ pub type Stream = Listed<Token>;
 /// A stream for each channel.
 pub type Streams = Listed<Stream>;
 
-/// The stream of each channel before any entry: its start tokens.
+/// The stream of a channel before any entry: its start tokens.
+fn first_stream<K: Kinds>(alloc: Global, net: &Net<K>, c: usize) -> Result<Stream, AllocError>
+    requires { c < length net.now.channels }
+    ensures { IfOk result (λ s. s ≡ stream net.now [] c) }
+{
+    Ok(Listed::new(Vec::from_slice(alloc, net.tokens(c))?))
+}
+
+/// The stream of each channel before any entry.
 fn first_streams<K: Kinds>(alloc: Global, net: &Net<K>) -> Result<Vec<Stream>, AllocError>
     ensures { IfOk result (λ v. KeepsStreams net.now [] v.items) }
 {
     let mut streams = Vec::with_capacity(alloc, net.channels())?;
     for c in 0..net.channels() {
-        streams.push(Listed::new(Vec::from_slice(alloc, net.tokens(c))?))?;
+        streams.push(first_stream(alloc, net, c)?)?;
     }
     Ok(streams)
 }
@@ -72,6 +80,20 @@ fn push_put_on(tokens: &mut Vec<Token>, channel: usize, entry: Entry) -> Result<
     }
 }
 
+/// Appends what the entries of a history put on this channel.
+fn push_all_put_on(
+    tokens: &mut Vec<Token>,
+    channel: usize,
+    history: &[Entry],
+) -> Result<(), AllocError>
+    ensures { OnOk result (tokens.new.items ≡ tokens.old.items ++ put_on history.now channel) }
+{
+    for entry in history {
+        push_put_on(tokens, channel, *entry)?;
+    }
+    Ok(())
+}
+
 /// Returns what went through a channel: its start tokens, and those that the entries put on it, in
 /// order; no tokens if the network has no such channel. Errors: memory was refused.
 ///
@@ -95,8 +117,6 @@ pub fn stream_of<K: Kinds>(
         return Ok(Vec::new(alloc));
     }
     let mut tokens = Vec::from_slice(alloc, net.tokens(channel))?;
-    for entry in history {
-        push_put_on(&mut tokens, channel, *entry)?;
-    }
+    push_all_put_on(&mut tokens, channel, history)?;
     Ok(tokens)
 }

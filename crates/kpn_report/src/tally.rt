@@ -1,7 +1,7 @@
 //! What is counted of a history, entry by entry.
-ghost use Rattle.std.specs.Prelude.{◌≡◌, ◌<◌, ◌+◌, ◌^◌, ◌++◌, ◌∷◌, [], ℕ, set, get_or, IfOk, OnOk};
+ghost use Rattle.std.specs.Prelude.{◌≡◌, ◌<◌, ◌+◌, ◌^◌, ◌++◌, ◌∷◌, [], ℕ, set, get_or, length, IfOk, OnOk};
 ghost use Rattle.kpn_model.specs.History.{growths as growths_of};
-ghost use Rattle.kpn_report.specs.Tally.{CountsSteps, KeepsCounts, with_put, with_taken, with_capacity, counts_at, steps_after, counts_after_deed, counts_after};
+ghost use Rattle.kpn_report.specs.Tally.{CountsSteps, KeepsCounts, with_put, with_taken, with_capacity, counts_at, steps_after, counts_after_deed, counts_after, counts_of};
 
 use crate::channel_counts::ChannelCounts;
 use kpn_model::{Deed, Entry, Kinds};
@@ -107,17 +107,25 @@ fn no_steps<K: Kinds>(alloc: Global, net: &Net<K>) -> Result<Vec<u64>, AllocErro
     vec![in alloc; 0u64; net.processes()]
 }
 
+/// The counts of a channel before any entry.
+fn first_counts_of<K: Kinds>(net: &Net<K>, c: usize) -> ChannelCounts
+    requires { c < length net.now.channels }
+    ensures { result ≡ counts_of net.now [] c }
+{
+    ChannelCounts {
+        put: 0,
+        taken: 0,
+        capacity: net.capacity(c),
+    }
+}
+
 /// The counts of each channel before any entry.
 fn first_counts<K: Kinds>(alloc: Global, net: &Net<K>) -> Result<Vec<ChannelCounts>, AllocError>
     ensures { IfOk result (λ v. KeepsCounts net.now [] v.items) }
 {
     let mut channel_counts = Vec::with_capacity(alloc, net.channels())?;
     for c in 0..net.channels() {
-        channel_counts.push(ChannelCounts {
-            put: 0,
-            taken: 0,
-            capacity: net.capacity(c),
-        })?;
+        channel_counts.push(first_counts_of(net, c))?;
     }
     Ok(channel_counts)
 }

@@ -1,5 +1,5 @@
 //! The text of a report.
-ghost use Rattle.std.specs.Prelude.{◌≡◌, ◌++◌, ◌<◌, ◌^◌, ℕ, true, OnOk, IfOk, length, string_bytes};
+ghost use Rattle.std.specs.Prelude.{◌≡◌, ◌++◌, ◌<◌, ◌^◌, ℕ, true, OnOk, IfOk, codes, decimal, length, string_bytes};
 ghost use Rattle.kpn_model.specs.Network.{Family};
 ghost use Rattle.kpn_model.specs.Semantics.{State, wants};
 ghost use Rattle.kpn_model.specs.History.{each_process, place_of, digest};
@@ -72,6 +72,13 @@ fn push_shown<K: Kinds>(
     }
 }
 
+/// Appends the line of the number of entries.
+fn push_entries(out: &mut String, entries: usize) -> Result<(), AllocError>
+    ensures { OnOk result (string_bytes out.new ≡ string_bytes out.old ++ (codes "entries " ++ decimal entries ++ codes "\n")) }
+{
+    write!(out, "entries {entries}\n")
+}
+
 /// Appends the lines of what was counted of a history with this number of entries.
 fn push_tally<K: Kinds>(
     out: &mut String,
@@ -87,7 +94,7 @@ fn push_tally<K: Kinds>(
     push_processes(out, net, places, tally.steps.as_slice())?;
     push_channels(out, net, tally.channel_counts.as_slice())?;
     push_growths(out, net, tally.growths.as_slice())?;
-    write!(out, "entries {entries}\n")
+    push_entries(out, entries)
 }
 
 /// Appends the lines of a history after the first line.

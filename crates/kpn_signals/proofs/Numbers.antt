@@ -72,13 +72,22 @@ difference_fits x y x_fits y_fits = omega (arith, ints)
 abbrev wide : ℤ → ℤ
 wide z = to_z w128 (of_z w128 z)
 
+wide_difference : (x y : ℤ) → FitsSigned w64 x → FitsSigned w64 y → FitsSigned w128 (wide x -ℤ wide y)
+wide_difference x y x_fits y_fits = rw (to_z-of_z w128 x (wider x x_fits), to_z-of_z w128 y (wider y y_fits)) (difference_fits x y x_fits y_fits)
+
 -- with 128 bits each number on the way from y towards x is exact
-wide_level : (x y : ℤ) (k : ℕ) → FitsSigned w64 x → FitsSigned w64 y → wide (wide y +ℤ wide (shr_z (wide (wide x -ℤ wide y)) (2 ^ k))) ≡ y +ℤ int_shr (x -ℤ y) k
-wide_level x y k x_fits y_fits =
+wide_sum : (x y : ℤ) (k : ℕ) → FitsSigned w64 x → FitsSigned w64 y → wide y +ℤ wide (shr_z (wide (wide x -ℤ wide y)) (2 ^ k)) ≡ y +ℤ int_shr (x -ℤ y) k
+wide_sum x y k x_fits y_fits =
     let apart = difference_fits x y x_fits y_fits in
     let part : FitsSigned w128 (shr_z (x -ℤ y) (2 ^ k)) = record { sfits = omega (arith, mag_shr (x -ℤ y) (2 ^ k), apart.sfits) } in
-    let level = wider (y +ℤ int_shr (x -ℤ y) k) (between x y (x -ℤ y) k x_fits y_fits refl) in
-    rw (to_z-of_z w128 x (wider x x_fits), to_z-of_z w128 y (wider y y_fits), to_z-of_z w128 (x -ℤ y) apart, to_z-of_z w128 (shr_z (x -ℤ y) (2 ^ k)) part, to_z-of_z w128 (y +ℤ int_shr (x -ℤ y) k) level) refl
+    rw (to_z-of_z w128 x (wider x x_fits), to_z-of_z w128 y (wider y y_fits), to_z-of_z w128 (x -ℤ y) apart, to_z-of_z w128 (shr_z (x -ℤ y) (2 ^ k)) part) refl
+
+level_fits : (x y : ℤ) (k : ℕ) → FitsSigned w64 x → FitsSigned w64 y → FitsSigned w128 (y +ℤ int_shr (x -ℤ y) k)
+level_fits x y k x_fits y_fits = wider (y +ℤ int_shr (x -ℤ y) k) (between x y (x -ℤ y) k x_fits y_fits refl)
+
+wide_level : (x y : ℤ) (k : ℕ) → FitsSigned w64 x → FitsSigned w64 y → wide (wide y +ℤ wide (shr_z (wide (wide x -ℤ wide y)) (2 ^ k))) ≡ y +ℤ int_shr (x -ℤ y) k
+wide_level x y k x_fits y_fits =
+    rw (wide_sum x y k x_fits y_fits, to_z-of_z w128 (y +ℤ int_shr (x -ℤ y) k) (level_fits x y k x_fits y_fits)) refl
 
 -- the next level of two words that were cast: it fits, and is what is defined
 module _ (k level word : ℕ) (level_small : level < 2 ^ 64) (word_small : word < 2 ^ 64) (a y b x : ℤ) (a_is : a ≡ signed level) (y_is : y ≡ to_z w64 (of_z w64 a)) (b_is : b ≡ signed word) (x_is : x ≡ to_z w64 (of_z w64 b)) where
@@ -90,6 +99,20 @@ module _ (k level word : ℕ) (level_small : level < 2 ^ 64) (word_small : word 
       let from = from_signed level a y level_small a_is y_is in
       let towards = from_signed word b x word_small b_is x_is in
       rw (from, towards) (wide_level (signed word) (signed level) k (signed_fits word word_small) (signed_fits level level_small))
+
+  pub difference_fits_wide : FitsSigned w128 (wide x -ℤ wide y)
+  difference_fits_wide =
+      let from = from_signed level a y level_small a_is y_is in
+      let towards = from_signed word b x word_small b_is x_is in
+      rw (from, towards) (wide_difference (signed word) (signed level) (signed_fits word word_small) (signed_fits level level_small))
+
+  pub sum_fits_wide : FitsSigned w128 (wide y +ℤ wide (shr_z (wide (wide x -ℤ wide y)) (2 ^ k)))
+  sum_fits_wide =
+      let from = from_signed level a y level_small a_is y_is in
+      let towards = from_signed word b x word_small b_is x_is in
+      let x_fits = signed_fits word word_small in
+      let y_fits = signed_fits level level_small in
+      rw (from, towards, wide_sum (signed word) (signed level) k x_fits y_fits) (level_fits (signed word) (signed level) k x_fits y_fits)
 
   pub level_casts : FitsSigned w64 (wide (wide y +ℤ wide (shr_z (wide (wide x -ℤ wide y)) (2 ^ k))))
   level_casts = subst (λ (z : ℤ). FitsSigned w64 z) (sym exact) next_fits

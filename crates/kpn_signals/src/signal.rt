@@ -94,31 +94,76 @@ impl Signal {
         ensures outs { result.outs ≡ (row_of self).outs }
         ensures means { number_named result.name.now ≡ Some (result.number, result.arguments) }
     {
+        let (number, name, arguments) = self.heading();
+        let (ins, outs) = self.ports();
+        Row {
+            number,
+            name,
+            arguments,
+            ins,
+            outs,
+        }
+    }
+
+    /// The number of the kind in cards, its name, and how many arguments it takes.
+    fn heading(self) -> (u16, &'static str, usize)
+        ensures number { result.0 ≡ (row_of self).number }
+        ensures name { result.1.now ≡ (row_of self).name }
+        ensures arguments { result.2 ≡ (row_of self).arguments }
+    {
         match self {
-            Signal::Input => tabled(0, "input", 0, NO_PORT, ONE_WORD),
-            Signal::InputFlags => tabled(1, "input_flags", 0, NO_PORT, ONE_FLAG),
-            Signal::Drain => tabled(2, "drain", 0, ONE_WORD, NO_PORT),
-            Signal::DrainFlags => tabled(3, "drain_flags", 0, ONE_FLAG, NO_PORT),
-            Signal::Constant => tabled(4, "constant", 1, NO_PORT, ONE_WORD),
-            Signal::CountUp => tabled(5, "count_up", 0, NO_PORT, ONE_WORD),
-            Signal::Sub => tabled(6, "sub", 0, TWO_WORDS, ONE_WORD),
-            Signal::Mul => tabled(7, "mul", 0, TWO_WORDS, ONE_WORD),
-            Signal::Shift => tabled(8, "shift", 1, ONE_WORD, ONE_WORD),
-            Signal::Left => tabled(9, "left", 1, ONE_WORD, ONE_WORD),
-            Signal::Less => tabled(10, "less", 0, TWO_WORDS, ONE_FLAG),
-            Signal::Equal => tabled(11, "equal", 0, TWO_WORDS, ONE_FLAG),
-            Signal::Not => tabled(12, "not", 0, ONE_FLAG, ONE_FLAG),
-            Signal::And => tabled(13, "and", 0, TWO_FLAGS, ONE_FLAG),
-            Signal::Or => tabled(14, "or", 0, TWO_FLAGS, ONE_FLAG),
-            Signal::Decimate => tabled(15, "decimate", 1, ONE_WORD, ONE_WORD),
-            Signal::Repeat => tabled(16, "repeat", 1, ONE_WORD, ONE_WORD),
-            Signal::Hold => tabled(17, "hold", 1, WORD_AND_FLAG, ONE_WORD),
-            Signal::Delay => tabled(18, "delay", 1, ONE_WORD, ONE_WORD),
-            Signal::LowPass => tabled(19, "low_pass", 1, ONE_WORD, ONE_WORD),
-            Signal::Clip => tabled(20, "clip", 2, ONE_WORD, ONE_WORD),
-            Signal::SignedConstant => tabled(21, "constant, signed", 2, NO_PORT, ONE_WORD),
-            Signal::SignedHold => tabled(22, "hold, signed", 2, WORD_AND_FLAG, ONE_WORD),
-            Signal::SignedClip => tabled(23, "clip, signed", 3, ONE_WORD, ONE_WORD),
+            Signal::Input => (0, "input", 0),
+            Signal::InputFlags => (1, "input_flags", 0),
+            Signal::Drain => (2, "drain", 0),
+            Signal::DrainFlags => (3, "drain_flags", 0),
+            Signal::Constant => (4, "constant", 1),
+            Signal::CountUp => (5, "count_up", 0),
+            Signal::Sub => (6, "sub", 0),
+            Signal::Mul => (7, "mul", 0),
+            Signal::Shift => (8, "shift", 1),
+            Signal::Left => (9, "left", 1),
+            Signal::Less => (10, "less", 0),
+            Signal::Equal => (11, "equal", 0),
+            Signal::Not => (12, "not", 0),
+            Signal::And => (13, "and", 0),
+            Signal::Or => (14, "or", 0),
+            Signal::Decimate => (15, "decimate", 1),
+            Signal::Repeat => (16, "repeat", 1),
+            Signal::Hold => (17, "hold", 1),
+            Signal::Delay => (18, "delay", 1),
+            Signal::LowPass => (19, "low_pass", 1),
+            Signal::Clip => (20, "clip", 2),
+            Signal::SignedConstant => (21, "constant, signed", 2),
+            Signal::SignedHold => (22, "hold, signed", 2),
+            Signal::SignedClip => (23, "clip, signed", 3),
+        }
+    }
+
+    /// The sorts of its inputs and of its outputs.
+    fn ports(self) -> ([Option<Sort>; 3], [Option<Sort>; 3])
+        ensures ins { result.0 ≡ (row_of self).ins }
+        ensures outs { result.1 ≡ (row_of self).outs }
+    {
+        match self {
+            Signal::Input | Signal::Constant | Signal::CountUp | Signal::SignedConstant => (
+                NO_PORT, ONE_WORD,
+            ),
+            Signal::InputFlags => (NO_PORT, ONE_FLAG),
+            Signal::Drain => (ONE_WORD, NO_PORT),
+            Signal::DrainFlags => (ONE_FLAG, NO_PORT),
+            Signal::Sub | Signal::Mul => (TWO_WORDS, ONE_WORD),
+            Signal::Shift
+            | Signal::Left
+            | Signal::Decimate
+            | Signal::Repeat
+            | Signal::Delay
+            | Signal::LowPass
+            | Signal::Clip
+            | Signal::SignedClip => (ONE_WORD, ONE_WORD),
+            Signal::Less | Signal::Equal => (TWO_WORDS, ONE_FLAG),
+            Signal::Not => (ONE_FLAG, ONE_FLAG),
+            Signal::And | Signal::Or => (TWO_FLAGS, ONE_FLAG),
+            Signal::Hold | Signal::SignedHold => (WORD_AND_FLAG, ONE_WORD),
         }
     }
 
@@ -244,27 +289,4 @@ fn are_bounds(lo: u64, hi: u64, below: u64) -> bool
         && hi < FIRST_BELOW
         && has_signs
         && word_below(lo).cast_signed() <= bound(hi, below).cast_signed()
-}
-
-/// A row of the table.
-fn tabled(
-    number: u16,
-    name: &'static str,
-    arguments: usize,
-    ins: [Option<Sort>; 3],
-    outs: [Option<Sort>; 3],
-) -> Row
-    ensures number { result.number ≡ number }
-    ensures name { result.name.now ≡ name.now }
-    ensures arguments { result.arguments ≡ arguments }
-    ensures ins { result.ins ≡ ins }
-    ensures outs { result.outs ≡ outs }
-{
-    Row {
-        number,
-        name,
-        arguments,
-        ins,
-        outs,
-    }
 }

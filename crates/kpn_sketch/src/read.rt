@@ -91,13 +91,18 @@ fn sketch_of(alloc: Global, table: &Table) -> Result<Sketch, NetFault>
     if !has_only_top_keys(version, table) {
         return Err(NetFault::Keys);
     }
-    let none = Listed::new(Vec::new(alloc));
     Ok(Sketch {
         version,
         budget: budget_of(alloc, version, table)?,
         step: optional(alloc, version, table, "step", 1)?,
         processes: required(alloc, version, table, "process")?,
-        channels: optional(alloc, version, table, "channel", none)?,
+        channels: optional(
+            alloc,
+            version,
+            table,
+            "channel",
+            Listed::new(Vec::new(alloc)),
+        )?,
     })
 }
 
@@ -111,11 +116,10 @@ impl Form for ProcessSketch {
             Some(table) if has_only(table, &["name", "kind", "args"]) => table,
             _ => return Err(NetFault::Keys),
         };
-        let none = Listed::new(Vec::new(alloc));
         Ok(ProcessSketch {
             name: required(alloc, version, table, "name")?,
             kind: required(alloc, version, table, "kind")?,
-            args: optional(alloc, version, table, "args", none)?,
+            args: optional(alloc, version, table, "args", Listed::new(Vec::new(alloc)))?,
         })
     }
 }
@@ -150,7 +154,6 @@ fn input_of(alloc: Global, version: i64, table: &Table) -> Result<i64, NetFault>
 fn channel_from(alloc: Global, version: i64, table: &Table) -> Result<ChannelSketch, NetFault>
     ensures { Reads result (channel_from (table_view table.now)) }
 {
-    let none = Listed::new(Vec::new(alloc));
     Ok(ChannelSketch {
         name: required(alloc, version, table, "name")?,
         from: required(alloc, version, table, "from")?,
@@ -159,7 +162,13 @@ fn channel_from(alloc: Global, version: i64, table: &Table) -> Result<ChannelSke
         input: input_of(alloc, version, table)?,
         sort: optional(alloc, version, table, "sort", Sort::Words)?,
         capacity: optional(alloc, version, table, "capacity", 1)?,
-        tokens: optional(alloc, version, table, "tokens", none)?,
+        tokens: optional(
+            alloc,
+            version,
+            table,
+            "tokens",
+            Listed::new(Vec::new(alloc)),
+        )?,
     })
 }
 

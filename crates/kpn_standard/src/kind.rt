@@ -71,26 +71,53 @@ impl Kind {
         ensures outs { result.outs ≡ (row_of self).outs }
         ensures means { named result.name.now ≡ Some (result.number, result.arguments) }
     {
-        let (number, name, arguments, ins, outs) = match self {
-            Kind::Count => (0, "count", 2, NO_PORT, ONE_WORD),
-            Kind::Sink => (1, "sink", 1, ONE_WORD, NO_PORT),
-            Kind::Take => (2, "take", 1, ONE_WORD, ONE_WORD),
-            Kind::Copy => (3, "copy", 0, ONE_WORD, TWO_WORDS),
-            Kind::Prefix => (4, "prefix", 1, ONE_WORD, ONE_WORD),
-            Kind::Add => (5, "add", 0, TWO_WORDS, ONE_WORD),
-            Kind::Scale => (6, "scale", 1, ONE_WORD, ONE_WORD),
-            Kind::Weave => (7, "weave", 2, TWO_WORDS, ONE_WORD),
-            Kind::Merge => (8, "merge", 0, TWO_WORDS, ONE_WORD),
-            Kind::Divides => (9, "divides", 1, ONE_WORD, ONE_FLAG),
-            Kind::Switch => (10, "switch", 0, WORD_AND_FLAG, TWO_WORDS),
-            Kind::Select => (11, "select", 0, TWO_WORDS_AND_FLAG, ONE_WORD),
-        };
+        let (number, name, arguments) = self.heading();
+        let (ins, outs) = self.ports();
         Row {
             number,
             name,
             arguments,
             ins,
             outs,
+        }
+    }
+
+    /// The number of the kind in cards, its name, and how many arguments it takes.
+    fn heading(self) -> (u16, &'static str, usize)
+        ensures number { result.0 ≡ (row_of self).number }
+        ensures name { result.1.now ≡ (row_of self).name }
+        ensures arguments { result.2 ≡ (row_of self).arguments }
+    {
+        match self {
+            Kind::Count => (0, "count", 2),
+            Kind::Sink => (1, "sink", 1),
+            Kind::Take => (2, "take", 1),
+            Kind::Copy => (3, "copy", 0),
+            Kind::Prefix => (4, "prefix", 1),
+            Kind::Add => (5, "add", 0),
+            Kind::Scale => (6, "scale", 1),
+            Kind::Weave => (7, "weave", 2),
+            Kind::Merge => (8, "merge", 0),
+            Kind::Divides => (9, "divides", 1),
+            Kind::Switch => (10, "switch", 0),
+            Kind::Select => (11, "select", 0),
+        }
+    }
+
+    /// The sorts of its inputs and of its outputs.
+    fn ports(self) -> ([Option<Sort>; 3], [Option<Sort>; 3])
+        ensures ins { result.0 ≡ (row_of self).ins }
+        ensures outs { result.1 ≡ (row_of self).outs }
+    {
+        match self {
+            Kind::Count => (NO_PORT, ONE_WORD),
+            Kind::Sink => (ONE_WORD, NO_PORT),
+            Kind::Take | Kind::Prefix | Kind::Scale => (ONE_WORD, ONE_WORD),
+            Kind::Copy => (ONE_WORD, TWO_WORDS),
+            Kind::Add | Kind::Weave | Kind::Merge => (TWO_WORDS, ONE_WORD),
+            Kind::Divides => (ONE_WORD, ONE_FLAG),
+            Kind::Switch => (WORD_AND_FLAG, TWO_WORDS),
+            Kind::Select => (TWO_WORDS_AND_FLAG, ONE_WORD),
         }
     }
 

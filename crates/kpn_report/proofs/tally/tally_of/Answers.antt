@@ -1,6 +1,6 @@
--- One more entry; and no count is greater than the number of entries.
-use Rattle.std.proofs.Common.{◌<◌, arith, length, take}
-use Rattle.std.proofs.lemmas.List.{length-take-le}
+-- One more entry; all of them; and no count is greater than the number of entries.
+use Rattle.std.proofs.Common.{◌≡◌, ◌<◌, arith, length, take}
+use Rattle.std.proofs.lemmas.List.{length-take-le, take_all}
 use Rattle.kpn_report.proofs.Tallies.{few_deeds, few_put, few_taken, steps_next, counts_next, growths_next}
 use Rattle.kpn_report.proofs.tally.tally_of.Goals as goal
 
@@ -28,4 +28,13 @@ loop-entry-preserved g c =
       steps = steps_next c.args.net.now c.args.history.now c.loop-entry.entry-index _ within _ _ was.steps is.steps;
       channel_counts = counts_next c.args.net.now c.args.history.now c.loop-entry.entry-index _ within _ _ was.channel_counts is.channel_counts;
       growths = growths_next c.args.net.now c.args.history.now c.loop-entry.entry-index _ within _ _ was.growths is.growths;
+    }
+
+pub returns : goal.returns
+returns g c =
+    let all : take c.loop-entry.entry-index c.args.history.now ≡ c.args.history.now = take_all c.loop-entry.entry-index c.args.history.now c.loop-entry-test.false in
+    record {
+      steps = rw all at c.loop-entry.invariant.steps;
+      channel_counts = rw all at c.loop-entry.invariant.channel_counts;
+      growths = rw all at c.loop-entry.invariant.growths;
     }

@@ -1,5 +1,5 @@
 -- Where it goes on, the flow stays one.
-use Rattle.std.proofs.Common.{map}
+use Rattle.std.proofs.Common.{map, refl, arith}
 use Rattle.kpn_model.specs.Network.{family_of}
 use Rattle.kpn_flow.proofs.Kept.{flowing_run}
 use Rattle.kpn_flow.proofs.flow.Flow.advance.Goals as goal
@@ -11,3 +11,21 @@ invariant_of-self g c =
           a.run a.counts c.go_on.ensures.fits c.go_on.ensures.limit,
       c.go_on.ensures.waiting,
     )
+
+pub go_on-requires-clause-fits : goal.go_on-requires-clause-fits
+go_on-requires-clause-fits g c κs within = c.self.invariant.0.fits
+
+pub go_on-requires-clause-room : goal.go_on-requires-clause-room
+go_on-requires-clause-room g c κs within = omega (arith, c.self.invariant.0.limit_is)
+
+pub go_on-requires-clause-waiting : goal.go_on-requires-clause-waiting
+go_on-requires-clause-waiting g c κs within = c.self.invariant.1
+
+pub returns-clause-same : goal.returns-clause-same
+returns-clause-same g c = rw (← c.self.view_is) (record { network = refl; inputs = refl; unended = refl; outputs = refl })
+
+pub returns-clause-advances : goal.returns-clause-advances
+returns-clause-advances g c = rw (← c.self.view_is) (rw (c.as_slice-2.ensures.value, c.as_slice-3.ensures.value) at c.go_on.ensures.advances)
+
+pub returns-clause-told : goal.returns-clause-told
+returns-clause-told g c = c.go_on.ensures.told

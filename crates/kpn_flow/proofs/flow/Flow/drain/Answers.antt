@@ -24,3 +24,15 @@ invariant_of-self g c =
 
 pub returns-clause-drained : goal.returns-clause-drained
 returns-clause-drained g c = rw (← c.self.view_is) ((_, c.drain-token.ensures.token), ap (λ (x : StateAndHistory). x.state) c.drain-token.ensures.rest)
+
+pub drain-token-requires-clause-keeps : goal.drain-token-requires-clause-keeps
+drain-token-requires-clause-keeps g c κs within = c.self.invariant.0.fits.keeps
+
+pub drain-token-requires-clause-waiting : goal.drain-token-requires-clause-waiting
+drain-token-requires-clause-waiting g c κs within = c.self.invariant.1
+
+pub returns-clause-same : goal.returns-clause-same
+returns-clause-same g c = rw (← c.self.view_is) (record { network = refl; inputs = refl; unended = refl; outputs = refl })
+
+pub returns-clause-counts : goal.returns-clause-counts
+returns-clause-counts g c = rw (← c.self.view_is) refl

@@ -26,3 +26,47 @@ invariant_of-self g c =
           (within, space, leaves) (input, tt) refl (record { keeps = c.feed.ensures.keeps; none_out = λ q e. flow.fits.none_out q (c.feed.ensures.none_sent q e) }) (ap (λ (x : StateAndHistory). x.limit) c.feed.ensures.fed),
       c.feed.ensures.waiting,
     )
+
+pub tokens_and_capacity-held-requires : goal.tokens_and_capacity-held-requires
+tokens_and_capacity-held-requires g c =
+    let flow = c.self.invariant.0 in
+    let going : is_among c.self.inside.unended.items c.args.channel ≡ true = rw (← c.self.view_is) at c.requires.input in
+    let there = (flow.ends.only_fed c.args.channel (flow.unended c.args.channel going)).0 in
+    omega (arith, there, flow.fits.keeps.channels)
+
+pub feed-requires-clause-keeps : goal.feed-requires-clause-keeps
+feed-requires-clause-keeps g c κs within = c.self.invariant.0.fits.keeps
+
+pub feed-requires-clause-channel : goal.feed-requires-clause-channel
+feed-requires-clause-channel g c κs within =
+    let flow = c.self.invariant.0 in
+    let going : is_among c.self.inside.unended.items c.args.channel ≡ true = rw (← c.self.view_is) at c.requires.input in
+    let there = (flow.ends.only_fed c.args.channel (flow.unended c.args.channel going)).0 in
+    there
+
+pub feed-requires-clause-sort : goal.feed-requires-clause-sort
+feed-requires-clause-sort g c κs within = rw (← c.self.view_is) at c.requires.sort
+
+pub feed-requires-clause-waiting : goal.feed-requires-clause-waiting
+feed-requires-clause-waiting g c κs within = c.self.invariant.1
+
+pub returns-clause-same : goal.returns-clause-same
+returns-clause-same g c = rw (← c.self.view_is) (record { network = refl; inputs = refl; unended = refl; outputs = refl })
+
+pub returns-clause-counts : goal.returns-clause-counts
+returns-clause-counts g c = rw (← c.self.view_is) refl
+
+pub returns-clause-fed : goal.returns-clause-fed
+returns-clause-fed g c =
+    let flow = c.self.invariant.0 in
+    let going : is_among c.self.inside.unended.items c.args.channel ≡ true = rw (← c.self.view_is) at c.requires.input in
+    let there = (flow.ends.only_fed c.args.channel (flow.unended c.args.channel going)).0 in
+    rw (← c.self.view_is)
+    (λ _. (
+      omega (arith, there, flow.fits.keeps.channels),
+      omega (arith, c.tokens_and_capacity-held.ensures.tokens, c.tokens_and_capacity-held.ensures.capacity, c.if-held-capacity.false),
+      ap (λ (x : StateAndHistory). x.state) c.feed.ensures.fed,
+    ))
+
+pub feed-requires-clause-space : goal.feed-requires-clause-space
+feed-requires-clause-space g c κs within = omega (arith, c.tokens_and_capacity-held.ensures.tokens, c.tokens_and_capacity-held.ensures.capacity, c.if-held-capacity.false)

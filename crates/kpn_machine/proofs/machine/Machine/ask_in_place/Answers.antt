@@ -18,3 +18,9 @@ loop-self-preserved g c =
       ended = λ some. absurd (some (rw (before.none (before.ended some)) at none));
       none = λ zero. absurd (omega (arith, zero));
     }
+
+pub returns-clause-most : goal.returns-clause-most
+returns-clause-most g c = c.loop-self.invariant.few
+
+pub returns-clause-ended : goal.returns-clause-ended
+returns-clause-ended g c = c.loop-self.invariant.ended

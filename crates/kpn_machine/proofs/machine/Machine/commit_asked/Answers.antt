@@ -4,7 +4,7 @@ use Rattle.std.proofs.lemmas.List.{map-set}
 use Rattle.kpn_model.specs.Network.{family_of}
 use Rattle.kpn_machine.specs.MachineView.{IsOutAt}
 use Rattle.kpn_state.specs.declared.standing.Standing.TheVariants.{Ready}
-use Rattle.kpn_state.proofs.Placed.{standing_set_same}
+use Rattle.kpn_state.proofs.Placed.{standing_set_same, standing_set_other}
 use Rattle.kpn_machine.proofs.Ends.{commits_end}
 use Rattle.kpn_machine.proofs.Listed.{waiting_moved}
 use Rattle.kpn_machine.proofs.Sound.{sound_back, worked, commits_fit, out_within, none_of, some_of}
@@ -60,3 +60,38 @@ returns g c =
       back = w.back;
       others = rw (← c.self.view_is) w.others;
     }
+
+pub lay_back-requires : goal.lay_back-requires
+lay_back-requires g c =
+    let out : IsOutAt c.self.inside.net c.self.inside.store.state c.self.inside.standings c.args.finished = rw (← c.self.view_is) at c.requires in
+    rw c.process-process.ensures (out_within c.self.invariant.0 c.args.finished out)
+
+pub returns-then-is_some-clause-commits : goal.returns-then-is_some-clause-commits
+returns-then-is_some-clause-commits g c = rw (← c.self.view_is) (some_of _ (sym c.is_some.ensures ∙ c.if-is_some.true), rw (c.lay_back.ensures, c.process-process.ensures) refl)
+
+pub returns-then-is_some-clause-tells : goal.returns-then-is_some-clause-tells
+returns-then-is_some-clause-tells g c = rw (← c.self.view_is) (some_of _ (sym c.is_some.ensures ∙ c.if-is_some.true))
+
+pub returns-then-is_some-clause-ends : goal.returns-then-is_some-clause-ends
+returns-then-is_some-clause-ends g c = rw (← c.self.view_is) (λ none. absurd (some_of _ (sym c.is_some.ensures ∙ c.if-is_some.true) none))
+
+pub returns-then-is_some-clause-others : goal.returns-then-is_some-clause-others
+returns-then-is_some-clause-others g c =
+    rw (← c.self.view_is, c.lay_back.ensures, c.process-process.ensures)
+    (λ p ne. let same = standing_set_other c.self.inside.standings c.args.finished.process p Ready ne in (λ is. sym same ∙ is, λ was. same ∙ was))
+
+pub work-outcome-requires-clause-keeps : goal.work-outcome-requires-clause-keeps
+work-outcome-requires-clause-keeps g c κs within = c.self.invariant.0.keeps
+
+pub work-outcome-requires-clause-process : goal.work-outcome-requires-clause-process
+work-outcome-requires-clause-process g c κs within =
+    let out : IsOutAt c.self.inside.net c.self.inside.store.state c.self.inside.standings c.args.finished = rw (← c.self.view_is) at c.requires in
+    rw c.process-process.ensures (out_within c.self.invariant.0 c.args.finished out)
+
+pub work-outcome-requires-clause-busy : goal.work-outcome-requires-clause-busy
+work-outcome-requires-clause-busy g c κs within =
+    let out : IsOutAt c.self.inside.net c.self.inside.store.state c.self.inside.standings c.args.finished = rw (← c.self.view_is) at c.requires in
+    rw (c.process-process.ensures, out.out) refl
+
+pub work-outcome-requires-clause-waiting : goal.work-outcome-requires-clause-waiting
+work-outcome-requires-clause-waiting g c κs within = c.self.invariant.2

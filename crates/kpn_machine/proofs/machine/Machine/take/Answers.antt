@@ -1,8 +1,9 @@
 -- A ready process may go out.
-use Rattle.std.proofs.Common.{sym, ◌∙◌, refl}
-use Rattle.std.proofs.lemmas.List.{map-set}
+use Rattle.std.proofs.Common.{sym, ◌∙◌, refl, arith}
+use Rattle.std.specs.Option.{option_map}
+use Rattle.std.proofs.lemmas.List.{map-set, length-map}
 use Rattle.kpn_machine.proofs.Listed.{waiting_moved}
-use Rattle.kpn_machine.proofs.Sound.{sound_taken, none_of}
+use Rattle.kpn_machine.proofs.Sound.{sound_taken, none_of, some_of}
 use Rattle.kpn_machine.proofs.machine.Machine.take.Goals as goal
 
 pub invariant_of-self-2 : goal.invariant_of-self-2
@@ -11,3 +12,36 @@ invariant_of-self-2 g c = (
   c.self.invariant.1,
   rw c.in_ok-process.ensures.out (waiting_moved c.self.invariant.2 c.in_ok-process.process _ (rw c.in_ok-process.ensures.some) refl),
 )
+
+pub take_out-requires-clause-process : goal.take_out-requires-clause-process
+take_out-requires-clause-process g c κs within = let k = c.self.invariant.0.keeps in omega (arith, c.in_ok-process.ensures.within, k.one_each, k.processes)
+
+pub take_out-requires-clause-bodies : goal.take_out-requires-clause-bodies
+take_out-requires-clause-bodies g c κs within =
+    let sound = c.self.invariant.0 in
+    omega (arith, c.in_ok-process.ensures.within, sound.keeps.one_each, sound.many_bodies, length-map c.self.inside.bodies.items (option_map g.B.Body.card))
+
+pub take_out-requires-clause-live : goal.take_out-requires-clause-live
+take_out-requires-clause-live g c κs within = λ e.
+    let ready = c.in_ok-process.ensures.some in
+    let stopped = c.self.invariant.0.keeps.done c.in_ok-process.process e in
+    cc
+
+pub take_out-requires-clause-well_typed : goal.take_out-requires-clause-well_typed
+take_out-requires-clause-well_typed g c κs within = c.self.invariant.0.keeps.well_typed
+
+pub take_out-requires-clause-has_body : goal.take_out-requires-clause-has_body
+take_out-requires-clause-has_body g c κs within =
+    let sound = c.self.invariant.0 in
+    let ready = c.in_ok-process.ensures.some in
+    sound.has_bodies c.in_ok-process.process (omega (arith, c.in_ok-process.ensures.within, sound.keeps.one_each)) (λ e. cc)
+
+pub returns-then-is_some-clause-none : goal.returns-then-is_some-clause-none
+returns-then-is_some-clause-none g c = rw (← c.self.view_is) (λ none. absurd (some_of _ (sym c.is_some.ensures ∙ c.if-is_some.true) none))
+
+pub returns-clause-some : goal.returns-clause-some
+returns-clause-some g c =
+    rw (← c.self.view_is) (
+      none_of _ (sym c.is_some.ensures ∙ c.if-is_some.false),
+      rw (c.take_out.ensures.process, c.in_ok-process.ensures.out) (record { ready = c.in_ok-process.ensures.some; card = c.take_out.ensures.card; live = c.take_out.ensures.live; after = refl }),
+    )
