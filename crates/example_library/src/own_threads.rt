@@ -3,7 +3,8 @@
 use crate::words;
 use kpn_builder::{Builder, NewChannel};
 use kpn_compute::{CardBody, bodies_of};
-use kpn_observe::{Crew, CrewSeat, EntryLedger, Monitor, Outcome, Taken, run_by_crew};
+use kpn_net::Net;
+use kpn_observe::{Crew, CrewSeat, EntryLedger, Monitor, Outcome, Taken, WatchedRun, run_by_crew};
 use kpn_standard::Standard;
 use std::alloc::{AllocError, Global};
 use std::sync::Wait;
@@ -56,25 +57,40 @@ fn make(made: &mut Builder) -> Result<(), AllocError> {
     made.channel(NewChannel::new("words", "src", "snk").capacity(2))
 }
 
-/// Runs the network by three threads, and prints how many entries they brought about and what they sent.
-pub(crate) fn show<R: Threads + Wait + Print + Eprint + Sync>(
-    rt: &R,
-    alloc: Global,
-) -> Result<(), AllocError> {
+fn network(alloc: Global) -> Result<Net<Standard>, AllocError> {
     let mut made = Builder::new(alloc);
     make(&mut made)?;
     let Ok(net) = made.check() else {
         return Err(AllocError);
     };
+    Ok(net)
+}
+
+/// Runs the network by three threads, and prints how many entries they brought about and what they sent.
+pub(crate) fn show<R: Threads + Wait + Print + Eprint + Sync>(
+    rt: &R,
+    alloc: Global,
+) -> Result<(), AllocError> {
+    let net = network(alloc)?;
     let bodies = bodies_of(alloc, &net)?;
     let entries = AtomicU64::new(0);
     let crew = Counting { rt, entries };
     let Ok(run) = run_by_crew(rt, alloc, net, bodies, 3, &crew) else {
         return Err(AllocError);
     };
-    let entries = crew.entries.load(Ordering::SeqCst);
+    print(rt, alloc, &crew.entries, &run)
+}
+
+/// Prints how many entries a run has, and what went through its channel.
+fn print<R: Print>(
+    rt: &R,
+    alloc: Global,
+    entries: &AtomicU64,
+    run: &WatchedRun<Standard>,
+) -> Result<(), AllocError> {
+    let entries = entries.load(Ordering::SeqCst);
     let _ = println!(rt; "{entries} entries");
-    for word in words(alloc, &run, "words")?.iter() {
+    for word in words(alloc, run, "words")?.iter() {
         let _ = println!(rt; "{word}");
     }
     Ok(())

@@ -3,6 +3,7 @@
 use crate::words;
 use kpn_builder::{Builder, NewChannel};
 use kpn_compute::bodies_of;
+use kpn_net::Net;
 use kpn_observe::{Observer, Progress, WatchedRun, Wish, run_watched};
 use kpn_run::Gate;
 use kpn_standard::Standard;
@@ -47,17 +48,25 @@ fn make(made: &mut Builder) -> Result<(), AllocError> {
     made.channel(NewChannel::new("words", "src", "snk").capacity(16))
 }
 
+fn network(alloc: Global) -> Result<Net<Standard>, AllocError> {
+    let mut made = Builder::new(alloc);
+    make(&mut made)?;
+    let Ok(net) = made.check() else {
+        return Err(AllocError);
+    };
+    Ok(net)
+}
+
 /// Runs the network until the deadline, and prints the first words that came out.
 pub(crate) fn show<R: Threads + Wait + Clock + Print + Sync>(
     rt: &R,
     alloc: Global,
 ) -> Result<(), AllocError> {
-    let mut made = Builder::new(alloc);
-    make(&mut made)?;
-    let (Ok(net), Ok(start)) = (made.check(), Instant::now(rt)) else {
+    let net = network(alloc)?;
+    let bodies = bodies_of(alloc, &net)?;
+    let Ok(start) = Instant::now(rt) else {
         return Err(AllocError);
     };
-    let bodies = bodies_of::<Standard>(alloc, &net)?;
     let (gate, deadline) = (Slowly { rt }, Deadline { rt, start });
     let period = Duration::from_millis(5);
     match run_watched(rt, alloc, net, bodies, 2, &gate, period, &deadline) {
