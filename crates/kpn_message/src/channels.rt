@@ -109,35 +109,42 @@ fn push_sorts<K: Kinds>(
         Sort::Words => ("words", "flags"),
         Sort::Flags => ("flags", "words"),
     };
-    if is_sort(channel.sort, out_sort::<K>(sketch, channel)) {
-        let process = Quoted(channel.to.as_str());
-        let port = channel.input;
-        write!(
-            out,
-            "sort {sort}; input {port} of process {process} is of {other}"
-        )
+    let (end, port, name) = if is_sort(channel.sort, out_sort::<K>(sketch, channel)) {
+        ("input", channel.input, channel.to.as_str())
     } else {
-        let process = Quoted(channel.from.as_str());
-        let port = channel.out;
-        write!(
-            out,
-            "sort {sort}; output {port} of process {process} is of {other}"
-        )
-    }
+        ("output", channel.out, channel.from.as_str())
+    };
+    let process = Quoted(name);
+    write!(
+        out,
+        "sort {sort}; {end} {port} of process {process} is of {other}"
+    )
 }
 
 /// What is wrong with the tokens that a channel holds at first.
 fn push_tokens(out: &mut String, channel: &ChannelSketch) -> Result<(), AllocError> {
     let tokens = channel.tokens.as_slice();
-    let Some(k) = tokens.iter().position(|t| !is_token(channel.sort, *t)) else {
-        let capacity = channel.capacity;
-        return write!(
-            out,
-            "tokens has length {}; the capacity is {capacity}",
-            tokens.len()
-        );
-    };
-    match (channel.sort, tokens.get(k)) {
+    match tokens.iter().position(|t| !is_token(channel.sort, *t)) {
+        Some(k) => push_token(out, channel.sort, k, tokens.get(k)),
+        None => {
+            let capacity = channel.capacity;
+            write!(
+                out,
+                "tokens has length {}; the capacity is {capacity}",
+                tokens.len()
+            )
+        }
+    }
+}
+
+/// What is wrong with the token of this number, which is none of the sort.
+fn push_token(
+    out: &mut String,
+    sort: Sort,
+    k: usize,
+    token: Option<&TokenSketch>,
+) -> Result<(), AllocError> {
+    match (sort, token) {
         (Sort::Words, Some(TokenSketch::Integer(x))) => {
             write!(out, "tokens[{k}] is {x}; a word is not negative")
         }

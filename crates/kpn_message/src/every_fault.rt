@@ -1,8 +1,8 @@
 //! All that is wrong with a sketch.
-ghost use Rattle.std.specs.Prelude.{◌≡◌, ◌&&◌, ◌∷◌, [], length};
+ghost use Rattle.std.specs.Prelude.{◌≡◌, ◌≢◌, ◌<◌, ◌≤◌, ◌&&◌, ◌∷◌, [], false, true, length, string_bytes};
 ghost use Rattle.kpn_net.specs.Faults.{has_fault};
 ghost use Rattle.kpn_message.specs.Location.{is_of_description};
-ghost use Rattle.kpn_message.specs.EveryFault.{Adds, Tells, due, due_of, for_each_below, has_wrong_end, has_wrong_process, is_of, is_of_process, stands_alone, told_of};
+ghost use Rattle.kpn_message.specs.EveryFault.{Adds, Tells, due, due_of, for_each_below, has_wrong_end, has_wrong_process, is_of, is_of_process, stands_alone, subject, told_of};
 
 use crate::location::{Location, channel_has_fault, process_has_fault};
 use crate::message::message_at;
@@ -188,14 +188,31 @@ fn push_message<K: Kinds>(
 )
     ensures { Adds ((fault, place) ∷ []) messages.old messages.new }
 {
-    if messages.told.len() >= MOST_MESSAGES {
+    if is_full(messages) {
         return;
     }
     let Some(text) = message_at::<K>(alloc, sketch, fault, place, kinds) else {
         messages.are_all = false;
         return;
     };
-    match messages.told.push(Message { fault, place, text }) {
+    add(messages, Message { fault, place, text });
+}
+
+/// Whether there is no room for one more message.
+fn is_full(messages: &Messages) -> bool
+    ensures full { result ≡ true → MOST_MESSAGES ≤ length messages.now.told.items }
+    ensures room { result ≡ false → length messages.now.told.items < MOST_MESSAGES }
+{
+    messages.told.len() >= MOST_MESSAGES
+}
+
+/// Adds a message, for which there is room; where memory is refused it lacks.
+fn add(messages: &mut Messages, message: Message)
+    requires room { length messages.old.told.items < MOST_MESSAGES }
+    requires said { string_bytes message.text ≢ [] }
+    ensures { Adds (subject message ∷ []) messages.old messages.new }
+{
+    match messages.told.push(message) {
         Ok(()) => {}
         Err(_) => messages.are_all = false,
     }

@@ -190,10 +190,14 @@ fn push_key(out: &mut String, table: &Table, key: Key) -> Result<bool, AllocErro
 fn push_names(out: &mut String, keys: &[Key]) -> Result<(), AllocError> {
     let mut comma = "";
     for key in keys {
-        write!(out, "{comma} {}", key.0)?;
+        push_name(out, comma, key.0)?;
         comma = ",";
     }
     Ok(())
+}
+
+fn push_name(out: &mut String, comma: &str, name: &str) -> Result<(), AllocError> {
+    write!(out, "{comma} {name}")
 }
 
 fn is_among(keys: &[Key], name: &str) -> bool {

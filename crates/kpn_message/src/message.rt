@@ -34,18 +34,13 @@ pub fn message_of<K: Kinds>(
     if says_all(fault) {
         return None;
     }
-    let mut out = String::new(alloc);
     match fault {
-        NetFault::NotToml | NetFault::Keys => match toml::table_from_slice(alloc, text) {
-            Ok(table) => push_misfit(alloc, &mut out, text, &table).ok()?,
-            Err(error) => push_syntax(&mut out, text, &error).ok()?,
-        },
+        NetFault::NotToml | NetFault::Keys => message_of_text(alloc, text),
         _ => {
             let sketch = read_sketch(alloc, text).ok()?;
-            return message_at::<K>(alloc, &sketch, fault, locate::<K>(&sketch, fault), kinds);
+            message_at::<K>(alloc, &sketch, fault, locate::<K>(&sketch, fault), kinds)
         }
     }
-    unless_empty(out)
 }
 
 /// Whether no text has the fault, so that its name says all.
@@ -53,6 +48,23 @@ fn says_all(fault: NetFault) -> bool
     ensures { (fault ≡ NetFault.Memory) ⊎ (fault ≡ NetFault.Input) → result ≡ true }
 {
     matches!(fault, NetFault::Memory | NetFault::Input)
+}
+
+/// What is wrong with a text that is read as no sketch, on one line.
+fn message_of_text(alloc: Global, text: &[u8]) -> Option<String>
+    ensures said { IfSome result (λ message. string_bytes message ≢ []) }
+{
+    let mut out = String::new(alloc);
+    push_unread(alloc, &mut out, text).ok()?;
+    unless_empty(out)
+}
+
+/// What is wrong with a text that is not TOML, or else with its keys.
+fn push_unread(alloc: Global, out: &mut String, text: &[u8]) -> Result<(), AllocError> {
+    match toml::table_from_slice(alloc, text) {
+        Ok(table) => push_misfit(alloc, out, text, &table),
+        Err(error) => push_syntax(out, text, &error),
+    }
 }
 
 /// A message that says something.

@@ -62,13 +62,19 @@ fn push_args<K: Kinds>(out: &mut String, process: &ProcessSketch) -> Result<(), 
 
 /// Numbers in brackets, the first three of them.
 fn push_numbers(out: &mut String, numbers: &[i64]) -> Result<(), AllocError> {
-    match numbers {
-        [] => write!(out, "[]"),
-        [x] => write!(out, "[{x}]"),
-        [x, y] => write!(out, "[{x}, {y}]"),
-        [x, y, z] => write!(out, "[{x}, {y}, {z}]"),
-        [x, y, z, ..] => write!(out, "[{x}, {y}, {z}, ..]"),
+    let shown = numbers.get(..3).unwrap_or(numbers);
+    let end = if numbers.len() > 3 { ", ..]" } else { "]" };
+    write!(out, "[")?;
+    let mut comma = "";
+    for number in shown {
+        push_number(out, comma, *number)?;
+        comma = ", ";
     }
+    write!(out, "{end}")
+}
+
+fn push_number(out: &mut String, comma: &str, number: i64) -> Result<(), AllocError> {
+    write!(out, "{comma}{number}")
 }
 
 /// The first port of a process that is the end of no channel.

@@ -13,11 +13,16 @@ impl fmt::Display for Quoted<'_> {
     fn fmt<W: fmt::Write>(&self, f: &mut fmt::Formatter<W>) -> fmt::Result {
         f.write_str("\"")?;
         for c in self.0.chars().take(LONGEST) {
-            write!(f, "{}", c.escape_debug())?;
+            c.escape_debug().fmt(f)?;
         }
-        match self.0.chars().nth(LONGEST) {
-            Some(_) => f.write_str("..\""),
-            None => f.write_str("\""),
-        }
+        f.write_str(end_of(self.0))
+    }
+}
+
+/// What stands after the characters that are shown.
+fn end_of(text: &str) -> &'static str {
+    match text.chars().nth(LONGEST) {
+        Some(_) => "..\"",
+        None => "\"",
     }
 }
