@@ -1,5 +1,5 @@
 -- Messages that are added to those before.
-use Rattle.std.proofs.Common.{◌≡◌, ◌≢◌, ◌<◌, ◌≤◌, ◌+◌, ℕ, zero, suc, Bool, true, false, List, [], ◌∷◌, ◌++◌, length, map, take, get_or, string_bytes, if◌then◌else◌, sym, ap, subst, ◌∙◌, arith}
+use Rattle.std.proofs.Common.{◌≡◌, ◌≢◌, ◌<◌, ◌≤◌, ◌+◌, ℕ, zero, suc, Bool, true, false, ◌&&◌, List, [], ◌∷◌, ◌++◌, length, map, take, get_or, string_bytes, if◌then◌else◌, sym, ap, subst, ◌∙◌, arith}
 use Rattle.std.proofs.lemmas.List.{append-nil, append_assoc, length-append, length-map, length-take, map-append, take_all, take-append-le, take_more, flat_map_more}
 use Rattle.std.proofs.lemmas.List.Elements.{All-append}
 use Rattle.std.specs.List.{All, flat_map}
@@ -27,7 +27,7 @@ all_one P x p zero d l = p
 all_one P x p (suc k) d l = absurd (omega arith)
 
 -- there is one more
-pub told_one : (before : List (NetFault × Location)) (first last : Messages) (x : Message) → length first.told.items < MOST_MESSAGES → last.told.items ≡ first.told.items ++ x ∷ []
+told_one : (before : List (NetFault × Location)) (first last : Messages) (x : Message) → length first.told.items < MOST_MESSAGES → last.told.items ≡ first.told.items ++ x ∷ []
     → last.are_all ≡ first.are_all → string_bytes x.text ≢ [] → Tells before first → Tells (before ++ subject x ∷ []) last
 told_one before first last x room items flag said t = record {
   few = omega (arith, ap length items, length-append first.told.items (x ∷ []));
@@ -41,12 +41,18 @@ told_one before first last x room items flag said t = record {
 }
 
 -- one lacks
-pub told_lacks : (before more : List (NetFault × Location)) (first last : Messages) → last.told.items ≡ first.told.items → last.are_all ≡ false → Tells before first → Tells (before ++ more) last
+told_lacks : (before more : List (NetFault × Location)) (first last : Messages) → last.told.items ≡ first.told.items → last.are_all ≡ false → Tells before first → Tells (before ++ more) last
 told_lacks before more first last items flag t = record {
   few = omega (arith, ap length items, t.few);
   said = subst (All (λ (m : Message). string_bytes m.text ≢ [])) (sym items) t.said;
   all = λ e. absurd (cc);
 }
+
+-- there is one more, or it lacks
+pub told_or_lost : (before : List (NetFault × Location)) (first last : Messages) (x : Message) (is_added : Bool) → length first.told.items < MOST_MESSAGES → string_bytes x.text ≢ []
+    → last.told.items ≡ (if is_added then first.told.items ++ x ∷ [] else first.told.items) → last.are_all ≡ (is_added && first.are_all) → Tells before first → Tells (before ++ subject x ∷ []) last
+told_or_lost before first last x true room said items flag t = told_one before first last x room items flag said t
+told_or_lost before first last x false room said items flag t = told_lacks before (subject x ∷ []) first last items flag t
 
 -- nothing is added, or one after the other
 pub adds_none : (first : Messages) → Adds [] first first

@@ -212,10 +212,8 @@ fn add(messages: &mut Messages, message: Message)
     requires said { string_bytes message.text ≢ [] }
     ensures { Adds (subject message ∷ []) messages.old messages.new }
 {
-    match messages.told.push(message) {
-        Ok(()) => {}
-        Err(_) => messages.are_all = false,
-    }
+    let is_added = messages.told.push(message).is_ok();
+    messages.are_all = is_added & messages.are_all;
 }
 
 /// Whether a fault is told of a place that has it.
