@@ -1,5 +1,5 @@
 -- If the command line accepts the arguments, they name one of its four subcommands.
-use Rattle.std.proofs.Common.{◌≡◌, ◌⊎◌, inl, inr, Bool, true, false, cond, List, [], ◌∷◌, Option, Some, None, IfSome, IsSomeAnd, is_some, option_map, codes, refl, subst, Result, Ok, Err, IfOk}
+use Rattle.std.proofs.Common.{◌≡◌, inl, inr, Bool, true, false, cond, List, [], ◌∷◌, Option, Some, None, IfSome, IsSomeAnd, is_some, option_map, codes, refl, subst, Result, Ok, Err, IfOk, IfErr}
 use Rattle.std.specs.Str.{bytes_eq}
 use Rattle.clap.specs.Words.{App, HasMatchesOf, Row, Text, built, is_simple_and_free, subcommand_of, subcommand_rows_of}
 use Rattle.clap.specs.declared.parser.matches.ArgMatches.{ArgMatches}
@@ -7,7 +7,10 @@ use Rattle.clap.specs.Kinds.{Kinds, or_else}
 use Rattle.clap.specs.Faults.{check_fault, defaults_fault, entered_fault, level_fault, settle_fault, walk_fault}
 use Rattle.clap.specs.Walk.{Held, Names, finished, nothing_held, settled, walk, walk_from}
 use Rattle.clap.specs.Simple.{Shape, argument_words, entered, names_of, rows_at}
-use Rattle.hox_args.specs.HoxChoices.{AreHoxTaken}
+use Rattle.hox_args.specs.declared.arguments.Choice.{Choice}
+use Rattle.hox_args.specs.declared.arguments.WordsFault.{WordsFault}
+use Rattle.hox_args.specs.declared.arguments.WordsFault.TheVariants.{Parser, Workers, Budget, Memory}
+use Rattle.hox_args.specs.HoxChoices.{AreHoxTaken, IsFaultIn, IsHoxChoice, IsHoxChoiceOf, IsHoxFault, IsRunFault, IsSubcommand}
 use Rattle.hox_args.specs.HoxCommand.{hox}
 
 -- the command line is one of those whose parse clap's clauses determine
@@ -26,7 +29,7 @@ has_one rows false h = cc
 
 -- the name is that of a subcommand
 abbrev pub IsCommand : Text × List Row → Type 0
-IsCommand p = (p.0 ≡ codes "check") ⊎ ((p.0 ≡ codes "run") ⊎ ((p.0 ≡ codes "draw") ⊎ (p.0 ≡ codes "stream")))
+IsCommand p = IsSubcommand p.0
 
 -- the shape found by name among the four is one of the four
 found_is : (words : List Text) (check run draw stream : Shape) (first second third fourth : Bool)
@@ -88,24 +91,22 @@ is_not : (text name : Text) → bytes_eq name name ≡ true → bytes_eq text na
 is_not text name same other e = let bad : bytes_eq name name ≡ false = subst (λ t. bytes_eq t name ≡ false) e other in cc
 
 -- a subcommand has one of the four names
-other_is : (p : Text × List Row) → bytes_eq p.0 (codes "check") ≡ false → bytes_eq p.0 (codes "run") ≡ false → bytes_eq p.0 (codes "draw") ≡ false → bytes_eq p.0 (codes "stream") ≡ false
-    → IsCommand p → ⊥
-other_is p check run draw stream is = elim is [
-  | inl e ↦ is_not p.0 (codes "check") refl check e
+pub other_is : (name : Text) → bytes_eq name (codes "check") ≡ false → bytes_eq name (codes "run") ≡ false → bytes_eq name (codes "draw") ≡ false → bytes_eq name (codes "stream") ≡ false
+    → IsSubcommand name → ⊥
+other_is name check run draw stream is = elim is [
+  | inl e ↦ is_not name (codes "check") refl check e
   | inr rest ↦ elim rest [
-    | inl e ↦ is_not p.0 (codes "run") refl run e
+    | inl e ↦ is_not name (codes "run") refl run e
     | inr last ↦ elim last [
-      | inl e ↦ is_not p.0 (codes "draw") refl draw e
-      | inr e ↦ is_not p.0 (codes "stream") refl stream e
+      | inl e ↦ is_not name (codes "draw") refl draw e
+      | inr e ↦ is_not name (codes "stream") refl stream e
     ]
   ]
 ]
 
--- arguments that are accepted name no other subcommand
-pub names_no_other :
-    (words : List Text) (p : Text × List Row) → AreHoxTaken words → Some p ≡ subcommand_of hox words
-    → bytes_eq p.0 (codes "check") ≡ false → bytes_eq p.0 (codes "run") ≡ false → bytes_eq p.0 (codes "draw") ≡ false → bytes_eq p.0 (codes "stream") ≡ false → ⊥
-names_no_other words p taken e check run draw stream = other_is p check run draw stream (at_some (subcommand_of hox words) p e (names_command words taken))
+-- arguments that are accepted name one of the four subcommands
+pub names_one_of : (words : List Text) (p : Text × List Row) → AreHoxTaken words → Some p ≡ subcommand_of hox words → IsSubcommand p.0
+names_one_of words p taken e = at_some (subcommand_of hox words) p e (names_command words taken)
 
 -- arguments that are accepted name some subcommand
 pub names_some : (words : List Text) → AreHoxTaken words → None ≡ subcommand_of hox words → ⊥
@@ -115,3 +116,21 @@ names_some words taken e = at_none (subcommand_of hox words) e (names_command wo
 pub matches_by : {E : Type 0} (words : List Text) (c : App) (r : Result ArgMatches E) → c ≡ hox → IfOk r (HasMatchesOf c words) → IfOk r (λ m. subcommand_rows_of m ≡ subcommand_of hox words)
 matches_by words c (Ok m) same has = (subst (λ (a : App). HasMatchesOf a words m) same has refl).1
 matches_by words c (Err e) same has = tt
+
+-- what the entries of the subcommand ask for, the arguments ask for
+pub chosen : {E : Type 0} (words : List Text) (p : Text × List Row) (r : Result Choice E) → AreHoxTaken words → Some p ≡ subcommand_of hox words
+    → IfOk r (IsHoxChoiceOf (Some p)) → IfOk r (IsHoxChoice words)
+chosen words p (Ok choice) taken is asked = (taken, subst (λ (s : Option (Text × List Row)). IsHoxChoiceOf s choice) is asked)
+chosen words p (Err e) taken is asked = tt
+
+-- the arguments are refused for what an option of the subcommand is refused for
+refused_by : (words : List Text) (p : Text × List Row) (e : WordsFault) → AreHoxTaken words → Some p ≡ subcommand_of hox words → IsRunFault p.1 e → IsHoxFault words e
+refused_by words p (Parser e) taken is refused = absurd refused
+refused_by words p Workers taken is refused = (taken, subst (λ (s : Option (Text × List Row)). IsFaultIn s Workers) is refused)
+refused_by words p Budget taken is refused = (taken, subst (λ (s : Option (Text × List Row)). IsFaultIn s Budget) is refused)
+refused_by words p Memory taken is refused = tt
+
+pub refused : {A : Type 0} (words : List Text) (p : Text × List Row) (r : Result A WordsFault) → AreHoxTaken words → Some p ≡ subcommand_of hox words
+    → IfErr r (IsRunFault p.1) → IfErr r (IsHoxFault words)
+refused words p (Ok choice) taken is by = tt
+refused words p (Err e) taken is by = refused_by words p e taken is by

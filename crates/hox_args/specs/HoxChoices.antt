@@ -1,5 +1,5 @@
 -- What the arguments of the command line ask for, and why they are refused.
-use Rattle.std.specs.Prelude.{◌≡◌, ◌<◌, ◌≤◌, ◌^◌, ℕ, Bool, false, codes, List, [], map, Option, Some, None, IfSome, if◌then◌else◌, option_map, unwrap_or}
+use Rattle.std.specs.Prelude.{◌≡◌, ◌⊎◌, ◌<◌, ◌≤◌, ◌^◌, ℕ, Bool, false, codes, List, [], map, Option, Some, None, IfSome, if◌then◌else◌, option_map, unwrap_or}
 use Rattle.std.specs.Option.{option_map_or}
 use Rattle.std.specs.Str.{bytes_eq}
 use Rattle.std.specs.Str.Parse.{IsNumeral, digits_value, without_leading_plus}
@@ -84,6 +84,10 @@ HasFewHoxWorkers (Check file tokens) = Unit {0}
 HasFewHoxWorkers (Run run) = (1 ≤ run.workers) × (run.workers ≤ 16)
 HasFewHoxWorkers (Draw draw) = IfSome draw.workers (λ n. (1 ≤ n) × (n ≤ 16))
 HasFewHoxWorkers (Stream stream) = Unit {0}
+
+-- the name is that of a subcommand
+abbrev pub IsSubcommand : Text → Type 0
+IsSubcommand name = (name ≡ codes "check") ⊎ ((name ≡ codes "run") ⊎ ((name ≡ codes "draw") ⊎ (name ≡ codes "stream")))
 
 -- the command line accepts the arguments
 abbrev pub AreHoxTaken : List Text → Type 0

@@ -7,7 +7,7 @@ ghost use Rattle.clap.specs.Words.{FailsBy, fault_of, first_of, found_of, rows_o
 ghost use Rattle.kpn_args.specs.Choices.{IsRefusedWorkers, IsWorkers, WorkersFrom};
 ghost use Rattle.kpn_picture.specs.declared.looks.Direction.TheVariants.{Right, Down};
 ghost use Rattle.hox_args.specs.HoxCommand.{hox};
-ghost use Rattle.hox_args.specs.HoxChoices.{AreHoxTaken, BudgetFrom, HasFewHoxWorkers, IsHoxChoice, IsHoxChoiceOf, IsHoxFault, IsNumber, IsRefusedBudget, IsRunFault, asks_for_hox_help, is_given, texts_of};
+ghost use Rattle.hox_args.specs.HoxChoices.{AreHoxTaken, BudgetFrom, HasFewHoxWorkers, IsHoxChoice, IsHoxChoiceOf, IsHoxFault, IsNumber, IsRefusedBudget, IsRunFault, IsSubcommand, asks_for_hox_help, is_given, texts_of};
 
 use crate::command::command_line;
 use clap::ArgMatches;
@@ -146,13 +146,10 @@ pub fn read_words<'a>(alloc: Global, words: &'a [&'a str]) -> Result<Choice<'a>,
     ensures fault { IfErr result (IsHoxFault (map (λ w. w.now) words.entry.now)) }
 {
     let matches = matches_of(alloc, words)?;
-    match subcommand_in(&matches) {
-        Some(("check", entries)) => check_choice(alloc, entries),
-        Some(("run", entries)) => run_choice(alloc, entries),
-        Some(("draw", entries)) => draw_choice(alloc, entries),
-        Some(("stream", entries)) => stream_choice(alloc, entries),
-        _ => unreachable!(),
-    }
+    let Some((name, entries)) = subcommand_in(&matches) else {
+        unreachable!()
+    };
+    choice_of(alloc, name, entries)
 }
 
 /// Returns the channel and the file of a text `CHANNEL=FILE`: what stands before and after its first `=`;
@@ -161,6 +158,26 @@ pub fn channel_and_file(text: &str) -> Option<(&str, &str)>
     ensures { MatchOption result (position_or_len (λ b. b == 61) text.now ≡ length text.now) (λ p. (p.0.now ≡ before_first (λ b. b == 61) text.now) × (p.1.now ≡ after_first (λ b. b == 61) text.now) × (position_or_len (λ b. b == 61) text.now < length text.now)) }
 {
     text.split_once('=')
+}
+
+/// The choice that a subcommand and its entries ask for.
+fn choice_of<'a>(
+    alloc: Global,
+    name: &str,
+    entries: &ArgMatches<'a>,
+) -> Result<Choice<'a>, WordsFault>
+    requires { IsSubcommand name.now }
+    ensures ok { IfOk result (IsHoxChoiceOf (Some (name.now, rows_of (found_of entries.now)))) }
+    ensures few { IfOk result HasFewHoxWorkers }
+    ensures fault { IfErr result (IsRunFault (rows_of (found_of entries.now))) }
+{
+    match name {
+        "check" => check_choice(alloc, entries),
+        "run" => run_choice(alloc, entries),
+        "draw" => draw_choice(alloc, entries),
+        "stream" => stream_choice(alloc, entries),
+        _ => unreachable!(),
+    }
 }
 
 /// The choice that the entries of `check` ask for.

@@ -1,8 +1,8 @@
 //! The command line: its subcommands and their options.
 ghost use Rattle.std.specs.Prelude.{◌≡◌, IfOk, codes, false};
-ghost use Rattle.clap.specs.Words.{app_of, new_app, rule_of, with_rule};
+ghost use Rattle.clap.specs.Words.{app_of, new_app, rule_of, with_rule, with_subcommand};
 ghost use Rattle.clap.specs.declared.builder.command.Command.TheViews.{out-Command as fields_of};
-ghost use Rattle.hox_args.specs.HoxCommand.{flag_rule, hox, hox_check_command, hox_draw_command, hox_draw_flags, hox_file_rule, hox_run_bounds, hox_run_command, hox_run_streams, hox_stream_command, hox_two, list_rule, option_rule};
+ghost use Rattle.hox_args.specs.HoxCommand.{bare_hox, flag_rule, hox, hox_check_command, hox_draw_command, hox_draw_flags, hox_file_rule, hox_run_bounds, hox_run_command, hox_run_streams, hox_stream_command, hox_two, list_rule, option_rule};
 
 use crate::help::{KINDS_AND_FILES, PICTURES, STATUSES, STREAMS};
 use clap::{Arg, ArgAction, Command};
@@ -12,14 +12,21 @@ use std::alloc::{AllocError, Global};
 pub(crate) fn command_line<'a>(alloc: Global) -> Result<Command<'a>, AllocError>
     ensures { IfOk result (λ c. app_of c ≡ hox) }
 {
-    check_and_run(alloc)?
-        .subcommand(draw(alloc)?)?
-        .subcommand(stream(alloc)?)
+    let command = with_subcommand(check_and_run(alloc)?, draw(alloc)?)?;
+    with_subcommand(command, stream(alloc)?)
 }
 
 /// The command line with its first two subcommands.
 fn check_and_run<'a>(alloc: Global) -> Result<Command<'a>, AllocError>
     ensures { IfOk result (λ c. app_of c ≡ hox_two) }
+{
+    let command = with_subcommand(bare_hox(alloc), check(alloc)?)?;
+    with_subcommand(command, run(alloc)?)
+}
+
+/// The command line without subcommands.
+fn bare_hox<'a>(alloc: Global) -> Command<'a>
+    ensures { app_of result ≡ bare_hox }
 {
     Command::new(alloc, "hox")
         .about("Runs Kahn process networks on tokens of files")
@@ -27,8 +34,17 @@ fn check_and_run<'a>(alloc: Global) -> Result<Command<'a>, AllocError>
         .version("0.1.0")
         .disable_help_subcommand(true)
         .subcommand_required(true)
-        .subcommand(check(alloc)?)?
-        .subcommand(run(alloc)?)
+}
+
+/// A command with one subcommand more.
+fn with_subcommand<'a>(
+    command: Command<'a>,
+    subcommand: Command<'a>,
+) -> Result<Command<'a>, AllocError>
+    requires { (fields_of subcommand).has_globals ≡ false }
+    ensures { IfOk result (λ c. app_of c ≡ with_subcommand (app_of command.entry) (app_of subcommand.entry).top) }
+{
+    command.subcommand(subcommand)
 }
 
 fn check<'a>(alloc: Global) -> Result<Command<'a>, AllocError>

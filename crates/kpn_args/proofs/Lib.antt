@@ -1,2 +1,3 @@
 pub mod CommandEntries
+pub mod Settings
 pub mod Subcommands

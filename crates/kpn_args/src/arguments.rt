@@ -1,8 +1,8 @@
 //! The arguments of the command line.
 ghost use Rattle.std.specs.Prelude.{◌≡◌, ◌⊎◌, ◌≤◌, IfOk, IfErr, Some, false, map, option_map, codes, if◌then◌else◌};
-ghost use Rattle.clap.specs.Words.{FailsBy, app_of, fault_of, first_of, found_of, new_app, rows_of, rule_of, subcommand_of, subcommand_rows_of, with_rule};
+ghost use Rattle.clap.specs.Words.{FailsBy, app_of, fault_of, first_of, found_of, new_app, rows_of, rule_of, subcommand_of, subcommand_rows_of, with_rule, with_subcommand};
 ghost use Rattle.clap.specs.declared.builder.command.Command.TheViews.{out-Command as fields_of};
-ghost use Rattle.kpn_args.specs.Command.{kpn, check_command, run_command, option_rule};
+ghost use Rattle.kpn_args.specs.Command.{kpn, bare_command, check_command, run_command, option_rule};
 ghost use Rattle.kpn_args.specs.Choices.{IsWorkers, WorkersFrom, IsRefusedWorkers, HasFewWorkers, IsChoice, IsChoiceOf, AreTaken, IsWordsFault, asks_for_help};
 
 use clap::error::ErrorKind;
@@ -236,14 +236,31 @@ fn parse<'a>(alloc: Global, words: &'a [&'a str]) -> Result<ArgMatches<'a>, clap
 fn command<'a>(alloc: Global) -> Result<Command<'a>, AllocError>
     ensures { IfOk result (λ c. app_of c ≡ kpn) }
 {
+    let command = with_subcommand(bare_command(alloc), check(alloc))?;
+    with_subcommand(command, run(alloc)?)
+}
+
+/// The command line without subcommands.
+fn bare_command<'a>(alloc: Global) -> Command<'a>
+    ensures { app_of result ≡ bare_command }
+{
     Command::new(alloc, "kpn")
         .about("Runs Kahn process networks in bounded memory")
         .after_help(STATUSES)
         .version("0.1.0")
         .disable_help_subcommand(true)
         .subcommand_required(true)
-        .subcommand(check(alloc))?
-        .subcommand(run(alloc)?)
+}
+
+/// A command with one subcommand more.
+fn with_subcommand<'a>(
+    command: Command<'a>,
+    subcommand: Command<'a>,
+) -> Result<Command<'a>, AllocError>
+    requires { (fields_of subcommand).has_globals ≡ false }
+    ensures { IfOk result (λ c. app_of c ≡ with_subcommand (app_of command.entry) (app_of subcommand.entry).top) }
+{
+    command.subcommand(subcommand)
 }
 
 fn check<'a>(alloc: Global) -> Command<'a>

@@ -1,0 +1,18 @@
+-- Each part of the choice is what its entries give.
+use Rattle.std.proofs.Common.{refl}
+use Rattle.hox_args.proofs.arguments.run_choice.Goals as goal
+
+pub returns-clause-ok : goal.returns-clause-ok
+returns-clause-ok c = (
+  refl,
+  record {
+    file = c.text_in-file.ensures;
+    tokens = c.in_ok-tokens.ensures.ok;
+    outputs = c.in_ok-outputs.ensures.ok;
+    show = c.in_ok-show.ensures.ok;
+    budget = rw c.text_in-2.ensures at c.in_ok-budget.ensures.ok;
+    workers = rw c.text_in.ensures at c.in_ok-workers.ensures.ok;
+    progress = c.has_flag-progress.ensures;
+    quiet = c.has_flag-quiet.ensures;
+  },
+)

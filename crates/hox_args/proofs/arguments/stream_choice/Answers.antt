@@ -1,0 +1,14 @@
+-- Each part of the choice is what its entries give.
+use Rattle.std.proofs.Common.{refl}
+use Rattle.hox_args.proofs.arguments.stream_choice.Goals as goal
+
+pub returns-clause-ok : goal.returns-clause-ok
+returns-clause-ok c = (
+  refl,
+  record {
+    file = c.text_in-file.ensures;
+    inputs = c.in_ok-inputs.ensures.ok;
+    outputs = c.in_ok-texts_in.ensures.ok;
+    quiet = c.has_flag.ensures;
+  },
+)
