@@ -132,7 +132,7 @@ pub record WentOn (s t : MachineView) (n : ℕ) : Type 0 where
 went_nowhere : (s : MachineView) → WentOn s s 0
 went_nowhere s = record { history = prefix_self s.history; count = omega arith; ended = λ stands. (refl, refl) }
 
-went_on_once : (kinds : Family) (s : MachineView) (i : Input) (o : Outcome) (t : MachineView) → Commits kinds s i o t → Appends kinds s t (entries_appended o) → WentOn s t (entries_appended o)
+pub went_on_once : (kinds : Family) (s : MachineView) (i : Input) (o : Outcome) (t : MachineView) → Commits kinds s i o t → Appends kinds s t (entries_appended o) → WentOn s t (entries_appended o)
 went_on_once kinds s i (Done n) t one more = record { history = (more.entries, sym more.history); count = omega (arith, ap length more.history, length-append s.history more.entries, more.count); ended = λ stands. absurd (stands one.before) }
 went_on_once kinds s i (Parked n) t one more = record { history = (more.entries, sym more.history); count = omega (arith, ap length more.history, length-append s.history more.entries, more.count); ended = λ stands. absurd (stands one.before) }
 went_on_once kinds s i LaidBack t one more = record { history = (more.entries, sym more.history); count = omega (arith, ap length more.history, length-append s.history more.entries, more.count); ended = λ stands. (ap (λ (x : MachineView). x.history) one.1, ap (λ (x : MachineView). x.end) one.1) }

@@ -4,14 +4,21 @@
 //! ```text
 //! match monitor.take(rt, seat) {
 //!     Taken::Over(_) => return None,
-//!     Taken::Task(task) => {
-//!         let finished = task.call();
-//!         gate.before_commit(finished.process());
-//!         match monitor.commit(rt, finished, seat) {
-//!             Ok(_) => {}
-//!             Err(Stranger { finished }) => return Some(finished),
-//!         }
-//!     }
+//!     Taken::Task(task) => match answer(rt, monitor, gate, seat, task) {
+//!         None => {}
+//!         Some(finished) => return Some(finished),
+//!     },
+//! }
+//! ```
+//!
+//! where `answer` calls the task and commits:
+//!
+//! ```text
+//! let finished = task.call();
+//! gate.before_commit(finished.process());
+//! match monitor.commit(rt, finished, seat) {
+//!     Ok(_) => None,
+//!     Err(Stranger { finished }) => Some(finished),
 //! }
 //! ```
 //!

@@ -16,7 +16,7 @@ ghost use Rattle.kpn_observe.specs.WatchedReports.{EndSparesBudget};
 
 use crate::running::told_by_laws;
 use crate::watched::WatchedRun;
-use kpn_body::{Body, Finished};
+use kpn_body::{Body, Finished, Task};
 use kpn_machine::{Machine, OpenFault, OpenRefused, Outcome, Stranger};
 use kpn_monitor::{EntryLedger, Monitor, Opening, Seat, Taken};
 use kpn_network::Net;
@@ -124,15 +124,29 @@ impl<E: EntryLedger, O: Ledger> CrewSeat<E, O> {
             match self.take(rt, monitor) {
                 Taken::Over(_) => return None,
                 Taken::Task(task) => {
-                    let finished = task.call();
-                    gate.before_commit(finished.process());
-                    if let Err(Stranger { finished }) = self.commit(rt, monitor, finished) {
+                    if let Some(finished) = self.answer(rt, monitor, gate, task) {
                         return Some(finished);
                     }
                 }
             }
         }
         unreachable!()
+    }
+
+    // Calls a task, asks the gate and commits the answer. Returns the answer if it is refused.
+    fn answer<B: Body, R: Wait, G: Gate>(
+        &mut self,
+        rt: &R,
+        monitor: &Monitor<B, E, O>,
+        gate: &G,
+        task: Task<B>,
+    ) -> Option<Finished<B>> {
+        let finished = task.call();
+        gate.before_commit(finished.process());
+        match self.commit(rt, monitor, finished) {
+            Ok(_) => None,
+            Err(Stranger { finished }) => Some(finished),
+        }
     }
 }
 

@@ -1,5 +1,5 @@
 //! What a worker of a watched run does.
-ghost use Rattle.std.specs.Prelude.{◌≡◌, true, [], length, Ok, IfNone};
+ghost use Rattle.std.specs.Prelude.{◌≡◌, ◌≢◌, true, [], length, Ok, IfNone};
 
 use crate::bell::Bell;
 use kpn_body::{Body, Finished};
@@ -68,15 +68,24 @@ fn exchange<B: Body, E: EntryLedger, O: Ledger, R: Wait + Clock>(
     ensures held { result ≡ Ok true → hand.new.tasks ≡ [] }
 {
     let stops = bell.stops();
-    match monitor.exchange(rt, hand, seat, if stops { 0 } else { most }) {
-        Ok(Next::Over(_)) => Ok(true),
-        Ok(Next::Nothing) if stops => Ok(true),
-        Ok(Next::Nothing) => {
-            monitor.rest(rt, hand, Rest::Idle, Duration::from_micros(FIRST_REST));
-            Ok(false)
-        }
-        Ok(Next::Tasks) => Ok(false),
-        Err(stranger) => Err(stranger),
+    let next = monitor.exchange(rt, hand, seat, if stops { 0 } else { most })?;
+    if is_done(next, stops) {
+        return Ok(true);
+    }
+    if matches!(next, Next::Nothing) {
+        monitor.rest(rt, hand, Rest::Idle, Duration::from_micros(FIRST_REST));
+    }
+    Ok(false)
+}
+
+// Whether a worker that was given this has nothing more to do.
+fn is_done(next: Next, stops: bool) -> bool
+    ensures { result ≡ true → next ≢ Next.Tasks }
+{
+    match next {
+        Next::Over(_) => true,
+        Next::Nothing => stops,
+        Next::Tasks => false,
     }
 }
 

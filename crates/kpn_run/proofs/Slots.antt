@@ -2,6 +2,7 @@
 use Rattle.std.proofs.Common.{◌≡◌, ℕ, ◌+◌, ◌<◌, suc, List, [], ◌∷◌, ◌++◌, length, take, drop, refl, subst, arith, length-append}
 use Rattle.std.specs.Prelude.{slice_index_or, slice_get, Option, Some, None, IfNone, IsSome, IsNone, Result, Err, IsOk}
 use Rattle.std.specs.List.{All, sum_by}
+use Rattle.std.specs.Option.{option_or}
 use Rattle.std.proofs.lemmas.List.{get_or_append_left}
 use Rattle.std.proofs.Math.Seq.{get_or-append_seam, take-append_seam}
 use Rattle.std.proofs.lemmas.List.Sums.{sum_by-append, sum_by-cons}
@@ -31,11 +32,12 @@ length_more xs ys y is = rw is (omega (arith, length-append ys (y ∷ [])))
 pub all_more : (seats more : List Shares) (s : Shares) → more ≡ seats ++ s ∷ [] → All (λ (x : Shares). x.overs ≡ 1) seats → s.overs ≡ 1 → All (λ (x : Shares). x.overs ≡ 1) more
 all_more seats more s is all one = rw is (All-append (λ (x : Shares). x.overs ≡ 1) seats (s ∷ []) all (one_at (λ (x : Shares). x.overs ≡ 1) s one))
 
--- one more seat, of a worker none of whose answers was refused
-pub none_more : {F : Type 0} (refused : Option F) (seats more : List Shares) (s : Shares) → more ≡ seats ++ s ∷ []
-    → IfNone refused (All (λ (x : Shares). x.overs ≡ 1) seats) → s.overs ≡ 1 → IfNone refused (All (λ (x : Shares). x.overs ≡ 1) more)
-none_more None seats more s is all one = all_more seats more s is all one
-none_more (Some f) seats more s is all one = tt
+-- one more seat: its worker has met an end, or an answer of the worker was refused
+pub none_more : {F : Type 0} (answer refused : Option F) (seats more : List Shares) (s : Shares) → more ≡ seats ++ s ∷ []
+    → IfNone refused (All (λ (x : Shares). x.overs ≡ 1) seats) → (answer ≡ None → s.overs ≡ 1) → IfNone (option_or answer refused) (All (λ (x : Shares). x.overs ≡ 1) more)
+none_more None None seats more s is all met = all_more seats more s is all (met refl)
+none_more None (Some f) seats more s is all met = tt
+none_more (Some f) refused seats more s is all met = tt
 
 pub sums_same : {X : Type 0} (f : X → ℕ) (xs ys : List X) → length ys ≡ length xs → ((k : ℕ) (d : X) → k < length xs → f (slice_index_or ys k d) ≡ f (slice_index_or xs k d)) → sum_by f ys ≡ sum_by f xs
 sums_same f [] [] len each = refl

@@ -2,7 +2,7 @@
 ghost use Rattle.std.specs.Prelude.{◌≡◌, IfNone};
 
 use crate::gate::Gate;
-use kpn_body::{Body, Finished};
+use kpn_body::{Body, Finished, Task};
 use kpn_machine::Stranger;
 use kpn_monitor::{EntryLedger, Monitor, Seat, Taken};
 use std::sync::Wait;
@@ -44,15 +44,29 @@ fn work_with<B: Body, E: EntryLedger, O: Ledger, R: Wait, G: Gate>(
     for _ in rt.forever() {
         match monitor.take(rt, seat) {
             Taken::Over(_) => return None,
-            Taken::Task(task) => {
-                let finished = task.call();
-                gate.before_commit(finished.process());
-                match monitor.commit(rt, finished, seat) {
-                    Ok(_) => {}
-                    Err(Stranger { finished }) => return Some(finished),
-                }
-            }
+            Taken::Task(task) => match answer(rt, monitor, gate, seat, task) {
+                None => {}
+                Some(finished) => return Some(finished),
+            },
         }
     }
     unreachable!()
+}
+
+// Calls a task, asks the gate and commits the answer. Returns the answer if it is refused.
+fn answer<B: Body, E: EntryLedger, O: Ledger, R: Wait, G: Gate>(
+    rt: &R,
+    monitor: &Monitor<B, E, O>,
+    gate: &G,
+    seat: &mut Seat<E, O>,
+    task: Task<B>,
+) -> Option<Finished<B>>
+    ensures { seat.new.parts ≡ seat.old.parts }
+{
+    let finished = task.call();
+    gate.before_commit(finished.process());
+    match monitor.commit(rt, finished, seat) {
+        Ok(_) => None,
+        Err(Stranger { finished }) => Some(finished),
+    }
 }

@@ -83,13 +83,24 @@ pub(crate) fn hands_for<B: Body, R: Threads>(
         Err(_) => workers,
     };
     let mut others = Vec::with_capacity(alloc, workers)?;
-    for _ in 1..workers {
-        others.push(hand_for(alloc, workers, processors)?)?;
-    }
+    add_hands(alloc, workers, processors, &mut others)?;
     Ok(Hands {
         last: hand_for(alloc, workers, processors)?,
         others,
     })
+}
+
+// Adds a hand for each worker but one.
+fn add_hands<B: Body>(
+    alloc: Global,
+    workers: usize,
+    processors: usize,
+    hands: &mut Vec<Hand<B>>,
+) -> Result<(), AllocError> {
+    for _ in 1..workers {
+        hands.push(hand_for(alloc, workers, processors)?)?;
+    }
+    Ok(())
 }
 
 // A hand of one of so many workers.
@@ -117,10 +128,26 @@ pub(crate) fn seat_all<B: Body, E: EntryLedger, O: Ledger>(
 {
     let mut seat = seat;
     let Hands { last, mut others } = hands;
-    for _i in 1..workers {
-        seat_one(&mut seat, others.pop(), slots);
-    }
+    seat_others(&mut seat, workers, &mut others, slots);
     slots.push_reserved(WorkerSlot::new(seat, last));
+}
+
+// Makes a slot for each worker but one.
+fn seat_others<B: Body, E: EntryLedger, O: Ledger>(
+    seat: &mut Seat<E, O>,
+    workers: usize,
+    hands: &mut Vec<Hand<B>>,
+    slots: &mut Vec<WorkerSlot<B, E, O>>,
+)
+    requires workers { 0 < workers }
+    requires room { (slots.old.items ≡ []) × (workers ≤ vec_capacity slots.old) }
+    ensures parts { sum_by (λ (b : AtSlot). b.seat.parts) slots.new.items + seat.new.parts ≡ seat.old.parts }
+    ensures few { length slots.new.items < workers }
+    ensures room { workers ≤ vec_capacity slots.new }
+{
+    for _i in 1..workers {
+        seat_one(seat, hands.pop(), slots);
+    }
 }
 
 // Adds a slot, unless there is no hand for it or the seat has only one part left.
@@ -187,9 +214,7 @@ pub(crate) fn leave_all<B: Body, E: EntryLedger, O: Ledger>(
     while let Some(slot) = slots.pop() {
         let (seat, answer) = slot.leave();
         seats.push_reserved(seat);
-        if let Some(finished) = answer {
-            refused = Some(finished);
-        }
+        refused = answer.or(refused);
     }
     refused
 }

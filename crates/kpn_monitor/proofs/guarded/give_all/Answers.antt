@@ -1,5 +1,5 @@
 -- One more answer was given, and its outcome was noted.
-use Rattle.std.proofs.Common.{◌∙◌, arith, subst}
+use Rattle.std.proofs.Common.{◌∙◌, length, ap, arith, subst}
 use Rattle.kpn_model.specs.Network.{Network, family_of}
 use Rattle.kpn_monitor.specs.Kept.{WasCommitted}
 use Rattle.kpn_monitor.proofs.Handing.{gave_machine, gave_committed, gave_many}
@@ -23,3 +23,15 @@ loop-task-preserved g c =
       count = omega (arith, i.count, many.0, many.1);
       few = i.few;
     }
+
+pub returns-then-not-has_sent-clause-machine : goal.returns-then-not-has_sent-clause-machine
+returns-then-not-has_sent-clause-machine g c = rw (c.give.ensures.outcomes, ← c.give.ensures.first) c.loop-task.invariant.machine
+
+pub returns-then-not-has_sent-clause-committed : goal.returns-then-not-has_sent-clause-committed
+returns-then-not-has_sent-clause-committed g c = rw (c.give.ensures.outcomes, ← c.give.ensures.first) c.loop-task.invariant.committed
+
+pub returns-then-not-has_sent-clause-called : goal.returns-then-not-has_sent-clause-called
+returns-then-not-has_sent-clause-called g c = rw c.give.ensures.outcomes (omega (arith, c.loop-task.invariant.called, c.give.ensures.called))
+
+pub returns-then-not-has_sent-clause-count : goal.returns-then-not-has_sent-clause-count
+returns-then-not-has_sent-clause-count g c = rw c.give.ensures.outcomes (omega (arith, c.loop-task.invariant.count, ap length c.give.ensures.first))
