@@ -1,8 +1,9 @@
 //! What is told of a flow.
 use crate::piped::CardFlow;
 use anyhow::Result;
+use kpn_body::Standard;
 use kpn_flow::Pause;
-use kpn_net::{End, Place};
+use kpn_net::{End, Net, Place};
 use kpn_report::places_of;
 use std::alloc::Global;
 use std::io::{self, Write};
@@ -29,21 +30,29 @@ pub fn write_pause<W: Write>(flow: &CardFlow, pause: Pause, sink: &mut W) -> io:
 
 /// Writes where each process is.
 pub fn write_places<W: Write>(alloc: Global, flow: &CardFlow, sink: &mut W) -> Result<()> {
-    let net = flow.net();
-    let places = places_of(alloc, net, flow.standings())?;
+    let places = places_of(alloc, flow.net(), flow.standings())?;
+    Ok(write_each(flow.net(), places.as_slice(), sink)?)
+}
+
+fn write_each<W: Write>(net: &Net<Standard>, places: &[Place], sink: &mut W) -> io::Result<()> {
     for (process, place) in places.iter().enumerate() {
         if process < net.processes() {
             write!(sink, "process {} ", net.process_name(process))?;
         }
-        match place {
-            Place::Reads(channel) if *channel < net.channels() => {
-                writeln!(sink, "reads {}", net.channel_name(*channel))?;
-            }
-            Place::Writes(channel) if *channel < net.channels() => {
-                writeln!(sink, "writes {}", net.channel_name(*channel))?;
-            }
-            _ => writeln!(sink, "stopped")?,
+        write_place(net, place, sink)?;
+    }
+    Ok(())
+}
+
+fn write_place<W: Write>(net: &Net<Standard>, place: &Place, sink: &mut W) -> io::Result<()> {
+    match place {
+        Place::Reads(channel) if *channel < net.channels() => {
+            writeln!(sink, "reads {}", net.channel_name(*channel))?;
         }
+        Place::Writes(channel) if *channel < net.channels() => {
+            writeln!(sink, "writes {}", net.channel_name(*channel))?;
+        }
+        _ => writeln!(sink, "stopped")?,
     }
     Ok(())
 }

@@ -37,11 +37,10 @@ fn play<R: Input + Print>(rt: &R, alloc: Global) -> Result<()> {
 fn play_lines<S: BufRead, W: Write>(alloc: Global, source: &mut S, sink: &mut W) -> Result<()> {
     let description = read_description(alloc, source)?;
     let mut piped = open(alloc, &description)?;
-    obey_all(alloc, &mut piped, source, sink)?;
-    Ok(sink.flush()?)
+    obey_all(alloc, &mut piped, source, sink)
 }
 
-/// Does what each line says.
+/// Does what each line says, and flushes what came of it.
 fn obey_all<S: BufRead, W: Write>(
     alloc: Global,
     piped: &mut Piped,
@@ -54,7 +53,7 @@ fn obey_all<S: BufRead, W: Write>(
             break;
         }
     }
-    Ok(())
+    Ok(sink.flush()?)
 }
 
 /// Does what the next line says, and returns whether another one is to be read.

@@ -16,6 +16,20 @@ pub struct Description {
     outputs: String,
 }
 
+/// The inputs and the outputs of a flow.
+#[derive(Drop)]
+struct Ports {
+    inputs: Vec<Port>,
+    outputs: Vec<Port>,
+}
+
+/// The channels that are fed, and those that are drained.
+#[derive(Drop)]
+struct Channels {
+    fed: Vec<usize>,
+    drained: Vec<usize>,
+}
+
 /// Reads the lines of a description, and the two that follow.
 pub fn read_description<S: BufRead>(alloc: Global, source: &mut S) -> Result<Description> {
     let mut text = String::new(alloc);
@@ -51,14 +65,10 @@ fn next_line<S: BufRead>(alloc: Global, source: &mut S) -> Result<String> {
 
 /// Opens a flow of the network that is described.
 pub fn open(alloc: Global, description: &Description) -> Result<Piped> {
-    let net = match net_of(alloc, description.text.as_str()) {
-        Ok(net) => net,
+    match net_of(alloc, description.text.as_str()) {
+        Ok(net) => open_net(alloc, net, description),
         Err(fault) => bail!("{fault}"),
-    };
-    let inputs = ports_of(alloc, &net, description.inputs.as_str())?;
-    let outputs = ports_of(alloc, &net, description.outputs.as_str())?;
-    let flow = flow_of(alloc, net, inputs.as_slice(), outputs.as_slice())?;
-    Ok(Piped::new(flow, inputs, outputs))
+    }
 }
 
 fn net_of(alloc: Global, text: &str) -> Result<Net<Standard>, NetFault> {
@@ -66,30 +76,55 @@ fn net_of(alloc: Global, text: &str) -> Result<Net<Standard>, NetFault> {
     Net::check(alloc, &sketch)
 }
 
+/// Opens a flow of a network between the inputs and the outputs that are described.
+fn open_net(alloc: Global, net: Net<Standard>, description: &Description) -> Result<Piped> {
+    let ports = ports_of(alloc, &net, description)?;
+    let flow = flow_between(alloc, net, &ports)?;
+    Ok(Piped::new(flow, ports.inputs, ports.outputs))
+}
+
+/// The inputs and the outputs that are described.
+fn ports_of(alloc: Global, net: &Net<Standard>, description: &Description) -> Result<Ports> {
+    let inputs = named_in(alloc, net, description.inputs.as_str())?;
+    let outputs = named_in(alloc, net, description.outputs.as_str())?;
+    Ok(Ports { inputs, outputs })
+}
+
 /// The channels that a line names after its first word.
-fn ports_of(alloc: Global, net: &Net<Standard>, line: &str) -> Result<Vec<Port>> {
+fn named_in(alloc: Global, net: &Net<Standard>, line: &str) -> Result<Vec<Port>> {
     let mut ports = Vec::new(alloc);
     for word in line.split_whitespace().skip(1) {
-        let Some(channel) = net.find_channel(word) else {
-            bail!("no channel {word}");
-        };
-        ports.push(Port {
-            channel,
-            name: String::from_str(alloc, word)?,
-        })?;
+        ports.push(port_of(alloc, net, word)?)?;
     }
     Ok(ports)
 }
 
-fn flow_of(
-    alloc: Global,
-    net: Net<Standard>,
-    inputs: &[Port],
-    outputs: &[Port],
-) -> Result<CardFlow> {
+fn port_of(alloc: Global, net: &Net<Standard>, word: &str) -> Result<Port> {
+    let Some(channel) = net.find_channel(word) else {
+        bail!("no channel {word}");
+    };
+    let name = String::from_str(alloc, word)?;
+    Ok(Port { channel, name })
+}
+
+fn flow_between(alloc: Global, net: Net<Standard>, ports: &Ports) -> Result<CardFlow> {
+    let channels = channels_of(alloc, ports)?;
+    flow_of(alloc, net, channels)
+}
+
+fn channels_of(alloc: Global, ports: &Ports) -> Result<Channels> {
+    let fed: Vec<usize> = ports.inputs.iter().map(|port| port.channel).collect(alloc)?;
+    let drained: Vec<usize> = ports
+        .outputs
+        .iter()
+        .map(|port| port.channel)
+        .collect(alloc)?;
+    Ok(Channels { fed, drained })
+}
+
+fn flow_of(alloc: Global, net: Net<Standard>, channels: Channels) -> Result<CardFlow> {
+    let Channels { fed, drained } = channels;
     let bodies = bodies_of(alloc, &net)?;
-    let fed: Vec<usize> = inputs.iter().map(|port| port.channel).collect(alloc)?;
-    let drained: Vec<usize> = outputs.iter().map(|port| port.channel).collect(alloc)?;
     match Flow::open(alloc, net, bodies, fed.as_slice(), drained.as_slice()) {
         Ok(flow) => Ok(flow),
         Err(refused) => bail!("{:?}", refused.fault),

@@ -51,19 +51,19 @@ impl<'a, R: Wait + Eprint + Sync> Crew<CardBody<Standard>> for Counting<'a, R> {
     }
 }
 
-fn make(made: &mut Builder) -> Result<(), AllocError> {
+fn make(made: &mut Builder) -> Result<Net<Standard>, AllocError> {
     made.process("src", "count", &[1, 5])?;
     made.process("snk", "sink", &[5])?;
-    made.channel(NewChannel::new("words", "src", "snk").capacity(2))
-}
-
-fn network(alloc: Global) -> Result<Net<Standard>, AllocError> {
-    let mut made = Builder::new(alloc);
-    make(&mut made)?;
+    made.channel(NewChannel::new("words", "src", "snk").capacity(2))?;
     let Ok(net) = made.check() else {
         return Err(AllocError);
     };
     Ok(net)
+}
+
+fn network(alloc: Global) -> Result<Net<Standard>, AllocError> {
+    let mut made = Builder::new(alloc);
+    make(&mut made)
 }
 
 /// Runs the network by three threads, and prints how many entries they brought about and what they sent.

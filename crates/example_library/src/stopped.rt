@@ -41,20 +41,20 @@ impl<'a, R: Wait + Clock + Sync> Gate for Slowly<'a, R> {
     }
 }
 
-fn make(made: &mut Builder) -> Result<(), AllocError> {
+fn make(made: &mut Builder) -> Result<Net<Standard>, AllocError> {
     made.set_budget(2_000_000);
     made.process("src", "count", &[1, 1_000_000])?;
     made.process("snk", "sink", &[1_000_000])?;
-    made.channel(NewChannel::new("words", "src", "snk").capacity(16))
-}
-
-fn network(alloc: Global) -> Result<Net<Standard>, AllocError> {
-    let mut made = Builder::new(alloc);
-    make(&mut made)?;
+    made.channel(NewChannel::new("words", "src", "snk").capacity(16))?;
     let Ok(net) = made.check() else {
         return Err(AllocError);
     };
     Ok(net)
+}
+
+fn network(alloc: Global) -> Result<Net<Standard>, AllocError> {
+    let mut made = Builder::new(alloc);
+    make(&mut made)
 }
 
 /// Runs the network until the deadline, and prints the first words that came out.

@@ -504,6 +504,7 @@ fn locates_a_process_a_channel_and_neither(rt: HostRuntime) {
         Location::Description,
     ];
     same(&rt, "places", found, due);
+    drop(sketch);
 }
 
 /// A description with five faults that stand by themselves: of what follows from the unknown kind, as that
@@ -537,4 +538,5 @@ fn faults_that_stand_by_themselves_are_all_told(rt: HostRuntime) {
     same(&rt, "step", found, true);
     let found = has_fault::<Standard>(&sketch, NetFault::Twice);
     same(&rt, "twice", found, false);
+    drop(sketch);
 }

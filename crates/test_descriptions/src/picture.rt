@@ -40,7 +40,9 @@ fn compare_start<R: Abort>(rt: &R, alloc: Global, net: &Net<Standard>, due: &str
 /// The network of a description.
 pub(crate) fn net_of<R: Abort>(rt: &R, alloc: Global, text: &str) -> Net<Standard> {
     let sketch = read_sketch(alloc, text.as_bytes()).expect(rt, "no sketch");
-    Net::check(alloc, &sketch).expect(rt, "no network")
+    let net = Net::check(alloc, &sketch).expect(rt, "no network");
+    drop(sketch);
+    net
 }
 
 pub(crate) const COUNTER: &str = r#"version = 1
@@ -57,6 +59,7 @@ fn draws_a_description(rt: HostRuntime) {
 }
 "#;
     compare_start(&rt, rt.alloc(), &net, worked);
+    drop(net);
 }
 
 /// A switch that passes words on by flags; its channel of flags begins with some.
@@ -95,6 +98,7 @@ fn draws_flags_and_start_tokens(rt: HostRuntime) {
 }
 "#;
     compare_start(&rt, rt.alloc(), &net, worked);
+    drop(net);
 }
 
 /// Running sums by feedback without a start token: the adder and the copy wait for each other.
@@ -164,6 +168,7 @@ fn draws_a_deadlock_with_its_cycle(rt: HostRuntime) {
 "##;
     let net = net_of(&rt, rt.alloc(), LOOP);
     compare_deadlock(&rt, rt.alloc(), &net, worked);
+    drop(net);
 }
 
 /// A copy whose two outputs are woven again (Parks 1995).
@@ -203,6 +208,7 @@ fn marks_the_cycles_of_waits(rt: HostRuntime) {
     ];
     let net = net_of(&rt, rt.alloc(), WOVEN);
     compare_jams(&rt, &net, &stuck, &[false, true, true, false]);
+    drop(net);
 }
 
 /// The counter has ended, and the others wait for it: that is no cycle.
@@ -217,6 +223,7 @@ fn marks_no_channel_without_a_cycle(rt: HostRuntime) {
     let net = net_of(&rt, rt.alloc(), WOVEN);
     compare_jams(&rt, &net, &served, &[false; 4]);
     compare_jams(&rt, &net, &[], &[false; 4]);
+    drop(net);
 }
 
 /// The title of a picture for each end.
@@ -244,6 +251,7 @@ fn draws_each_end(rt: HostRuntime) {
     for (end, due) in &ENDS {
         compare_end(&rt, rt.alloc(), &net, *end, due);
     }
+    drop(net);
 }
 
 /// The title of the kind of a card, if it has a signature.

@@ -33,6 +33,8 @@ fn a_deadlock_is_a_cycle_or_ran_dry(rt: HostRuntime) {
     let due = "verdict ran dry\n";
     let counter = net_of(&rt, alloc, COUNTER);
     judge(&rt, alloc, &counter, &waits, End::Deadlock, due);
+    drop(net);
+    drop(counter);
 }
 
 /// Three filters in a ring: tokens would flow from the first to the second, the third and the first.
@@ -56,6 +58,7 @@ fn a_cycle_is_told_as_tokens_would_flow(rt: HostRuntime) {
     let due = "verdict cycle a ab b bd d da\n";
     let net = net_of(&rt, alloc, RING);
     judge(&rt, alloc, &net, &waits, End::Deadlock, due);
+    drop(net);
 }
 
 #[test]
@@ -65,6 +68,7 @@ fn words_of_a_verdict_are_appended(rt: HostRuntime) {
     let net = net_of(&rt, alloc, LOOP);
     let verdict = Verdict::Cycle(1);
     push_verdict(&mut title, &net, &LOOP_PLACES, verdict).expect(&rt, "no memory");
+    drop(net);
     same(&rt, "words", title.as_str(), "title: cycle ad c2 cp c1");
 }
 
@@ -82,4 +86,5 @@ fn each_other_end_has_a_verdict(rt: HostRuntime) {
     for (end, due) in &ENDS {
         judge(&rt, rt.alloc(), &net, &[Place::Stopped; 2], *end, due);
     }
+    drop(net);
 }

@@ -117,4 +117,5 @@ fn the_smallest_channel_grows_first(rt: HostRuntime) {
     same(&rt, "entries", machine.history().len(), 24);
     let growths = growths_of(&rt, rt.alloc(), machine.history());
     same(&rt, "growths", growths.as_slice(), GROWTHS.as_slice());
+    drop(machine);
 }

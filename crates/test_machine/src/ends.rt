@@ -110,6 +110,7 @@ fn run_alone<R: Abort>(rt: &R, alloc: Global, due: &EndOfRun) {
     assert_over(rt, alloc, &machine, due);
     let chronicle = machine.into_chronicle();
     assert_chronicle(rt, &chronicle, due);
+    drop(chronicle);
 }
 
 #[test]

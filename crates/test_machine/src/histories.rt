@@ -81,6 +81,7 @@ fn follow<R: Abort>(rt: &R, alloc: Global, due: &History) {
     same(rt, name, outcomes.as_slice(), due.outcomes);
     same(rt, name, machine.history(), due.entries);
     same(rt, name, machine.end(), due.end);
+    drop(machine);
 }
 
 #[test]

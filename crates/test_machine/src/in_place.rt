@@ -26,6 +26,7 @@ fn to_the_end(rt: HostRuntime) {
     same(&rt, "others", machine.ask_in_place(1000), 7);
     same(&rt, "end", machine.end(), Some(End::Terminated));
     asks(&rt, &mut machine, 1000, (0, 0, 8));
+    drop(machine);
 }
 
 /// What is found once the other has gone on beside this process.
@@ -48,4 +49,5 @@ fn beside_one_that_is_out(rt: HostRuntime) {
     outcome_of(&rt, &mut machine, task.call());
     machine.ask_in_place(1000);
     same(&rt, "entries", machine.history().len(), 8);
+    drop(machine);
 }

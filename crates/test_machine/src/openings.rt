@@ -37,6 +37,7 @@ fn the_parts_of_a_fresh_machine_open_again(rt: HostRuntime) {
     assert_parts(&rt, rt.alloc(), &parts);
     let machine = opened(&rt, rt.alloc(), parts);
     assert_fresh(&rt, &machine);
+    drop(machine);
 }
 
 /// What a refused machine was to be opened with: the fault with its number, and the cards of the
@@ -81,7 +82,10 @@ fn open_misfit<R: Abort>(rt: &R, alloc: Global, parts: Parts, due: &Misfit) {
     let name = due.name;
     match Machine::open(alloc, parts.net, parts.bodies) {
         Ok(_) => panic!(rt; "opened with bodies: {name}"),
-        Err(refused) => assert_handed_back(rt, &refused, due),
+        Err(refused) => {
+            assert_handed_back(rt, &refused, due);
+            drop(refused);
+        }
     }
 }
 

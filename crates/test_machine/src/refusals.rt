@@ -100,7 +100,9 @@ fn growing_run<R: Abort>(
     tasks: &mut Vec<CardTask>,
 ) -> Refused {
     let (mut machine, opening) = open_again(rt, alloc, parts);
-    grow_to_the_end(rt, &mut machine, tasks, opening)
+    let refused = grow_to_the_end(rt, &mut machine, tasks, opening);
+    drop(machine);
+    refused
 }
 
 /// Makes a run that needs a growth, with room for its tasks, and returns which request was refused.

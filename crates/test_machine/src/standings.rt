@@ -165,6 +165,7 @@ fn follow_standings<R: Abort>(rt: &R, alloc: Global, machine: &mut CardMachine) 
 fn a_machine_tells_where_its_processes_stand(rt: HostRuntime) {
     let mut machine = machine_of(&rt, rt.alloc(), SINK_OF_THREE);
     follow_standings(&rt, rt.alloc(), &mut machine);
+    drop(machine);
 }
 
 /// The budget is spent while the sink is out.
@@ -212,4 +213,5 @@ fn an_answer_after_the_end_is_laid_back(rt: HostRuntime) {
     let mut machine = machine_of(&rt, rt.alloc(), BUDGET_OF_ONE);
     answer_late(&rt, rt.alloc(), &mut machine);
     assert_spent(&rt, &mut machine);
+    drop(machine);
 }

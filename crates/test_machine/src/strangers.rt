@@ -37,6 +37,7 @@ fn task_of_another_body<R: Abort>(rt: &R, alloc: Global) -> CardTask {
     let mut parts = fresh_parts(rt, alloc, SINK_OF_THREE);
     parts.bodies.pop();
     let counter = parts.bodies.pop().expect(rt, "no body");
+    drop(parts);
     unsent(counter)
 }
 
@@ -130,6 +131,7 @@ fn answer_twice<R: Abort>(rt: &R, alloc: Global, machine: &mut CardMachine) {
 fn an_answer_that_was_not_asked_for_is_handed_back(rt: HostRuntime) {
     let mut machine = machine_of(&rt, rt.alloc(), SINK_OF_THREE);
     answer_twice(&rt, rt.alloc(), &mut machine);
+    drop(machine);
 }
 
 /// Commits the counter's answer from one machine to the other, and then to the machine that asked.
@@ -146,6 +148,8 @@ fn an_answer_of_another_machine_is_handed_back(rt: HostRuntime) {
     let mut one = machine_of(&rt, rt.alloc(), SINK_OF_THREE);
     let mut other = machine_of(&rt, rt.alloc(), SINK_OF_THREE);
     ask_one(&rt, rt.alloc(), &mut one, &mut other);
+    drop(one);
+    drop(other);
 }
 
 /// Commits what the counter answers after its first token, which has to wait.
@@ -171,6 +175,8 @@ fn an_answer_to_the_same_question_is_taken_once(rt: HostRuntime) {
     let mut one = machine_of(&rt, rt.alloc(), SINK_OF_THREE);
     let mut other = machine_of(&rt, rt.alloc(), SINK_OF_THREE);
     ask_both(&rt, rt.alloc(), &mut one, &mut other);
+    drop(one);
+    drop(other);
 }
 
 /// An answer that was asked for.
@@ -196,6 +202,7 @@ fn an_answer_that_was_asked_for_is_taken_at_once(rt: HostRuntime) {
     let mut machine = machine_of(&rt, rt.alloc(), SINK_OF_THREE);
     let finished = counter_answers(&rt, rt.alloc(), &mut machine);
     take_at_once(&rt, &mut machine, finished);
+    drop(machine);
 }
 
 /// Asks for the counter's first task while the counter is ready, while it is out with that task, and
@@ -221,4 +228,5 @@ fn know_tasks<R: Abort>(rt: &R, alloc: Global, machine: &mut CardMachine) {
 fn a_task_is_known_while_its_process_is_out(rt: HostRuntime) {
     let mut machine = machine_of(&rt, rt.alloc(), SINK_OF_THREE);
     know_tasks(&rt, rt.alloc(), &mut machine);
+    drop(machine);
 }

@@ -78,6 +78,7 @@ fn report<R: Abort>(rt: &R, alloc: Global, end: End, lines: &str) -> Report {
     let places = Vec::from_slice(alloc, &PLACES).expect(rt, "no memory");
     let report = report_of(alloc, &net, &HISTORY, places, end).expect(rt, "no report");
     same(rt, "end", report.end, end);
+    drop(net);
     report
 }
 

@@ -203,7 +203,9 @@ fn run_refused<R: Threads + Wait + Clock + Abort + Sync>(
     let (net, load) = load_again(rt, alloc, COPIED_AND_WOVEN);
     let bodies = bodies_of(alloc, &net)?;
     let (finish, run) = finish_again(rt, alloc, net, bodies, workers);
-    tell_refused(rt, alloc, &finish, first_refused(&[load, run]))
+    let told = tell_refused(rt, alloc, &finish, first_refused(&[load, run]));
+    drop(finish);
+    told
 }
 
 /// Tells of a run of Parks's case before which this was refused.

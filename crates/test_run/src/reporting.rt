@@ -63,4 +63,5 @@ fn a_run_by_two_workers_is_told(rt: HostRuntime) {
     let finish = finish_text(&rt, rt.alloc(), COUNTER_INTO_SINK, 2, &Open);
     compare_no_stream(&rt, rt.alloc(), &finish);
     compare_report(&rt, rt.alloc(), &finish);
+    drop(finish);
 }

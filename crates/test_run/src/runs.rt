@@ -89,6 +89,7 @@ pub(crate) fn shows<R: Threads + Wait + Clock + Abort + Sync, G: Gate>(
 ) {
     let finish = finish_text(rt, alloc, text, workers, gate);
     compare(rt, alloc, &finish, due).expect(rt, "no memory");
+    drop(finish);
 }
 
 /// A run is refused for this reason, with its number, and all is handed back.
@@ -124,6 +125,7 @@ fn run_counted<B: Body, R: Threads + Wait + Clock + Abort + Sync>(
     let finish = finish_of(rt, alloc, net, bodies, workers, &counts);
     compare_asked(rt, counts.asked.load(Ordering::SeqCst), due);
     compare(rt, alloc, &finish, due).expect(rt, "no memory");
+    drop(finish);
 }
 
 /// Compares how often a gate was asked with what is expected: at least once for each process, and at most as often

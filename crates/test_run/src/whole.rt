@@ -33,6 +33,7 @@ pub(crate) fn shows_whole<R: Threads + Wait + Clock + Abort + Sync, G: Gate>(
 ) {
     let finish = finish_text(rt, alloc, text, workers, gate);
     compare_whole(rt, alloc, &finish, due);
+    drop(finish);
 }
 
 fn compare_whole<K: Kinds, R: Abort>(rt: &R, alloc: Global, finish: &Finish<K>, due: Whole<'_>) {
@@ -84,6 +85,7 @@ fn spends_budget<R: Threads + Wait + Clock + Abort + Sync>(
     let finish = finish_text(rt, alloc, text, workers, &Open);
     compare_endless(rt, alloc, &finish);
     compare_taken(rt, alloc, &finish);
+    drop(finish);
 }
 
 /// The budget of 1,000 is spent, and there is no detail.

@@ -68,11 +68,7 @@ pub fn run_timed<R: Threads + Wait + Clock + Sync + Print>(
     let Ok(start) = Instant::now(rt) else {
         return Err(AllocError);
     };
-    let entries = if asked.workers == 0 {
-        entries_alone(alloc, net, bodies)?
-    } else {
-        entries_by_workers(rt, alloc, net, bodies, asked.workers)?
-    };
+    let entries = entries_of(rt, alloc, net, bodies, asked.workers)?;
     let Ok(took) = start.elapsed(rt) else {
         return Err(AllocError);
     };
@@ -90,6 +86,20 @@ fn bodies_of(alloc: Global, net: &Net<Standard>, numbers: u64) -> Result<Vec<Bur
         }
     }
     Ok(bodies)
+}
+
+/// Runs a network by so many workers, 0 being the calling thread, and returns how many entries there were.
+fn entries_of<R: Threads + Wait + Clock + Sync>(
+    rt: &R,
+    alloc: Global,
+    net: Net<Standard>,
+    bodies: Vec<Burning>,
+    workers: usize,
+) -> Result<u64, AllocError> {
+    match workers {
+        0 => entries_alone(alloc, net, bodies),
+        _ => entries_by_workers(rt, alloc, net, bodies, workers),
+    }
 }
 
 fn entries_by_workers<R: Threads + Wait + Clock + Sync>(

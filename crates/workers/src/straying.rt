@@ -5,7 +5,7 @@ use crate::numbers::{burn, following};
 use kpn_body::{Body, Standard, answer};
 use kpn_net::{Answer, Card, Kinds, Local, Net, Token};
 use kpn_report::{places_of, text_of};
-use kpn_run::{Hold, run};
+use kpn_run::{Finish, Hold, run};
 use std::alloc::{AllocError, Global};
 use std::hint::spin_loop;
 use std::marker::Model;
@@ -77,9 +77,17 @@ pub fn run_stressed<R: Threads + Wait + Clock + Sync + Print>(
 ) -> Result<(), AllocError> {
     let bodies = bodies_of(alloc, &net, asked)?;
     let gate = Hold::new(asked.held, asked.other, 1, LOOKS);
-    let Ok(finish) = run(rt, alloc, net, bodies, asked.workers, &gate) else {
-        return Err(AllocError);
-    };
+    match run(rt, alloc, net, bodies, asked.workers, &gate) {
+        Ok(finish) => print_report(rt, alloc, &finish),
+        Err(_) => Err(AllocError),
+    }
+}
+
+fn print_report<R: Print>(
+    rt: &R,
+    alloc: Global,
+    finish: &Finish<Standard>,
+) -> Result<(), AllocError> {
     let net = finish.net();
     let places = places_of(alloc, net, finish.standings())?;
     let history = finish.history();

@@ -61,6 +61,8 @@ fn each_process_has_its_body(rt: HostRuntime) {
     let net: Net<Standard> = Net::check(rt.alloc(), &sketch).expect(&rt, "no network");
     let answers = first_answers(rt.alloc(), &net).expect(&rt, "no memory");
     same(&rt, "answers", answers.as_slice(), FIRST.as_slice());
+    drop(net);
+    drop(sketch);
 }
 
 /// A network of this family is refused for its arguments.
@@ -74,4 +76,5 @@ fn a_name_of_both_families_is_refused(rt: HostRuntime) {
     let sketch = sketch_of(&rt, rt.alloc());
     refuses_args::<Both<Standard, Standard>, _>(&rt, rt.alloc(), &sketch);
     refuses_args::<Both<Standard, Both<Standard, Standard>>, _>(&rt, rt.alloc(), &sketch);
+    drop(sketch);
 }

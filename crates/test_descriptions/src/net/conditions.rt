@@ -106,6 +106,7 @@ fn compare_processes<R: Abort>(rt: &R, sketch: &Sketch) {
 fn judges_each_process(rt: HostRuntime) {
     let sketch = sketch_of(&rt, rt.alloc(), TEXT);
     compare_processes(&rt, &sketch);
+    drop(sketch);
 }
 
 fn compare_channels<R: Abort>(rt: &R, sketch: &Sketch) {
@@ -119,6 +120,7 @@ fn compare_channels<R: Abort>(rt: &R, sketch: &Sketch) {
 fn judges_each_channel(rt: HostRuntime) {
     let sketch = sketch_of(&rt, rt.alloc(), TEXT);
     compare_channels(&rt, &sketch);
+    drop(sketch);
 }
 
 /// The ports of a process of a name that is in the sketch.
@@ -148,6 +150,7 @@ fn compare_ports<R: Abort>(rt: &R, sketch: &Sketch) {
 fn finds_unused_ports(rt: HostRuntime) {
     let sketch = sketch_of(&rt, rt.alloc(), TEXT);
     compare_ports(&rt, &sketch);
+    drop(sketch);
 }
 
 #[test]
@@ -216,4 +219,5 @@ fn compare_clashes<R: Abort>(rt: &R, sketch: &Sketch) {
 fn finds_what_clashes(rt: HostRuntime) {
     let sketch = sketch_of(&rt, rt.alloc(), TEXT);
     compare_clashes(&rt, &sketch);
+    drop(sketch);
 }

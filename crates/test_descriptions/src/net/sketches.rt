@@ -77,6 +77,8 @@ fn a_sketch_is_read_and_checked(rt: HostRuntime) {
     compare_sketch(&rt, &sketch);
     let net = Net::<Standard>::check(rt.alloc(), &sketch).expect(&rt, "no network");
     compare_net(&rt, &net);
+    drop(net);
+    drop(sketch);
 }
 
 /// The number of the fault of a text; 0 if it has none.

@@ -151,6 +151,8 @@ fn describes_a_counter_into_a_sink(rt: HostRuntime) {
     let net = net_of(&rt, rt.alloc(), &sketch);
     compare_counter(&rt, &net);
     compare_found(&rt, &net);
+    drop(net);
+    drop(sketch);
 }
 
 /// The same of version 2, with start tokens, a step, and the greatest budget.
@@ -205,6 +207,8 @@ fn describes_start_tokens_and_a_step(rt: HostRuntime) {
     let net = net_of(&rt, rt.alloc(), &sketch);
     compare_tokens(&rt, &net);
     compare_sketch(&rt, &sketch);
+    drop(net);
+    drop(sketch);
 }
 
 static NUMBERS: [(NetFault, u8); 17] = [

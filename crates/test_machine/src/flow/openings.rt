@@ -32,7 +32,10 @@ fn refuse<R: Abort>(
     let bodies = parts.bodies.len();
     match Flow::open(alloc, parts.net, parts.bodies, inputs, outputs) {
         Ok(_) => panic!(rt; "opened in spite of a fault"),
-        Err(refused) => assert_handed_back(rt, &refused, fault, bodies),
+        Err(refused) => {
+            assert_handed_back(rt, &refused, fault, bodies);
+            drop(refused);
+        }
     }
 }
 
@@ -72,6 +75,7 @@ fn a_process_of_no_tokens_stops_at_once(rt: HostRuntime) {
     let parts = fresh(&rt, rt.alloc());
     stops(&rt, &parts, 0, true);
     stops(&rt, &parts, 1, false);
+    drop(parts);
 }
 
 #[test]

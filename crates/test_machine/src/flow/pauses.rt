@@ -91,6 +91,7 @@ static SCALED: [Step; 18] = [
 fn words_are_scaled(rt: HostRuntime) {
     let mut flow = flow_of(&rt, rt.alloc(), SCALE, &[0], &[1]);
     play(&rt, &mut flow, &SCALED);
+    drop(flow);
 }
 
 static REST_OF_A_BATCH: [Step; 4] = [
@@ -109,6 +110,7 @@ fn a_batch_is_fed_as_far_as_there_is_room(rt: HostRuntime) {
     same(&rt, "first", feed_batch(&rt, &mut flow, 0, &batch), 2);
     same(&rt, "full", feed_batch(&rt, &mut flow, 0, &batch), 0);
     play(&rt, &mut flow, &REST_OF_A_BATCH);
+    drop(flow);
 }
 
 static CUT: [Step; 7] = [
@@ -126,6 +128,7 @@ static CUT: [Step; 7] = [
 fn a_flow_is_cut(rt: HostRuntime) {
     let mut flow = flow_of(&rt, rt.alloc(), SCALE, &[0], &[1]);
     play(&rt, &mut flow, &CUT);
+    drop(flow);
 }
 
 static SUMS: [Step; 11] = [
@@ -146,6 +149,7 @@ static SUMS: [Step; 11] = [
 fn sums_come_of_two_inputs_and_go_back(rt: HostRuntime) {
     let mut flow = flow_of(&rt, rt.alloc(), RUNNING_SUM, &[0, 1], &[5]);
     play(&rt, &mut flow, &SUMS);
+    drop(flow);
 }
 
 static THREE_SUMS: [Step; 3] = [
@@ -165,6 +169,7 @@ fn an_output_is_drained_into_a_buffer(rt: HostRuntime) {
     same(&rt, "one", drain_buffer(&rt, &mut flow, 5, &mut buffer), 1);
     let one = [Token::Word(66), Token::Word(33)];
     same(&rt, "the rest stays", buffer.as_slice(), one.as_slice());
+    drop(flow);
 }
 
 static TWO_READ: [Step; 4] = [
@@ -178,6 +183,7 @@ static TWO_READ: [Step; 4] = [
 fn a_flow_terminates(rt: HostRuntime) {
     let mut flow = flow_of(&rt, rt.alloc(), SINK_OF_TWO, &[0], &[]);
     play(&rt, &mut flow, &TWO_READ);
+    drop(flow);
 }
 
 static GROWN: [Step; 8] = [
@@ -196,6 +202,7 @@ static GROWN: [Step; 8] = [
 fn a_channel_grows_where_the_outside_can_not_help(rt: HostRuntime) {
     let mut flow = flow_of(&rt, rt.alloc(), OUTPUT_AND_GROWTH, &[], &[0]);
     play(&rt, &mut flow, &GROWN);
+    drop(flow);
 }
 
 /// Compares the places of the processes.
@@ -233,6 +240,7 @@ fn an_input_ends_and_another_goes_on(rt: HostRuntime) {
     same(&rt, "another", flow.may_feed(0, Token::Word(0)), true);
     play(&rt, &mut flow, &WAITS_IN_VAIN);
     assert_places(&rt, rt.alloc(), &flow, &PLACES);
+    drop(flow);
 }
 
 static HELD_UP: [Step; 5] = [
@@ -249,6 +257,7 @@ fn a_flow_that_is_held_up_is_not_exhausted(rt: HostRuntime) {
     feed_words(&rt, &mut flow, 0, &[5, 7]);
     flow.end_input(0);
     play(&rt, &mut flow, &HELD_UP);
+    drop(flow);
 }
 
 #[test]
@@ -259,4 +268,5 @@ fn a_flow_tells_of_its_network(rt: HostRuntime) {
     same(&rt, "standings", flow.standings().len(), 3);
     same(&rt, "input", flow.is_input(0), true);
     same(&rt, "no input", flow.is_input(1), false);
+    drop(flow);
 }

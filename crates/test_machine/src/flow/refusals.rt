@@ -49,7 +49,9 @@ fn grow<R: Abort>(rt: &R, flow: &mut CardFlow, opening: Refused) -> Refused {
 fn growing_flow<R: Abort>(rt: &R, alloc: Global) -> Result<Refused, AllocError> {
     let parts = parts_of(rt, alloc, OUTPUT_AND_GROWTH)?;
     let (mut flow, opening) = open_again(rt, alloc, parts);
-    Ok(grow(rt, &mut flow, opening))
+    let refused = grow(rt, &mut flow, opening);
+    drop(flow);
+    Ok(refused)
 }
 
 /// Passes whichever request for memory is refused, and prints which one was.

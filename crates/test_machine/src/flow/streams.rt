@@ -88,7 +88,9 @@ fn streamed<R: Abort>(rt: &R, alloc: Global, text: &str, written: &str, due: Fin
     let mut served = served_of(rt, alloc, text);
     same(rt, "finish", served.finish, due);
     wrote(rt, &mut served.outlets, written);
-    served.flow.is_exhausted()
+    let is_exhausted = served.flow.is_exhausted();
+    drop(served);
+    is_exhausted
 }
 
 #[test]
@@ -123,6 +125,7 @@ fn is_named<R: Abort>(rt: &R, alloc: Global, fed: &str, drained: &str, due: &str
     let (fed, drained) = (name(rt, alloc, fed), name(rt, alloc, drained));
     let refused = opened(rt, alloc, &[fed], &[drained]);
     same(rt, "named", named(&refused), due);
+    drop(refused);
 }
 
 #[test]
@@ -139,4 +142,5 @@ fn a_channel_is_named_twice(rt: HostRuntime) {
     let both = [name(&rt, alloc, "x"), name(&rt, alloc, "x")];
     let refused = opened(&rt, alloc, &both, &[]);
     same(&rt, "named", named(&refused), "twice");
+    drop(refused);
 }

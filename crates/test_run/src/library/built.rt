@@ -75,8 +75,10 @@ fn add_channels<R: Abort>(rt: &R, made: &mut Builder) {
 #[test]
 fn what_was_built_is_written(rt: HostRuntime) {
     let alloc = rt.alloc();
-    let text = switched(&rt, alloc).to_toml().expect(&rt, "memory");
+    let made = switched(&rt, alloc);
+    let text = made.to_toml().expect(&rt, "memory");
     same(&rt, "text", text.as_str(), SWITCHED);
+    drop(made);
 }
 
 /// A text is read, and written as it was.
@@ -87,6 +89,7 @@ fn what_was_read_is_written(rt: HostRuntime) {
     same(&rt, "sort", sketch.channels.as_slice().len(), 2);
     let text = to_toml(alloc, &sketch).expect(&rt, "a fault");
     same(&rt, "text", text.as_str(), SWITCHED);
+    drop(sketch);
 }
 
 /// The faults of what was built are told by the caller's names.
@@ -99,6 +102,7 @@ fn faults_are_told_by_name(rt: HostRuntime) {
     let message = made.message::<Standard>(NetFault::NoEnd, KINDS);
     let due = "channel \"f\": from \"dv\"; no process has this name";
     same(&rt, "end", message.as_deref(), Some(due));
+    drop(made);
     let mut made = Builder::new(alloc);
     made.process("src", "cuont", &[1, 3]).expect(&rt, "memory");
     let message = made.message::<Standard>(NetFault::Kind, KINDS);
@@ -106,6 +110,7 @@ fn faults_are_told_by_name(rt: HostRuntime) {
     same(&rt, "kind", message.as_deref(), Some(due));
     let none = sketch_message::<Standard>(alloc, made.sketch(), NetFault::Memory, KINDS);
     same(&rt, "memory", none.as_deref(), None);
+    drop(made);
 }
 
 /// Adds a counter of three, a sink for them, and their channel.
@@ -135,6 +140,8 @@ fn what_was_built_is_a_network(rt: HostRuntime) {
     add_counter(&rt, &mut made);
     let net: Net<Standard> = made.check().expect(&rt, "a fault");
     compare_network(&rt, &net);
+    drop(net);
+    drop(made);
 }
 
 /// Version 1 has no step and no start tokens.
@@ -145,6 +152,7 @@ fn no_text_says_what_version_1_has_not(rt: HostRuntime) {
     sketch.version = 1;
     let none = to_toml(alloc, &sketch).err();
     same(&rt, "both", none, Some(TextFault::Version));
+    drop(sketch);
     let text = "version = 1\nprocess = [{ name = \"p\", kind = \"k\" }]\n";
     let mut sketch = read_sketch(alloc, text.as_bytes()).expect(&rt, "a fault");
     let due =
@@ -156,4 +164,5 @@ fn no_text_says_what_version_1_has_not(rt: HostRuntime) {
     same(&rt, "step", none, Some(TextFault::Version));
     let refused: Result<Net<Standard>, NetFault> = Net::check(alloc, &sketch);
     same(&rt, "kind", refused.err(), Some(NetFault::Kind));
+    drop(sketch);
 }

@@ -50,6 +50,7 @@ fn shows_crew<R: Threads + Wait + Sync + Abort>(rt: &R, alloc: Global, seats: u1
     same(rt, "end", run.end(), Some(End::Terminated));
     same(rt, "receipts", run.receipts(), 8);
     tells_counter(rt, alloc, &run);
+    drop(run);
 }
 
 #[test]
@@ -95,6 +96,7 @@ fn shows_leaving<R: Threads + Wait + Sync + Abort>(rt: &R, alloc: Global, seats:
     };
     same(rt, "end", run.end(), None);
     same(rt, "entries", run.history().len(), usize::from(seats));
+    drop(run);
 }
 
 /// Bodies that don't fit come back, and no crew is asked.
@@ -111,4 +113,5 @@ fn a_crew_without_bodies_is_refused(rt: HostRuntime) {
     same(&rt, "fault", fault, OpenFault::Bodies);
     same(&rt, "processes", net.processes(), 2);
     same(&rt, "met", crew.met.load(Ordering::SeqCst), 0);
+    drop(net);
 }

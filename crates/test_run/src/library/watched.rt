@@ -75,7 +75,9 @@ pub(crate) fn counter<R: Abort>(rt: &R, alloc: Global, numbers: i64) -> Net<Stan
     let mut made = Builder::new(alloc);
     made.set_budget(2_000_000);
     add_counter(rt, &mut made, numbers);
-    made.check().expect(rt, "a fault")
+    let net = made.check().expect(rt, "a fault");
+    drop(made);
+    net
 }
 
 fn add_counter<R: Abort>(rt: &R, made: &mut Builder, numbers: i64) {
@@ -98,6 +100,7 @@ fn shows_counter<R: Wait + Clock + Threads + Sync + Abort>(rt: &R, alloc: Global
     compare_counter(rt, alloc, &run);
     compare_shown(rt, &witness);
     tells_counter(rt, alloc, &run);
+    drop(run);
 }
 
 /// Compares the end, the numbers and the stream of a run of a counter to three.
@@ -150,6 +153,7 @@ fn nothing_runs_if_the_observer_stops_at_once(rt: HostRuntime) {
     same(&rt, "processes", net.processes(), 2);
     same(&rt, "bodies", bodies.len(), 2);
     same(&rt, "asked", witness.asked.load(Ordering::SeqCst), 1);
+    drop(net);
 }
 
 /// A number of workers that is too great is refused before the observer is asked.
@@ -164,6 +168,7 @@ fn seventeen_workers_are_refused(rt: HostRuntime) {
         panic!(rt; "not refused");
     };
     same(&rt, "asked", witness.asked.load(Ordering::SeqCst), 0);
+    drop(ran);
 }
 
 /// A card that has a signature, for which the standard family answers after some ten microseconds.
@@ -255,6 +260,7 @@ fn shows_stopped<R: Wait + Clock + Threads + Sync + Abort>(rt: &R, alloc: Global
     nobody_is_out(rt, run.standings());
     let put = begins_as_counted(rt, alloc, &run);
     same(rt, "put", put >= 49, true);
+    drop(run);
 }
 
 /// Compares how a run that was stopped ended, and its numbers.

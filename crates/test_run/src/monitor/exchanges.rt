@@ -108,6 +108,7 @@ fn play_rounds<B: Body, E: EntryLedger, O: Ledger, R: Wait + Clock + Abort>(
     }
     let rested = monitor.rest(rt, &mut hand, Rest::Idle, Duration::from_millis(1));
     same(rt, "rested", rested, false);
+    drop(hand);
 }
 
 /// One hand plays a counter of three into a sink of three to its end.

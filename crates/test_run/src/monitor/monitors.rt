@@ -192,7 +192,9 @@ pub(crate) fn ended_alone<B: Body, E: EntryLedger, O: Ledger, R: Abort>(
     seat: Seat<E, O>,
 ) -> Ended {
     let closed = close_alone(rt, alloc, monitor, seat);
-    ended_of(&closed)
+    let ended = ended_of(&closed);
+    drop(closed);
+    ended
 }
 
 /// Closes a monitor with these seats, which have all parts.

@@ -124,7 +124,9 @@ fn work_to_the_end<B: Body, E: EntryLedger, O: Ledger, R: Wait + Abort>(
     let seen = seen_by(&monitor, &mut watcher);
     let seats = Vec::from_array(alloc, [seat])?;
     let closed = close_with(rt, monitor, seats);
-    Ok(growth_refused(rt, ended_of(&closed), seen))
+    let refused = growth_refused(rt, ended_of(&closed), seen);
+    drop(closed);
+    Ok(refused)
 }
 
 /// The result, and what is seen, if the growth was refused its memory: two puts, a take and a stop.

@@ -195,6 +195,7 @@ fn watched<
     same(rt, "ended", ended_of(&closed), WOVEN_ENDED);
     same(rt, "shown", shown_to(&mut closed, first), WOVEN);
     same(rt, "shown", shown_to(&mut closed, second), WOVEN);
+    drop(closed);
 }
 
 /// Closes a monitor with one of two seats, which is refused, and all is handed back.
@@ -253,6 +254,7 @@ fn missing_seat<B: Body, E: EntryLedger, O: Ledger, R: Wait + Abort>(
     let mut closed = close_at_last(rt, alloc, monitor, seat, other);
     same(rt, "ended", ended_of(&closed), COUNTER_ENDED);
     same(rt, "settled", shown_to(&mut closed, watcher), SHOWN);
+    drop(closed);
 }
 
 /// Closes a monitor with one of two seats, which is refused, and then with both.
@@ -396,6 +398,7 @@ fn most_watchers<B: Body, E: EntryLedger, O: Ledger, R: Wait + Abort>(
     let seat = work_alone(rt, &monitor, seat);
     let mut closed = close_alone(rt, alloc, monitor, seat);
     all_settle(rt, &mut closed, watchers);
+    drop(closed);
 }
 
 #[test]

@@ -119,6 +119,7 @@ fn close_after_one<B: Body, E: EntryLedger, O: Ledger, R: Abort>(
     let mut closed = close_alone(rt, alloc, monitor, seat);
     same(rt, "ended", ended_of(&closed), ONE_DONE);
     same(rt, "shown", shown_to(&mut closed, watcher), ONE_SEEN);
+    drop(closed);
 }
 
 /// The counter's answer from one monitor is committed to the other while its counter isn't out: it is
