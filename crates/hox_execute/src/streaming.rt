@@ -10,7 +10,7 @@ use crate::pairs::{Pair, is_named_twice, is_written_twice, name_of, pairs_of};
 use crate::reading::{names_of, read_file};
 use crate::stops::Stop;
 use hox_args::StreamChoice;
-use hox_run::{ReadFault, channel_names, load_by_ports, sketch_by_ports};
+use hox_network::{ReadFault, channel_names, load_by_ports, sketch_by_ports};
 use hox_stream::{Exits, OpenStream, Served, StreamFault, open_stream, serve};
 use kpn_compute::{Both, Computes};
 use kpn_front::{Refused, Sink, Source};
