@@ -2,8 +2,7 @@
 use Rattle.std.proofs.Common.{◌≡◌, ◌<◌, ◌≤◌, ◌+◌, ℕ, suc, List, ◌∷◌, length, drop, get_or, Some, sym, subst, ap, ◌∙◌, arith}
 use Rattle.std.proofs.lemmas.List.{drop_more, drop_all}
 use Rattle.kpn_model.specs.declared.token.Token.{Token}
-use Rattle.kpn_model.specs.Network.{Network, channel_of}
-use Rattle.hox_network.specs.Presets.{number_of_channel}
+use Rattle.kpn_model.specs.Network.{Network, channel_of, number_of_channel}
 use Rattle.hox_network.specs.declared.request.TokenFile.{TokenFile}
 use Rattle.hox_network.specs.declared.presets.FileFault.{FileFault}
 use Rattle.hox_network.specs.declared.presets.FileFault.TheVariants.{NoChannel, NoText, Line, TooMany, Memory}

@@ -4,8 +4,7 @@ use Rattle.kpn_sketch.specs.declared.fault.NetFault.{NetFault}
 use Rattle.kpn_sketch.specs.declared.fault.NetFault.TheVariants.{Input}
 use Rattle.kpn_model.specs.declared.kinds.Card.{Card}
 use Rattle.kpn_model.specs.declared.kinds.Signature.{Signature}
-use Rattle.kpn_model.specs.Network.{Family, Network}
-use Rattle.hox_network.specs.Presets.{number_of_channel}
+use Rattle.kpn_model.specs.Network.{Network, number_of_channel}
 use Rattle.kpn_front.specs.Loading.{LoadsChanged}
 use Rattle.hox_network.specs.declared.request.Request.{Request}
 use Rattle.hox_network.specs.declared.request.Fault.{Fault}

@@ -4,18 +4,12 @@ use Rattle.kpn_model.specs.declared.token.Token.{Token}
 use Rattle.kpn_model.specs.declared.token.Sort.{Sort}
 use Rattle.kpn_model.specs.declared.parts.Channel.{Channel}
 use Rattle.kpn_model.specs.declared.limits.TheConstants.{CEILING, GREATEST_BUDGET, GREATEST_HIGH_BUDGET}
-use Rattle.kpn_model.specs.Network.{Network, channel_of}
-use Rattle.std.specs.Prelude.{position}
-use Rattle.std.specs.Str.{bytes_eq}
+use Rattle.kpn_model.specs.Network.{Network, channel_of, number_of_channel}
 use Rattle.kpn_tokens.specs.declared.text.TheConstants.{MOST_TOKENS}
 use Rattle.kpn_tokens.specs.TokenLines.{Begin, Fails, Say}
 use Rattle.hox_network.specs.declared.request.TokenFile.{TokenFile}
 use Rattle.hox_network.specs.declared.presets.FileFault.{FileFault}
 use Rattle.hox_network.specs.declared.presets.FileFault.TheVariants.{NoChannel, NoText, Line, TooMany, Memory}
-
--- the number of the channel with this name
-abbrev pub number_of_channel : Network → List ℕ → Option ℕ
-number_of_channel net name = position (λ l. bytes_eq l.name name) net.channels
 
 -- a channel that holds these tokens at first, and has room for them
 abbrev pub holding : List Token → Channel → Channel

@@ -1,10 +1,9 @@
 //! Tokens of files, which channels hold at first.
 ghost use Rattle.std.specs.Prelude.{◌≡◌, ◌<◌, ◌≤◌, ◌⊎◌, ℕ, List, false, OnOk, IfOk, IfErr, IfSome, IsTrue, length};
 ghost use Rattle.kpn_model.specs.declared.token.Token.{Token as TokenV};
-ghost use Rattle.kpn_model.specs.Network.{channel_of};
+ghost use Rattle.kpn_model.specs.Network.{channel_of, number_of_channel};
 ghost use Rattle.kpn_model.specs.Valid.{IsValid};
 ghost use Rattle.kpn_network.specs.Parts.{network_of};
-ghost use Rattle.hox_network.specs.Presets.{number_of_channel};
 ghost use Rattle.kpn_tokens.specs.TokenLines.{Say};
 ghost use Rattle.hox_network.specs.Presets.{IsFileFault, IsTextFault, PresetAll, Presets, Stops, greatest_budget, with_tokens};
 

@@ -1,7 +1,6 @@
 -- What is told of a request to run the network of a description.
 use Rattle.std.specs.Prelude.{◌≡◌, ℕ, List, map, Some, Result, MatchResult}
-use Rattle.kpn_model.specs.Network.{Family, Network}
-use Rattle.hox_network.specs.Presets.{number_of_channel}
+use Rattle.kpn_model.specs.Network.{Family, Network, number_of_channel}
 use Rattle.hox_network.specs.declared.request.Request.{Request}
 use Rattle.hox_network.specs.declared.request.Fault.{Fault}
 use Rattle.hox_network.specs.Preparing.{IsFault, Prepares}

@@ -3,7 +3,6 @@ ghost use Rattle.std.specs.Prelude.{◌≡◌, ◌<◌, ◌+◌, ◌⊎◌, ℕ,
 ghost use Rattle.std.specs.List.{All};
 ghost use Rattle.kpn_model.specs.Network.{family_of, Network as NetworkV};
 ghost use Rattle.kpn_front.specs.Loading.{ConsumesAtMost, longest};
-ghost use Rattle.hox_network.specs.Presets.{number_of_channel};
 ghost use Rattle.hox_network.specs.Preparing.{HasFewWorkers, LacksChannel, Prepares, Serves, channel_names};
 ghost use Rattle.hox_run.specs.Serving.{AreNamed, GivesRun};
 
@@ -111,7 +110,7 @@ fn channels_in<K: Kinds>(alloc: Global, net: &Net<K>, names: &[Text]) -> Result<
 {
     let mut channels = Vec::new(alloc);
     for k in 0..names.len() {
-        let Some(channel) = find_within(net, names[k].as_str()) else {
+        let Some(channel) = net.find_channel(names[k].as_str()) else {
             return Err(Missing::Channel(k));
         };
         if channels.push(channel).is_err() {
@@ -126,12 +125,4 @@ fn names_in<K: Kinds>(alloc: Global, net: &Net<K>) -> Result<Listed<Text>, Fault
     ensures { MatchResult result (λ names. names ≡ channel_names net.now) (λ e. e ≡ Fault.Memory) }
 {
     channel_names(alloc, net).map_err(|_| Fault::Memory)
-}
-
-/// The channel of this name.
-fn find_within<K: Kinds>(net: &Net<K>, name: &str) -> Option<usize>
-    ensures is { result ≡ number_of_channel net.now name.now }
-    ensures within { IfSome result (λ c. c < length net.now.channels) }
-{
-    net.find_channel(name)
 }

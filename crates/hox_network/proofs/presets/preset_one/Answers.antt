@@ -1,9 +1,8 @@
 -- The network stays valid, and a fault of the text is one of the file.
 use Rattle.std.proofs.Common.{◌≡◌, ◌≤◌, Some, length, min, sym, subst, arith, rules}
-use Rattle.kpn_model.specs.Network.{channel_of}
+use Rattle.kpn_model.specs.Network.{channel_of, number_of_channel}
 use Rattle.kpn_model.specs.Valid.{IsValid}
 use Rattle.kpn_network.specs.Parts.{network_of}
-use Rattle.hox_network.specs.Presets.{number_of_channel}
 use Rattle.kpn_tokens.specs.TokenLines.{Say}
 use Rattle.hox_network.specs.Presets.{IsTextFault, most_in}
 use Rattle.hox_network.proofs.Held.{held_valid}
