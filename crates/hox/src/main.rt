@@ -15,7 +15,7 @@ use crate::messages::{say_no_memory, say_stop};
 use crate::progress::ProgressLine;
 use crate::streaming::stream_asked;
 use hox_execute::{Outcome, execute};
-use hox_run::AllKinds;
+use hox_network::AllKinds;
 use std::io::IsTerminal;
 use std::process::ExitCode;
 use std::rt::{Clock, Env, Files};

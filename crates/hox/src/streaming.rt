@@ -5,7 +5,7 @@ use crate::messages::{say_no_memory, say_refused, say_stop, say_unread, say_unwr
 use crate::told::say_told;
 use hox_args::StreamChoice;
 use hox_execute::{Ends, Pair, StreamStop, stream};
-use hox_run::{AllKinds, ReadFault};
+use hox_network::{AllKinds, ReadFault};
 use hox_stream::{NameFault, StreamFault};
 use kpn_front::{Refused, Status};
 use kpn_model::Text;

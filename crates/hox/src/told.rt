@@ -1,7 +1,7 @@
 //! What is told of a stream that ended.
 use crate::messages::{input_name, say_no_memory, say_unread, say_unwritten};
 use hox_execute::{Ends, Pair, Streamed};
-use hox_run::ReadFault;
+use hox_network::ReadFault;
 use hox_stream::{Finish, Inlet, LONGEST_LINE, LineRefusal, Served};
 use kpn_body::Body;
 use kpn_compute::Computes;

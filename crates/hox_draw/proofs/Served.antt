@@ -5,19 +5,11 @@ use Rattle.kpn_model.specs.declared.kinds.Card.{Card}
 use Rattle.kpn_model.specs.declared.kinds.Signature.{Signature}
 use Rattle.kpn_model.specs.Network.{Family, Network}
 use Rattle.kpn_picture.specs.declared.looks.Direction.{Direction}
-use Rattle.hox_run.specs.declared.request.Request.{Request}
-use Rattle.hox_run.specs.declared.request.Fault.{Fault}
-use Rattle.hox_run.specs.Serving.{GivesLoaded, GivesNet, IsFault, Serves}
+use Rattle.hox_network.specs.declared.request.Request.{Request}
+use Rattle.hox_network.specs.declared.request.Fault.{Fault}
+use Rattle.hox_network.specs.Preparing.{GivesLoaded, GivesNet, IsFault, Serves}
+use Rattle.hox_network.proofs.Served.{serves_on}
 use Rattle.hox_draw.specs.Drawing.{Draws, GivesPicture}
-
--- what is served of a description is served of what comes of that
-pub serves_on :
-    {X Y : Type 0} {named : List ℕ → Option (ℕ × ℕ)} {signature : Card → Option Signature} {gives : Network → Result X Fault → Type 0} (others : Network → Result Y Fault → Type 0)
-    {input : Option (List ℕ)} {before after : Bool} {first : Result X Fault} (last : Result Y Fault)
-    → ((loaded : Result Network NetFault) → GivesLoaded gives loaded first → GivesLoaded others loaded last)
-    → Serves named signature gives input before after first → Serves named signature others input before after last
-serves_on {X} {Y} {named} {signature} {gives} others {input} {before} {after} {first} last on served =
-    record { loaded = served.loaded; loads = served.loads; failed = served.failed; comes = on served.loaded served.comes }
 
 module _ (kinds : Family) (title : ℕ → List ℕ × ℕ) (direction : Direction) (is_run : Bool) (request : Request) where
   refuses : (Z : Type 0) (fault : Fault) (loaded : Result Network NetFault) → GivesLoaded (GivesNet request) loaded (Err fault) → GivesLoaded (GivesPicture kinds title direction {Z = Z} is_run request) loaded (Err fault)

@@ -10,9 +10,9 @@ use Rattle.kpn_model.specs.Endings.{MayEnd, has_report}
 use Rattle.kpn_report.specs.declared.detail.Detail.{Detail}
 use Rattle.kpn_picture.specs.declared.looks.Direction.{Direction}
 use Rattle.kpn_picture.specs.Picture.{picture}
-use Rattle.hox_run.specs.declared.request.Request.{Request}
-use Rattle.hox_run.specs.declared.request.Fault.{Fault}
-use Rattle.hox_run.specs.Serving.{IsFault, Prepares}
+use Rattle.hox_network.specs.declared.request.Request.{Request}
+use Rattle.hox_network.specs.declared.request.Fault.{Fault}
+use Rattle.hox_network.specs.Preparing.{IsFault, Prepares}
 
 -- a network of this family, whose kinds have these titles, drawn in this direction
 module _ (kinds : Family) (title : ℕ → List ℕ × ℕ) (direction : Direction) where

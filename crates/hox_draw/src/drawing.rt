@@ -2,11 +2,11 @@
 ghost use Rattle.std.specs.Prelude.{◌≡◌, ◌+◌, IfOk, IfErr, string_bytes};
 ghost use Rattle.kpn_model.specs.Network.{family_of, Network as NetworkV};
 ghost use Rattle.kpn_front.specs.Loading.{ConsumesAtMost, longest};
-ghost use Rattle.hox_run.specs.Serving.{HasFewWorkers, IsFault, Serves};
+ghost use Rattle.hox_network.specs.Preparing.{HasFewWorkers, IsFault, Serves};
 ghost use Rattle.hox_draw.specs.Drawing.{Draws, DrawsNet, GivesPicture};
 
 use crate::running::draw_run;
-use hox_run::{Fault, Request, RunFault, prepare};
+use hox_network::{Fault, Request, RunFault, prepare};
 use kpn_compute::Computes;
 use kpn_front::Source;
 use kpn_network::Net;

@@ -3,7 +3,7 @@ ghost use Rattle.std.specs.Prelude.{◌≡◌, ◌<◌, ◌≤◌, Err, IfOk, Is
 ghost use Rattle.kpn_model.specs.Network.{family_of};
 ghost use Rattle.hox_draw.specs.Drawing.{DrawsRun, report_picture};
 
-use hox_run::RunFault;
+use hox_network::RunFault;
 use kpn_body::Body;
 use kpn_compute::{CardBody, Computes, bodies_of};
 use kpn_laws::determinacy_of;

@@ -3,8 +3,8 @@ use Rattle.std.proofs.Common.{ℕ, Bool, List, Result, Ok, Err, String, string_b
 use Rattle.kpn_sketch.specs.declared.fault.NetFault.{NetFault}
 use Rattle.kpn_model.specs.Network.{Family, Network}
 use Rattle.kpn_picture.specs.declared.looks.Direction.{Direction}
-use Rattle.hox_run.specs.declared.request.Request.{Request}
-use Rattle.hox_run.specs.Serving.{GivesLoaded}
+use Rattle.hox_network.specs.declared.request.Request.{Request}
+use Rattle.hox_network.specs.Preparing.{GivesLoaded}
 use Rattle.hox_draw.specs.Drawing.{GivesPicture}
 use Rattle.hox_execute.specs.Commands.{GivesDrawing}
 

@@ -6,10 +6,10 @@ use Rattle.kpn_model.specs.declared.kinds.Card.{Card}
 use Rattle.kpn_model.specs.declared.kinds.Signature.{Signature}
 use Rattle.kpn_model.specs.Network.{Network}
 use Rattle.kpn_front.specs.Loading.{LoadsChanged}
-use Rattle.hox_run.specs.declared.request.Fault.{Fault}
-use Rattle.hox_run.specs.Ports.{as_meant}
-use Rattle.hox_run.specs.Serving.{GivesLoaded, Serves, refusal}
-use Rattle.hox_draw.proofs.Served.{serves_on}
+use Rattle.hox_network.specs.declared.request.Fault.{Fault}
+use Rattle.hox_network.specs.Ports.{as_meant}
+use Rattle.hox_network.specs.Preparing.{GivesLoaded, Serves, refusal}
+use Rattle.hox_network.proofs.Served.{serves_on}
 use Rattle.hox_execute.specs.Requests.{ServesFile}
 
 always : {A : Type 0} (P : A → Type 0) (o : Option A) → ((x : A) → P x) → IfSome o P

@@ -7,10 +7,11 @@ use Rattle.kpn_picture.specs.declared.looks.Direction.{Direction}
 use Rattle.kpn_front.specs.declared.status.Status.{Status}
 use Rattle.kpn_front.specs.declared.status.Status.TheVariants.{Success}
 use Rattle.kpn_front.specs.Lines.{checked_line}
-use Rattle.hox_run.specs.declared.request.Fault.{Fault}
-use Rattle.hox_run.specs.declared.request.Request.{Request}
+use Rattle.hox_network.specs.declared.request.Fault.{Fault}
+use Rattle.hox_network.specs.declared.request.Request.{Request}
 use Rattle.hox_run.specs.declared.telling.Told.{Told}
-use Rattle.hox_run.specs.Serving.{GivesNet, GivesRun, IsFault}
+use Rattle.hox_network.specs.Preparing.{GivesNet, IsFault}
+use Rattle.hox_run.specs.Serving.{GivesRun}
 use Rattle.hox_draw.specs.Drawing.{DrawsPrepared}
 use Rattle.hox_execute.specs.declared.reading.Asked.{Asked}
 use Rattle.hox_execute.specs.declared.stops.Stop.{Stop}

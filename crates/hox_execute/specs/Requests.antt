@@ -4,13 +4,13 @@ use Rattle.std.specs.List.{AllZip, Any}
 use Rattle.kpn_model.specs.declared.kinds.Card.{Card}
 use Rattle.kpn_model.specs.declared.kinds.Signature.{Signature}
 use Rattle.kpn_model.specs.Network.{Network}
-use Rattle.hox_run.specs.declared.reading.ReadFault.{ReadFault}
-use Rattle.hox_run.specs.declared.reading.ReadFault.TheVariants.{Failed, TooLong, Memory as NoMemory}
-use Rattle.hox_run.specs.declared.reading.TheConstants.{LONGEST_FILE}
-use Rattle.hox_run.specs.declared.request.Fault.{Fault}
-use Rattle.hox_run.specs.declared.request.Request.{Request}
-use Rattle.hox_run.specs.declared.request.TokenFile.{TokenFile}
-use Rattle.hox_run.specs.Serving.{Serves}
+use Rattle.hox_network.specs.declared.reading.ReadFault.{ReadFault}
+use Rattle.hox_network.specs.declared.reading.ReadFault.TheVariants.{Failed, TooLong, Memory as NoMemory}
+use Rattle.hox_network.specs.declared.reading.TheConstants.{LONGEST_FILE}
+use Rattle.hox_network.specs.declared.request.Fault.{Fault}
+use Rattle.hox_network.specs.declared.request.Request.{Request}
+use Rattle.hox_network.specs.declared.request.TokenFile.{TokenFile}
+use Rattle.hox_network.specs.Preparing.{Serves}
 use Rattle.hox_execute.specs.declared.pairs.Pair.{Pair}
 use Rattle.hox_execute.specs.declared.reading.Asked.{Asked}
 use Rattle.hox_execute.specs.declared.reading.Wanted.{Wanted}

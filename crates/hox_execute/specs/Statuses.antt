@@ -3,9 +3,9 @@ use Rattle.std.specs.Prelude.{if◌then◌else◌}
 use Rattle.kpn_front.specs.declared.status.Status.{Status}
 use Rattle.kpn_front.specs.declared.status.Status.TheVariants.{Success, WrongArguments, Refused as WasRefused, MemoryRefused}
 use Rattle.hox_args.specs.HoxChoices.{asks_for_hox_help}
-use Rattle.hox_run.specs.declared.reading.ReadFault.{ReadFault}
-use Rattle.hox_run.specs.declared.reading.ReadFault.TheVariants.{Failed, TooLong, Memory as NoMemory}
-use Rattle.hox_run.specs.Statuses.{status_of_fault}
+use Rattle.hox_network.specs.declared.reading.ReadFault.{ReadFault}
+use Rattle.hox_network.specs.declared.reading.ReadFault.TheVariants.{Failed, TooLong, Memory as NoMemory}
+use Rattle.hox_network.specs.Statuses.{status_of_fault}
 use Rattle.hox_execute.specs.declared.stops.Stop.{Stop}
 use Rattle.hox_execute.specs.declared.stops.Stop.TheVariants.{InputTwice, Memory, NoPair, Refused, Unread, Words}
 

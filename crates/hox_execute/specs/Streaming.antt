@@ -12,7 +12,7 @@ use Rattle.kpn_front.specs.Loading.{LoadsChanged}
 use Rattle.kpn_front.specs.Written.{SinkView}
 use Rattle.kpn_compute.specs.Both.{both_family, both_named, both_ports}
 use Rattle.kpn_flow.specs.Flows.{FlowView}
-use Rattle.hox_run.specs.Ports.{as_meant}
+use Rattle.hox_network.specs.Ports.{as_meant}
 use Rattle.hox_stream.specs.declared.finish.Finish.{Finish}
 use Rattle.hox_stream.specs.declared.starting.StreamFault.{StreamFault}
 use Rattle.hox_stream.specs.Exits.{exit_named, exit_ports, exits, with_exits}

@@ -2,8 +2,8 @@
 ghost use Rattle.std.specs.Prelude.{◌≡◌, [], Result, IfOk, IfErr, OnErr, map};
 ghost use Rattle.kpn_front.specs.Lines.{checked_line};
 ghost use Rattle.kpn_model.specs.Network.{Network as NetworkV};
-ghost use Rattle.hox_run.specs.declared.request.Fault.{Fault as FaultV};
-ghost use Rattle.hox_run.specs.Serving.{GivesNet};
+ghost use Rattle.hox_network.specs.declared.request.Fault.{Fault as FaultV};
+ghost use Rattle.hox_network.specs.Preparing.{GivesNet};
 ghost use Rattle.hox_execute.specs.Commands.{HasChecked, IsStop};
 ghost use Rattle.hox_execute.specs.Requests.{ServesFile, want_of};
 
@@ -11,7 +11,7 @@ use crate::files::FileSystem;
 use crate::reading::{Wanted, asked_of};
 use crate::stops::{Refusal, Stop, unread};
 use crate::writing::write_text;
-use hox_run::{Fault, Request, prepare};
+use hox_network::{Fault, Request, prepare};
 use kpn_front::{Status, say_checked};
 use kpn_model::Kinds;
 use kpn_network::Net;

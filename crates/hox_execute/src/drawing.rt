@@ -2,7 +2,7 @@
 ghost use Rattle.std.specs.Prelude.{◌≡◌, ◌≤◌, [], IfOk, IfErr, OnErr, map};
 ghost use Rattle.kpn_model.specs.Network.{family_of};
 ghost use Rattle.hox_draw.specs.Drawing.{GivesPicture};
-ghost use Rattle.hox_run.specs.Serving.{HasFewWorkers};
+ghost use Rattle.hox_network.specs.Preparing.{HasFewWorkers};
 ghost use Rattle.hox_execute.specs.Commands.{HasDrawn, IsStop};
 ghost use Rattle.hox_execute.specs.Requests.{ServesFile, want_of};
 
@@ -11,7 +11,7 @@ use crate::reading::{Wanted, asked_of};
 use crate::stops::{Refusal, Stop, unread};
 use crate::writing::write_text;
 use hox_draw::{Direction, draw as picture_of};
-use hox_run::{Fault, Request};
+use hox_network::{Fault, Request};
 use kpn_compute::Computes;
 use kpn_front::Status;
 use kpn_picture::Titled;

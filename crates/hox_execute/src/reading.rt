@@ -8,7 +8,7 @@ ghost use Rattle.hox_execute.specs.Requests.{AsksRest, IsAsked, IsRead, IsReadFa
 use crate::files::FileSystem;
 use crate::pairs::{Pair, is_named_twice, pairs_of};
 use crate::stops::Stop;
-use hox_run::{ReadFault, Request, TokenFile, read_whole};
+use hox_network::{ReadFault, Request, TokenFile, read_whole};
 use kpn_model::{Listed, Text};
 use std::alloc::{AllocError, Global};
 

@@ -1,7 +1,8 @@
 //! Running a network.
 ghost use Rattle.std.specs.Prelude.{◌≡◌, ◌≤◌, IfOk, IfErr, OnErr, map};
 ghost use Rattle.kpn_model.specs.Network.{family_of};
-ghost use Rattle.hox_run.specs.Serving.{GivesRun, HasFewWorkers};
+ghost use Rattle.hox_network.specs.Preparing.{HasFewWorkers};
+ghost use Rattle.hox_run.specs.Serving.{GivesRun};
 ghost use Rattle.hox_execute.specs.Commands.{HasRun, IsStop};
 ghost use Rattle.hox_execute.specs.Requests.{ServesFile, want_of};
 
@@ -9,7 +10,8 @@ use crate::files::FileSystem;
 use crate::reading::{Wanted, asked_of};
 use crate::stops::{Refusal, Stop, unread};
 use crate::writing::write_told;
-use hox_run::{Fault, Progress, Request, Told, serve};
+use hox_network::{Fault, Request};
+use hox_run::{Progress, Told, serve};
 use kpn_compute::Computes;
 use kpn_front::Status;
 use std::alloc::Global;

@@ -1,11 +1,11 @@
 //! Why what the arguments ask for is not done.
 ghost use Rattle.std.specs.Prelude.{◌≡◌, Some};
-ghost use Rattle.hox_run.specs.Serving.{refusal};
+ghost use Rattle.hox_network.specs.Preparing.{refusal};
 ghost use Rattle.hox_execute.specs.Statuses.{status_of_stop, status_of_unread};
 
 use crate::reading::Asked;
 use hox_args::WordsFault;
-use hox_run::{Fault, ReadFault};
+use hox_network::{Fault, ReadFault};
 use kpn_front::{Refused, Status};
 use kpn_net::NetFault;
 use std::alloc::Global;

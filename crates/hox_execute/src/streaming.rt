@@ -2,6 +2,7 @@
 ghost use Rattle.std.specs.Prelude.{◌≡◌, IfOk, IfErr, IfSome};
 ghost use Rattle.std.specs.List.{AllZip};
 ghost use Rattle.kpn_model.specs.Network.{family_of};
+ghost use Rattle.hox_stream.specs.Serves.{Serves, new_inlets, new_outlets};
 ghost use Rattle.hox_execute.specs.Pairs.{channels_of};
 ghost use Rattle.hox_execute.specs.Streaming.{AreEnds, IsCreated, IsFaultyBetween, IsNoEnds, IsOpened, IsRefusedIn, IsRefusedText, IsSketchIn, IsSketchOf, IsStreamStop, IsUnfit, IsUnopened, IsUnread, IsUnreadText, IsUnwritten, Opens, RunsBetween, StartsBetween, StreamsBetween};
 
@@ -10,7 +11,7 @@ use crate::pairs::{Pair, is_named_twice, is_written_twice, name_of, pairs_of};
 use crate::reading::{names_of, read_file};
 use crate::stops::Stop;
 use hox_args::StreamChoice;
-use hox_run::{ReadFault, channel_names, load_by_ports, sketch_by_ports};
+use hox_network::{ReadFault, channel_names, load_by_ports, sketch_by_ports};
 use hox_stream::{Exits, OpenStream, Served, StreamFault, open_stream, serve};
 use kpn_compute::{Both, Computes};
 use kpn_front::{Refused, Sink, Source};
@@ -237,12 +238,49 @@ fn run_between<'a, F: Computes, S: FileSystem>(
     ensures done { IfOk result (λ s. (s.ends ≡ ends.entry) × RunsBetween (family_of F.start F.answer_of) (S.contents files.now) ends.entry start s.served.flow s.served.inlets.items s.served.outlets.items s.served.finish) }
     ensures stop { IfErr result (IsUnfit ends.entry) }
 {
-    let sources = sources_between(alloc, files, &ends)?;
-    let sinks = sinks_of(alloc, files, ends.outputs.as_slice())?;
-    match serve(alloc, start, sources, sinks) {
+    match opened_between(alloc, files, &ends) {
+        Ok(opened) => run_opened(alloc, ends, start, opened),
+        Err(stop) => Err(stop),
+    }
+}
+
+/// The files of a stream, opened: those from which tokens come, and those to which they go.
+#[derive(Drop)]
+struct OpenFiles<I: Source, O: Sink> {
+    sources: Vec<I>,
+    sinks: Vec<O>,
+}
+
+/// Runs a stream from its start between files that were opened.
+fn run_opened<'a, F: Computes, I: Source + Drop, O: Sink + Drop>(
+    alloc: Global,
+    ends: Ends<'a>,
+    start: OpenStream<F>,
+    opened: OpenFiles<I, O>,
+) -> Result<Streamed<'a, F, I, O>, StreamStop<'a>>
+    ensures done { IfOk result (λ s. (s.ends ≡ ends.entry) × Serves (family_of F.start F.answer_of) start s.served.flow (new_inlets I.remaining I.has_failed start.network start.inputs opened.sources.items) s.served.inlets.items (new_outlets O.seen start.outputs opened.sinks.items) s.served.outlets.items s.served.finish) }
+    ensures stop { IfErr result (IsUnfit ends.entry) }
+{
+    match serve(alloc, start, opened.sources, opened.sinks) {
         Ok(served) => Ok(Streamed { ends, served }),
         Err(_) => Err(StreamStop::Asked(Stop::Memory)),
     }
+}
+
+/// The files of a stream between these ends, opened.
+fn opened_between<'a, S: FileSystem>(
+    alloc: Global,
+    files: &S,
+    ends: &Ends<'a>,
+) -> Result<OpenFiles<S::Input, S::Output>, StreamStop<'a>>
+    ensures sources { IfOk result (λ f. AllZip (IsOpened S.Input.remaining S.Input.has_failed (S.contents files.now)) ends.now.inputs.items f.sources.items) }
+    ensures sinks { IfOk result (λ f. AllZip (IsCreated S.Output.seen) ends.now.outputs.items f.sinks.items) }
+    ensures stop { IfErr result (IsUnfit ends.now) }
+{
+    Ok(OpenFiles {
+        sources: sources_between(alloc, files, ends)?,
+        sinks: sinks_of(alloc, files, ends.outputs.as_slice())?,
+    })
 }
 
 /// The files from which tokens come, opened to be read.

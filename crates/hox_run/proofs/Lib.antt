@@ -1,8 +1,4 @@
-pub mod Copied
-pub mod Held
-pub mod Budgets
-pub mod Said
 pub mod Cutting
 pub mod ToldRuns
-pub mod FilesSaid
 pub mod Progressing
+pub mod Served

@@ -1,7 +1,3 @@
-pub mod Signs
-pub mod Ports
-pub mod Presets
-pub mod Statuses
 pub mod Cuts
 pub mod Telling
 pub mod Serving

@@ -8,6 +8,7 @@ ghost use Rattle.hox_run.specs.Telling.{TellsRun};
 
 use crate::progress::{OnBoard, Progress, tell_of};
 use crate::telling::{Told, told_of};
+use hox_network::RunFault;
 use kpn_body::Body;
 use kpn_compute::{CardBody, Computes, bodies_of};
 use kpn_machine::Machine;
@@ -25,14 +26,6 @@ const PIECE: u64 = 100_000;
 
 /// So many milliseconds go by between two looks at several workers.
 const PERIOD: u64 = 100;
-
-/// Why nothing is told of a run: memory was refused, before the run or for what is told; or the machine
-/// refused an answer of one of several workers.
-#[derive(Clone, Copy, Debug, PartialEq, Eq)]
-pub enum RunFault {
-    Memory,
-    Lost,
-}
 
 /// Runs a network by 1 to 16 workers, and returns what is told of the run: its exit status, its report with
 /// the verdict on it and the streams of the channels of `show`, and the stream of each channel of

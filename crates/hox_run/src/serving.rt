@@ -1,26 +1,19 @@
 //! Running a described network as it is asked for, from bytes to bytes.
-ghost use Rattle.std.specs.Prelude.{◌≡◌, ◌<◌, ◌+◌, ◌⊎◌, ℕ, OnOk, IfOk, IfErr, IfSome, MatchResult, length};
+ghost use Rattle.std.specs.Prelude.{◌≡◌, ◌<◌, ◌+◌, ◌⊎◌, ℕ, IfOk, IfErr, IfSome, MatchResult, length};
 ghost use Rattle.std.specs.List.{All};
 ghost use Rattle.kpn_model.specs.Network.{family_of, Network as NetworkV};
-ghost use Rattle.kpn_model.specs.Valid.{IsValid};
-ghost use Rattle.kpn_network.specs.Parts.{network_of};
-ghost use Rattle.kpn_execute.specs.Execution.{number_of_channel};
 ghost use Rattle.kpn_front.specs.Loading.{ConsumesAtMost, longest};
-ghost use Rattle.hox_run.specs.Presets.{PresetAll};
-ghost use Rattle.hox_run.specs.Serving.{AreNamed, GivesNet, GivesRun, HasFewWorkers, IsFault, LacksChannel, Prepares, Serves, channel_names};
+ghost use Rattle.hox_network.specs.Preparing.{HasFewWorkers, LacksChannel, Prepares, Serves, channel_names};
+ghost use Rattle.hox_run.specs.Serving.{AreNamed, GivesRun};
 
-use crate::described::load_by_ports;
-use crate::names::channel_names;
-use crate::parts::parts_of;
-use crate::presets::{FileFault, greatest_budget, preset, set_budget};
 use crate::progress::Progress;
-use crate::request::{Fault, Request};
-use crate::running::{RunFault, execute};
+use crate::running::execute;
 use crate::telling::Told;
+use hox_network::{Fault, Request, RunFault, channel_names, prepare};
 use kpn_compute::Computes;
 use kpn_front::Source;
 use kpn_model::{Kinds, Listed, Text};
-use kpn_network::{Net, Parts};
+use kpn_network::Net;
 use std::alloc::Global;
 use std::rt::Clock;
 use std::sync::Wait;
@@ -42,44 +35,24 @@ pub fn serve<K: Computes, I: Source, R: Wait + Clock + Threads + Sync, P: Progre
     ensures served { Serves K.named K.signature (GivesRun (family_of K.start K.answer_of) request.now) (I.remaining source.old) (I.has_failed source.old) (I.has_failed source.new) result }
     ensures taken { ConsumesAtMost (longest + 1) (I.remaining source.old) (I.remaining source.new) }
 {
-    let loaded: Result<Net<K>, _> = load_by_ports(alloc, source);
-    match loaded {
-        Ok(net) => serve_net(rt, alloc, request, &net, progress),
-        Err(refused) => Err(Fault::Description(refused)),
+    let prepared: Result<Net<K>, Fault> = prepare(alloc, request, source);
+    match prepared {
+        Ok(net) => serve_prepared(rt, alloc, request, net, progress),
+        Err(fault) => Err(fault),
     }
 }
 
-/// Reads a description from the source, and returns its network, with the tokens of the request's files and
-/// with the request's budget. Nothing is run.
-///
-/// Errors: see [`Fault`]; `NoShown`, `NoOutput` and `Lost` are none of them.
-pub fn prepare<K: Kinds, I: Source>(
-    alloc: Global,
-    request: &Request,
-    source: &mut I,
-) -> Result<Net<K>, Fault>
-    ensures served { Serves K.named K.signature (GivesNet request.now) (I.remaining source.old) (I.has_failed source.old) (I.has_failed source.new) result }
-    ensures taken { ConsumesAtMost (longest + 1) (I.remaining source.old) (I.remaining source.new) }
-{
-    let loaded: Result<Net<K>, _> = load_by_ports(alloc, source);
-    match loaded {
-        Ok(net) => prepare_net(alloc, request, &net),
-        Err(refused) => Err(Fault::Description(refused)),
-    }
-}
-
-/// Runs a network that was loaded, as the request wants it.
-fn serve_net<K: Computes, R: Wait + Clock + Threads + Sync, P: Progress>(
+/// Runs a network that was prepared, as the request wants it.
+fn serve_prepared<K: Computes, R: Wait + Clock + Threads + Sync, P: Progress>(
     rt: &R,
     alloc: Global,
     request: &Request,
-    net: &Net<K>,
+    net: Net<K>,
     progress: &P,
 ) -> Result<Told, Fault>
     requires { HasFewWorkers request.now }
-    ensures { GivesRun (family_of K.start K.answer_of) request.now net.now result }
+    ensures { (loaded : NetworkV) → Prepares request.now loaded net → GivesRun (family_of K.start K.answer_of) request.now loaded result }
 {
-    let net = prepare_net(alloc, request, net)?;
     let show = shown_in(alloc, &net, request.show.as_slice())?;
     let outputs = outputs_in(alloc, &net, request.outputs.as_slice())?;
     match execute(
@@ -94,62 +67,6 @@ fn serve_net<K: Computes, R: Wait + Clock + Threads + Sync, P: Progress>(
         Ok(told) => Ok(told),
         Err(RunFault::Memory) => Err(Fault::Memory),
         Err(RunFault::Lost) => Err(Fault::Lost),
-    }
-}
-
-/// A network that was loaded, with the tokens of the request's files and with the request's budget.
-fn prepare_net<K: Kinds>(alloc: Global, request: &Request, net: &Net<K>) -> Result<Net<K>, Fault>
-    ensures { GivesNet request.now net.now result }
-{
-    net.assure_valid();
-    let Ok(mut parts) = parts_of(alloc, net) else {
-        return Err(Fault::Memory);
-    };
-    prepare_parts(alloc, request, net, &mut parts)?;
-    Net::of_parts(alloc, parts).map_err(|_| Fault::Memory)
-}
-
-/// Gives the parts of a network the tokens of the request's files and the request's budget.
-fn prepare_parts<K: Kinds>(
-    alloc: Global,
-    request: &Request,
-    net: &Net<K>,
-    parts: &mut Parts,
-) -> Result<(), Fault>
-    requires valid { IsValid K.signature (network_of parts.old) }
-    requires same { network_of parts.old ≡ net.now }
-    ensures valid { IsValid K.signature (network_of parts.new) }
-    ensures ok { OnOk result (Prepares request.now net.now (network_of parts.new)) }
-    ensures fault { IfErr result (IsFault request.now net.now) }
-{
-    hold_files(alloc, request, net, parts)?;
-    if let Some(budget) = request.budget {
-        if !set_budget::<K>(parts, budget) {
-            return Err(Fault::Budget(greatest_budget(parts.ceiling)));
-        }
-    }
-    Ok(())
-}
-
-/// Gives the parts of a network the tokens of the request's files.
-fn hold_files<K: Kinds>(
-    alloc: Global,
-    request: &Request,
-    net: &Net<K>,
-    parts: &mut Parts,
-) -> Result<(), Fault>
-    requires valid { IsValid K.signature (network_of parts.old) }
-    requires same { network_of parts.old ≡ net.now }
-    ensures valid { IsValid K.signature (network_of parts.new) }
-    ensures ok { OnOk result (PresetAll request.now.tokens net.now (network_of parts.new)) }
-    ensures fault { IfErr result (IsFault request.now net.now) }
-{
-    match preset::<K>(alloc, parts, request.tokens.as_slice()) {
-        Ok(()) => Ok(()),
-        Err(stop) => match stop.fault {
-            FileFault::NoChannel => Err(Fault::NoHolder(stop.file, names_in(alloc, net)?)),
-            _ => Err(Fault::Tokens(stop)),
-        },
     }
 }
 
@@ -193,7 +110,7 @@ fn channels_in<K: Kinds>(alloc: Global, net: &Net<K>, names: &[Text]) -> Result<
 {
     let mut channels = Vec::new(alloc);
     for k in 0..names.len() {
-        let Some(channel) = find_within(net, names[k].as_str()) else {
+        let Some(channel) = net.find_channel(names[k].as_str()) else {
             return Err(Missing::Channel(k));
         };
         if channels.push(channel).is_err() {
@@ -208,12 +125,4 @@ fn names_in<K: Kinds>(alloc: Global, net: &Net<K>) -> Result<Listed<Text>, Fault
     ensures { MatchResult result (λ names. names ≡ channel_names net.now) (λ e. e ≡ Fault.Memory) }
 {
     channel_names(alloc, net).map_err(|_| Fault::Memory)
-}
-
-/// The channel of this name.
-fn find_within<K: Kinds>(net: &Net<K>, name: &str) -> Option<usize>
-    ensures is { result ≡ number_of_channel net.now name.now }
-    ensures within { IfSome result (λ c. c < length net.now.channels) }
-{
-    net.find_channel(name)
 }

@@ -7,7 +7,7 @@ use Rattle.std.specs.List.{list_any}
 use Rattle.kpn_model.specs.declared.parts.Process.{Process}
 use Rattle.kpn_sketch.specs.declared.fault.NetFault.{NetFault}
 use Rattle.kpn_model.specs.declared.kinds.Card.{Card}
-use Rattle.kpn_model.specs.Network.{Family, Network}
+use Rattle.kpn_model.specs.Network.{Family, Network, number_of_channel}
 use Rattle.kpn_flow.specs.declared.ends.FlowFault.{FlowFault}
 use Rattle.kpn_flow.specs.declared.ends.FlowFault.TheVariants.{Bodies, Card as OtherCard, Channel, Twice, Writer, Reader, Memory}
 use Rattle.kpn_flow.specs.Flows.{FlowView}
@@ -15,7 +15,7 @@ use Rattle.kpn_flow.specs.Ends.{IsFlowFault, end_fault, is_no_channel}
 use Rattle.hox_stream.specs.declared.starting.Way.TheVariants.{In, Out}
 use Rattle.hox_stream.specs.declared.starting.StreamFault.{StreamFault}
 use Rattle.hox_stream.specs.declared.starting.StreamFault.TheVariants.{Description, Input, Output, Twice as NamedTwice, Memory as NoMemory}
-use Rattle.hox_stream.specs.Starts.{AreNamed, IsFresh, IsStarted, IsStartFault, IsStreamFault, cards_in, is_busy, is_twice, number_of_channel}
+use Rattle.hox_stream.specs.Starts.{AreNamed, IsFresh, IsStarted, IsStartFault, IsStreamFault, cards_in, is_busy, is_twice}
 
 -- what was found by the name at a place
 pub at_name : (net : Network) (names : List (List ℕ)) (k : ℕ) (item name : List ℕ) (found : Option ℕ) → k < length names → item ≡ get_or names k item → name ≡ item → found ≡ number_of_channel net name → number_of_channel net (get_or names k []) ≡ found

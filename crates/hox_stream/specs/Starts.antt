@@ -1,12 +1,11 @@
 -- A stream at its start, and why one is not opened.
-use Rattle.std.specs.Prelude.{◌≡◌, ◌≢◌, ◌<◌, ◌||◌, ℕ, Bool, true, not, List, [], length, map, get_or, position, slice_get, option_map, Option, Some, None}
+use Rattle.std.specs.Prelude.{◌≡◌, ◌≢◌, ◌<◌, ◌||◌, ℕ, Bool, true, not, List, [], length, map, get_or, slice_get, option_map, Option, Some, None}
 use Rattle.std.specs.List.{list_any}
-use Rattle.std.specs.Str.{bytes_eq}
 use Rattle.kpn_model.specs.declared.kinds.Card.{Card}
 use Rattle.kpn_model.specs.declared.kinds.Signature.{Signature}
 use Rattle.kpn_model.specs.declared.parts.Channel.{Channel}
 use Rattle.kpn_model.specs.declared.parts.Process.{Process}
-use Rattle.kpn_model.specs.Network.{Family, Network, channel_of}
+use Rattle.kpn_model.specs.Network.{Family, Network, channel_of, number_of_channel}
 use Rattle.kpn_model.specs.Semantics.{start}
 use Rattle.kpn_sketch.specs.declared.fault.NetFault.{NetFault}
 use Rattle.kpn_sketch.specs.declared.fault.NetFault.TheVariants.{Memory as NoMemoryForNet}
@@ -20,10 +19,6 @@ use Rattle.hox_stream.specs.declared.starting.NameFault.{NameFault}
 use Rattle.hox_stream.specs.declared.starting.NameFault.TheVariants.{NoChannel, Busy, Memory as NoMemory}
 use Rattle.hox_stream.specs.declared.starting.StreamFault.{StreamFault}
 use Rattle.hox_stream.specs.declared.starting.StreamFault.TheVariants.{Description, Input, Output, Twice, Memory}
-
--- the number of the channel of this name
-abbrev pub number_of_channel : Network → List ℕ → Option ℕ
-number_of_channel net name = position (λ c. bytes_eq c.name name) net.channels
 
 -- the channels of these names, in order
 abbrev pub AreNamed : Network → List (List ℕ) → List ℕ → Type 0

@@ -2,11 +2,11 @@
 ghost use Rattle.std.specs.Prelude.{◌≡◌, ◌<◌, ◌⊎◌, false, [], Some, IfOk, IfErr, IfSome, length, map, get_or};
 ghost use Rattle.std.specs.List.{list_any};
 ghost use Rattle.kpn_compute.specs.Both.{both_family, both_named, both_ports};
-ghost use Rattle.kpn_model.specs.Network.{channel_of, family_of};
+ghost use Rattle.kpn_model.specs.Network.{channel_of, family_of, number_of_channel};
 ghost use Rattle.kpn_flow.specs.Ends.{is_no_channel};
 ghost use Rattle.kpn_net.specs.Sketched.{net_of};
 ghost use Rattle.hox_stream.specs.Exits.{exit_named, exit_ports, exits, with_exits};
-ghost use Rattle.hox_stream.specs.Starts.{AreNamed, IsFresh, IsNameFault, IsNameOf, IsNoNetwork, IsStart, IsStarted, IsStartFault, IsStreamFault, cards_in, is_busy, number_of_channel, outer_process};
+ghost use Rattle.hox_stream.specs.Starts.{AreNamed, IsFresh, IsNameFault, IsNameOf, IsNoNetwork, IsStart, IsStarted, IsStartFault, IsStreamFault, cards_in, is_busy, outer_process};
 
 use crate::exits::Exits;
 use crate::opening::net_with_exits;
@@ -221,7 +221,7 @@ fn channel_at<B: Body>(
     ensures idle { IfOk result (λ c. is_busy (family_of B.Kinds.start B.Kinds.answer_of) net.now way c ≡ false) }
     ensures fault { IfErr result (IsNameFault (family_of B.Kinds.start B.Kinds.answer_of) net.now way names.now) }
 {
-    let Some(channel) = find_within(net, names[k].as_str()) else {
+    let Some(channel) = net.find_channel(names[k].as_str()) else {
         return Err(NameFault::NoChannel(k));
     };
     let process = outer_process(net, way, channel);
@@ -232,14 +232,6 @@ fn channel_at<B: Body>(
         Ok(name) => Err(NameFault::Busy(k, name)),
         Err(_) => Err(NameFault::Memory),
     }
-}
-
-/// The channel of this name.
-fn find_within<K: Kinds>(net: &Net<K>, name: &str) -> Option<usize>
-    ensures is { result ≡ number_of_channel net.now name.now }
-    ensures within { IfSome result (λ c. c < length net.now.channels) }
-{
-    net.find_channel(name)
 }
 
 /// The process at the outer end of a channel that is fed, or drained: its writer, or its reader.

@@ -1,11 +1,10 @@
 -- What the program writes of a network, and its exit status.
-use Rattle.std.specs.Prelude.{◌≡◌, ◌≢◌, ◌<◌, ◌⊎◌, ℕ, Bool, true, List, length, Option, Some, None, position}
-use Rattle.std.specs.Str.{bytes_eq}
+use Rattle.std.specs.Prelude.{◌≡◌, ◌≢◌, ◌<◌, ◌⊎◌, ℕ, Bool, true, List, length, Option, Some, None}
 use Rattle.kpn_model.specs.declared.history.Entry.{Entry}
 use Rattle.kpn_model.specs.declared.history.End.{End}
 use Rattle.kpn_model.specs.declared.history.End.TheVariants.{Terminated, Deadlock, Ceiling, Budget, Memory}
 use Rattle.kpn_sketch.specs.declared.fault.NetFault.TheVariants.{Memory as OutOfMemory}
-use Rattle.kpn_model.specs.Network.{Family, Network}
+use Rattle.kpn_model.specs.Network.{Family, Network, number_of_channel}
 use Rattle.kpn_model.specs.Semantics.{State}
 use Rattle.kpn_model.specs.Determinacy.{IsRun, IsFinal}
 use Rattle.kpn_model.specs.Endings.{MayEnd, has_report}
@@ -24,10 +23,6 @@ status_of_end Budget = BudgetSpent
 status_of_end Memory = MemoryRefused
 status_of_end Deadlock = Deadlocked
 status_of_end Ceiling = AtCeiling
-
--- the number of the channel with this name
-abbrev pub number_of_channel : Network → List ℕ → Option ℕ
-number_of_channel net name = position (λ c. bytes_eq c.name name) net.channels
 
 -- no channel has the name given by `--show`
 pub record TellsNoChannel (net : Network) (show : Option (List ℕ)) (status : Status) (text : List ℕ) : Type 0 where

@@ -1,8 +1,8 @@
 //! Running a network, and writing the report.
 ghost use Rattle.std.specs.Prelude.{◌≡◌, ◌≢◌, ◌<◌, ◌≤◌, Some, None, IfOk, IfErr, IsSome, map, option_map, string_bytes};
-ghost use Rattle.kpn_model.specs.Network.{family_of};
+ghost use Rattle.kpn_model.specs.Network.{family_of, number_of_channel};
 ghost use Rattle.kpn_machine.specs.Opening.{cards_of};
-ghost use Rattle.kpn_execute.specs.Execution.{status_of_end, number_of_channel, IsChannelToShow, Executes, TellsEnded, TellsShown, TellsRun, Writes};
+ghost use Rattle.kpn_execute.specs.Execution.{status_of_end, IsChannelToShow, Executes, TellsEnded, TellsShown, TellsRun, Writes};
 
 use kpn_body::Body;
 use kpn_front::{Sink, Status, say, say_lost, say_no_channel, say_refused};

@@ -1,5 +1,6 @@
 -- A network: processes, and the channels between their ports.
 use Rattle.std.specs.Prelude.{ℕ, ◌+◌, ◌==◌, ◌&&◌, List, [], ◌∷◌, Option, get_or, position}
+use Rattle.std.specs.Str.{bytes_eq}
 use Rattle.kpn_model.specs.declared.token.Token.{Token}
 use Rattle.kpn_model.specs.declared.token.Sort.TheVariants.{Words}
 use Rattle.kpn_model.specs.declared.kinds.Card.{Card}
@@ -43,6 +44,10 @@ in_of net p k = position (λ l. (l.reader == p) && (l.input == k)) net.channels
 
 abbrev pub out_of : Network → ℕ → ℕ → Option ℕ
 out_of net p k = position (λ l. (l.writer == p) && (l.out == k)) net.channels
+
+-- the number of the channel with this name
+abbrev pub number_of_channel : Network → List ℕ → Option ℕ
+number_of_channel net name = position (λ l. bytes_eq l.name name) net.channels
 
 -- the same network with other starting capacities, channel by channel
 abbrev pub resize : List Channel → (ℕ → ℕ) → List Channel

@@ -1,7 +1,6 @@
 //! Networks.
-ghost use Rattle.std.specs.Prelude.{◌≡◌, ◌<◌, IfOk, IfSome, Some, length, slice_get, option_map, position};
-ghost use Rattle.std.specs.Str.{bytes_eq};
-ghost use Rattle.kpn_model.specs.Network.{card_of, channel_of, in_of, out_of};
+ghost use Rattle.std.specs.Prelude.{◌≡◌, ◌<◌, IfOk, IfSome, Some, length, slice_get, option_map};
+ghost use Rattle.kpn_model.specs.Network.{card_of, channel_of, in_of, number_of_channel, out_of};
 ghost use Rattle.kpn_model.specs.Valid.{IsValid};
 ghost use Rattle.kpn_network.specs.Parts.{network_of};
 
@@ -147,7 +146,8 @@ impl<K: Kinds> Net<K> {
     /// };
     /// ```
     pub fn find_channel(&self, name: &str) -> Option<usize>
-        ensures { result ≡ position (λ c. bytes_eq c.name name.now) self.now.channels }
+        ensures is { result ≡ number_of_channel self.now name.now }
+        ensures within { IfSome result (λ c. c < length self.now.channels) }
     {
         self.channels.iter().position(|c| c.name.as_str() == name)
     }

@@ -4,7 +4,7 @@ ghost use Rattle.std.specs.Prelude.{◌≡◌, ◌≤◌, IfSome};
 use crate::checks::same;
 use hox_args::{Choice, Direction, DrawChoice, WordsFault, read_words};
 use hox_draw::draw;
-use hox_run::{AllKinds, Fault, Request, TokenFile};
+use hox_network::{AllKinds, Fault, Request, TokenFile};
 use kpn_net::{Listed, Text};
 use std::alloc::{AllocError, Global};
 use std::process::Abort;

@@ -9,7 +9,8 @@ use hox_execute::{
     FileSystem, Outcome, Stop, StreamStop, count_standard, execute, is_named_twice, pairs_of,
     stream,
 };
-use hox_run::{AllKinds, Silent};
+use hox_network::AllKinds;
+use hox_run::Silent;
 use kpn_net::{Listed, Text};
 use std::alloc::{AllocError, Global};
 use std::io;

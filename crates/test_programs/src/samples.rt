@@ -3,10 +3,8 @@ ghost use Rattle.std.specs.Prelude.{◌≡◌, ◌≤◌};
 
 use crate::checks::same;
 use hox_args::{Choice, WordsFault, channel_and_file, read_words};
-use hox_run::{
-    AllKinds, Fault, FileFault, PresetFault, Progress, Request, Silent, SoFar, TokenFile, Told,
-    channel_names, execute, load_by_ports, prepare, read_whole, serve, sketch_by_ports,
-};
+use hox_network::{AllKinds, Fault, FileFault, PresetFault, Request, TokenFile, channel_names, load_by_ports, prepare, read_whole, sketch_by_ports};
+use hox_run::{Progress, Silent, SoFar, Told, execute, serve};
 use kpn_net::{Listed, Net, Sort, Text};
 use std::alloc::Global;
 use std::process::Abort;

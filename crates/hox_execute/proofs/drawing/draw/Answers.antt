@@ -1,7 +1,7 @@
 -- The picture is written, or what is asked for is refused.
 use Rattle.std.proofs.Common.{◌≡◌, Ok, string_bytes, refl, ◌∙◌}
 use Rattle.kpn_model.specs.Network.{family_of}
-use Rattle.hox_run.specs.Serving.{GivesNet}
+use Rattle.hox_network.specs.Preparing.{GivesNet}
 use Rattle.hox_draw.specs.Drawing.{GivesPicture}
 use Rattle.hox_execute.specs.Commands.{GivesDrawing}
 use Rattle.hox_execute.proofs.Drawn.{drawn_text}

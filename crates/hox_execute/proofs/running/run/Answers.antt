@@ -1,7 +1,8 @@
 -- What is told is written, or what is asked for is refused.
 use Rattle.std.proofs.Common.{refl}
 use Rattle.kpn_model.specs.Network.{family_of}
-use Rattle.hox_run.specs.Serving.{GivesNet, GivesRun}
+use Rattle.hox_network.specs.Preparing.{GivesNet}
+use Rattle.hox_run.specs.Serving.{GivesRun}
 use Rattle.hox_execute.proofs.Loaded.{file_refused}
 use Rattle.hox_execute.proofs.running.run.Goals as goal
 

@@ -1,21 +1,21 @@
 -- The sources and sinks are the files that were opened.
-use Rattle.std.proofs.Common.{map, refl}
-use Rattle.std.specs.List.{AllZip}
-use Rattle.hox_execute.specs.Streaming.{IsCreated, IsOpened}
+use Rattle.std.proofs.Common.{◌≡◌, map}
+use Rattle.std.proofs.lemmas.Result.{IfOk-weaker}
+use Rattle.kpn_model.specs.Network.{family_of}
+use Rattle.hox_execute.specs.Streaming.{RunsBetween}
 use Rattle.hox_execute.proofs.Sources.{all_empty, same_sinks, same_sources}
 use Rattle.hox_execute.proofs.streaming.run_between.Goals as goal
 
 pub returns-in-Ok-clause-done : goal.returns-in-Ok-clause-done
 returns-in-Ok-clause-done g c =
+    let kinds = family_of g.F.Kinds.start g.F.Kinds.answer_of in
     let contents = g.S.FileSystem.contents c.args.files.now in
     let seen = g.S.Output.Sink.seen in
     let start = c.args.start in
-    let inputs = c.args.ends.inputs.items in
-    let outputs = c.args.ends.outputs.items in
-    let sources = c.in_ok-sources.sources.items in
-    let sinks = c.in_ok-sinks.sinks.items in
-    let opened : AllZip (IsOpened g.S.Input.Source.remaining g.S.Input.Source.has_failed contents) inputs sources = c.in_ok-sources.ensures.ok in
-    let created : AllZip (IsCreated seen) outputs sinks = rw c.as_slice.ensures.value at c.in_ok-sinks.ensures.ok in
-    let ins = same_sources g.S.Input.Source.remaining g.S.Input.Source.has_failed contents start.network start.inputs inputs sources opened in
-    let outs = same_sinks seen start.outputs sinks in
-    (refl, record { sinks = map seen sinks; empty = all_empty seen outputs sinks created; serves = rw (ins, outs) at c.in-Ok.ensures })
+    let ends = c.args.ends in
+    let opened = c.in-Ok.opened in
+    let ins = same_sources g.S.Input.Source.remaining g.S.Input.Source.has_failed contents start.network start.inputs ends.inputs.items opened.sources.items c.in-Ok.ensures.sources in
+    let outs = same_sinks seen start.outputs opened.sinks.items in
+    let empty = all_empty seen ends.outputs.items opened.sinks.items c.in-Ok.ensures.sinks in
+    IfOk-weaker c.run_opened.result _ (λ s. (s.ends ≡ ends) × RunsBetween kinds contents ends start s.served.flow s.served.inlets.items s.served.outlets.items s.served.finish)
+    (λ s h. (h.0, record { sinks = map seen opened.sinks.items; empty = empty; serves = rw (ins, outs) at h.1 })) c.run_opened.ensures.done

@@ -1,6 +1,6 @@
 use Rattle.std.proofs.Common.{◌≡◌, [], None, get_or, inr, refl, sym, ap, ◌∙◌}
 use Rattle.std.proofs.lemmas.List.{get_or_read}
-use Rattle.kpn_execute.specs.Execution.{number_of_channel}
+use Rattle.kpn_model.specs.Network.{number_of_channel}
 use Rattle.hox_run.proofs.serving.channels_in.Goals as goal
 
 pub returns-in_default-clause-missing : goal.returns-in_default-clause-missing

@@ -1,6 +1,6 @@
 use Rattle.std.proofs.Common.{◌≡◌, ◌<◌, length, map, take, Some}
 use Rattle.std.specs.List.{All}
-use Rattle.kpn_execute.specs.Execution.{number_of_channel}
+use Rattle.kpn_model.specs.Network.{number_of_channel}
 use Rattle.hox_run.proofs.serving.channels_in.Given as goal
 
 abbrev pub invariant-loop-k : goal.invariant-loop-k

@@ -1,9 +1,9 @@
 -- One name more.
 use Rattle.std.proofs.Common.{◌≡◌, ◌++◌, ◌∷◌, [], arith}
 use Rattle.std.proofs.lemmas.Grind.{common_steps}
-use Rattle.kpn_model.specs.Network.{family_of}
+use Rattle.kpn_model.specs.Network.{family_of, number_of_channel}
 use Rattle.kpn_flow.specs.Ends.{is_no_channel}
-use Rattle.hox_stream.specs.Starts.{is_busy, number_of_channel}
+use Rattle.hox_stream.specs.Starts.{is_busy}
 use Rattle.hox_stream.proofs.Started.{named_more, none_more}
 use Rattle.hox_stream.proofs.starting.channels_at.Goals as goal
 

@@ -1,8 +1,8 @@
 use Rattle.std.proofs.Common.{◌≡◌, false, map, take, Some}
 use Rattle.std.specs.List.{list_any}
-use Rattle.kpn_model.specs.Network.{family_of}
+use Rattle.kpn_model.specs.Network.{family_of, number_of_channel}
 use Rattle.kpn_flow.specs.Ends.{is_no_channel}
-use Rattle.hox_stream.specs.Starts.{is_busy, number_of_channel}
+use Rattle.hox_stream.specs.Starts.{is_busy}
 use Rattle.hox_stream.proofs.starting.channels_at.Given as goal
 
 abbrev pub invariant-loop-k : goal.invariant-loop-k

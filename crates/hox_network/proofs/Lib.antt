@@ -1,0 +1,6 @@
+pub mod Copied
+pub mod Held
+pub mod Budgets
+pub mod Said
+pub mod FilesSaid
+pub mod Served

@@ -1,0 +1,5 @@
+use Rattle.hox_network.proofs.Copied.{copied_more}
+use Rattle.hox_network.proofs.parts.channels_of.Goals as goal
+
+pub loop-c-preserved : goal.loop-c-preserved
+loop-c-preserved g c = copied_more _ _ _ _ _ c.loop-c.invariant c.in_ok-push.ensures.items c.in_ok-channel_of.ensures

@@ -1,0 +1,5 @@
+pub mod Signs
+pub mod Ports
+pub mod Presets
+pub mod Statuses
+pub mod Preparing

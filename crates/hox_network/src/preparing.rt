@@ -1,0 +1,99 @@
+//! Preparing the network of a description, as it is asked for.
+ghost use Rattle.std.specs.Prelude.{◌≡◌, ◌+◌, OnOk, IfErr, MatchResult};
+ghost use Rattle.kpn_model.specs.Valid.{IsValid};
+ghost use Rattle.kpn_network.specs.Parts.{network_of};
+ghost use Rattle.kpn_front.specs.Loading.{ConsumesAtMost, longest};
+ghost use Rattle.hox_network.specs.Presets.{PresetAll};
+ghost use Rattle.hox_network.specs.Preparing.{GivesNet, IsFault, Prepares, Serves, channel_names};
+
+use crate::described::load_by_ports;
+use crate::names::channel_names;
+use crate::parts::parts_of;
+use crate::presets::{FileFault, greatest_budget, preset, set_budget};
+use crate::request::{Fault, Request};
+use kpn_front::Source;
+use kpn_model::{Kinds, Listed, Text};
+use kpn_network::{Net, Parts};
+use std::alloc::Global;
+
+/// Reads a description from the source, and returns its network, with the tokens of the request's files and
+/// with the request's budget. Nothing is run.
+///
+/// Errors: see [`Fault`]; `NoShown`, `NoOutput` and `Lost` are none of them.
+pub fn prepare<K: Kinds, I: Source>(
+    alloc: Global,
+    request: &Request,
+    source: &mut I,
+) -> Result<Net<K>, Fault>
+    ensures served { Serves K.named K.signature (GivesNet request.now) (I.remaining source.old) (I.has_failed source.old) (I.has_failed source.new) result }
+    ensures taken { ConsumesAtMost (longest + 1) (I.remaining source.old) (I.remaining source.new) }
+{
+    let loaded: Result<Net<K>, _> = load_by_ports(alloc, source);
+    match loaded {
+        Ok(net) => prepare_net(alloc, request, &net),
+        Err(refused) => Err(Fault::Description(refused)),
+    }
+}
+
+/// A network that was loaded, with the tokens of the request's files and with the request's budget.
+fn prepare_net<K: Kinds>(alloc: Global, request: &Request, net: &Net<K>) -> Result<Net<K>, Fault>
+    ensures { GivesNet request.now net.now result }
+{
+    net.assure_valid();
+    let Ok(mut parts) = parts_of(alloc, net) else {
+        return Err(Fault::Memory);
+    };
+    prepare_parts(alloc, request, net, &mut parts)?;
+    Net::of_parts(alloc, parts).map_err(|_| Fault::Memory)
+}
+
+/// Gives the parts of a network the tokens of the request's files and the request's budget.
+fn prepare_parts<K: Kinds>(
+    alloc: Global,
+    request: &Request,
+    net: &Net<K>,
+    parts: &mut Parts,
+) -> Result<(), Fault>
+    requires valid { IsValid K.signature (network_of parts.old) }
+    requires same { network_of parts.old ≡ net.now }
+    ensures valid { IsValid K.signature (network_of parts.new) }
+    ensures ok { OnOk result (Prepares request.now net.now (network_of parts.new)) }
+    ensures fault { IfErr result (IsFault request.now net.now) }
+{
+    hold_files(alloc, request, net, parts)?;
+    if let Some(budget) = request.budget {
+        if !set_budget::<K>(parts, budget) {
+            return Err(Fault::Budget(greatest_budget(parts.ceiling)));
+        }
+    }
+    Ok(())
+}
+
+/// Gives the parts of a network the tokens of the request's files.
+fn hold_files<K: Kinds>(
+    alloc: Global,
+    request: &Request,
+    net: &Net<K>,
+    parts: &mut Parts,
+) -> Result<(), Fault>
+    requires valid { IsValid K.signature (network_of parts.old) }
+    requires same { network_of parts.old ≡ net.now }
+    ensures valid { IsValid K.signature (network_of parts.new) }
+    ensures ok { OnOk result (PresetAll request.now.tokens net.now (network_of parts.new)) }
+    ensures fault { IfErr result (IsFault request.now net.now) }
+{
+    match preset::<K>(alloc, parts, request.tokens.as_slice()) {
+        Ok(()) => Ok(()),
+        Err(stop) => match stop.fault {
+            FileFault::NoChannel => Err(Fault::NoHolder(stop.file, names_in(alloc, net)?)),
+            _ => Err(Fault::Tokens(stop)),
+        },
+    }
+}
+
+/// The names of a network's channels, for a fault.
+fn names_in<K: Kinds>(alloc: Global, net: &Net<K>) -> Result<Listed<Text>, Fault>
+    ensures { MatchResult result (λ names. names ≡ channel_names net.now) (λ e. e ≡ Fault.Memory) }
+{
+    channel_names(alloc, net).map_err(|_| Fault::Memory)
+}

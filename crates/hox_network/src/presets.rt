@@ -1,0 +1,166 @@
+//! Tokens of files, which channels hold at first.
+ghost use Rattle.std.specs.Prelude.{◌≡◌, ◌<◌, ◌≤◌, ◌⊎◌, ℕ, List, false, OnOk, IfOk, IfErr, IfSome, IsTrue, length};
+ghost use Rattle.kpn_model.specs.declared.token.Token.{Token as TokenV};
+ghost use Rattle.kpn_model.specs.Network.{channel_of, number_of_channel};
+ghost use Rattle.kpn_model.specs.Valid.{IsValid};
+ghost use Rattle.kpn_network.specs.Parts.{network_of};
+ghost use Rattle.kpn_tokens.specs.TokenLines.{Say};
+ghost use Rattle.hox_network.specs.Presets.{IsFileFault, IsTextFault, PresetAll, Presets, Stops, greatest_budget, with_tokens};
+
+use crate::request::TokenFile;
+use kpn_model::limits::{CEILING, GREATEST_BUDGET, GREATEST_HIGH_BUDGET};
+use kpn_model::{Kinds, Listed, Sort, Token};
+use kpn_network::Parts;
+use kpn_tokens::{LineFault, MOST_TOKENS, TokensFault, read_tokens};
+use std::alloc::Global;
+use std::str;
+
+/// Why a token file is refused.
+#[derive(Clone, Copy, Debug, PartialEq, Eq)]
+pub enum FileFault {
+    /// No channel has the name.
+    NoChannel,
+    /// The file is no text: it is not UTF-8.
+    NoText,
+    /// What is wrong with a line, of which the number counts from 1.
+    Line { number: usize, fault: LineFault },
+    /// There are more tokens than this: no channel may hold more.
+    TooMany { most: usize },
+    /// Memory was refused.
+    Memory,
+}
+
+/// Why one of several token files is refused; the number of the file counts from 0.
+#[derive(Clone, Copy, Debug, PartialEq, Eq)]
+pub struct PresetFault {
+    pub file: usize,
+    pub fault: FileFault,
+}
+
+/// Has each channel that a file names hold the tokens of the file at first, one file after the other. The
+/// channel's capacity becomes at least their number.
+///
+/// Errors: the first file that has a fault, see [`FileFault`]. The parts have then what the files before it
+/// say.
+pub(crate) fn preset<K: Kinds>(
+    alloc: Global,
+    parts: &mut Parts,
+    files: &[TokenFile],
+) -> Result<(), PresetFault>
+    requires { IsValid K.signature (network_of parts.old) }
+    ensures valid { IsValid K.signature (network_of parts.new) }
+    ensures ok { OnOk result (PresetAll files.now (network_of parts.old) (network_of parts.new)) }
+    ensures fault { IfErr result (λ e. Stops files.now (network_of parts.old) e.file e.fault) }
+{
+    for file in 0..files.len() {
+        match preset_one::<K>(alloc, parts, &files[file]) {
+            Ok(()) => {}
+            Err(fault) => return Err(PresetFault { file, fault }),
+        }
+    }
+    Ok(())
+}
+
+/// Has the channel that a file names hold the tokens of the file at first.
+fn preset_one<K: Kinds>(alloc: Global, parts: &mut Parts, file: &TokenFile) -> Result<(), FileFault>
+    requires { IsValid K.signature (network_of parts.old) }
+    ensures valid { IsValid K.signature (network_of parts.new) }
+    ensures ok { OnOk result ((c : ℕ) × (tokens : List TokenV) × Presets (network_of parts.old) file.now c tokens × (network_of parts.new ≡ with_tokens (network_of parts.old) c tokens)) }
+    ensures fault { IfErr result (IsFileFault (network_of parts.old) file.now) }
+{
+    let Some(channel) = find_channel(parts, file.channel.as_str()) else {
+        return Err(FileFault::NoChannel);
+    };
+    let most = parts.ceiling.min(MOST_TOKENS);
+    let sort = sort_of(parts, channel);
+    match tokens_of(alloc, sort, file.text.as_slice(), most) {
+        Ok(tokens) => {
+            hold(parts, channel, tokens);
+            Ok(())
+        }
+        Err(fault) => Err(fault),
+    }
+}
+
+/// The number of the channel with this name.
+fn find_channel(parts: &Parts, name: &str) -> Option<usize>
+    ensures is { result ≡ number_of_channel (network_of parts.now) name.now }
+    ensures within { IfSome result (λ c. c < length parts.now.channels.items) }
+{
+    parts.channels.iter().position(|c| c.name.as_str() == name)
+}
+
+/// The sort of a channel.
+fn sort_of(parts: &Parts, channel: usize) -> Sort
+    requires { channel < length parts.now.channels.items }
+    ensures { result ≡ (channel_of (network_of parts.now) channel).sort }
+{
+    parts.channels[channel].sort
+}
+
+/// The tokens of a text, at most so many.
+fn tokens_of(alloc: Global, sort: Sort, bytes: &[u8], most: usize) -> Result<Vec<Token>, FileFault>
+    requires { most ≤ 1000000 }
+    ensures says { IfOk result (λ tokens. Say sort bytes.now tokens.items) }
+    ensures few { IfOk result (λ tokens. length tokens.items ≤ most) }
+    ensures fault { IfErr result (IsTextFault sort bytes.now most) }
+{
+    let Ok(text) = str::from_utf8(bytes) else {
+        return Err(FileFault::NoText);
+    };
+    match read_tokens(alloc, sort, text) {
+        Ok(tokens) => at_most(tokens, most),
+        Err(TokensFault::TooMany) => Err(FileFault::TooMany { most }),
+        Err(TokensFault::Line { number, fault }) => Err(FileFault::Line { number, fault }),
+        Err(TokensFault::Memory) => Err(FileFault::Memory),
+    }
+}
+
+/// These tokens, if they are at most so many.
+fn at_most(tokens: Vec<Token>, most: usize) -> Result<Vec<Token>, FileFault>
+    ensures ok { IfOk result (λ v. (v.items ≡ tokens.items) × (length v.items ≤ most)) }
+    ensures fault { IfErr result (λ e. (e ≡ FileFault.TooMany most) × (most < length tokens.items)) }
+{
+    if tokens.len() <= most {
+        Ok(tokens)
+    } else {
+        Err(FileFault::TooMany { most })
+    }
+}
+
+/// Has a channel hold these tokens at first, and room for them.
+fn hold(parts: &mut Parts, channel: usize, tokens: Vec<Token>)
+    requires { channel < length parts.old.channels.items }
+    ensures { network_of parts.new ≡ with_tokens (network_of parts.old) channel tokens.items }
+{
+    let count = tokens.len();
+    let held = &mut parts.channels[channel];
+    held.capacity = held.capacity.max(count);
+    held.tokens = Listed::new(tokens);
+}
+
+/// Gives a network this budget, in entries of a history. Returns whether it may have it: at least 1, and no
+/// more than [`greatest_budget`]; if not, the network stays as it is.
+pub(crate) fn set_budget<K: Kinds>(parts: &mut Parts, budget: u64) -> bool
+    requires { IsValid K.signature (network_of parts.old) }
+    ensures valid { IsValid K.signature (network_of parts.new) }
+    ensures yes { IsTrue result → network_of parts.new ≡ record (network_of parts.old) { budget = budget } }
+    ensures no { result ≡ false → (network_of parts.new ≡ network_of parts.old) × ((budget ≡ 0) ⊎ (greatest_budget parts.old.ceiling < budget)) }
+{
+    if budget < 1 || budget > greatest_budget(parts.ceiling) {
+        return false;
+    }
+    parts.budget = budget;
+    true
+}
+
+/// Returns the greatest budget of a network whose channels grow up to this capacity.
+pub(crate) fn greatest_budget(ceiling: usize) -> u64
+    ensures { result ≡ greatest_budget ceiling }
+{
+    if ceiling <= CEILING as usize {
+        u64::from(GREATEST_BUDGET)
+    } else {
+        u64::from(GREATEST_HIGH_BUDGET)
+    }
+}

@@ -1,0 +1,128 @@
+//! Arguments below 0.
+ghost use Rattle.std.specs.Prelude.{◌≡◌, [], IfOk, map};
+ghost use Rattle.hox_network.specs.Signs.{carried, count_below, is_below, signed_args, signed_kind, signed_process, with_signs};
+
+use kpn_model::{Kinds, Listed, Text};
+use kpn_net::faults::has_wrong_args;
+use kpn_net::{ProcessSketch, Sketch};
+use std::alloc::{AllocError, Global};
+
+/// The sketch, whose processes with arguments below 0 are of the kinds that take them.
+pub(crate) fn with_signs<K: Kinds>(alloc: Global, sketch: Sketch) -> Result<Sketch, AllocError>
+    ensures { IfOk result (λ r. r ≡ with_signs K.named K.signature sketch) }
+{
+    let Sketch {
+        version,
+        budget,
+        step,
+        processes,
+        channels,
+    } = sketch;
+    let processes = signed_processes::<K>(alloc, processes.into_vec())?;
+    Ok(Sketch {
+        version,
+        budget,
+        step,
+        processes: Listed::new(processes),
+        channels,
+    })
+}
+
+/// The processes, of which those with arguments below 0 are of the kinds that take them.
+fn signed_processes<K: Kinds>(
+    alloc: Global,
+    processes: Vec<ProcessSketch>,
+) -> Result<Vec<ProcessSketch>, AllocError>
+    ensures { IfOk result (λ v. v.items ≡ map (signed_process K.named K.signature) processes.items) }
+{
+    let mut all = Vec::new(alloc);
+    for process in processes {
+        all.push(signed_process::<K>(alloc, process)?)?;
+    }
+    Ok(all)
+}
+
+/// A process, of the kind that takes arguments below 0 if it has some and there is such a kind.
+fn signed_process<K: Kinds>(
+    alloc: Global,
+    process: ProcessSketch,
+) -> Result<ProcessSketch, AllocError>
+    ensures { IfOk result (λ r. r ≡ signed_process K.named K.signature process) }
+{
+    if !is_below(process.args.as_slice(), 0) {
+        return Ok(process);
+    }
+    let signed = signed_form(alloc, &process)?;
+    if has_wrong_args::<K>(&signed) {
+        return Ok(process);
+    }
+    Ok(ProcessSketch {
+        name: process.name,
+        ..signed
+    })
+}
+
+/// A process without a name, of the kind that takes arguments below 0, with those of this process.
+fn signed_form(alloc: Global, process: &ProcessSketch) -> Result<ProcessSketch, AllocError>
+    ensures { IfOk result (λ r. r ≡ record { name = []; kind = signed_kind process.now.kind; args = signed_args process.now.args }) }
+{
+    Ok(ProcessSketch {
+        name: Text::new(String::new(alloc)),
+        kind: signed_kind(alloc, process.kind.as_str())?,
+        args: Listed::new(signed_args(alloc, process.args.as_slice())?),
+    })
+}
+
+/// The name of the kind that takes arguments below 0.
+fn signed_kind(alloc: Global, kind: &str) -> Result<Text, AllocError>
+    ensures { IfOk result (λ name. name ≡ signed_kind kind.now) }
+{
+    let mut name = String::from_str(alloc, kind)?;
+    name.push_str(", signed")?;
+    Ok(Text::new(name))
+}
+
+/// Whether this argument is there, and below 0.
+fn is_below(args: &[i64], k: usize) -> bool
+    ensures { result ≡ is_below args.now k }
+{
+    args.get(k).copied().unwrap_or(0) < 0
+}
+
+/// How the kind that takes arguments below 0 is given an argument.
+fn carried(argument: i64) -> i64
+    ensures { result ≡ carried argument }
+{
+    if argument < 0 {
+        -1 - argument
+    } else {
+        argument
+    }
+}
+
+/// The arguments of the kind that takes some below 0, as these are.
+fn signed_args(alloc: Global, args: &[i64]) -> Result<Vec<i64>, AllocError>
+    ensures { IfOk result (λ v. v.items ≡ signed_args args.now) }
+{
+    let mut signed = carried_args(alloc, args)?;
+    signed.push(count_below(args))?;
+    Ok(signed)
+}
+
+/// How many of the first two arguments are below 0, where the first is.
+fn count_below(args: &[i64]) -> i64
+    ensures { result ≡ count_below args.now }
+{
+    if is_below(args, 1) { 2 } else { 1 }
+}
+
+/// The arguments, each as the kind that takes some below 0 is given it.
+fn carried_args(alloc: Global, args: &[i64]) -> Result<Vec<i64>, AllocError>
+    ensures { IfOk result (λ v. v.items ≡ map carried args.now) }
+{
+    let mut all = Vec::new(alloc);
+    for argument in args {
+        all.push(carried(*argument))?;
+    }
+    Ok(all)
+}

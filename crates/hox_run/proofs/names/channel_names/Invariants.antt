@@ -1,6 +1,0 @@
-use Rattle.std.proofs.Common.{◌≡◌, take}
-use Rattle.hox_run.specs.Serving.{channel_names}
-use Rattle.hox_run.proofs.names.channel_names.Given as goal
-
-abbrev pub invariant-loop-c : goal.invariant-loop-c
-invariant-loop-c g l = l.names.items ≡ take l.c (channel_names l.net)

@@ -1,5 +1,0 @@
-use Rattle.hox_run.proofs.Copied.{copied_more}
-use Rattle.hox_run.proofs.parts.processes_of.Goals as goal
-
-pub loop-p-preserved : goal.loop-p-preserved
-loop-p-preserved g c = copied_more _ _ _ _ _ c.loop-p.invariant c.in_ok-push.ensures.items c.in_ok-process_of.ensures

@@ -1,7 +1,0 @@
-use Rattle.hox_run.proofs.Said.{too_many}
-use Rattle.hox_run.proofs.presets.tokens_of.Goals as goal
-
-pub returns-in-Ok-read_tokens-clause-fault : goal.returns-in-Ok-read_tokens-clause-fault
-returns-in-Ok-read_tokens-clause-fault c =
-    too_many c.args.sort c.args.bytes.now c.args.most c.in-Ok-read_tokens.tokens.items c.at_most.result
-    (rw c.in-Ok.ensures.cases.0 at c.in-Ok-read_tokens.ensures.says) c.at_most.ensures.fault
