@@ -640,6 +640,11 @@ proctype in_rounds(byte i) {
     atomic { at[i] = LEFT; look_round() }
 }
 
+/* own_thread.rt: answer */
+inline answer() {
+    call(); monitor_commit()
+}
+
 /* own_thread.rt: work_with */
 proctype in_work(byte i) {
     byte taken, wakes;
@@ -652,7 +657,7 @@ proctype in_work(byte i) {
         monitor_take();
         if
         :: taken == OVER -> break
-        :: else -> taken = 0; call(); monitor_commit()
+        :: else -> taken = 0; answer()
         fi
     od;
     atomic { at[i] = LEFT; look_round() }

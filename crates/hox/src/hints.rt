@@ -1,7 +1,7 @@
 //! What would do for a refused description, and for a name that no channel has.
 ghost use Rattle.std.specs.Prelude.{◌≤◌, length};
 
-use hox_network::{KINDS, AllKinds, sketch_by_ports};
+use hox_network::{AllKinds, KINDS, sketch_by_ports};
 use kpn_model::{Kinds, Text};
 use kpn_net::faults::process_named;
 use kpn_net::{Check, Net, NetFault, ProcessSketch, Sketch, read_sketch};

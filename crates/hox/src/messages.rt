@@ -2,7 +2,10 @@
 use crate::hints::{say_meant, say_no_channel, wants_version_2};
 use hox_args::WordsFault;
 use hox_execute::{Asked, Stop};
-use hox_network::{KINDS, LONGEST_FILE, AllKinds, Fault, FileFault, PresetFault, ReadFault, Request, sketch_by_ports};
+use hox_network::{
+    AllKinds, Fault, FileFault, KINDS, LONGEST_FILE, PresetFault, ReadFault, Request,
+    sketch_by_ports,
+};
 use kpn_front::{Refused, Status};
 use kpn_message::{message_of, messages_of_sketch};
 use kpn_model::limits::{CEILING, GREATEST_HIGH_BUDGET, HIGH_CEILING};

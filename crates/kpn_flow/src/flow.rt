@@ -33,7 +33,6 @@ use std::marker::Model;
 /// An input is a channel whose writer stops at once, as `count 0 0` does, so that only the outside
 /// writes to it; an output is one whose reader does, as `sink 0`. So feeding in pieces is having had
 /// all tokens from the start, as `assure_one_run` says (docs/endless.md).
-#[derive(Drop)]
 pub struct Flow<B: Body> {
     net: Net<B::Kinds>,
     store: Store,
@@ -44,6 +43,24 @@ pub struct Flow<B: Body> {
     unended: Vec<usize>,
     outputs: Vec<usize>,
     counts: Counts,
+}
+
+// Written out, so that letting go of a flow is a call, which is proved once, and not done field by field wherever
+// one ends: that would be most of what it takes to prove who owns one.
+impl<B: Body> Drop for Flow<B> {
+    fn drop(self) {
+        let Flow {
+            net: _,
+            store: _,
+            standings: _,
+            waiting: _,
+            bodies: _,
+            inputs: _,
+            unended: _,
+            outputs: _,
+            counts: _,
+        } = self;
+    }
 }
 
 impl<B: Body> Model for Flow<B> {

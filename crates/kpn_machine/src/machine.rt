@@ -29,7 +29,6 @@ use std::marker::Model;
 
 /// A network at work: its processes are taken one at a time, called outside the machine, and their
 /// answers committed.
-#[derive(Drop)]
 pub struct Machine<B: Body> {
     net: Net<B::Kinds>,
     store: Store,
@@ -44,6 +43,24 @@ pub struct Machine<B: Body> {
     commits: u64,
     /// The process that `ask_in_place` would have asked next, since it has just read.
     again: Option<usize>,
+}
+
+// Written out, so that letting go of a machine is a call, which is proved once, and not done field by field wherever
+// one ends: that would be most of what it takes to prove who owns one.
+impl<B: Body> Drop for Machine<B> {
+    fn drop(self) {
+        let Machine {
+            net: _,
+            store: _,
+            standings: _,
+            waiting: _,
+            bodies: _,
+            spare: _,
+            end: _,
+            commits: _,
+            again: _,
+        } = self;
+    }
 }
 
 impl<B: Body> Model for Machine<B> {

@@ -27,7 +27,6 @@ pub struct Parts {
 ///
 /// `Net::of_parts` makes one, and `Check` of `kpn_net` one of a description. The number of a process or
 /// of a channel that is given to a call must be below `processes()` or `channels()`.
-#[derive(Drop)]
 pub struct Net<K: Kinds> {
     processes: Vec<Process>,
     channels: Vec<Channel>,
@@ -36,6 +35,22 @@ pub struct Net<K: Kinds> {
     step: usize,
     ceiling: usize,
     kinds: PhantomData<K>,
+}
+
+// Written out, so that letting go of a network is a call, which is proved once, and not done field by field wherever
+// one ends: that would be most of what it takes to prove who owns one.
+impl<K: Kinds> Drop for Net<K> {
+    fn drop(self) {
+        let Net {
+            processes: _,
+            channels: _,
+            ports: _,
+            budget: _,
+            step: _,
+            ceiling: _,
+            kinds: _,
+        } = self;
+    }
 }
 
 impl<K: Kinds> Model for Net<K> {

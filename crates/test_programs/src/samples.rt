@@ -3,7 +3,10 @@ ghost use Rattle.std.specs.Prelude.{◌≡◌, ◌≤◌};
 
 use crate::checks::same;
 use hox_args::{Choice, WordsFault, channel_and_file, read_words};
-use hox_network::{AllKinds, Fault, FileFault, PresetFault, Request, TokenFile, channel_names, load_by_ports, prepare, read_whole, sketch_by_ports};
+use hox_network::{
+    AllKinds, Fault, FileFault, PresetFault, Request, TokenFile, channel_names, load_by_ports,
+    prepare, read_whole, sketch_by_ports,
+};
 use hox_run::{Progress, Silent, SoFar, Told, execute, serve};
 use kpn_net::{Listed, Net, Sort, Text};
 use std::alloc::Global;
