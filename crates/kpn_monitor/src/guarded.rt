@@ -72,6 +72,7 @@ pub(crate) enum Wakes {
 
 /// What the lock guards: the machine, the books of the two ledgers, the right to publish, and how many
 /// threads wait. Contracts see the machine, how often an end was met, and how many watchers were made.
+#[derive(Drop)]
 pub(crate) struct Guarded<B: Body, E: EntryLedger, O: Ledger> {
     machine: Machine<B>,
     entries: Book<E>,
@@ -80,22 +81,6 @@ pub(crate) struct Guarded<B: Body, E: EntryLedger, O: Ledger> {
     publisher: CountingPublisher,
     waiting: usize,
     held_up_at: u64,
-}
-
-// Written out, so that letting go of what a lock guards is a call, which is proved once, and not done field by field wherever
-// one ends.
-impl<B: Body, E: EntryLedger, O: Ledger> Drop for Guarded<B, E, O> {
-    fn drop(self) {
-        let Guarded {
-            machine: _,
-            entries: _,
-            overs: _,
-            over_count: _,
-            publisher: _,
-            waiting: _,
-            held_up_at: _,
-        } = self;
-    }
 }
 
 impl<B: Body, E: EntryLedger, O: Ledger> Model for Guarded<B, E, O> {
