@@ -131,9 +131,14 @@ fn say_channels<R: Eprint>(rt: &R, channels: &[Text]) {
             1 => " and ",
             _ => ", ",
         };
-        let _ = eprint!(rt; "{before}{}", channel.as_str());
+        say_part(rt, before, channel.as_str());
     }
     let _ = eprintln!(rt; "");
+}
+
+/// Says the name of a channel after these words.
+fn say_part<R: Eprint>(rt: &R, before: &str, channel: &str) {
+    let _ = eprint!(rt; "{before}{channel}");
 }
 
 /// Says which name was likely meant.

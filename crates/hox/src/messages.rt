@@ -11,7 +11,7 @@ use kpn_message::{message_of, messages_of_sketch};
 use kpn_model::limits::{CEILING, GREATEST_HIGH_BUDGET, HIGH_CEILING};
 use kpn_net::NetFault;
 use kpn_tokens::LineFault;
-use std::str;
+use std::{io, str};
 
 /// Says why what the arguments ask for is not done, and returns the exit status.
 pub(crate) fn say_stop<R: Print + Eprint + AllocGlobal>(rt: &R, stop: &Stop<'_>) -> u8 {
@@ -151,13 +151,21 @@ fn say_file_fault<R: Eprint>(rt: &R, asked: &Asked<'_>, stop: PresetFault) {
         ),
         FileFault::Line { number, fault } => {
             let text = line_in(&asked.request, stop.file, number);
-            eprintln!(rt;
-                "hox: line {number} of {file}: {text:?} is {}",
-                needed(fault)
-            )
+            say_line(rt, file, number, text, needed(fault))
         }
         FileFault::NoChannel | FileFault::Memory => eprintln!(rt; "hox: memory was refused"),
     };
+}
+
+/// Says what a line of a file of tokens is.
+fn say_line<R: Eprint>(
+    rt: &R,
+    file: &str,
+    number: usize,
+    line: &str,
+    what: &str,
+) -> io::Result<()> {
+    eprintln!(rt; "hox: line {number} of {file}: {line:?} is {what}")
 }
 
 /// The line with this number, counted from 1, of the file of tokens at this place.
@@ -169,7 +177,7 @@ fn line_in(request: &Request, place: usize, number: usize) -> &str {
 }
 
 /// What a line is not, and what would do.
-fn needed(fault: LineFault) -> &'static str {
+pub(crate) fn needed(fault: LineFault) -> &'static str {
     match fault {
         LineFault::NotAWord => {
             "no word: a word is a number up to 18446744073709551615, or hexadecimal after 0x"

@@ -1,5 +1,5 @@
 //! What is told of a stream that ended.
-use crate::messages::{input_name, say_no_memory, say_unread, say_unwritten};
+use crate::messages::{input_name, needed, say_no_memory, say_unread, say_unwritten};
 use hox_execute::{Ends, Pair, Streamed};
 use hox_network::ReadFault;
 use hox_stream::{Finish, Inlet, LONGEST_LINE, LineRefusal, Served};
@@ -9,7 +9,6 @@ use kpn_flow::Flow;
 use kpn_front::{Sink, Source};
 use kpn_model::{End, Verdict};
 use kpn_report::places_of;
-use kpn_tokens::LineFault;
 use kpn_verdict::{verdict_of, verdict_text};
 use std::alloc::{AllocError, Global};
 
@@ -43,15 +42,18 @@ fn say_counts<R: Eprint, F: Computes, I: Source, O: Sink>(
     served: &Served<F, I, O>,
 ) {
     for (pair, inlet) in ends.inputs.iter().zip(served.inlets.as_slice()) {
-        let (channel, tokens) = (pair.channel, inlet.tokens());
-        let _ = eprintln!(rt; "in {channel} tokens {tokens}");
+        say_count(rt, "in", pair.channel, inlet.tokens());
     }
     for (pair, outlet) in ends.outputs.iter().zip(served.outlets.as_slice()) {
-        let (channel, tokens) = (pair.channel, outlet.tokens());
-        let _ = eprintln!(rt; "out {channel} tokens {tokens}");
+        say_count(rt, "out", pair.channel, outlet.tokens());
     }
     let (entries, growths) = (served.flow.entries(), served.flow.growths());
     let _ = eprintln!(rt; "entries {entries} growths {growths}");
+}
+
+/// Says how many tokens went in by a channel, or out.
+fn say_count<R: Eprint>(rt: &R, way: &str, channel: &str, tokens: u64) {
+    let _ = eprintln!(rt; "{way} {channel} tokens {tokens}");
 }
 
 /// The verdict on how a stream left its network, and its line; of a stream that something else ended the line
@@ -104,16 +106,19 @@ fn say_line<R: Eprint, I: Source>(
         return;
     };
     let (file, line) = (input_name(pair.file), inlet.lines().saturating_add(1));
-    let _ = match refusal {
-        LineRefusal::Fault(LineFault::NotAWord) => eprintln!(rt;
-            "hox: line {line} of {file} is no word: a word is a number up to 18446744073709551615, or hexadecimal after 0x"
-        ),
-        LineRefusal::Fault(LineFault::NotAFlag) => eprintln!(rt;
-            "hox: line {line} of {file} is no flag: a flag is true or false"
-        ),
-        LineRefusal::NoText => eprintln!(rt; "hox: line {line} of {file} is not UTF-8"),
-        LineRefusal::TooLong => eprintln!(rt;
-            "hox: line {line} of {file} has more than {LONGEST_LINE} bytes"
-        ),
-    };
+    match refusal {
+        LineRefusal::Fault(fault) => say_what_line_is(rt, file, line, needed(fault)),
+        LineRefusal::NoText => say_what_line_is(rt, file, line, "not UTF-8"),
+        LineRefusal::TooLong => say_line_is_long(rt, file, line),
+    }
+}
+
+/// Says what a line of a file is.
+fn say_what_line_is<R: Eprint>(rt: &R, file: &str, line: u64, what: &str) {
+    let _ = eprintln!(rt; "hox: line {line} of {file} is {what}");
+}
+
+/// Says that a line of a file is longer than a line may be.
+fn say_line_is_long<R: Eprint>(rt: &R, file: &str, line: u64) {
+    let _ = eprintln!(rt; "hox: line {line} of {file} has more than {LONGEST_LINE} bytes");
 }

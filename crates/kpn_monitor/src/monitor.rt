@@ -45,7 +45,6 @@ const PAUSES: u32 = 8;
 ///
 /// The two ledgers are of the entries that were appended, and of the ends that were met ("overs"). Each
 /// seat has a share of both, and a book under the lock holds each ledger's total.
-#[derive(Drop)]
 pub struct Monitor<B: Body, E: EntryLedger, O: Ledger> {
     state: Mutex<Guarded<B, E, O>>,
     /// Where threads wait for a ready process or the end, with the lock of `state`.
@@ -57,6 +56,21 @@ pub struct Monitor<B: Body, E: EntryLedger, O: Ledger> {
     awake: AtomicU64,
     board: Board,
     ghost named: { board ≡ E.board },
+}
+
+// Written out, so that letting go of a monitor is a call, which is proved once, and not done field by field wherever
+// one ends.
+impl<B: Body, E: EntryLedger, O: Ledger> Drop for Monitor<B, E, O> {
+    fn drop(self) {
+        let Monitor {
+            state: _,
+            changed: _,
+            resters: _,
+            roused: _,
+            awake: _,
+            board: _,
+        } = self;
+    }
 }
 
 impl<B: Body, E: EntryLedger, O: Ledger> Monitor<B, E, O> {

@@ -15,7 +15,6 @@ use std::marker::Model;
 /// The numbers of the ready processes are in a queue, first in, first out, and how many processes are
 /// out and how many are live is kept, from which the parked ones follow; so no call except `new` goes
 /// through all processes. All memory is taken by `new`.
-#[derive(Drop)]
 pub struct Roster {
     standings: Vec<Standing>,
     // The two counts are kept apart: side by side they would be loaded and stored as one value of 16
@@ -23,6 +22,19 @@ pub struct Roster {
     out: usize,
     queue: HeapCircularBuffer<usize>,
     live: usize,
+}
+
+// Written out, so that letting go of a roster is a call, which is proved once, and not done field by field wherever
+// one ends.
+impl Drop for Roster {
+    fn drop(self) {
+        let Roster {
+            standings: _,
+            out: _,
+            queue: _,
+            live: _,
+        } = self;
+    }
 }
 
 impl Model for Roster {

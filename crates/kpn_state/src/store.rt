@@ -14,12 +14,24 @@ use std::marker::Model;
 
 /// The status of each process, each channel, and the history, which has room for a fixed number of
 /// entries.
-#[derive(Drop)]
 pub struct Store {
     statuses: Vec<Status>,
     rings: Vec<Ring>,
     history: Vec<Entry>,
     limit: usize,
+}
+
+// Written out, so that letting go of a store is a call, which is proved once, and not done field by field wherever
+// one ends.
+impl Drop for Store {
+    fn drop(self) {
+        let Store {
+            statuses: _,
+            rings: _,
+            history: _,
+            limit: _,
+        } = self;
+    }
 }
 
 impl Model for Store {

@@ -9,10 +9,20 @@ use std::alloc::{AllocError, Global};
 
 /// The parked processes as their channels see them: the candidates for a growth, and the marks. All
 /// memory is taken by `new`.
-#[derive(Drop)]
 pub struct Waiting {
     pub candidates: Candidates,
     pub marks: Marks,
+}
+
+// Written out, so that letting go of what waits is a call, which is proved once, and not done field by field wherever
+// one ends.
+impl Drop for Waiting {
+    fn drop(self) {
+        let Waiting {
+            candidates: _,
+            marks: _,
+        } = self;
+    }
 }
 
 impl Waiting {

@@ -6,7 +6,7 @@ use crate::checks::same;
 use kpn_execute::{load, say_checked, say_refused};
 use kpn_front::{Fallible, Refused, Source, Status, load_or_refuse, read_text, say_lost};
 use kpn_net::{Act, Answer, Card, Kinds, Local, Net, NetFault, Signature, Sort, Token};
-use std::alloc::Global;
+use std::alloc::{AllocError, Global};
 use std::fmt::Write as _;
 use std::io;
 use std::io::{Read, Write};
@@ -296,20 +296,26 @@ fn refuses_texts_by_number(rt: HostRuntime) {
 fn text_of<R: Abort>(rt: &R, alloc: Global, sinks: u16, channels: u16) -> String {
     let mut text = String::from_str(alloc, "version = 1\n").expect(rt, "no memory");
     for i in 0..sinks {
-        write!(
-            text,
-            "[[process]]\nname = \"p{i}\"\nkind = \"sink\"\nargs = [1]\n"
-        )
-        .expect(rt, "no memory");
+        push_sink(&mut text, i).expect(rt, "no memory");
     }
     for i in 0..channels {
-        write!(
-            text,
-            "[[channel]]\nname = \"c{i}\"\nfrom = \"p0\"\nto = \"p0\"\n"
-        )
-        .expect(rt, "no memory");
+        push_channel(&mut text, i).expect(rt, "no memory");
     }
     text
+}
+
+fn push_sink(text: &mut String, i: u16) -> Result<(), AllocError> {
+    write!(
+        text,
+        "[[process]]\nname = \"p{i}\"\nkind = \"sink\"\nargs = [1]\n"
+    )
+}
+
+fn push_channel(text: &mut String, i: u16) -> Result<(), AllocError> {
+    write!(
+        text,
+        "[[channel]]\nname = \"c{i}\"\nfrom = \"p0\"\nto = \"p0\"\n"
+    )
 }
 
 /// Numbers of processes and of channels on both sides of the limits. If they are within the limits, the
