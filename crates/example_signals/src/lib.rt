@@ -4,8 +4,6 @@
 
 pub mod gain;
 pub mod moving_sum;
-#[cfg(test)]
-mod tests;
 pub mod titles;
 
 pub use gain::Gains;

@@ -1,6 +1,6 @@
 use Rattle.std.proofs.Common.{◌∙◌}
-use Rattle.test_descriptions.proofs.Asked.{count_admitted}
-use Rattle.test_descriptions.proofs.kinds.tasks.count_from_one_writes_two.Goals as goal
+use Rattle.test_engine.proofs.Asked.{count_admitted}
+use Rattle.test_engine.proofs.kinds.tasks.count_from_one_writes_two.Goals as goal
 
 pub asked-requires-after_bounds : goal.asked-requires-after_bounds
 asked-requires-after_bounds g c κs = count_admitted _ c.in_ok-made.ensures
