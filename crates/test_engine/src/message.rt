@@ -1,6 +1,6 @@
 //! Edits of a description, each with the number of its fault and its message.
 use crate::checks::same;
-use kpn_message::{Location, line_of_table, locate, message_of, messages_of_sketch};
+use kpn_message::{Location, Messages, line_of_table, locate, message_of, messages_of_sketch};
 use kpn_net::faults::has_fault;
 use kpn_net::{Check, Net, NetFault, read_sketch};
 use kpn_standard::Standard;
@@ -525,15 +525,21 @@ static MESSAGES: [&str; 5] = [
     "step 0; it must be 1 to 1024",
 ];
 
+/// Compares what is told of the description with five faults.
+fn compare_messages<R: Abort>(rt: &R, messages: &Messages) {
+    same(rt, "all", messages.are_all, true);
+    same(rt, "how many", messages.told.len(), MESSAGES.len());
+    for (message, due) in messages.told.as_slice().iter().zip(MESSAGES.iter()) {
+        same(rt, due, message.text.as_str(), *due);
+    }
+}
+
 #[test]
 fn faults_that_stand_by_themselves_are_all_told(rt: HostRuntime) {
     let sketch = read_sketch(rt.alloc(), FAULTY.as_bytes()).expect(&rt, "a sketch");
     let messages = messages_of_sketch::<Standard>(rt.alloc(), &sketch, KINDS);
-    same(&rt, "all", messages.are_all, true);
-    same(&rt, "how many", messages.told.len(), MESSAGES.len());
-    for (message, due) in messages.told.as_slice().iter().zip(MESSAGES.iter()) {
-        same(&rt, due, message.text.as_str(), *due);
-    }
+    compare_messages(&rt, &messages);
+    drop(messages);
     let found = has_fault::<Standard>(&sketch, NetFault::Step);
     same(&rt, "step", found, true);
     let found = has_fault::<Standard>(&sketch, NetFault::Twice);

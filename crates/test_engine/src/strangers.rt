@@ -54,6 +54,12 @@ fn assert_first_answer<R: Abort>(rt: &R, finished: &CardFinished) {
     same(rt, "last", finished.last(), None);
 }
 
+/// Compares a machine to which the counter's first answer alone was committed.
+fn assert_one_commit<R: Abort>(rt: &R, machine: &CardMachine) {
+    same(rt, "history", machine.history(), [PUT_1].as_slice());
+    same(rt, "commits", machine.commits(), 1);
+}
+
 /// Commits the counter's first answer again, which is handed back and changes nothing.
 fn refuse_again<R: Abort>(
     rt: &R,
@@ -63,8 +69,7 @@ fn refuse_again<R: Abort>(
     same(rt, "asked", machine.has_asked(&finished), false);
     let finished = handed_back(rt, machine, finished);
     assert_first_answer(rt, &finished);
-    same(rt, "history", machine.history(), [PUT_1].as_slice());
-    same(rt, "commits", machine.commits(), 1);
+    assert_one_commit(rt, machine);
     finished
 }
 
@@ -79,8 +84,7 @@ fn counter_answers<R: Abort>(rt: &R, alloc: Global, machine: &mut CardMachine) -
 fn accept_first<R: Abort>(rt: &R, machine: &mut CardMachine, finished: CardFinished) {
     let outcome = outcome_of(rt, machine, finished);
     same(rt, "outcome", outcome, Done(1));
-    same(rt, "history", machine.history(), [PUT_1].as_slice());
-    same(rt, "commits", machine.commits(), 1);
+    assert_one_commit(rt, machine);
 }
 
 /// Commits the counter's first answer while the counter is not out; it is handed back and changes
@@ -191,8 +195,7 @@ fn take_at_once<R: Abort>(rt: &R, machine: &mut CardMachine, finished: CardFinis
     assert_asked(rt, machine, &finished);
     let outcome = machine.commit_asked(finished);
     same(rt, "outcome", outcome, Done(1));
-    same(rt, "history", machine.history(), [PUT_1].as_slice());
-    same(rt, "commits", machine.commits(), 1);
+    assert_one_commit(rt, machine);
 }
 
 /// The counter's first answer is taken without being compared again, since the machine said that it had

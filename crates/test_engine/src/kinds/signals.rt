@@ -425,24 +425,38 @@ fn count_up_wraps(rt: HostRuntime) {
     same(&rt, "act", wraps.act, Write(0, Word(u64::MAX)));
 }
 
-/// The ports that a line of help shows.
+const W: Option<Sort> = Some(Sort::Words);
+
+const F: Option<Sort> = Some(Sort::Flags);
+
+/// How a line of help shows ports, and the inputs and the outputs.
+static PORTS: [(&str, [Option<Sort>; 3], [Option<Sort>; 3]); 10] = [
+    ("-> w", [None, None, None], [W, None, None]),
+    ("-> f", [None, None, None], [F, None, None]),
+    ("w ->", [W, None, None], [None, None, None]),
+    ("f ->", [F, None, None], [None, None, None]),
+    ("w -> w", [W, None, None], [W, None, None]),
+    ("w w -> w", [W, W, None], [W, None, None]),
+    ("w w -> f", [W, W, None], [F, None, None]),
+    ("f -> f", [F, None, None], [F, None, None]),
+    ("f f -> f", [F, F, None], [F, None, None]),
+    ("w f -> w", [W, F, None], [W, None, None]),
+];
+
+/// The ports that a line of help shows; of a line that shows none, more than any kind has.
 fn ports_of(text: &str) -> Signature {
-    const W: Option<Sort> = Some(Sort::Words);
-    const F: Option<Sort> = Some(Sort::Flags);
-    let (ins, outs) = match text {
-        "-> w" => ([None, None, None], [W, None, None]),
-        "-> f" => ([None, None, None], [F, None, None]),
-        "w ->" => ([W, None, None], [None, None, None]),
-        "f ->" => ([F, None, None], [None, None, None]),
-        "w -> w" => ([W, None, None], [W, None, None]),
-        "w w -> w" => ([W, W, None], [W, None, None]),
-        "w w -> f" => ([W, W, None], [F, None, None]),
-        "f -> f" => ([F, None, None], [F, None, None]),
-        "f f -> f" => ([F, F, None], [F, None, None]),
-        "w f -> w" => ([W, F, None], [W, None, None]),
-        _ => ([F, F, F], [F, F, F]),
-    };
-    Signature { ins, outs }
+    for (shape, ins, outs) in &PORTS {
+        if *shape == text {
+            return Signature {
+                ins: *ins,
+                outs: *outs,
+            };
+        }
+    }
+    Signature {
+        ins: [F; 3],
+        outs: [F; 3],
+    }
 }
 
 /// How many arguments a line of help shows.
