@@ -1,27 +1,28 @@
 //! The command line: its subcommands and their options.
-ghost use Rattle.std.specs.Prelude.{◌≡◌, IfOk, codes, false};
-ghost use Rattle.clap.specs.Words.{app_of, new_app, rule_of, with_rule, with_subcommand};
-ghost use Rattle.clap.specs.declared.builder.command.Command.TheViews.{out-Command as fields_of};
+ghost use Rattle.std.specs.Prelude.{◌≡◌, codes, false};
+ghost use Rattle.clap.specs.Words.{app_of, new_app, rule_of};
+ghost use Rattle.kpn_args.specs.Made.{IsLocal, Makes, MakesLocal};
 ghost use Rattle.hox_args.specs.HoxCommand.{bare_hox, flag_rule, hox, hox_check_command, hox_draw_command, hox_draw_flags, hox_file_rule, hox_run_bounds, hox_run_command, hox_run_streams, hox_stream_command, hox_two, list_rule, option_rule};
 
 use crate::help::{KINDS_AND_FILES, PICTURES, STATUSES, STREAMS};
 use clap::{Arg, ArgAction, Command};
+use kpn_args::{with_arg, with_subcommand};
 use std::alloc::{AllocError, Global};
 
 /// The command line of the program.
 pub(crate) fn command_line<'a>(alloc: Global) -> Result<Command<'a>, AllocError>
-    ensures { IfOk result (λ c. app_of c ≡ hox) }
+    ensures { Makes hox result }
 {
-    let command = with_subcommand(check_and_run(alloc)?, draw(alloc)?)?;
-    with_subcommand(command, stream(alloc)?)
+    let command = with_subcommand(check_and_run(alloc), draw(alloc));
+    with_subcommand(command, stream(alloc))
 }
 
 /// The command line with its first two subcommands.
 fn check_and_run<'a>(alloc: Global) -> Result<Command<'a>, AllocError>
-    ensures { IfOk result (λ c. app_of c ≡ hox_two) }
+    ensures { Makes hox_two result }
 {
-    let command = with_subcommand(bare_hox(alloc), check(alloc)?)?;
-    with_subcommand(command, run(alloc)?)
+    let command = with_subcommand(Ok(bare_hox(alloc)), check(alloc));
+    with_subcommand(command, run(alloc))
 }
 
 /// The command line without subcommands.
@@ -36,130 +37,101 @@ fn bare_hox<'a>(alloc: Global) -> Command<'a>
         .subcommand_required(true)
 }
 
-/// A command with one subcommand more.
-fn with_subcommand<'a>(
-    command: Command<'a>,
-    subcommand: Command<'a>,
-) -> Result<Command<'a>, AllocError>
-    requires { (fields_of subcommand).has_globals ≡ false }
-    ensures { IfOk result (λ c. app_of c ≡ with_subcommand (app_of command.entry) (app_of subcommand.entry).top) }
-{
-    command.subcommand(subcommand)
-}
-
 fn check<'a>(alloc: Global) -> Result<Command<'a>, AllocError>
-    ensures app { IfOk result (λ c. app_of c ≡ hox_check_command) }
-    ensures local { IfOk result (λ c. (fields_of c).has_globals ≡ false) }
+    ensures { MakesLocal hox_check_command result }
 {
-    let check = bare(
+    let check = Ok(bare(
         alloc,
         "check",
         "Checks a description and its files of tokens, and counts its processes and channels",
         KINDS_AND_FILES,
-    );
-    let check = with(check, tokens(alloc))?;
-    with(check, file(alloc))
+    ));
+    let check = with_arg(check, tokens(alloc));
+    with_arg(check, file(alloc))
 }
 
 fn run<'a>(alloc: Global) -> Result<Command<'a>, AllocError>
-    ensures app { IfOk result (λ c. app_of c ≡ hox_run_command) }
-    ensures local { IfOk result (λ c. (fields_of c).has_globals ≡ false) }
+    ensures { MakesLocal hox_run_command result }
 {
     let progress = "Shows on standard error how far the run is, also where that is no terminal";
-    let run = with(run_bounds(alloc)?, flag(alloc, "progress", progress))?;
-    let run = with(run, quiet(alloc))?;
-    with(run, file(alloc))
+    let run = with_arg(run_bounds(alloc), flag(alloc, "progress", progress));
+    let run = with_arg(run, quiet(alloc));
+    with_arg(run, file(alloc))
 }
 
 /// The subcommand `run` with its options on files and streams, on the budget and on workers.
 fn run_bounds<'a>(alloc: Global) -> Result<Command<'a>, AllocError>
-    ensures app { IfOk result (λ c. app_of c ≡ hox_run_bounds) }
-    ensures local { IfOk result (λ c. (fields_of c).has_globals ≡ false) }
+    ensures { MakesLocal hox_run_bounds result }
 {
     let budget = "How many entries the run may have [default: that of the description]";
-    let run = with(run_streams(alloc)?, option(alloc, "budget", "N", budget))?;
-    with(run, workers(alloc))
+    let run = with_arg(run_streams(alloc), option(alloc, "budget", "N", budget));
+    with_arg(run, workers(alloc))
 }
 
 /// The subcommand `run` with its options on files and streams.
 fn run_streams<'a>(alloc: Global) -> Result<Command<'a>, AllocError>
-    ensures app { IfOk result (λ c. app_of c ≡ hox_run_streams) }
-    ensures local { IfOk result (λ c. (fields_of c).has_globals ≡ false) }
+    ensures { MakesLocal hox_run_streams result }
 {
-    let run = bare(
+    let run = Ok(bare(
         alloc,
         "run",
         "Runs the network of a description, reports how it ended, and writes its streams",
         KINDS_AND_FILES,
-    );
+    ));
     let show = "The report has the stream of this channel; may be given again";
-    let run = with(run, tokens(alloc))?;
-    let run = with(run, out(alloc))?;
-    with(run, list(alloc, "show", "CHANNEL", show))
+    let run = with_arg(run, tokens(alloc));
+    let run = with_arg(run, out(alloc));
+    with_arg(run, list(alloc, "show", "CHANNEL", show))
 }
 
 fn draw<'a>(alloc: Global) -> Result<Command<'a>, AllocError>
-    ensures app { IfOk result (λ c. app_of c ≡ hox_draw_command) }
-    ensures local { IfOk result (λ c. (fields_of c).has_globals ≡ false) }
+    ensures { MakesLocal hox_draw_command result }
 {
-    let draw = with(draw_flags(alloc)?, workers(alloc))?;
-    let draw = with(draw, tokens(alloc))?;
-    with(draw, file(alloc))
+    let draw = with_arg(draw_flags(alloc), workers(alloc));
+    let draw = with_arg(draw, tokens(alloc));
+    with_arg(draw, file(alloc))
 }
 
 /// The subcommand `draw` with its flags.
 fn draw_flags<'a>(alloc: Global) -> Result<Command<'a>, AllocError>
-    ensures app { IfOk result (λ c. app_of c ≡ hox_draw_flags) }
-    ensures local { IfOk result (λ c. (fields_of c).has_globals ≡ false) }
+    ensures { MakesLocal hox_draw_flags result }
 {
-    let draw = bare(
+    let draw = Ok(bare(
         alloc,
         "draw",
         "Draws the network of a description, or how a run left it, for Graphviz",
         PICTURES,
-    );
+    ));
     let is_run = "Runs the network, and draws how the run left it";
     let down = "Draws the channels downwards, and not to the right";
-    let draw = with(draw, flag(alloc, "run", is_run))?;
-    with(draw, flag(alloc, "down", down))
+    let draw = with_arg(draw, flag(alloc, "run", is_run));
+    with_arg(draw, flag(alloc, "down", down))
 }
 
 fn stream<'a>(alloc: Global) -> Result<Command<'a>, AllocError>
-    ensures app { IfOk result (λ c. app_of c ≡ hox_stream_command) }
-    ensures local { IfOk result (λ c. (fields_of c).has_globals ≡ false) }
+    ensures { MakesLocal hox_stream_command result }
 {
-    let stream = bare(
+    let stream = Ok(bare(
         alloc,
         "stream",
         "Runs the network of a description for ever on tokens that come, in bounded memory",
         STREAMS,
-    );
+    ));
     let input =
         "The channel gets the tokens of the file as they come, one a line, - is standard input; may be given again";
-    let stream = with(stream, list(alloc, "in", "CHANNEL=FILE", input))?;
-    let stream = with(stream, out(alloc))?;
-    let stream = with(stream, quiet(alloc))?;
-    with(stream, file(alloc))
+    let stream = with_arg(stream, list(alloc, "in", "CHANNEL=FILE", input));
+    let stream = with_arg(stream, out(alloc));
+    let stream = with_arg(stream, quiet(alloc));
+    with_arg(stream, file(alloc))
 }
 
 /// A subcommand without arguments.
 fn bare<'a>(alloc: Global, name: &'a str, about: &'a str, after_help: &'a str) -> Command<'a>
-    ensures app { app_of result ≡ new_app name.now }
-    ensures local { (fields_of result).has_globals ≡ false }
+    ensures { IsLocal (new_app name.now) result }
 {
     Command::new(alloc, name)
         .about(about)
         .after_help(after_help)
-}
-
-/// A subcommand with one argument more.
-fn with<'a>(command: Command<'a>, arg: Arg<'a>) -> Result<Command<'a>, AllocError>
-    requires command { (fields_of command).has_globals ≡ false }
-    requires arg { arg.global ≡ false }
-    ensures app { IfOk result (λ c. app_of c ≡ with_rule (app_of command.entry) (rule_of arg.entry)) }
-    ensures local { IfOk result (λ c. (fields_of c).has_globals ≡ false) }
-{
-    command.arg(arg)
 }
 
 fn tokens<'a>(alloc: Global) -> Arg<'a>

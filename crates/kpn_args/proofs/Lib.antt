@@ -1,3 +1,4 @@
+pub mod Added
 pub mod CommandEntries
 pub mod Settings
 pub mod Subcommands

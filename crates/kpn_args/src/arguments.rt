@@ -1,10 +1,11 @@
 //! The arguments of the command line.
 ghost use Rattle.std.specs.Prelude.{◌≡◌, ◌⊎◌, ◌≤◌, IfOk, IfErr, Some, false, map, option_map, codes, if◌then◌else◌};
-ghost use Rattle.clap.specs.Words.{FailsBy, app_of, fault_of, first_of, found_of, new_app, rows_of, rule_of, subcommand_of, subcommand_rows_of, with_rule, with_subcommand};
-ghost use Rattle.clap.specs.declared.builder.command.Command.TheViews.{out-Command as fields_of};
+ghost use Rattle.clap.specs.Words.{FailsBy, app_of, fault_of, first_of, found_of, new_app, rows_of, rule_of, subcommand_of, subcommand_rows_of};
 ghost use Rattle.kpn_args.specs.Command.{kpn, bare_command, check_command, run_command, option_rule};
+ghost use Rattle.kpn_args.specs.Made.{IsLocal, Makes, MakesLocal};
 ghost use Rattle.kpn_args.specs.Choices.{IsWorkers, WorkersFrom, IsRefusedWorkers, HasFewWorkers, IsChoice, IsChoiceOf, AreTaken, IsWordsFault, asks_for_help};
 
+use crate::making::{with_arg, with_subcommand};
 use clap::error::ErrorKind;
 use clap::{Arg, ArgMatches, Command};
 use kpn_front::Status;
@@ -234,10 +235,10 @@ fn parse<'a>(alloc: Global, words: &'a [&'a str]) -> Result<ArgMatches<'a>, clap
 
 /// The command line of the program.
 fn command<'a>(alloc: Global) -> Result<Command<'a>, AllocError>
-    ensures { IfOk result (λ c. app_of c ≡ kpn) }
+    ensures { Makes kpn result }
 {
-    let command = with_subcommand(bare_command(alloc), check(alloc))?;
-    with_subcommand(command, run(alloc)?)
+    let command = with_subcommand(Ok(bare_command(alloc)), Ok(check(alloc)));
+    with_subcommand(command, run(alloc))
 }
 
 /// The command line without subcommands.
@@ -252,53 +253,29 @@ fn bare_command<'a>(alloc: Global) -> Command<'a>
         .subcommand_required(true)
 }
 
-/// A command with one subcommand more.
-fn with_subcommand<'a>(
-    command: Command<'a>,
-    subcommand: Command<'a>,
-) -> Result<Command<'a>, AllocError>
-    requires { (fields_of subcommand).has_globals ≡ false }
-    ensures { IfOk result (λ c. app_of c ≡ with_subcommand (app_of command.entry) (app_of subcommand.entry).top) }
-{
-    command.subcommand(subcommand)
-}
-
 fn check<'a>(alloc: Global) -> Command<'a>
-    ensures app { app_of result ≡ check_command }
-    ensures local { (fields_of result).has_globals ≡ false }
+    ensures { IsLocal check_command result }
 {
     let about = "Checks a description, and counts its processes and channels";
     bare(alloc, "check", about)
 }
 
 fn run<'a>(alloc: Global) -> Result<Command<'a>, AllocError>
-    ensures app { IfOk result (λ c. app_of c ≡ run_command) }
-    ensures local { IfOk result (λ c. (fields_of c).has_globals ≡ false) }
+    ensures { MakesLocal run_command result }
 {
     let about = "Runs the network of a description, and reports how it ended";
     let workers = "How many workers run the network [default: 1]";
     let show = "Also prints the tokens that were put on this channel";
-    let run = bare(alloc, "run", about);
-    let run = with(run, option(alloc, "workers", "N", workers))?;
-    with(run, option(alloc, "show", "NAME", show))
+    let run = Ok(bare(alloc, "run", about));
+    let run = with_arg(run, option(alloc, "workers", "N", workers));
+    with_arg(run, option(alloc, "show", "NAME", show))
 }
 
 /// A subcommand without arguments.
 fn bare<'a>(alloc: Global, name: &'a str, about: &'a str) -> Command<'a>
-    ensures app { app_of result ≡ new_app name.now }
-    ensures local { (fields_of result).has_globals ≡ false }
+    ensures { IsLocal (new_app name.now) result }
 {
     Command::new(alloc, name).about(about).after_help(INPUT)
-}
-
-/// A subcommand with one argument more.
-fn with<'a>(command: Command<'a>, arg: Arg<'a>) -> Result<Command<'a>, AllocError>
-    requires command { (fields_of command).has_globals ≡ false }
-    requires arg { arg.global ≡ false }
-    ensures app { IfOk result (λ c. app_of c ≡ with_rule (app_of command.entry) (rule_of arg.entry)) }
-    ensures local { IfOk result (λ c. (fields_of c).has_globals ≡ false) }
-{
-    command.arg(arg)
 }
 
 /// An option `--name VALUE`.

@@ -1,0 +1,5 @@
+-- Each step adds its argument.
+use Rattle.hox_args.proofs.command.draw.Goals as goal
+
+pub returns : goal.returns
+returns c = c.with_arg.ensures _ _ (c.with_arg-draw-2.ensures _ _ (c.with_arg-draw.ensures _ _ c.draw_flags.ensures c.workers.ensures.rule) c.tokens.ensures.rule) c.file.ensures.rule

@@ -1,0 +1,5 @@
+-- Each step adds its argument.
+use Rattle.hox_args.proofs.command.run_bounds.Goals as goal
+
+pub returns : goal.returns
+returns c = c.with_arg.ensures _ _ (c.with_arg-run.ensures _ _ c.run_streams.ensures c.option.ensures.rule) c.workers.ensures.rule

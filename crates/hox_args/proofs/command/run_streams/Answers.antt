@@ -1,0 +1,5 @@
+-- Each step adds its argument.
+use Rattle.hox_args.proofs.command.run_streams.Goals as goal
+
+pub returns : goal.returns
+returns c = c.with_arg.ensures _ _ (c.with_arg-run-2.ensures _ _ (c.with_arg-run.ensures _ _ c.bare.ensures c.tokens.ensures.rule) c.out.ensures.rule) c.list.ensures.rule

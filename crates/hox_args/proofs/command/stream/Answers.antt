@@ -1,0 +1,6 @@
+-- Each step adds its argument.
+use Rattle.hox_args.proofs.command.stream.Goals as goal
+
+pub returns : goal.returns
+returns c =
+    c.with_arg.ensures _ _ (c.with_arg-stream-3.ensures _ _ (c.with_arg-stream-2.ensures _ _ (c.with_arg-stream.ensures _ _ c.bare.ensures c.list.ensures.rule) c.out.ensures.rule) c.quiet.ensures.rule) c.file.ensures.rule
