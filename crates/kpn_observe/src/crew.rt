@@ -223,10 +223,7 @@ pub fn run_by_crew<B: Body, R: Threads + Sync, C: Crew<B>>(
     ensures fault { IfErr result (λ refused. IsOpenFault net.processes (map B.card bodies.items) refused.fault) }
 {
     match Machine::open(alloc, net, bodies) {
-        Ok(machine) => match run_opened(rt, alloc, machine, seats, crew) {
-            Ok(ran) => Ok(ran),
-            Err(refused) => Err(refused),
-        },
+        Ok(machine) => run_opened(rt, alloc, machine, seats, crew),
         Err(refused) => Err(refused),
     }
 }

@@ -129,10 +129,7 @@ pub fn run_watched<B: Body, R: Wait + Clock + Threads + Sync, G: Gate, V: Observ
         Ok(machine) => machine,
         Err(refused) => return Err(not_opened(refused)),
     };
-    match run_machine(rt, alloc, machine, workers, gate, period, observer) {
-        Ok(ran) => Ok(ran),
-        Err(fault) => Err(fault),
-    }
+    run_machine(rt, alloc, machine, workers, gate, period, observer)
 }
 
 /// Whether so many workers may share a run.
