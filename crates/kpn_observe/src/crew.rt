@@ -1,5 +1,5 @@
 //! Runs by threads of a caller's own.
-ghost use Rattle.std.specs.Prelude.{◌≡◌, ◌≢◌, ◌+◌, ◌<◌, ◌≤◌, [], length, map, vec_capacity, Ok, IfOk, IfErr, IfNone, MatchResult, OnOk};
+ghost use Rattle.std.specs.Prelude.{◌≡◌, ◌≢◌, ◌+◌, ◌<◌, ◌≤◌, [], length, map, vec_capacity, Ok, IfOk, IfErr, IfNone, IfSome, MatchResult, OnOk};
 ghost use Rattle.std.specs.List.{sum_by};
 ghost use Rattle.kpn_model.specs.Network.{family_of};
 ghost use Rattle.kpn_model.specs.declared.history.End.{End as EndV};
@@ -121,16 +121,30 @@ impl<E: EntryLedger, O: Ledger> CrewSeat<E, O> {
         ensures over { IfNone result (self.new.overs ≡ 1) }
     {
         for _ in rt.forever() {
-            match self.take(rt, monitor) {
-                Taken::Over(_) => return None,
-                Taken::Task(task) => {
-                    if let Some(finished) = self.answer(rt, monitor, gate, task) {
-                        return Some(finished);
-                    }
-                }
+            if let Some(left) = self.answer_next(rt, monitor, gate) {
+                return left;
             }
         }
         unreachable!()
+    }
+
+    // Takes a task and has it answered. Returns with what to leave: with nothing at the end of the run, or with
+    // the answer if it is refused; and `None` if there is more to do.
+    fn answer_next<B: Body, R: Wait, G: Gate>(
+        &mut self,
+        rt: &R,
+        monitor: &Monitor<B, E, O>,
+        gate: &G,
+    ) -> Option<Option<Finished<B>>>
+        ensures over { IfSome result (λ left. IfNone left (self.new.overs ≡ 1)) }
+    {
+        match self.take(rt, monitor) {
+            Taken::Over(_) => Some(None),
+            Taken::Task(task) => match self.answer(rt, monitor, gate, task) {
+                Some(finished) => Some(Some(finished)),
+                None => None,
+            },
+        }
     }
 
     // Calls a task, asks the gate and commits the answer. Returns the answer if it is refused.

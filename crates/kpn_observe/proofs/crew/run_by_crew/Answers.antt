@@ -1,10 +1,10 @@
 -- The machine is one of this network.
-use Rattle.std.proofs.Common.{◌∙◌, ◌≡◌, ◌≢◌, ap, map, subst, sym}
+use Rattle.std.proofs.Common.{◌∙◌, ◌≡◌, ap, map, subst, sym}
 use Rattle.std.specs.Prelude.{IfOk, IfErr}
 use Rattle.kpn_model.specs.Network.{Network, family_of}
 use Rattle.kpn_laws.specs.RoomOfRun.{TakesLeastRoom}
 use Rattle.kpn_laws.specs.StreamsOfRun.{ApproachLeastSolution}
-use Rattle.kpn_machine.specs.Opening.{cards_of, IsOpenFault}
+use Rattle.kpn_machine.specs.Opening.{cards_of}
 use Rattle.kpn_machine.specs.MachineView.{MachineView}
 use Rattle.kpn_monitor.specs.Kept.{IsClosed}
 use Rattle.kpn_monitor.proofs.Showing.{ok_with}
