@@ -183,10 +183,7 @@ fn run_bodies<B: Body, R: Wait + Clock + Threads + Sync, G: Gate>(
         Ok(machine) => machine,
         Err(refused) => return Err(not_opened(refused)),
     };
-    match run_machine(rt, alloc, machine, workers, gate) {
-        Ok(finish) => Ok(finish),
-        Err(fault) => Err(fault),
-    }
+    run_machine(rt, alloc, machine, workers, gate)
 }
 
 /// The fault of a machine that was not opened.

@@ -1,45 +1,57 @@
 -- The machine is one of this network.
 use Rattle.std.proofs.Common.{◌∙◌, ap, map, subst, sym}
+use Rattle.std.specs.Prelude.{IfOk}
 use Rattle.kpn_model.specs.Network.{Network, family_of}
+use Rattle.kpn_laws.specs.RoomOfRun.{TakesLeastRoom}
+use Rattle.kpn_laws.specs.StreamsOfRun.{ApproachLeastSolution}
 use Rattle.kpn_machine.specs.declared.opening.OpenFault.{OpenFault}
 use Rattle.kpn_machine.specs.Opening.{cards_of, IsOpenFault}
 use Rattle.kpn_machine.specs.MachineView.{MachineView}
+use Rattle.kpn_monitor.proofs.Showing.{ok_with}
 use Rattle.kpn_run.specs.Runs.{IsFinish, StaysWithinCapacities, SparesBudget, IsComparable}
 use Rattle.kpn_run.proofs.running.run_bodies.Goals as goal
 
-pub returns-in-Ok-run_machine-clause-finish : goal.returns-in-Ok-run_machine-clause-finish
-returns-in-Ok-run_machine-clause-finish g c =
-    subst (λ (n : Network). IsFinish (family_of g.B.Kinds.Kinds.start g.B.Kinds.Kinds.answer_of) n c.in-Ok-run_machine.finish) (ap (λ (m : MachineView). m.network) c.in-Ok.ensures.opened) c.in-Ok-run_machine.ensures.finish
+pub returns-clause-finish : goal.returns-clause-finish
+returns-clause-finish g c =
+    subst (λ (n : Network). IfOk c.run_machine.result (IsFinish (family_of g.B.Kinds.Kinds.start g.B.Kinds.Kinds.answer_of) n)) (ap (λ (m : MachineView). m.network) c.in-Ok.ensures.opened) c.run_machine.ensures.finish
 
-pub returns-in-Ok-run_machine-clause-within : goal.returns-in-Ok-run_machine-clause-within
-returns-in-Ok-run_machine-clause-within g c =
-    subst (λ (n : Network). StaysWithinCapacities (family_of g.B.Kinds.Kinds.start g.B.Kinds.Kinds.answer_of) n c.in-Ok-run_machine.finish.machine.history) (ap (λ (m : MachineView). m.network) c.in-Ok.ensures.opened)
-    c.in-Ok-run_machine.ensures.within
+pub returns-clause-within : goal.returns-clause-within
+returns-clause-within g c =
+    subst (λ (n : Network). IfOk c.run_machine.result (λ f. StaysWithinCapacities (family_of g.B.Kinds.Kinds.start g.B.Kinds.Kinds.answer_of) n f.machine.history)) (ap (λ (m : MachineView). m.network) c.in-Ok.ensures.opened) c.run_machine.ensures.within
 
-pub returns-in-Err-run_machine-clause-workers : goal.returns-in-Err-run_machine-clause-workers
-returns-in-Err-run_machine-clause-workers g c = λ n bs is. absurd (c.in-Err-run_machine.ensures.workers n bs is)
+pub returns-clause-budget : goal.returns-clause-budget
+returns-clause-budget g c =
+    subst (λ (n : Network). IfOk c.run_machine.result (λ f. SparesBudget (family_of g.B.Kinds.Kinds.start g.B.Kinds.Kinds.answer_of) n f.cause)) (ap (λ (m : MachineView). m.network) c.in-Ok.ensures.opened) c.run_machine.ensures.budget
 
-pub returns-in-Err-run_machine-clause-open : goal.returns-in-Err-run_machine-clause-open
-returns-in-Err-run_machine-clause-open g c = λ n bs fault is. absurd (c.in-Err-run_machine.ensures.open n bs fault is)
+pub returns-clause-comparable : goal.returns-clause-comparable
+returns-clause-comparable g c =
+    subst (λ (n : Network). IfOk c.run_machine.result (λ f. IsComparable (family_of g.B.Kinds.Kinds.start g.B.Kinds.Kinds.answer_of) n f.machine.history)) (ap (λ (m : MachineView). m.network) c.in-Ok.ensures.opened) c.run_machine.ensures.comparable
 
-pub returns-in-Err-run_machine-clause-memory : goal.returns-in-Err-run_machine-clause-memory
-returns-in-Err-run_machine-clause-memory g c = λ n bs is.
-    let back = c.in-Err-run_machine.ensures.memory n bs is in
+pub returns-clause-room : goal.returns-clause-room
+returns-clause-room g c =
+    subst (λ (n : Network). IfOk c.run_machine.result (λ f. TakesLeastRoom (family_of g.B.Kinds.Kinds.start g.B.Kinds.Kinds.answer_of) n f.machine.history f.machine.state)) (ap (λ (m : MachineView). m.network) c.in-Ok.ensures.opened) c.run_machine.ensures.room
+
+pub returns-clause-streams : goal.returns-clause-streams
+returns-clause-streams g c =
+    subst (λ (n : Network). IfOk c.run_machine.result (λ f. ApproachLeastSolution (family_of g.B.Kinds.Kinds.start g.B.Kinds.Kinds.answer_of) n f.machine.history f.machine.state)) (ap (λ (m : MachineView). m.network) c.in-Ok.ensures.opened) c.run_machine.ensures.streams
+
+pub returns-clause-cards : goal.returns-clause-cards
+returns-clause-cards g c = ok_with c.run_machine.result _ _ (λ f is. c.in-Ok.ensures.cards) c.run_machine.ensures.finish
+
+pub returns-clause-workers : goal.returns-clause-workers
+returns-clause-workers g c = λ n bs is. absurd (c.run_machine.ensures.workers n bs is)
+
+pub returns-clause-open : goal.returns-clause-open
+returns-clause-open g c = λ n bs fault is. absurd (c.run_machine.ensures.open n bs fault is)
+
+pub returns-clause-lost : goal.returns-clause-lost
+returns-clause-lost g c = λ a b is. (c.in-Ok.ensures.cards, c.run_machine.ensures.lost a b is)
+
+pub returns-clause-memory : goal.returns-clause-memory
+returns-clause-memory g c = λ n bs is.
+    let back = c.run_machine.ensures.memory n bs is in
     let opened = c.in-Ok.ensures.opened in
     (back.0 ∙ ap (λ (m : MachineView). m.network) opened, back.1 ∙ ap (λ (m : MachineView). cards_of m.network.processes) opened ∙ sym c.in-Ok.ensures.cards, c.in-Ok.ensures.cards)
-
-pub returns-in-Ok-run_machine-clause-budget : goal.returns-in-Ok-run_machine-clause-budget
-returns-in-Ok-run_machine-clause-budget g c =
-    subst (λ (n : Network). SparesBudget (family_of g.B.Kinds.Kinds.start g.B.Kinds.Kinds.answer_of) n c.in-Ok-run_machine.finish.cause) (ap (λ (m : MachineView). m.network) c.in-Ok.ensures.opened)
-    c.in-Ok-run_machine.ensures.budget
-
-pub returns-in-Ok-run_machine-clause-comparable : goal.returns-in-Ok-run_machine-clause-comparable
-returns-in-Ok-run_machine-clause-comparable g c =
-    subst (λ (n : Network). IsComparable (family_of g.B.Kinds.Kinds.start g.B.Kinds.Kinds.answer_of) n c.in-Ok-run_machine.finish.machine.history) (ap (λ (m : MachineView). m.network) c.in-Ok.ensures.opened)
-    c.in-Ok-run_machine.ensures.comparable
-
-pub returns-in-Err-run_machine-clause-lost : goal.returns-in-Err-run_machine-clause-lost
-returns-in-Err-run_machine-clause-lost g c = λ a b is. (c.in-Ok.ensures.cards, c.in-Err-run_machine.ensures.lost a b is)
 
 pub returns-in-Err-clause-workers : goal.returns-in-Err-clause-workers
 returns-in-Err-clause-workers g c = λ n bs is. absurd (c.not_opened.ensures.workers n bs (cc))
