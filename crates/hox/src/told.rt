@@ -2,7 +2,7 @@
 use crate::messages::{input_name, needed, say_no_memory, say_unread, say_unwritten};
 use hox_execute::{Ends, Pair, Streamed};
 use hox_network::ReadFault;
-use hox_stream::{Finish, Inlet, LONGEST_LINE, LineRefusal, Served};
+use hox_stream::{Finish, Inlet, LONGEST_LINE, LineRefusal, Outlet, Served};
 use kpn_body::Body;
 use kpn_compute::Computes;
 use kpn_flow::Flow;
@@ -41,14 +41,24 @@ fn say_counts<R: Eprint, F: Computes, I: Source, O: Sink>(
     ends: &Ends<'_>,
     served: &Served<F, I, O>,
 ) {
-    for (pair, inlet) in ends.inputs.iter().zip(served.inlets.as_slice()) {
-        say_count(rt, "in", pair.channel, inlet.tokens());
-    }
-    for (pair, outlet) in ends.outputs.iter().zip(served.outlets.as_slice()) {
-        say_count(rt, "out", pair.channel, outlet.tokens());
-    }
+    say_read(rt, ends.inputs.as_slice(), served.inlets.as_slice());
+    say_written(rt, ends.outputs.as_slice(), served.outlets.as_slice());
     let (entries, growths) = (served.flow.entries(), served.flow.growths());
     let _ = eprintln!(rt; "entries {entries} growths {growths}");
+}
+
+/// Says how many tokens were read for each input.
+fn say_read<R: Eprint, I: Source>(rt: &R, inputs: &[Pair<'_>], inlets: &[Inlet<I>]) {
+    for (pair, inlet) in inputs.iter().zip(inlets) {
+        say_count(rt, "in", pair.channel, inlet.tokens());
+    }
+}
+
+/// Says how many tokens were written of each output.
+fn say_written<R: Eprint, O: Sink>(rt: &R, outputs: &[Pair<'_>], outlets: &[Outlet<O>]) {
+    for (pair, outlet) in outputs.iter().zip(outlets) {
+        say_count(rt, "out", pair.channel, outlet.tokens());
+    }
 }
 
 /// Says how many tokens went in by a channel, or out.
