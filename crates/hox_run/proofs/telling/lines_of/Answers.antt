@@ -1,0 +1,6 @@
+-- The text is that of the tokens.
+use Rattle.std.proofs.Common.{rules}
+use Rattle.hox_run.proofs.telling.lines_of.Goals as goal
+
+pub returns : goal.returns
+returns c = search rules
