@@ -1,0 +1,9 @@
+-- The picture is that of the network, or of a run of it.
+use Rattle.std.proofs.Common.{rules}
+use Rattle.hox_draw.proofs.drawing.draw_prepared.Goals as goal
+
+pub returns-then-not-is_run-clause-drawn : goal.returns-then-not-is_run-clause-drawn
+returns-then-not-is_run-clause-drawn g c = search rules
+
+pub returns-in-Ok-clause-drawn : goal.returns-in-Ok-clause-drawn
+returns-in-Ok-clause-drawn g c = search rules
