@@ -36,3 +36,6 @@ loop-done-preserved g c =
       ran = rw (c.history.ensures, grown)
           (ran_on (family_of g.B.Kinds.Kinds.start g.B.Kinds.Kinds.answer_of) c.args.net.now c.args.inputs.now c.args.outputs.now c.args.store.now.state c.loop-done.store.state c.turn.new.store.state c.loop-done.done c.loop-done.grown c.turn.new.store.history c.loop-done.invariant.ran c.turn.ensures.run);
     }
+
+pub returns-clause-told : goal.returns-clause-told
+returns-clause-told g c = tt

@@ -1,5 +1,5 @@
 -- A token that goes out is an event.
-use Rattle.std.proofs.Common.{◌≡◌, drop, map, refl, ap, true}
+use Rattle.std.proofs.Common.{◌≡◌, drop, map, refl, ap, true, arith}
 use Rattle.kpn_model.specs.Network.{family_of}
 use Rattle.kpn_model.specs.Semantics.{tokens, capacity, with_channel}
 use Rattle.kpn_state.specs.StateAndHistory.{StateAndHistory}
@@ -36,3 +36,6 @@ returns-clause-same g c = rw (← c.self.view_is) (record { network = refl; inpu
 
 pub returns-clause-counts : goal.returns-clause-counts
 returns-clause-counts g c = rw (← c.self.view_is) refl
+
+pub drain-token-requires-clause-some : goal.drain-token-requires-clause-some
+drain-token-requires-clause-some g c κs within = omega (arith, c.tokens_and_capacity-held.ensures.tokens)
