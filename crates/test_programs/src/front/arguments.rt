@@ -1,6 +1,8 @@
 //! Command lines, and what they ask for.
 use crate::checks::same;
 use clap::error::ErrorKind;
+use clap::{Arg, ArgMatches, Command};
+use kpn_args::{with_arg, with_subcommand};
 use kpn_execute::{Choice, WordsFault, read_words};
 use std::alloc::{AllocError, Global};
 use std::process::Abort;
@@ -93,4 +95,25 @@ fn shows_c0_or_is_refused(read: &Result<Choice<'_>, WordsFault>) -> bool {
         Err(WordsFault::Parser(error)) => error.kind() == ErrorKind::OutOfMemory,
         _ => false,
     }
+}
+
+/// The command line `music play [TUNE]`, made step by step.
+fn music_command<'a>(alloc: Global) -> Result<Command<'a>, AllocError> {
+    let play = with_arg(Ok(Command::new(alloc, "play")), Arg::new(alloc, "tune"));
+    with_subcommand(Ok(Command::new(alloc, "music")), play)
+}
+
+/// The subcommand that was found, and the tune.
+fn played<'a>(matches: &ArgMatches<'a>) -> Option<(&'a str, Option<&'a str>)> {
+    let (name, entries) = matches.subcommand()?;
+    Some((name, entries.get_str("tune")))
+}
+
+#[test]
+fn steps_make_a_command_line(rt: HostRuntime) {
+    let command = music_command(rt.alloc()).expect(&rt, "no memory");
+    let read = command.try_get_matches_from(["music", "play", "a.mid"].as_slice());
+    let matches = read.expect(&rt, "no matches");
+    let found = played(&matches);
+    same(&rt, "played", found, Some(("play", Some("a.mid"))));
 }
