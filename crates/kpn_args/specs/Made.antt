@@ -8,9 +8,10 @@ use Rattle.clap.specs.declared.builder.command.Command.TheViews.{out-Command}
 abbrev pub IsLocal : App → Command → Type 0
 IsLocal app c = (app_of c ≡ app) × ((out-Command c).has_globals ≡ false)
 
--- unless memory was refused, the command is of this form; and none of its arguments is global
+-- unless memory was refused, the command is of this form
 abbrev pub Makes : {E : Type 0} → App → Result Command E → Type 0
 Makes app made = IfOk made (λ c. app_of c ≡ app)
 
+-- unless memory was refused, the command is of this form, and none of its arguments is global
 abbrev pub MakesLocal : {E : Type 0} → App → Result Command E → Type 0
 MakesLocal app made = IfOk made (IsLocal app)

@@ -1,6 +1,5 @@
 -- What a watched run and its report say.
 use Rattle.std.proofs.Common.{◌≡◌, ℕ, true, List, Option, Some, subst}
-use Rattle.std.specs.Prelude.{Result, Ok, Err, IfErr}
 use Rattle.kpn_model.specs.declared.token.Token.{Token}
 use Rattle.kpn_model.specs.declared.kinds.Card.{Card}
 use Rattle.kpn_model.specs.declared.history.End.{End}
@@ -20,7 +19,3 @@ pub is_final : (kinds : Family) (admits : Card → List ℕ → Option Token →
     → IsFinal kinds s.network s.history s.state cause
 is_final kinds admits s cause faithful ended has =
     record { run = faithful.run; over = over_of kinds s.network cause s.history s.state has (ends_so kinds s.network s.history s.state s.end cause ended faithful.justified) }
-
-pub err_with : {A E : Type 0} (r : Result A E) (P Q : E → Type 0) → ((e : E) → P e → Q e) → IfErr r P → IfErr r Q
-err_with (Ok x) P Q f h = tt
-err_with (Err e) P Q f h = f e h

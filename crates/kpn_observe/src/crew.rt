@@ -1,5 +1,5 @@
 //! Runs by threads of a caller's own.
-ghost use Rattle.std.specs.Prelude.{◌≡◌, ◌≢◌, ◌+◌, ◌<◌, ◌≤◌, [], length, map, vec_capacity, Ok, IfOk, IfErr, IfNone, IfSome, MatchResult, OnOk};
+ghost use Rattle.std.specs.Prelude.{◌≡◌, ◌≢◌, ◌+◌, ◌<◌, ◌≤◌, [], length, map, vec_capacity, Ok, IfOk, IfErr, IfNone, MatchResult, OnOk};
 ghost use Rattle.std.specs.List.{sum_by};
 ghost use Rattle.kpn_model.specs.Network.{family_of};
 ghost use Rattle.kpn_model.specs.declared.history.End.{End as EndV};
@@ -16,11 +16,11 @@ ghost use Rattle.kpn_observe.specs.WatchedReports.{EndSparesBudget};
 
 use crate::running::told_by_laws;
 use crate::watched::WatchedRun;
-use kpn_body::{Body, Finished, Task};
+use kpn_body::{Body, Finished};
 use kpn_machine::{Machine, OpenFault, OpenRefused, Outcome, Stranger};
 use kpn_monitor::{EntryLedger, Monitor, Opening, Seat, Taken};
 use kpn_network::Net;
-use kpn_run::Gate;
+use kpn_run::{Gate, work_with};
 use std::alloc::Global;
 use std::marker::{Brand, Model};
 use std::sync::Wait;
@@ -120,47 +120,7 @@ impl<E: EntryLedger, O: Ledger> CrewSeat<E, O> {
     ) -> Option<Finished<B>>
         ensures over { IfNone result (self.new.overs ≡ 1) }
     {
-        for _ in rt.forever() {
-            if let Some(left) = self.answer_next(rt, monitor, gate) {
-                return left;
-            }
-        }
-        unreachable!()
-    }
-
-    // Takes a task and has it answered. Returns with what to leave: with nothing at the end of the run, or with
-    // the answer if it is refused; and `None` if there is more to do.
-    fn answer_next<B: Body, R: Wait, G: Gate>(
-        &mut self,
-        rt: &R,
-        monitor: &Monitor<B, E, O>,
-        gate: &G,
-    ) -> Option<Option<Finished<B>>>
-        ensures over { IfSome result (λ left. IfNone left (self.new.overs ≡ 1)) }
-    {
-        match self.take(rt, monitor) {
-            Taken::Over(_) => Some(None),
-            Taken::Task(task) => match self.answer(rt, monitor, gate, task) {
-                Some(finished) => Some(Some(finished)),
-                None => None,
-            },
-        }
-    }
-
-    // Calls a task, asks the gate and commits the answer. Returns the answer if it is refused.
-    fn answer<B: Body, R: Wait, G: Gate>(
-        &mut self,
-        rt: &R,
-        monitor: &Monitor<B, E, O>,
-        gate: &G,
-        task: Task<B>,
-    ) -> Option<Finished<B>> {
-        let finished = task.call();
-        gate.before_commit(finished.process());
-        match self.commit(rt, monitor, finished) {
-            Ok(_) => None,
-            Err(Stranger { finished }) => Some(finished),
-        }
+        work_with(rt, monitor, &mut self.seat, gate)
     }
 }
 

@@ -27,6 +27,6 @@ pub use gate::{Gate, Open, Prompt};
 pub use hold_gate::Hold;
 pub use kpn_model::Place;
 pub use kpn_report::{Detail, Growths, Places, Report, Sizes, Steps, Stream, Streams, stream_of};
-pub use own_thread::{Worked, work};
+pub use own_thread::{Worked, work, work_with};
 pub use reporting::report;
 pub use running::{RunFault, run};

@@ -27,16 +27,17 @@ pub fn work<B: Body, E: EntryLedger, O: Ledger, R: Wait, G: Gate>(
     ensures parts { result.seat.parts ≡ seat.parts }
     ensures over { IfNone result.stranger (result.seat.overs ≡ 1) }
 {
-    let stranger = work_with(rt, monitor, gate, &mut seat);
+    let stranger = work_with(rt, monitor, &mut seat, gate);
     Worked { seat, stranger }
 }
 
-// As `work`, with a borrowed seat.
-fn work_with<B: Body, E: EntryLedger, O: Ledger, R: Wait, G: Gate>(
+/// As [`work`], with a borrowed seat: the caller still has it while other threads work with theirs. Returns
+/// the refused answer; if there is none, the seat has met an end. It may wait for other workers.
+pub fn work_with<B: Body, E: EntryLedger, O: Ledger, R: Wait, G: Gate>(
     rt: &R,
     monitor: &Monitor<B, E, O>,
-    gate: &G,
     seat: &mut Seat<E, O>,
+    gate: &G,
 ) -> Option<Finished<B>>
     ensures parts { seat.new.parts ≡ seat.old.parts }
     ensures over { IfNone result (seat.new.overs ≡ 1) }

@@ -10,7 +10,7 @@ use kpn_compute::CardBody;
 use kpn_machine::{Machine, Outcome, Stranger};
 use kpn_monitor::{Closed, EntryLedger, Monitor, Opening, Seat, Taken};
 use kpn_net::{End, Kinds, Net};
-use kpn_run::{Open, Worked, work};
+use kpn_run::{Open, Worked, work, work_with};
 use kpn_watch::{Progress, Watcher};
 use std::alloc::Global;
 use std::process::Abort;
@@ -155,10 +155,10 @@ pub(crate) fn work_counted<B: Body, E: EntryLedger, O: Ledger, R: Wait + Abort>(
 pub(crate) fn work_alone<B: Body, E: EntryLedger, O: Ledger, R: Wait + Abort>(
     rt: &R,
     monitor: &Monitor<B, E, O>,
-    seat: Seat<E, O>,
+    mut seat: Seat<E, O>,
 ) -> Seat<E, O> {
-    let Worked { seat, stranger } = work(rt, monitor, seat, &Open);
-    same(rt, "refused", stranger.is_some(), false);
+    let refused = work_with(rt, monitor, &mut seat, &Open);
+    same(rt, "refused", refused.is_some(), false);
     seat
 }
 

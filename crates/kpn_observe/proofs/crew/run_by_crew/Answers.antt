@@ -1,16 +1,15 @@
 -- The machine is one of this network.
 use Rattle.std.proofs.Common.{◌∙◌, ◌≡◌, ap, map, subst, sym}
 use Rattle.std.specs.Prelude.{IfOk, IfErr}
+use Rattle.std.proofs.lemmas.Result.{IfOk-weaker, IfErr-weaker}
 use Rattle.kpn_model.specs.Network.{Network, family_of}
 use Rattle.kpn_laws.specs.RoomOfRun.{TakesLeastRoom}
 use Rattle.kpn_laws.specs.StreamsOfRun.{ApproachLeastSolution}
 use Rattle.kpn_machine.specs.Opening.{cards_of}
 use Rattle.kpn_machine.specs.MachineView.{MachineView}
 use Rattle.kpn_monitor.specs.Kept.{IsClosed}
-use Rattle.kpn_monitor.proofs.Showing.{ok_with}
 use Rattle.kpn_run.specs.Runs.{StaysWithinCapacities, IsComparable}
 use Rattle.kpn_observe.specs.WatchedReports.{EndSparesBudget}
-use Rattle.kpn_observe.proofs.WatchedReports.{err_with}
 use Rattle.kpn_observe.proofs.crew.run_by_crew.Goals as goal
 
 pub returns-in-Ok-clause-closed : goal.returns-in-Ok-clause-closed
@@ -38,7 +37,7 @@ returns-in-Ok-clause-streams g c =
     subst (λ (n : Network). IfOk c.run_opened.result (λ r. ApproachLeastSolution (family_of g.B.Kinds.Kinds.start g.B.Kinds.Kinds.answer_of) n r.machine.history r.machine.state)) (ap (λ (m : MachineView). m.network) c.in-Ok.ensures.opened) c.run_opened.ensures.streams
 
 pub returns-in-Ok-clause-cards : goal.returns-in-Ok-clause-cards
-returns-in-Ok-clause-cards g c = ok_with c.run_opened.result _ _ (λ r is. c.in-Ok.ensures.cards) c.run_opened.ensures.closed
+returns-in-Ok-clause-cards g c = IfOk-weaker c.run_opened.result _ _ (λ r is. c.in-Ok.ensures.cards) c.run_opened.ensures.closed
 
 pub returns-in-Ok-clause-net_back : goal.returns-in-Ok-clause-net_back
 returns-in-Ok-clause-net_back g c = subst (λ (n : Network). IfErr c.run_opened.result (λ refused. refused.net ≡ n)) (ap (λ (m : MachineView). m.network) c.in-Ok.ensures.opened) c.run_opened.ensures.net_back
@@ -49,7 +48,7 @@ returns-in-Ok-clause-cards_back g c =
     subst (λ cards. IfErr c.run_opened.result (λ refused. map g.B.Body.card refused.bodies.items ≡ cards)) same c.run_opened.ensures.cards_back
 
 pub returns-in-Ok-clause-bodies_back : goal.returns-in-Ok-clause-bodies_back
-returns-in-Ok-clause-bodies_back g c = err_with c.run_opened.result _ _ (λ refused is. λ other. absurd (other is)) c.run_opened.ensures.fault
+returns-in-Ok-clause-bodies_back g c = IfErr-weaker c.run_opened.result _ _ (λ refused is. λ other. absurd (other is)) c.run_opened.ensures.fault
 
 pub returns-in-Ok-clause-fault : goal.returns-in-Ok-clause-fault
-returns-in-Ok-clause-fault g c = err_with c.run_opened.result _ _ (λ refused is. rw is c.in-Ok.ensures.cards) c.run_opened.ensures.fault
+returns-in-Ok-clause-fault g c = IfErr-weaker c.run_opened.result _ _ (λ refused is. rw is c.in-Ok.ensures.cards) c.run_opened.ensures.fault

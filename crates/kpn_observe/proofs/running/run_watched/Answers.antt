@@ -1,6 +1,7 @@
 -- The machine is one of this network.
 use Rattle.std.proofs.Common.{◌∙◌, ap, map, subst, sym}
 use Rattle.std.specs.Prelude.{IfOk}
+use Rattle.std.proofs.lemmas.Result.{IfOk-weaker}
 use Rattle.kpn_model.specs.Network.{Network, family_of}
 use Rattle.kpn_laws.specs.RoomOfRun.{TakesLeastRoom}
 use Rattle.kpn_laws.specs.StreamsOfRun.{ApproachLeastSolution}
@@ -8,7 +9,6 @@ use Rattle.kpn_machine.specs.declared.opening.OpenFault.{OpenFault}
 use Rattle.kpn_machine.specs.Opening.{cards_of, IsOpenFault}
 use Rattle.kpn_machine.specs.MachineView.{MachineView}
 use Rattle.kpn_monitor.specs.Kept.{IsClosed}
-use Rattle.kpn_monitor.proofs.Showing.{ok_with}
 use Rattle.kpn_run.specs.Runs.{StaysWithinCapacities, IsComparable}
 use Rattle.kpn_observe.specs.WatchedReports.{EndSparesBudget}
 use Rattle.kpn_observe.proofs.running.run_watched.Goals as goal
@@ -38,7 +38,7 @@ returns-clause-streams g c =
     subst (λ (n : Network). IfOk c.run_machine.result (λ r. ApproachLeastSolution (family_of g.B.Kinds.Kinds.start g.B.Kinds.Kinds.answer_of) n r.machine.history r.machine.state)) (ap (λ (m : MachineView). m.network) c.in-Ok.ensures.opened) c.run_machine.ensures.streams
 
 pub returns-clause-cards : goal.returns-clause-cards
-returns-clause-cards g c = ok_with c.run_machine.result _ _ (λ r is. c.in-Ok.ensures.cards) c.run_machine.ensures.closed
+returns-clause-cards g c = IfOk-weaker c.run_machine.result _ _ (λ r is. c.in-Ok.ensures.cards) c.run_machine.ensures.closed
 
 pub returns-clause-workers : goal.returns-clause-workers
 returns-clause-workers g c = λ n bs is. absurd (c.run_machine.ensures.workers n bs is)

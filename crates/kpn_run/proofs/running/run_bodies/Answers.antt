@@ -1,13 +1,13 @@
 -- The machine is one of this network.
 use Rattle.std.proofs.Common.{◌∙◌, ap, map, subst, sym}
 use Rattle.std.specs.Prelude.{IfOk}
+use Rattle.std.proofs.lemmas.Result.{IfOk-weaker}
 use Rattle.kpn_model.specs.Network.{Network, family_of}
 use Rattle.kpn_laws.specs.RoomOfRun.{TakesLeastRoom}
 use Rattle.kpn_laws.specs.StreamsOfRun.{ApproachLeastSolution}
 use Rattle.kpn_machine.specs.declared.opening.OpenFault.{OpenFault}
 use Rattle.kpn_machine.specs.Opening.{cards_of, IsOpenFault}
 use Rattle.kpn_machine.specs.MachineView.{MachineView}
-use Rattle.kpn_monitor.proofs.Showing.{ok_with}
 use Rattle.kpn_run.specs.Runs.{IsFinish, StaysWithinCapacities, SparesBudget, IsComparable}
 use Rattle.kpn_run.proofs.running.run_bodies.Goals as goal
 
@@ -36,7 +36,7 @@ returns-clause-streams g c =
     subst (λ (n : Network). IfOk c.run_machine.result (λ f. ApproachLeastSolution (family_of g.B.Kinds.Kinds.start g.B.Kinds.Kinds.answer_of) n f.machine.history f.machine.state)) (ap (λ (m : MachineView). m.network) c.in-Ok.ensures.opened) c.run_machine.ensures.streams
 
 pub returns-clause-cards : goal.returns-clause-cards
-returns-clause-cards g c = ok_with c.run_machine.result _ _ (λ f is. c.in-Ok.ensures.cards) c.run_machine.ensures.finish
+returns-clause-cards g c = IfOk-weaker c.run_machine.result _ _ (λ f is. c.in-Ok.ensures.cards) c.run_machine.ensures.finish
 
 pub returns-clause-workers : goal.returns-clause-workers
 returns-clause-workers g c = λ n bs is. absurd (c.run_machine.ensures.workers n bs is)

@@ -2,11 +2,12 @@
 use Rattle.std.proofs.Common.{subst}
 use Rattle.kpn_model.specs.Network.{family_of}
 use Rattle.std.specs.Prelude.{IfOk}
+use Rattle.std.proofs.lemmas.Result.{IfOk-weaker}
 use Rattle.kpn_model.specs.Semantics.{State}
 use Rattle.kpn_model.specs.Determinacy.{IsRun}
 use Rattle.kpn_model.specs.Endings.{MayStand}
 use Rattle.kpn_monitor.specs.Views.{UnderLock}
-use Rattle.kpn_monitor.proofs.Showing.{ok_with, shown_run}
+use Rattle.kpn_monitor.proofs.Showing.{shown_run}
 use Rattle.kpn_monitor.proofs.guarded.Guarded.watch.Goals as goal
 
 pub returns-clause-run : goal.returns-clause-run
@@ -15,4 +16,4 @@ returns-clause-run g c =
     let net = g.E.EntryLedger.net in
     let i = c.self.inside in
     subst (λ (h : UnderLock). IfOk c.watch.result (λ w. (M : State) × IsRun kinds net w.entries M × MayStand kinds net w.entries M h.machine.end)) c.self.view_is
-    (ok_with c.watch.result _ _ (λ w is. shown_run kinds g.B.Kinds.Kinds.admits net i.machine g.E.EntryLedger.board i.publisher w c.self.invariant.0.network c.assure_faithful.ensures.faithful c.self.invariant.1 is) c.watch.ensures.seen)
+    (IfOk-weaker c.watch.result _ _ (λ w is. shown_run kinds g.B.Kinds.Kinds.admits net i.machine g.E.EntryLedger.board i.publisher w c.self.invariant.0.network c.assure_faithful.ensures.faithful c.self.invariant.1 is) c.watch.ensures.seen)
