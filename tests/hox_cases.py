@@ -6,7 +6,7 @@ import re
 
 import hox_rules
 import networks
-from hox_rules import MAY_BE_NEGATIVE, MOST_TOKENS, Request, Written, check_of, outcomes, prepared
+from hox_rules import MAY_BE_NEGATIVE, Request, Written, check_of, outcomes, prepared
 from interpreter import CEILING, GREATEST_BUDGET, SIGNALS, WORD, Network, brought, token_text
 from networks import pick, tables
 from program import Program

@@ -2,7 +2,7 @@
 returns it, with exactly the keys that its text is to have."""
 import copy
 
-from interpreter import CEILING, GREATEST_BUDGET, KINDS, Network, load, Refused
+from interpreter import CEILING, GREATEST_BUDGET, KINDS, Network, load
 
 PROCESSES = 64
 GREATEST = 2 ** 63 - 1
