@@ -1,6 +1,7 @@
 //! What would do for a refused description, and for a name that no channel has.
 ghost use Rattle.std.specs.Prelude.{◌≤◌, length};
 
+use crate::messages::place_of;
 use hox_network::{AllKinds, KINDS, sketch_by_ports};
 use kpn_model::{Kinds, Text};
 use kpn_net::faults::process_named;
@@ -79,10 +80,13 @@ fn say_bounds_meant<R: Eprint>(rt: &R, file: &str, process: &ProcessSketch) {
     if *low <= *high {
         return;
     }
-    let _ = match file {
-        "-" => { eprintln!(rt; "hox: did you mean [{high}, {low}] by [{low}, {high}]?") }
-        file => { eprintln!(rt; "hox: {file}: did you mean [{high}, {low}] by [{low}, {high}]?") }
-    };
+    say_turned(rt, file, *low, *high);
+}
+
+/// Says that these bounds likely stand the other way round.
+fn say_turned<R: Eprint>(rt: &R, file: &str, low: i64, high: i64) {
+    let (place, colon) = place_of(file);
+    let _ = eprintln!(rt; "hox: {place}{colon}did you mean [{high}, {low}] by [{low}, {high}]?");
 }
 
 /// Says which process was likely meant, if this is the name of none.
@@ -143,10 +147,8 @@ fn say_part<R: Eprint>(rt: &R, before: &str, channel: &str) {
 
 /// Says which name was likely meant.
 fn say_near<R: Eprint>(rt: &R, file: &str, name: &str, near: &str) {
-    let _ = match file {
-        "-" => eprintln!(rt; "hox: did you mean {near} by {name}?"),
-        file => eprintln!(rt; "hox: {file}: did you mean {near} by {name}?"),
-    };
+    let (place, colon) = place_of(file);
+    let _ = eprintln!(rt; "hox: {place}{colon}did you mean {near} by {name}?");
 }
 
 /// Whether one name becomes the other when a letter is put in, left out or changed, or two neighbours change

@@ -14,8 +14,9 @@ use crate::host::Host;
 use crate::messages::{say_no_memory, say_stop};
 use crate::progress::ProgressLine;
 use crate::streaming::stream_asked;
-use hox_execute::{Outcome, execute};
+use hox_execute::{Outcome, Stop, execute};
 use hox_network::AllKinds;
+use std::alloc::AllocError;
 use std::io::IsTerminal;
 use std::process::ExitCode;
 use std::rt::{Clock, Env, Files};
@@ -61,10 +62,19 @@ fn status_by_texts<R: Files + Input + Print + Eprint + AllocGlobal + Wait + Cloc
     let mut host = Host::new(rt, &line);
     let outcome = execute::<AllKinds, _, _, _>(rt, rt.alloc(), &mut host, texts, &line);
     line.clear();
+    status_after(rt, &host, &outcome)
+}
+
+/// Runs the stream that is still to be run, or says why nothing was done, and returns the exit status.
+fn status_after<R: Files + Input + Print + Eprint + AllocGlobal>(
+    rt: &R,
+    host: &Host<'_, R>,
+    outcome: &Result<Outcome<'_>, Stop<'_>>,
+) -> u8 {
     match outcome {
         Ok(Outcome::Exits(status)) => status.code(),
-        Ok(Outcome::Streams(stream)) => stream_asked(rt, &host, &stream),
-        Err(stop) => say_stop(rt, &stop),
+        Ok(Outcome::Streams(stream)) => stream_asked(rt, host, stream),
+        Err(stop) => say_stop(rt, stop),
     }
 }
 
@@ -75,10 +85,9 @@ fn arguments_of<R: Env + AllocGlobal>(rt: &R) -> io::Result<Vec<String>> {
 }
 
 /// The same as slices.
-fn texts_of<'a>(rt: &impl AllocGlobal, arguments: &'a Vec<String>) -> io::Result<Vec<&'a str>> {
-    let mut texts = Vec::with_capacity(rt.alloc(), arguments.len())?;
-    for argument in arguments {
-        texts.push(argument.as_str())?;
-    }
-    Ok(texts)
+fn texts_of<'a>(
+    rt: &impl AllocGlobal,
+    arguments: &'a Vec<String>,
+) -> Result<Vec<&'a str>, AllocError> {
+    arguments.iter().map(String::as_str).collect(rt.alloc())
 }

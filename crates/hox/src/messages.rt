@@ -111,18 +111,20 @@ fn say_fault_of<R: Eprint + AllocGlobal>(rt: &R, file: &str, text: &[u8], fault:
 
 /// Says this of the description in this file, or on standard input.
 pub(crate) fn say_of<R: Eprint>(rt: &R, file: &str, message: &str) {
-    let _ = match file {
-        "-" => eprintln!(rt; "hox: {message}"),
-        file => eprintln!(rt; "hox: {file}: {message}"),
-    };
+    let (place, colon) = place_of(file);
+    let _ = eprintln!(rt; "hox: {place}{colon}{message}");
+}
+
+/// What a message on the description in this file begins with: the file's name and a colon, or nothing for standard
+/// input.
+pub(crate) fn place_of(file: &str) -> (&str, &str) {
+    if file == "-" { ("", "") } else { (file, ": ") }
 }
 
 /// Says the fault of the description in this file, or on standard input.
 fn say_plain<R: Eprint>(rt: &R, file: &str, fault: NetFault) {
-    let _ = match file {
-        "-" => eprintln!(rt; "hox: {fault}"),
-        file => eprintln!(rt; "hox: {file}: {fault}"),
-    };
+    let (place, colon) = place_of(file);
+    let _ = eprintln!(rt; "hox: {place}{colon}{fault}");
 }
 
 /// Says that a text of an option names no file.
@@ -188,17 +190,8 @@ pub(crate) fn needed(fault: LineFault) -> &'static str {
 
 /// The line of a text with this number, counted from 1.
 fn line_of(bytes: &[u8], number: usize) -> &str {
-    let Ok(text) = str::from_utf8(bytes) else {
-        return "";
-    };
-    let mut left = number;
-    for line in text.split('\n') {
-        if left <= 1 {
-            return line;
-        }
-        left -= 1;
-    }
-    ""
+    let mut lines = str::from_utf8(bytes).unwrap_or("").split('\n');
+    lines.nth(number.saturating_sub(1)).unwrap_or("")
 }
 
 /// How a file that is read is named: `-` is standard input.

@@ -75,13 +75,21 @@ impl<'a, R: Clock + Eprint + Sync> Progress for ProgressLine<'a, R> {
             ready,
         } = so_far;
         let a_second = entries.saturating_mul(1000) / millis.max(1);
-        let _ = match ready {
-            Some(ready) => eprint!(self.rt;
-                "{CLEAR}{entries} entries, {a_second} a second, {growths} growths, {ready} ready"
-            ),
-            None => eprint!(self.rt;
-                "{CLEAR}{entries} entries, {a_second} a second, {growths} growths"
-            ),
-        };
+        match ready {
+            Some(ready) => say_ready(self.rt, entries, a_second, growths, ready),
+            None => say_entries(self.rt, entries, a_second, growths),
+        }
     }
+}
+
+/// Writes the line over the one before, with how many processes are ready.
+fn say_ready<R: Eprint>(rt: &R, entries: u64, a_second: u64, growths: u64, ready: usize) {
+    let _ = eprint!(rt;
+        "{CLEAR}{entries} entries, {a_second} a second, {growths} growths, {ready} ready"
+    );
+}
+
+/// The same, where that is not known.
+fn say_entries<R: Eprint>(rt: &R, entries: u64, a_second: u64, growths: u64) {
+    let _ = eprint!(rt; "{CLEAR}{entries} entries, {a_second} a second, {growths} growths");
 }

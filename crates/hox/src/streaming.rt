@@ -20,9 +20,10 @@ pub(crate) fn stream_asked<R: Files + Input + Print + Eprint + AllocGlobal>(
     host: &Host<'_, R>,
     choice: &StreamChoice<'_>,
 ) -> u8 {
-    match stream::<AllKinds, _>(rt.alloc(), host, choice) {
-        Ok(streamed) => say_told(rt, &streamed, choice.quiet),
-        Err(stop) => say_stream_stop(rt, &stop),
+    let streamed = stream::<AllKinds, _>(rt.alloc(), host, choice);
+    match &streamed {
+        Ok(streamed) => say_told(rt, streamed, choice.quiet),
+        Err(stop) => say_stream_stop(rt, stop),
     }
 }
 
