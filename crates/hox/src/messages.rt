@@ -11,7 +11,7 @@ use kpn_message::{message_of, messages_of_sketch};
 use kpn_model::limits::{CEILING, GREATEST_HIGH_BUDGET, HIGH_CEILING};
 use kpn_net::NetFault;
 use kpn_tokens::LineFault;
-use std::{io, str};
+use std::str;
 
 /// Says why what the arguments ask for is not done, and returns the exit status.
 pub(crate) fn say_stop<R: Print + Eprint + AllocGlobal>(rt: &R, stop: &Stop<'_>) -> u8 {
@@ -33,11 +33,7 @@ fn say_fault<R: Eprint + AllocGlobal>(rt: &R, file: &str, asked: &Asked<'_>, fau
     match fault {
         Fault::Description(refused) => say_refused(rt, file, refused),
         Fault::Tokens(stop) => say_file_fault(rt, asked, *stop),
-        Fault::Budget(greatest) => {
-            let _ = eprintln!(rt;
-                "hox: --budget must be 1 to {greatest}; in version 2 it may be {GREATEST_HIGH_BUDGET}"
-            );
-        }
+        Fault::Budget(greatest) => say_budget(rt, *greatest),
         Fault::NoHolder(..) | Fault::NoShown(..) | Fault::NoOutput(..) => {
             say_unknown(rt, &asked.request, fault);
         }
@@ -48,6 +44,13 @@ fn say_fault<R: Eprint + AllocGlobal>(rt: &R, file: &str, asked: &Asked<'_>, fau
             let _ = eprintln!(rt; "hox: a worker's answer was refused, and the run was given up");
         }
     }
+}
+
+/// Says which budgets there are, to this one.
+fn say_budget<R: Eprint>(rt: &R, greatest: u64) {
+    let _ = eprintln!(rt;
+        "hox: --budget must be 1 to {greatest}; in version 2 it may be {GREATEST_HIGH_BUDGET}"
+    );
 }
 
 /// Says that no channel has the name that this fault of the request is about.
@@ -143,31 +146,38 @@ fn say_file_fault<R: Eprint>(rt: &R, asked: &Asked<'_>, stop: PresetFault) {
         return;
     };
     let file = input_name(pair.file);
-    let _ = match stop.fault {
-        FileFault::NoText => eprintln!(rt; "hox: {file} is not UTF-8"),
-        FileFault::TooMany { most } if most == CEILING as usize => eprintln!(rt;
-            "hox: {file} has more than {most} tokens; version = 2 of the description allows {HIGH_CEILING}"
-        ),
-        FileFault::TooMany { most } => eprintln!(rt;
-            "hox: {file} has more than {most} tokens, and no channel may hold more"
-        ),
+    match stop.fault {
+        FileFault::NoText => say_of_file(rt, file, "is not UTF-8"),
+        FileFault::TooMany { most } => say_too_many(rt, file, most),
         FileFault::Line { number, fault } => {
             let text = line_in(&asked.request, stop.file, number);
-            say_line(rt, file, number, text, needed(fault))
+            say_line(rt, file, number, text, needed(fault));
         }
-        FileFault::NoChannel | FileFault::Memory => eprintln!(rt; "hox: memory was refused"),
+        FileFault::NoChannel | FileFault::Memory => {
+            say_no_memory(rt);
+        }
+    }
+}
+
+/// Says this of a file, or of standard input or output.
+fn say_of_file<R: Eprint>(rt: &R, file: &str, what: &str) {
+    let _ = eprintln!(rt; "hox: {file} {what}");
+}
+
+/// Says that a file has more tokens than this, which is as many as a channel may hold.
+fn say_too_many<R: Eprint>(rt: &R, file: &str, most: usize) {
+    let _ = if most == CEILING as usize {
+        eprintln!(rt;
+            "hox: {file} has more than {most} tokens; version = 2 of the description allows {HIGH_CEILING}"
+        )
+    } else {
+        eprintln!(rt; "hox: {file} has more than {most} tokens, and no channel may hold more")
     };
 }
 
 /// Says what a line of a file of tokens is.
-fn say_line<R: Eprint>(
-    rt: &R,
-    file: &str,
-    number: usize,
-    line: &str,
-    what: &str,
-) -> io::Result<()> {
-    eprintln!(rt; "hox: line {number} of {file}: {line:?} is {what}")
+fn say_line<R: Eprint>(rt: &R, file: &str, number: usize, line: &str, what: &str) {
+    let _ = eprintln!(rt; "hox: line {number} of {file}: {line:?} is {what}");
 }
 
 /// The line with this number, counted from 1, of the file of tokens at this place.
@@ -202,17 +212,24 @@ pub(crate) fn input_name(file: &str) -> &str {
 /// Says that a file of tokens could not be read.
 pub(crate) fn say_unread<R: Eprint>(rt: &R, file: &str, fault: ReadFault) {
     let file = input_name(file);
-    let _ = match fault {
-        ReadFault::TooLong => { eprintln!(rt; "hox: {file} has more than {LONGEST_FILE} bytes") }
-        ReadFault::Failed => eprintln!(rt; "hox: {file} could not be read"),
-        ReadFault::Memory => eprintln!(rt; "hox: memory was refused"),
-    };
+    match fault {
+        ReadFault::TooLong => say_too_long(rt, file),
+        ReadFault::Failed => say_of_file(rt, file, "could not be read"),
+        ReadFault::Memory => {
+            say_no_memory(rt);
+        }
+    }
+}
+
+/// Says that a file is longer than a file may be.
+fn say_too_long<R: Eprint>(rt: &R, file: &str) {
+    let _ = eprintln!(rt; "hox: {file} has more than {LONGEST_FILE} bytes");
 }
 
 /// Says that a file, or standard output, could not be written.
 pub(crate) fn say_unwritten<R: Eprint>(rt: &R, file: &str) {
     let file = if file == "-" { "standard output" } else { file };
-    let _ = eprintln!(rt; "hox: {file} could not be written");
+    say_of_file(rt, file, "could not be written");
 }
 
 /// Says that memory was refused, and returns the exit status.

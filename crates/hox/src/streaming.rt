@@ -20,30 +20,29 @@ pub(crate) fn stream_asked<R: Files + Input + Print + Eprint + AllocGlobal>(
     host: &Host<'_, R>,
     choice: &StreamChoice<'_>,
 ) -> u8 {
-    let streamed = stream::<AllKinds, _>(rt.alloc(), host, choice);
-    match &streamed {
-        Ok(streamed) => say_told(rt, streamed, choice.quiet),
+    match stream::<AllKinds, _>(rt.alloc(), host, choice) {
+        Ok(streamed) => say_told(rt, &streamed, choice.quiet),
         Err(stop) => say_stream_stop(rt, stop),
     }
 }
 
 /// Says why a stream is not run, and returns the exit status.
-fn say_stream_stop<R: Print + Eprint + AllocGlobal>(rt: &R, stop: &StreamStop<'_>) -> u8 {
+fn say_stream_stop<R: Print + Eprint + AllocGlobal>(rt: &R, stop: StreamStop<'_>) -> u8 {
     match stop {
-        StreamStop::Asked(stop) => say_stop(rt, stop),
+        StreamStop::Asked(stop) => say_stop(rt, &stop),
         StreamStop::OutputTwice => say_output_named_twice(rt),
-        StreamStop::Refused { file, refused } => say_description(rt, *file, refused),
+        StreamStop::Refused { file, refused } => say_description(rt, file, &refused),
         StreamStop::Unopened {
             ends,
             channels,
             fault,
-        } => say_fault(rt, ends, channels.as_slice(), fault),
+        } => say_fault(rt, &ends, channels.as_slice(), &fault),
         StreamStop::Unread { file } => {
-            say_unread(rt, *file, ReadFault::Failed);
+            say_unread(rt, file, ReadFault::Failed);
             Status::Refused.code()
         }
         StreamStop::Unwritten { file } => {
-            say_unwritten(rt, *file);
+            say_unwritten(rt, file);
             Status::WriteFailed.code()
         }
     }
@@ -101,19 +100,30 @@ fn say_name_fault<R: Eprint>(
         }
         NameFault::Busy(k, process) => {
             let (name, process) = (name_at(pairs, *k), process.as_str());
-            let _ = if is_fed {
-                eprintln!(rt;
-                    "hox: --in {name}: the writer of that channel, {process}, writes to it itself; let its kind be input, or input_flags"
-                )
+            if is_fed {
+                say_writer(rt, name, process)
             } else {
-                eprintln!(rt;
-                    "hox: --out {name}: the reader of that channel, {process}, takes its tokens; let a copy write them also to a channel that a process of kind drain, drain_flags or sink reads"
-                )
-            };
-            Status::WrongArguments.code()
+                say_reader(rt, name, process)
+            }
         }
         NameFault::Memory => say_no_memory(rt),
     }
+}
+
+/// Says that a process writes itself to the channel that should be fed, and returns the exit status.
+fn say_writer<R: Eprint>(rt: &R, name: &str, process: &str) -> u8 {
+    let _ = eprintln!(rt;
+        "hox: --in {name}: the writer of that channel, {process}, writes to it itself; let its kind be input, or input_flags"
+    );
+    Status::WrongArguments.code()
+}
+
+/// Says that a process reads the channel that should be drained, and returns the exit status.
+fn say_reader<R: Eprint>(rt: &R, name: &str, process: &str) -> u8 {
+    let _ = eprintln!(rt;
+        "hox: --out {name}: the reader of that channel, {process}, takes its tokens; let a copy write them also to a channel that a process of kind drain, drain_flags or sink reads"
+    );
+    Status::WrongArguments.code()
 }
 
 /// The name of the channel of the pair at this place.
