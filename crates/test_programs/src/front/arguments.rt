@@ -116,4 +116,5 @@ fn steps_make_a_command_line(rt: HostRuntime) {
     let matches = read.expect(&rt, "no matches");
     let found = played(&matches);
     same(&rt, "played", found, Some(("play", Some("a.mid"))));
+    drop(matches);
 }
