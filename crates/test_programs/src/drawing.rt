@@ -1,11 +1,11 @@
 //! Worked pictures, and worked command lines that ask for them.
-ghost use Rattle.std.specs.Prelude.{◌≡◌, ◌≤◌, IfSome};
+ghost use Rattle.std.specs.Prelude.{◌≤◌, IfSome};
 
 use crate::checks::same;
+use crate::samples::{plain, with_tokens};
 use hox_args::{Choice, Direction, DrawChoice, WordsFault, read_words};
 use hox_draw::draw;
-use hox_network::{AllKinds, Fault, Request, TokenFile};
-use kpn_net::{Listed, Text};
+use hox_network::{AllKinds, Fault, Request};
 use std::alloc::{AllocError, Global};
 use std::process::Abort;
 use std::rt::Clock;
@@ -40,19 +40,6 @@ channel = [
     { name = "c3", from = "cp", out = 1, to = "snk" },
 ]
 "#;
-
-/// What is asked for without a file of tokens.
-fn plain(alloc: Global, workers: usize) -> Request
-    ensures { result.workers ≡ workers }
-{
-    Request {
-        workers,
-        budget: None,
-        tokens: Listed::new(Vec::new(alloc)),
-        show: Listed::new(Vec::new(alloc)),
-        outputs: Listed::new(Vec::new(alloc)),
-    }
-}
 
 /// The picture of a description of a network, to the right: of the network, or of its run. Of one that is
 /// refused, the exit status and the number of its fault.
@@ -185,32 +172,9 @@ const SAMPLES_LINES: &str = r##"  label="finished (terminated)";
 }
 "##;
 
-/// What is asked for: channel x holds 7 and 8 at first.
-fn with_samples<R: AllocGlobal + Abort>(rt: &R) -> Request
-    ensures { result.workers ≡ 1 }
-{
-    let alloc = rt.alloc();
-    let name = String::from_str(alloc, "x").expect(rt, "no memory");
-    let bytes = Vec::from_slice(alloc, b"7\n8\n").expect(rt, "no memory");
-    let mut files = Vec::new(alloc);
-    files
-        .push(TokenFile {
-            channel: Text::new(name),
-            text: Listed::new(bytes),
-        })
-        .expect(rt, "no memory");
-    Request {
-        workers: 1,
-        budget: None,
-        tokens: Listed::new(files),
-        show: Listed::new(Vec::new(alloc)),
-        outputs: Listed::new(Vec::new(alloc)),
-    }
-}
-
 #[test]
 fn draws_what_a_file_says(rt: HostRuntime) {
-    let request = with_samples(&rt);
+    let request = with_tokens(&rt, rt.alloc(), "7\n8\n", 1);
     let whole = drawn(&rt, SAMPLES_LINES);
     let told = told(&rt, SAMPLES, &request, true);
     same(&rt, "samples", told.as_str(), whole.as_str());

@@ -73,24 +73,46 @@ fn texts_of<R: Abort>(rt: &R, alloc: Global, texts: &[&str]) -> Listed<Text> {
     Listed::new(own)
 }
 
-/// What is asked for: channel x has these tokens, and channel y is wanted.
-fn asked<R: Abort>(rt: &R, alloc: Global, tokens: &str, workers: usize) -> Request
+/// What is asked for without a file of tokens.
+pub(crate) fn plain(alloc: Global, workers: usize) -> Request
     ensures { result.workers ≡ workers }
 {
-    let mut files = Vec::new(alloc);
-    let bytes = Vec::from_slice(alloc, tokens.as_bytes()).expect(rt, "no memory");
-    let file = TokenFile {
-        channel: text_of(rt, alloc, "x"),
-        text: Listed::new(bytes),
-    };
-    files.push(file).expect(rt, "no memory");
     Request {
         workers,
         budget: None,
-        tokens: Listed::new(files),
+        tokens: Listed::new(Vec::new(alloc)),
         show: Listed::new(Vec::new(alloc)),
-        outputs: texts_of(rt, alloc, &["y"]),
+        outputs: Listed::new(Vec::new(alloc)),
     }
+}
+
+/// A file of tokens for a channel.
+fn file_of<R: Abort>(rt: &R, alloc: Global, channel: &str, tokens: &str) -> TokenFile {
+    let bytes = Vec::from_slice(alloc, tokens.as_bytes()).expect(rt, "no memory");
+    TokenFile {
+        channel: text_of(rt, alloc, channel),
+        text: Listed::new(bytes),
+    }
+}
+
+/// What is asked for: channel x has these tokens.
+pub(crate) fn with_tokens<R: Abort>(rt: &R, alloc: Global, tokens: &str, workers: usize) -> Request
+    ensures { result.workers ≡ workers }
+{
+    let mut request = plain(alloc, workers);
+    let file = file_of(rt, alloc, "x", tokens);
+    request.tokens.push(file).expect(rt, "no memory");
+    request
+}
+
+/// The same, and channel y is wanted.
+fn asked<R: Abort>(rt: &R, alloc: Global, tokens: &str, workers: usize) -> Request
+    ensures { result.workers ≡ workers }
+{
+    let mut request = with_tokens(rt, alloc, tokens, workers);
+    let wanted = text_of(rt, alloc, "y");
+    request.outputs.push(wanted).expect(rt, "no memory");
+    request
 }
 
 /// What is told of the run of a description, which may not be refused.
@@ -172,13 +194,9 @@ impl Progress for Listener {
 fn shown<R: Abort>(rt: &R, alloc: Global, workers: usize) -> Request
     ensures { result.workers ≡ workers }
 {
-    Request {
-        workers,
-        budget: None,
-        tokens: Listed::new(Vec::new(alloc)),
-        show: texts_of(rt, alloc, &["a", "a"]),
-        outputs: Listed::new(Vec::new(alloc)),
-    }
+    let mut request = plain(alloc, workers);
+    request.show = texts_of(rt, alloc, &["a", "a"]);
+    request
 }
 
 /// Runs the process that goes on for ever by so many workers until it is cut, and compares what is told. Returns
@@ -254,9 +272,13 @@ fn a_network_is_run_by_two(rt: HostRuntime) {
 /// Compares these names with those of the two channels.
 fn are_x_and_y<R: Abort>(rt: &R, row: &str, names: &[Text]) {
     same(rt, row, names.len(), 2);
-    for (name, due) in names.iter().zip(["x", "y"].iter()) {
-        same(rt, row, name.as_str(), *due);
-    }
+    same(rt, row, name_at(names, 0), Some("x"));
+    same(rt, row, name_at(names, 1), Some("y"));
+}
+
+/// One of some names, if there are so many.
+fn name_at(names: &[Text], place: usize) -> Option<&str> {
+    Some(names.get(place)?.as_str())
 }
 
 /// What is asked for where a name stands that no channel has: second among the files of tokens, the channels to
@@ -370,12 +392,8 @@ fn words_are_read(rt: HostRuntime) {
     let found = outputs_and_budget(rt.alloc(), &words);
     same(&rt, "outputs and budget", found, (2, Some(9)));
     same(&rt, "pair", channel_and_file("z=a=b"), Some(("z", "a=b")));
-    same(
-        &rt,
-        "no budget",
-        status_of(rt.alloc(), &["hox", "run", "--budget", "x"]),
-        1,
-    );
+    let found = status_of(rt.alloc(), &["hox", "run", "--budget", "x"]);
+    same(&rt, "no budget", found, 1);
     same(&rt, "help", status_of(rt.alloc(), &["hox", "--help"]), 0);
 }
 
@@ -394,8 +412,11 @@ fn words_of_streams_and_of_progress_are_read(rt: HostRuntime) {
 
 /// How many inputs and outputs the arguments ask for, and whether no report is wanted.
 fn inputs_and_outputs(alloc: Global, words: &[&str]) -> (usize, usize, bool) {
-    let read = read_words(alloc, words);
-    match &read {
+    stream_in(&read_words(alloc, words))
+}
+
+fn stream_in(read: &Result<Choice<'_>, WordsFault>) -> (usize, usize, bool) {
+    match read {
         Ok(Choice::Stream(stream)) => (stream.inputs.len(), stream.outputs.len(), stream.quiet),
         _ => (0, 0, false),
     }
@@ -403,8 +424,11 @@ fn inputs_and_outputs(alloc: Global, words: &[&str]) -> (usize, usize, bool) {
 
 /// Whether the arguments ask for progress.
 fn shows_progress(alloc: Global, words: &[&str]) -> bool {
-    let read = read_words(alloc, words);
-    match &read {
+    progress_in(&read_words(alloc, words))
+}
+
+fn progress_in(read: &Result<Choice<'_>, WordsFault>) -> bool {
+    match read {
         Ok(Choice::Run(run)) => run.progress,
         _ => false,
     }
@@ -412,8 +436,11 @@ fn shows_progress(alloc: Global, words: &[&str]) -> bool {
 
 /// How many outputs the arguments ask for, and which budget.
 fn outputs_and_budget(alloc: Global, words: &[&str]) -> (usize, Option<u64>) {
-    let read = read_words(alloc, words);
-    match &read {
+    run_in(&read_words(alloc, words))
+}
+
+fn run_in(read: &Result<Choice<'_>, WordsFault>) -> (usize, Option<u64>) {
+    match read {
         Ok(Choice::Run(run)) => (run.outputs.len(), run.budget),
         _ => (0, None),
     }
@@ -421,13 +448,12 @@ fn outputs_and_budget(alloc: Global, words: &[&str]) -> (usize, Option<u64>) {
 
 /// The exit status for arguments that are refused.
 fn status_of(alloc: Global, words: &[&str]) -> u8 {
-    let read = read_words(alloc, words);
-    match &read {
-        Ok(_) => 9,
-        Err(fault) => code_of(fault),
-    }
+    status_in(&read_words(alloc, words))
 }
 
-fn code_of(fault: &WordsFault) -> u8 {
-    fault.status().code()
+fn status_in(read: &Result<Choice<'_>, WordsFault>) -> u8 {
+    match read {
+        Ok(_) => 9,
+        Err(fault) => fault.status().code(),
+    }
 }
