@@ -7,3 +7,6 @@ returns-then-not-is_run-clause-drawn g c = search rules
 
 pub returns-in-Ok-clause-drawn : goal.returns-in-Ok-clause-drawn
 returns-in-Ok-clause-drawn g c = search rules
+
+pub returns-in-Err-Lost-clause-fault : goal.returns-in-Err-Lost-clause-fault
+returns-in-Err-Lost-clause-fault g c = search rules

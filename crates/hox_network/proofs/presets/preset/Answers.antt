@@ -1,4 +1,5 @@
 -- One file more.
+use Rattle.std.proofs.Common.{rules}
 use Rattle.kpn_network.specs.Parts.{network_of}
 use Rattle.hox_network.proofs.FilesSaid.{goes_on, stops_on, stops_here, none_left}
 use Rattle.hox_network.proofs.presets.preset.Goals as goal
@@ -26,3 +27,6 @@ pub returns-clause-ok : goal.returns-clause-ok
 returns-clause-ok g c =
     let l = c.loop-file in
     none_left c.args.files.now l.file (network_of c.args.parts.now) (network_of l.parts) c.loop-file-test.false l.invariant.goes
+
+pub loop-file-init : goal.loop-file-init
+loop-file-init g c = search rules

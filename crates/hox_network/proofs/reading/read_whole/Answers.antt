@@ -14,3 +14,6 @@ returns-then-is_err-clause-taken g c =
     let few : length read ≤ c.in-Ok.n = search rules in
     let both = length-append text read in
     (text ++ read, Consumes-trans _ _ _ text read c.loop-chunk.invariant.bytes c.in-Ok.ensures.bytes.0, omega arith)
+
+pub returns-in-Err-clause-unfailed : goal.returns-in-Err-clause-unfailed
+returns-in-Err-clause-unfailed g c = search rules

@@ -1,5 +1,5 @@
 -- Nothing is fed, but the source is read on, or the input ends.
-use Rattle.std.proofs.Common.{refl, subst}
+use Rattle.std.proofs.Common.{refl, subst, rules}
 use Rattle.std.proofs.lemmas.Bool.{iff_false}
 use Rattle.std.specs.List.{before_first}
 use Rattle.kpn_model.specs.Network.{family_of}
@@ -29,3 +29,6 @@ returns-then-not-may_feed-clause-other_sort g c = λ is same.
       input = rw c.channel-channel.ensures c.requires;
       sort = rw c.channel-channel.ensures (subst (λ (s : Sort). IsOfSort s c.in-Some.token) same (said_of_sort c.args.inlet.now.sort (before_first is_line_feed c.args.inlet.now.kept) c.in-Line.said c.in-Some.token c.in-Line.ensures.next.0 c.in-Some.is));
     })
+
+pub returns-then-is_over-clause-ended : goal.returns-then-is_over-clause-ended
+returns-then-is_over-clause-ended g c = search rules

@@ -1,5 +1,5 @@
 -- Nothing else keeps the flow from being opened.
-use Rattle.std.proofs.Common.{⊎_elim, inl, inr}
+use Rattle.std.proofs.Common.{⊎_elim, inl, inr, rules}
 use Rattle.kpn_model.specs.Network.{family_of}
 use Rattle.hox_stream.proofs.Started.{few_faults, start_fault_of}
 use Rattle.hox_stream.proofs.starting.flow_between.Goals as goal
@@ -12,3 +12,6 @@ fault_of-requires g c =
 pub returns-in-Err-clause-fault : goal.returns-in-Err-clause-fault
 returns-in-Err-clause-fault g c =
     start_fault_of (family_of g.F.Kinds.start g.F.Kinds.answer_of) c.args.net c.args.inputs.now c.args.outputs.now c.requires.inputs c.requires.outputs c.requires.fed c.requires.drained _ c.requires.cards c.in-Err.refused.fault c.in-Err.ensures.fault _ c.fault_of.ensures.twice c.fault_of.ensures.memory
+
+pub returns-in-Ok-clause-start : goal.returns-in-Ok-clause-start
+returns-in-Ok-clause-start g c = search rules

@@ -1,5 +1,5 @@
 -- What is loaded is a network, of which what was chosen is written, or a fault.
-use Rattle.std.proofs.Common.{Ok, Err, refl}
+use Rattle.std.proofs.Common.{Ok, Err, refl, rules}
 use Rattle.kpn_execute.proofs.Written.{written}
 use Rattle.kpn_execute.proofs.program.serve_choice.Goals as goal
 
@@ -15,3 +15,9 @@ returns-in-Err-clause-served g c =
 
 pub returns-clause-served : goal.returns-clause-served
 returns-clause-served g c = record { loaded = Ok c.in-Ok.net; loads = c.in-Ok.ensures.loads; failed = c.in-Ok.ensures.failed; fault_is = refl; writes = c.serve_net.ensures }
+
+pub returns-clause-accepted : goal.returns-clause-accepted
+returns-clause-accepted g c = search rules
+
+pub returns-clause-said : goal.returns-clause-said
+returns-clause-said g c = search rules

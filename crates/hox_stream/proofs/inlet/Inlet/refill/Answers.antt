@@ -1,6 +1,7 @@
 -- What was kept, and then what was read.
 use Rattle.std.proofs.Common.{◌≡◌, ◌++◌, ◌-◌, ℕ, List, length, length-drop, drop, take, refl, ap, ◌∙◌, arith}
 use Rattle.std.proofs.lemmas.List.{take_all}
+use Rattle.std.proofs.lemmas.Grind.{common_steps}
 use Rattle.hox_stream.proofs.inlet.Inlet.refill.Goals as goal
 
 -- a slice to the end
@@ -18,3 +19,6 @@ returns-clause-reads g c =
       tokens = refl;
       lines = refl;
     })
+
+pub invariant_of-self-2 : goal.invariant_of-self-2
+invariant_of-self-2 g c = grind (arith, common_steps)

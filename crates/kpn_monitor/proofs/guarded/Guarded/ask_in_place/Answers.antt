@@ -1,5 +1,6 @@
 -- What the answers appended is booked.
 use Rattle.std.proofs.Common.{length, ap, arith, length-append}
+use Rattle.std.proofs.lemmas.Grind.{common_steps}
 use Rattle.kpn_monitor.specs.Views.{Shares}
 use Rattle.kpn_monitor.proofs.guarded.Guarded.ask_in_place.Goals as goal
 
@@ -17,3 +18,6 @@ returns-clause-went g c =
         length = omega (arith, ap length goes.history, length-append c.self.inside.machine.history goes.entries);
       },
     )
+
+pub invariant_of-self-2 : goal.invariant_of-self-2
+invariant_of-self-2 g c = grind (arith, common_steps)

@@ -1,0 +1,9 @@
+-- Found without an answer too; with it a wrong body is refused at once.
+use Rattle.std.proofs.Common.{rules}
+use Rattle.kpn_commit.proofs.act.write.Goals as goal
+
+pub put-requires-clause-space : goal.put-requires-clause-space
+put-requires-clause-space g c = search rules
+
+pub returns-clause-is_deed : goal.returns-clause-is_deed
+returns-clause-is_deed g c = search rules

@@ -1,0 +1,6 @@
+-- Found without an answer too; with it a wrong body is refused at once.
+use Rattle.std.proofs.Common.{rules}
+use Rattle.kpn_commit.proofs.react.partner.Goals as goal
+
+pub returns-in-Took : goal.returns-in-Took
+returns-in-Took g c = search rules

@@ -1,0 +1,12 @@
+-- Found without an answer too; with it a wrong body is refused at once.
+use Rattle.std.proofs.Common.{rules}
+use Rattle.kpn_commit.proofs.resolution.resolve.Goals as goal
+
+pub resolve_idle-requires-clause-idle : goal.resolve_idle-requires-clause-idle
+resolve_idle-requires-clause-idle g c = search rules
+
+pub resolve_idle-requires-clause-room : goal.resolve_idle-requires-clause-room
+resolve_idle-requires-clause-room g c = search rules
+
+pub returns-then-any_busy-clause-resolves : goal.returns-then-any_busy-clause-resolves
+returns-then-any_busy-clause-resolves g c = search rules

@@ -1,0 +1,6 @@
+-- Found without an answer too; with it a wrong body is refused at once.
+use Rattle.std.proofs.Common.{rules}
+use Rattle.kpn_net.proofs.ports.has_unknown_kind.Goals as goal
+
+pub returns : goal.returns
+returns g c = search rules

@@ -1,0 +1,9 @@
+-- Found without an answer too; with it a wrong body is refused at once.
+use Rattle.std.proofs.Common.{rules}
+use Rattle.kpn_net.proofs.ports.lacks_end.Goals as goal
+
+pub returns-then-is_none : goal.returns-then-is_none
+returns-then-is_none g c = search rules
+
+pub returns-else-is_none : goal.returns-else-is_none
+returns-else-is_none g c = search rules

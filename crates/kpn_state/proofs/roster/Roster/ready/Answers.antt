@@ -1,0 +1,6 @@
+-- Found without an answer too; with it a wrong body is refused at once.
+use Rattle.std.proofs.Common.{rules}
+use Rattle.kpn_state.proofs.roster.Roster.ready.Goals as goal
+
+pub returns : goal.returns
+returns c = search rules
