@@ -14,7 +14,7 @@ from toml_texts import toml_text
 
 DESCRIPTION = "network.toml"
 BLANKS = ("", "", "", " ", "\t", "  ")
-NO_WORDS = ("0x", "1x", "-1", "+1", "1_0", "1 2", "1.0", "0xg", "true", "x", "é", str(WORD), hex(WORD), "0X1")
+NO_WORDS = ("0x", "1x", "-", "+-1", "- 1", "1_0", "1 2", "1.0", "0xg", "true", "x", "é", str(WORD), hex(WORD), str(-WORD // 2 - 1))
 NO_FLAGS = ("True", "truefalse", "1", "0", "x", "é", "true false")
 
 
@@ -25,7 +25,12 @@ def word(choices):
 
 
 def word_text(choices, value):
-    return choices.choice([str(value), str(value), str(value), hex(value), f"0x{value:X}", f"00{value}", f"0x0{value:x}"])
+    """A text that says the word: with a sign, if it stands for a number below 0."""
+    if value >= WORD // 2 and choices.random() < 0.5:
+        return choices.choice([str(value - WORD), f"-0{WORD - value}", f"-0x{WORD - value:x}"])
+    if choices.random() < 0.1:
+        return f"+{value}"
+    return choices.choice([hex(value).upper(), str(value), str(value), str(value), hex(value), f"0x{value:X}", f"00{value}", f"0x0{value:x}"])
 
 
 def line_of(choices, token):
@@ -44,7 +49,8 @@ def file_of(choices, tokens):
             lines.append(choices.choice(["", "# nothing", "  ", "\t#1", ",1", " , "]))
         lines.append(token_text(token) if is_plain else line_of(choices, token))
     end = "\n" if is_plain else choices.choice(["\n", "\n", "\r\n"])
-    return (end.join(lines) + choices.choice([end, ""])).encode()
+    mark = "\ufeff" if choices.random() < 0.1 else ""
+    return (mark + end.join(lines) + choices.choice([end, ""])).encode()
 
 
 def length(choices):
@@ -160,8 +166,7 @@ def request_of(choices, versions):
         return Request(toml_text(choices)), "toml"
     network = networks.network(choices, versions)
     with_negatives(choices, network)
-    if choices.random() < 0.5:
-        network["budget"] = 4000
+    network.setdefault("budget", 4000)
     how = pick(choices, ("valid", 18), ("edited", 1), ("bytes", 1))
     if how == "edited":
         network = networks.edited(choices, network)

@@ -4,10 +4,10 @@ import re
 from collections import namedtuple
 from dataclasses import dataclass, field
 
-from interpreter import CEILING, GREATEST_BUDGET, KINDS, SORTS, STATUS, WORD, Network, Refused, args_fit, load, text_of, token_text
+from interpreter import CEILING, GREATEST_BUDGET, KINDS, SORTS, STATUS, WORD, Network, Refused, args_fit, document, load, text_of, token_text
 
 MOST_TOKENS = 1000000
-MAY_BE_NEGATIVE = ("constant", "hold", "clip")
+MAY_BE_NEGATIVE = ("constant", "hold", "clip", "scale", "prefix")
 VERDICTS = {"terminated": "finished", "budget": "cut", "ceiling": "full"}
 
 # What the program wrote on standard output and standard error, its exit status, and the files that were there afterwards.
@@ -62,27 +62,28 @@ def token_of(cell, sort):
     """The token that a text stands for, or none."""
     if sort == "flags":
         return {"true": True, "false": False}.get(cell)
-    decimal, hexadecimal = re.fullmatch("[0-9]+", cell), re.fullmatch("0x([0-9a-fA-F]+)", cell)
-    value = int(cell) if decimal else int(hexadecimal[1], 16) if hexadecimal else WORD
-    return value if value < WORD else None
+    decimal, hexadecimal = re.fullmatch("[+-]?[0-9]+", cell), re.fullmatch("([+-]?)0[xX]([0-9a-fA-F]+)", cell)
+    value = int(cell) if decimal else int(hexadecimal[1] + hexadecimal[2], 16) if hexadecimal else WORD
+    return value % WORD if -WORD // 2 <= value < WORD else None
 
 
 def tokens_of(file, text, sort, most):
-    """The tokens of a file: one on each line, in front of a comma or a comment; lines without one count for nothing."""
+    """The tokens of a file: one on each line, in front of a comma or a comment; lines without one are ignored, and so is a
+    byte order mark before a line."""
     name = "standard input" if file == "-" else file
-    try:
-        lines = text.decode().split("\n")
-    except UnicodeDecodeError:
-        raise Stopped(2, f"{name} is not UTF-8") from None
     tokens = []
-    for number, line in enumerate(lines, 1):
+    for number, line in enumerate(text.split(b"\n"), 1):
+        try:
+            line = line.removeprefix(b"\xef\xbb\xbf").decode()
+        except UnicodeDecodeError:
+            raise Stopped(2, f"line {number} of {name} is not UTF-8") from None
         cell = line.partition("#")[0].partition(",")[0].strip()
         if cell:
             tokens.append(token_of(cell, sort))
             if tokens[-1] is None:
                 raise Stopped(2, f"line {number} of {name}: ")
     if len(tokens) > most:
-        raise Stopped(2, f"{name} has more than {most} tokens")
+        raise Stopped(2, f"{name} has more than {most} tokens; ")
     return tokens
 
 
@@ -90,7 +91,7 @@ def channel_named(sketch, name):
     for it in sketch["channel"]:
         if it["name"] == name:
             return it
-    raise Stopped(1, f"no channel has the name {name}")
+    raise Stopped(1, f"unknown channel \"{name}\"")
 
 
 def port_sort(processes, name, direction, number):
@@ -128,6 +129,8 @@ def prepared(request, versions):
         channel = channel_named(sketch, name)
         channel["tokens"] = tokens_of(file, request.files[file], channel["sort"], min(CEILING[sketch["version"]], MOST_TOKENS))
         channel["capacity"] = max(channel["capacity"], len(channel["tokens"]))
+    if "budget" not in document(request.text):
+        sketch["budget"] = GREATEST_BUDGET[sketch["version"]]
     return sketch
 
 
@@ -167,8 +170,29 @@ def stream_of(net, name):
     return channel.begins_with + channel.put
 
 
+def signed_text(token):
+    """A token as hox writes it: a word from 2^63 on stands for itself less 2^64."""
+    return str(token - WORD) if token is not True and token is not False and token >= WORD // 2 else token_text(token)
+
+
 def tokens_line(word, name, tokens):
-    return " ".join([word, name, *map(token_text, tokens)])
+    return " ".join([word, name, *map(signed_text, tokens)])
+
+
+def unused(net):
+    """What is said of what a run left unused that came to its own end: of each channel whose writer has stopped and put
+    nothing on it that it has no tokens, or how many were not read."""
+    sources = [it for it in net.channels if it.writer.done and not it.put]
+    lines = [
+        f"channel {it.name}: {len(it.holds)} of its {len(it.begins_with)} tokens were not read" if it.begins_with else f"channel {it.name}: no tokens; --tokens {it.name}=FILE gives some"
+        for it in sources
+        if it.holds or not it.begins_with
+    ]
+    return "".join(f"hox: {line}\n" for line in lines).encode()
+
+
+# What is said of a run that was cut: which channels have no tokens depends on the schedule.
+CUT = re.compile(rb"((?:hox: channel \w+: no tokens; --tokens \w+=FILE gives some\n)*)hox: the budget of (\d+) entries was spent; --budget gives up to 1000000, in version 2 up to 2000000, and hox stream has none\n")
 
 
 def due(request, report, streams):
@@ -188,8 +212,9 @@ class Ended:
         self.status = 0 if self.verdict == "ran dry" else STATUS[cause]
         shown = text_of(tokens_line("stream", name, stream_of(net, name)) for name in request.show)
         report = net.report(cause, None) + shown + f"verdict {self.verdict}\n".encode()
-        streams = {name: text_of(map(token_text, stream_of(net, name))) for name, _ in request.outputs}
-        self.due = due(request, report, streams)
+        streams = {name: text_of(map(signed_text, stream_of(net, name))) for name, _ in request.outputs}
+        output, errors, files = due(request, report, streams)
+        self.due = output, errors + unused(net), files
 
     def kind(self):
         return f"hox {self.verdict.split(' ')[0]}"
@@ -222,6 +247,10 @@ class Cut:
     def fault(self, request, written):
         texts = {name: written.files.get(file, b"") for name, file in request.outputs if file != "-"}
         texts.update({name: written.output for name, file in request.outputs if file == "-"})
+        said = CUT.search(written.errors)
+        if said is None or said.end() != len(written.errors) or int(said[2]) != self.budget:
+            return f"expected that standard error ends with the budget of {self.budget}"
+        written = written._replace(errors=written.errors[: said.start()])
         report = written.errors if "-" in dict(request.outputs).values() else written.output
         output, errors, files = due(request, report, texts)
         if written != Written(output, errors, STATUS["budget"], files):
@@ -241,7 +270,7 @@ class Cut:
         return found and [(name, [f"{it}\n" for it in text.split()]) for name, text in zip(request.show, found.groups())]
 
     def fault_of(self, name, lines):
-        whole = [f"{token_text(it)}\n" for it in stream_of(self.net, name)]
+        whole = [f"{signed_text(it)}\n" for it in stream_of(self.net, name)]
         common = min(len(whole), len(lines))
         return None if lines[:common] == whole[:common] else f"expected that one of {name} and {whole} begins with the other"
 

@@ -8,8 +8,6 @@ import pathlib
 import random
 import sys
 
-WORD = 2 ** 64
-
 
 def noisy_sine(count=10000, period=2000):
     """Samples of a sine of 12,000 about 32,768, with noise of up to 3,000."""
@@ -65,8 +63,8 @@ def places(forces, place=1000, speed=0):
 
 
 def text_of(tokens):
-    """One token a line; a number below zero in two's complement."""
-    return "".join(f"{str(it).lower() if isinstance(it, bool) else it % WORD}\n" for it in tokens)
+    """One token a line."""
+    return "".join(f"{str(it).lower() if isinstance(it, bool) else it}\n" for it in tokens)
 
 
 def csv_of(readings):

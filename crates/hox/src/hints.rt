@@ -1,11 +1,13 @@
-//! What would do for a refused description, and for a name that no channel has.
+//! What is wrong with a description, and with the name of a channel, and what would do.
 ghost use Rattle.std.specs.Prelude.{◌≤◌, length};
 
 use crate::messages::place_of;
+use hox_args::KINDS_AND_FILES;
 use hox_network::{AllKinds, KINDS, sketch_by_ports};
-use kpn_model::{Kinds, Text};
-use kpn_net::faults::process_named;
-use kpn_net::{Check, Net, NetFault, ProcessSketch, Sketch, read_sketch};
+use kpn_message::{Location, Message};
+use kpn_model::Text;
+use kpn_net::faults::{is_unused_in, is_unused_out, process_named, signature_of};
+use kpn_net::{ChannelSketch, Check, Net, NetFault, ProcessSketch, Sketch, read_sketch};
 use std::alloc::Global;
 use std::str;
 
@@ -43,80 +45,168 @@ fn fault_of(alloc: Global, text: &[u8]) -> Option<NetFault> {
     checked.err()
 }
 
-/// Says which kind was likely meant by each unknown one, which bounds by two that stand the other way round, and
-/// which process by each name of none.
-pub(crate) fn say_meant<R: Eprint>(rt: &R, file: &str, sketch: &Sketch) {
-    for process in sketch.processes.as_slice() {
-        say_kind_meant(rt, file, process.kind.as_str());
-        say_bounds_meant(rt, file, process);
+/// Says what is wrong at a place of a sketch, and what would do.
+pub(crate) fn say_message<R: Eprint>(rt: &R, file: &str, sketch: &Sketch, message: &Message) {
+    let (place, colon) = place_of(file);
+    let _ = eprint!(rt; "hox: {place}{colon}");
+    match message.place {
+        Location::Process(p) => match sketch.processes.as_slice().get(p) {
+            Some(process) => say_of_process(rt, sketch, process, message),
+            None => say_part(rt, "", message.text.as_str()),
+        },
+        Location::Channel(c) => match sketch.channels.as_slice().get(c) {
+            Some(channel) => say_of_channel(rt, sketch, channel, message),
+            None => say_part(rt, "", message.text.as_str()),
+        },
+        Location::Description => say_part(rt, "", message.text.as_str()),
     }
-    for channel in sketch.channels.as_slice() {
-        say_process_meant(rt, file, sketch, channel.from.as_str());
-        say_process_meant(rt, file, sketch, channel.to.as_str());
+    let _ = eprintln!(rt; "");
+}
+
+/// Says what is wrong with a process, and what would do.
+fn say_of_process<R: Eprint>(rt: &R, sketch: &Sketch, process: &ProcessSketch, message: &Message) {
+    let text = message.text.as_str();
+    match message.fault {
+        NetFault::Kind => say_unknown_kind(rt, process),
+        NetFault::Args => say_arguments(rt, process, text),
+        NetFault::Unused => {
+            say_part(rt, "", text);
+            say_user(rt, sketch, process);
+        }
+        _ => say_part(rt, "", text),
     }
 }
 
-/// Says which kind was likely meant, if this is the name of none.
-fn say_kind_meant<R: Eprint>(rt: &R, file: &str, name: &str) {
-    if AllKinds::named(name).is_some() {
-        return;
+/// Says that the kind of a process is unknown, and which was likely meant.
+fn say_unknown_kind<R: Eprint>(rt: &R, process: &ProcessSketch) {
+    let (name, kind) = (process.name.as_str(), process.kind.as_str());
+    let _ = eprint!(rt; "process {name:?}: unknown kind {kind:?}");
+    let mut kinds = KINDS
+        .split_whitespace()
+        .map(|kind| kind.trim_end_matches(','));
+    if let Some(near) = kinds.find(|other| is_near(kind.as_bytes(), other.as_bytes())) {
+        say_near(rt, near);
     }
-    for kind in KINDS.split_whitespace() {
-        let kind = kind.trim_end_matches(',');
-        if is_near(name.as_bytes(), kind.as_bytes()) {
-            return say_near(rt, file, name, kind);
+}
+
+/// Says this of the arguments of a process, and which its kind takes.
+fn say_arguments<R: Eprint>(rt: &R, process: &ProcessSketch, text: &str) {
+    if let ("clip", [low, high]) = (process.kind.as_str(), process.args.as_slice()) {
+        if *low > *high {
+            return say_turned(rt, process.name.as_str(), *low, *high);
         }
     }
+    say_part(rt, "", text);
+    if let Some(use_of) = use_of(process.kind.as_str()) {
+        let _ = eprint!(rt; "; {}: {}", use_of.call, use_of.does);
+    }
 }
 
-/// Says which bounds were likely meant, if the greater one stands first.
-fn say_bounds_meant<R: Eprint>(rt: &R, file: &str, process: &ProcessSketch) {
-    if process.kind.as_str() != "clip" {
-        return;
-    }
-    let [low, high] = process.args.as_slice() else {
+/// Says that these bounds of a process likely stand the other way round.
+fn say_turned<R: Eprint>(rt: &R, name: &str, low: i64, high: i64) {
+    let _ = eprint!(rt;
+        "process {name:?}: kind \"clip\" does not take args [{low}, {high}]; did you mean [{high}, {low}]?"
+    );
+}
+
+/// How a kind is used, as the help tells it: its name with its arguments, and what it does.
+#[derive(Clone, Copy, Debug)]
+struct Use {
+    call: &'static str,
+    does: &'static str,
+}
+
+/// How the kind of this name is used.
+fn use_of(kind: &str) -> Option<Use> {
+    let mut uses = KINDS_AND_FILES.lines().filter_map(use_in);
+    uses.find(|it| it.call.split_once(' ').map_or(it.call, |(name, _)| name) == kind)
+}
+
+/// What a line of the help says of a kind: its call, its ports and what it does, with two spaces or more between them.
+fn use_in(line: &'static str) -> Option<Use> {
+    let (call, rest) = line.trim().split_once("  ")?;
+    let (ports, does) = rest.trim().split_once("  ")?;
+    let does = does.trim();
+    ports.contains("->").then_some(Use { call, does })
+}
+
+/// Says what could be at the first port of a process that is the end of no channel.
+fn say_user<R: Eprint>(rt: &R, sketch: &Sketch, process: &ProcessSketch) {
+    let Some(signature) = signature_of::<AllKinds>(process) else {
         return;
     };
-    if *low <= *high {
-        return;
-    }
-    say_turned(rt, file, *low, *high);
-}
-
-/// Says that these bounds likely stand the other way round.
-fn say_turned<R: Eprint>(rt: &R, file: &str, low: i64, high: i64) {
-    let (place, colon) = place_of(file);
-    let _ = eprintln!(rt; "hox: {place}{colon}did you mean [{high}, {low}] by [{low}, {high}]?");
-}
-
-/// Says which process was likely meant, if this is the name of none.
-fn say_process_meant<R: Eprint>(rt: &R, file: &str, sketch: &Sketch, name: &str) {
-    let processes = sketch.processes.as_slice();
-    if process_named(processes, name).is_some() {
-        return;
-    }
-    for process in processes {
-        if is_near(name.as_bytes(), process.name.as_str().as_bytes()) {
-            return say_near(rt, file, name, process.name.as_str());
+    let name = process.name.as_str();
+    for port in 0..3 {
+        if is_unused_in::<AllKinds>(sketch, name, &signature, port) {
+            return say_part(rt, "; ", "let a channel lead to it");
         }
+        if is_unused_out::<AllKinds>(sketch, name, &signature, port) {
+            return say_part(rt, "; ", "let a channel lead from it to a drain");
+        }
+    }
+}
+
+/// Says what is wrong with a channel, and what would do.
+fn say_of_channel<R: Eprint>(rt: &R, sketch: &Sketch, channel: &ChannelSketch, message: &Message) {
+    let (name, from, to) = (
+        channel.name.as_str(),
+        channel.from.as_str(),
+        channel.to.as_str(),
+    );
+    if message.fault == NetFault::NoEnd {
+        let processes = sketch.processes.as_slice();
+        if process_named(processes, from).is_none() {
+            return say_unknown_process(rt, processes, name, "from", from);
+        }
+        if process_named(processes, to).is_none() {
+            return say_unknown_process(rt, processes, name, "to", to);
+        }
+    }
+    let text = message.text.as_str();
+    say_part(rt, "", text);
+    if message.fault == NetFault::Twice {
+        let hint = if text.contains(": output ") {
+            "a copy writes to two channels"
+        } else {
+            "an add, merge, select or weave reads two channels"
+        };
+        say_part(rt, "; ", hint);
+    }
+}
+
+/// Says that a channel ends at a process that there is not, and which was likely meant.
+fn say_unknown_process<R: Eprint>(
+    rt: &R,
+    processes: &[ProcessSketch],
+    channel: &str,
+    key: &str,
+    name: &str,
+) {
+    let _ = eprint!(rt; "channel {channel:?}: {key}: unknown process {name:?}");
+    let near = processes.iter().find(|other| is_near(
+        name.as_bytes(),
+        other.name.as_str().as_bytes(),
+    ));
+    if let Some(process) = near {
+        say_near(rt, process.name.as_str());
     }
 }
 
 /// How many channels are named at most where none was likely meant.
 const MOST_NAMED: usize = 8;
 
-/// Says that no channel has a name, and which of these channels was likely meant, or if none was, which there
+/// Says that a channel is unknown, and which of these channels was likely meant, or if none was, which there
 /// are, where they are few.
 pub(crate) fn say_no_channel<R: Eprint>(rt: &R, name: &str, channels: &[Text]) {
-    let _ = eprintln!(rt; "hox: no channel has the name {name}");
-    for channel in channels {
-        if is_meant(name, channel.as_str()) {
-            return say_near(rt, "-", name, channel.as_str());
-        }
+    let _ = eprint!(rt; "hox: unknown channel {name:?}");
+    match channels
+        .iter()
+        .find(|channel| is_meant(name, channel.as_str()))
+    {
+        Some(channel) => say_near(rt, channel.as_str()),
+        None => say_channels(rt, channels),
     }
-    if 0 < channels.len() && channels.len() <= MOST_NAMED {
-        say_channels(rt, channels);
-    }
+    let _ = eprintln!(rt; "");
 }
 
 /// Whether a channel was likely meant by a name: if only their case differs, or one is near the other. Of two
@@ -126,29 +216,30 @@ fn is_meant(name: &str, channel: &str) -> bool {
         || (name.len() > 1 || channel.len() > 1) && is_near(name.as_bytes(), channel.as_bytes())
 }
 
-/// Says which channels there are.
+/// Says which channels there are, where they are few.
 fn say_channels<R: Eprint>(rt: &R, channels: &[Text]) {
+    if channels.len() > MOST_NAMED {
+        return;
+    }
     for (c, channel) in channels.iter().enumerate() {
         let before = match channels.len() - c {
-            1 if c == 0 => "hox: the channel is ",
-            _ if c == 0 => "hox: the channels are ",
+            1 if c == 0 => "; the channel is ",
+            _ if c == 0 => "; the channels are ",
             1 => " and ",
             _ => ", ",
         };
         say_part(rt, before, channel.as_str());
     }
-    let _ = eprintln!(rt; "");
 }
 
-/// Says the name of a channel after these words.
-fn say_part<R: Eprint>(rt: &R, before: &str, channel: &str) {
-    let _ = eprint!(rt; "{before}{channel}");
+/// Says this after these words.
+fn say_part<R: Eprint>(rt: &R, before: &str, text: &str) {
+    let _ = eprint!(rt; "{before}{text}");
 }
 
 /// Says which name was likely meant.
-fn say_near<R: Eprint>(rt: &R, file: &str, name: &str, near: &str) {
-    let (place, colon) = place_of(file);
-    let _ = eprintln!(rt; "hox: {place}{colon}did you mean {near} by {name}?");
+fn say_near<R: Eprint>(rt: &R, near: &str) {
+    let _ = eprint!(rt; "; did you mean {near:?}?");
 }
 
 /// Whether one name becomes the other when a letter is put in, left out or changed, or two neighbours change

@@ -6,14 +6,19 @@ mod hints;
 mod host;
 mod messages;
 mod progress;
+mod reasons;
+mod same;
 mod streaming;
 mod taps;
 mod told;
+mod unused;
+mod whole;
 
 use crate::host::Host;
 use crate::messages::{say_no_memory, say_stop};
 use crate::progress::ProgressLine;
 use crate::streaming::stream_asked;
+use crate::unused::say_unused_by_run;
 use hox_execute::{Outcome, Stop, execute};
 use hox_network::AllKinds;
 use std::alloc::AllocError;
@@ -73,6 +78,10 @@ fn status_after<R: Files + Input + Print + Eprint + AllocGlobal>(
 ) -> u8 {
     match outcome {
         Ok(Outcome::Exits(status)) => status.code(),
+        Ok(Outcome::Ran(status, notes)) => {
+            say_unused_by_run(rt, notes);
+            status.code()
+        }
         Ok(Outcome::Streams(stream)) => stream_asked(rt, host, stream),
         Err(stop) => say_stop(rt, stop),
     }

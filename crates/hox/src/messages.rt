@@ -1,16 +1,14 @@
 //! What is said on standard error.
-use crate::hints::{say_meant, say_no_channel, wants_version_2};
+use crate::hints::{say_message, say_no_channel, wants_version_2};
+use crate::reasons::{say_clash, say_undescribed, say_unread};
 use hox_args::WordsFault;
-use hox_execute::{Asked, Stop};
-use hox_network::{
-    AllKinds, Fault, FileFault, KINDS, LONGEST_FILE, PresetFault, ReadFault, Request,
-    sketch_by_ports,
-};
+use hox_execute::{Asked, Refusal, Stop};
+use hox_network::{AllKinds, Fault, FileFault, KINDS, PresetFault, Request, sketch_by_ports};
 use kpn_front::{Refused, Status};
 use kpn_message::{message_of, messages_of_sketch};
 use kpn_model::limits::{CEILING, GREATEST_HIGH_BUDGET, HIGH_CEILING};
 use kpn_net::NetFault;
-use kpn_tokens::LineFault;
+use kpn_tokens::RecordFault;
 use std::str;
 
 /// Says why what the arguments ask for is not done, and returns the exit status.
@@ -19,13 +17,31 @@ pub(crate) fn say_stop<R: Print + Eprint + AllocGlobal>(rt: &R, stop: &Stop<'_>)
         Stop::Words(fault) => return say_words_refused(rt, fault),
         Stop::NoPair { option, text } => say_no_pair(rt, *option, *text),
         Stop::InputTwice => say_input_named_twice(rt),
-        Stop::Unread { file, fault } => say_unread(rt, *file, *fault),
-        Stop::Refused(refusal) => say_fault(rt, refusal.file, &refusal.asked, &refusal.fault),
+        Stop::Clash { one, other } => say_clash(rt, one, other),
+        Stop::Unread { file, error } => say_unread(rt, *file, *error),
+        Stop::Refused(refusal) => say_refusal(rt, refusal),
         Stop::Memory => {
             say_no_memory(rt);
         }
     }
     stop.status().code()
+}
+
+/// Says why what is asked of the network of a description is not done.
+fn say_refusal<R: Eprint + AllocGlobal>(rt: &R, refusal: &Refusal<'_>) {
+    if is_unread(&refusal.fault) {
+        say_undescribed(rt, refusal.file, refusal.error);
+    } else {
+        say_fault(rt, refusal.file, &refusal.asked, &refusal.fault);
+    }
+}
+
+/// Whether a description could not be read, or is too long.
+fn is_unread(fault: &Fault) -> bool {
+    match fault {
+        Fault::Description(refused) => refused.fault == NetFault::Input,
+        _ => false,
+    }
 }
 
 /// Says why what is asked of the network in this file is not done.
@@ -61,11 +77,11 @@ fn say_unknown<R: Eprint>(rt: &R, request: &Request, fault: &Fault) {
             None => return,
         },
         Fault::NoShown(shown, channels) => match request.show.as_slice().get(*shown) {
-            Some(name) => (name, channels),
+            Some(text) => (&text.channel, channels),
             None => return,
         },
         Fault::NoOutput(output, channels) => match request.outputs.as_slice().get(*output) {
-            Some(name) => (name, channels),
+            Some(text) => (&text.channel, channels),
             None => return,
         },
         _ => return,
@@ -87,21 +103,39 @@ pub(crate) fn say_refused<R: Eprint + AllocGlobal>(rt: &R, file: &str, refused: 
     }
 }
 
-/// Says all that is wrong with this text, and what was likely meant.
+/// Says all that is wrong with this text, and what would do.
 fn say_wrong<R: Eprint + AllocGlobal>(rt: &R, file: &str, text: &[u8], fault: NetFault) {
     let Some(sketch) = sketch_by_ports::<AllKinds>(rt.alloc(), text) else {
         return say_fault_of(rt, file, text, fault);
     };
-    let mut is_said = false;
-    for message in &messages_of_sketch::<AllKinds>(rt.alloc(), &sketch, KINDS).told {
-        say_of(rt, file, message.text.as_str());
-        is_said = true;
+    let messages = messages_of_sketch::<AllKinds>(rt.alloc(), &sketch, KINDS);
+    if messages.told.is_empty() {
+        return say_fault_of(rt, file, text, fault);
     }
-    if is_said {
-        say_meant(rt, file, &sketch);
-    } else {
-        say_fault_of(rt, file, text, fault);
+    for message in &messages.told {
+        say_message(rt, file, &sketch, message);
     }
+    if messages.more > 0 {
+        say_more(rt, file, messages.more);
+    }
+    if messages
+        .told
+        .iter()
+        .any(|message| message.fault == NetFault::Kind)
+    {
+        say_kinds(rt);
+    }
+}
+
+/// Says how many faults more there are.
+fn say_more<R: Eprint>(rt: &R, file: &str, more: u64) {
+    let (place, colon) = place_of(file);
+    let _ = eprintln!(rt; "hox: {place}{colon}and {more} more");
+}
+
+/// Says which kinds there are.
+fn say_kinds<R: Eprint>(rt: &R) {
+    let _ = eprintln!(rt; "hox: the kinds are {KINDS}");
 }
 
 /// Says what is wrong with this text by its fault.
@@ -147,11 +181,10 @@ fn say_file_fault<R: Eprint>(rt: &R, asked: &Asked<'_>, stop: PresetFault) {
     };
     let file = input_name(pair.file);
     match stop.fault {
-        FileFault::NoText => say_of_file(rt, file, "is not UTF-8"),
         FileFault::TooMany { most } => say_too_many(rt, file, most),
-        FileFault::Line { number, fault } => {
+        FileFault::Record { number, fault } => {
             let text = line_in(&asked.request, stop.file, number);
-            say_line(rt, file, number, text, needed(fault));
+            say_line(rt, file, number, text, fault);
         }
         FileFault::NoChannel | FileFault::Memory => {
             say_no_memory(rt);
@@ -168,68 +201,72 @@ fn say_of_file<R: Eprint>(rt: &R, file: &str, what: &str) {
 fn say_too_many<R: Eprint>(rt: &R, file: &str, most: usize) {
     let _ = if most == CEILING as usize {
         eprintln!(rt;
-            "hox: {file} has more than {most} tokens; version = 2 of the description allows {HIGH_CEILING}"
+            "hox: {file} has more than {most} tokens; version = 2 of the description allows {HIGH_CEILING}, and hox stream any number"
         )
     } else {
-        eprintln!(rt; "hox: {file} has more than {most} tokens, and no channel may hold more")
+        eprintln!(rt; "hox: {file} has more than {most} tokens; hox stream takes any number")
     };
 }
 
-/// Says what a line of a file of tokens is.
-fn say_line<R: Eprint>(rt: &R, file: &str, number: usize, line: &str, what: &str) {
-    let _ = eprintln!(rt; "hox: line {number} of {file}: {line:?} is {what}");
+/// Says what is wrong with a line of a file of tokens: it repeats the line, or of a long one how it begins, where it is
+/// a text.
+fn say_line<R: Eprint>(rt: &R, file: &str, number: usize, line: &str, fault: RecordFault) {
+    let what = needed(fault);
+    if fault == RecordFault::NoText {
+        let _ = eprintln!(rt; "hox: line {number} of {file} {what}");
+        return;
+    }
+    let begin = beginning(line);
+    let dots = if begin.len() < line.len() { " .." } else { "" };
+    let _ = eprintln!(rt; "hox: line {number} of {file}: {begin:?}{dots} {what}");
+}
+
+/// How many bytes of a line are said at most.
+const MOST_SAID: usize = 60;
+
+/// How a line begins: as many of its characters as have [`MOST_SAID`] bytes at most.
+fn beginning(line: &str) -> &str {
+    line.get(..line.floor_char_boundary(MOST_SAID))
+        .unwrap_or(line)
 }
 
 /// The line with this number, counted from 1, of the file of tokens at this place.
 fn line_in(request: &Request, place: usize, number: usize) -> &str {
     match request.tokens.as_slice().get(place) {
-        Some(file) => line_of(file.text.as_slice(), number),
+        Some(file) => line_of(file.bytes.as_slice(), number),
         None => "",
     }
 }
 
-/// What a line is not, and what would do.
-pub(crate) fn needed(fault: LineFault) -> &'static str {
+/// What a record is not, or has too much, and what would do.
+pub(crate) fn needed(fault: RecordFault) -> &'static str {
     match fault {
-        LineFault::NotAWord => {
-            "no word: a word is a number up to 18446744073709551615, or hexadecimal after 0x"
+        RecordFault::NotAWord => {
+            "is no word; write a number from -2^63 to 2^64 - 1, or hexadecimal after 0x"
         }
-        LineFault::NotAFlag => "no flag: a flag is true or false",
+        RecordFault::NotAFlag => "is no flag; write true or false",
+        RecordFault::Underscore => "is no word; leave out the _",
+        RecordFault::TooPrecise => "has more digits after the point than are to be read",
+        RecordFault::OutOfRange => "is no word of 64 bits; a word is from -2^63 to 2^64 - 1",
+        RecordFault::NoText => "is not UTF-8",
+        RecordFault::NoField => "has no field for the column",
+        RecordFault::EmptyField => "has nothing in the field of the column",
+        RecordFault::OpenQuote => "has a quoted field that goes on over its end",
+        RecordFault::TwoRows => "has a carriage return within; end lines with line feeds",
+        RecordFault::CutShort => "ends within a sample",
     }
 }
 
-/// The line of a text with this number, counted from 1.
+/// The line of a file with this number, counted from 1; nothing if it is not UTF-8.
 fn line_of(bytes: &[u8], number: usize) -> &str {
-    let mut lines = str::from_utf8(bytes).unwrap_or("").split('\n');
-    lines.nth(number.saturating_sub(1)).unwrap_or("")
+    let mut lines = bytes.split(|byte| *byte == b'\n');
+    let line = lines.nth(number.saturating_sub(1)).unwrap_or(b"");
+    str::from_utf8(line).unwrap_or("")
 }
 
 /// How a file that is read is named: `-` is standard input.
 pub(crate) fn input_name(file: &str) -> &str {
     if file == "-" { "standard input" } else { file }
-}
-
-/// Says that a file of tokens could not be read.
-pub(crate) fn say_unread<R: Eprint>(rt: &R, file: &str, fault: ReadFault) {
-    let file = input_name(file);
-    match fault {
-        ReadFault::TooLong => say_too_long(rt, file),
-        ReadFault::Failed => say_of_file(rt, file, "could not be read"),
-        ReadFault::Memory => {
-            say_no_memory(rt);
-        }
-    }
-}
-
-/// Says that a file is longer than a file may be.
-fn say_too_long<R: Eprint>(rt: &R, file: &str) {
-    let _ = eprintln!(rt; "hox: {file} has more than {LONGEST_FILE} bytes");
-}
-
-/// Says that a file, or standard output, could not be written.
-pub(crate) fn say_unwritten<R: Eprint>(rt: &R, file: &str) {
-    let file = if file == "-" { "standard output" } else { file };
-    say_of_file(rt, file, "could not be written");
 }
 
 /// Says that memory was refused, and returns the exit status.

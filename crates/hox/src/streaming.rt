@@ -1,15 +1,17 @@
 //! Running a network on tokens that come, as they come.
 use crate::hints::say_no_channel;
 use crate::host::Host;
-use crate::messages::{say_no_memory, say_refused, say_stop, say_unread, say_unwritten};
+use crate::messages::{say_no_memory, say_refused, say_stop};
+use crate::reasons::{say_undescribed, say_unreadable, say_unwritten};
 use crate::told::say_told;
 use hox_args::StreamChoice;
 use hox_execute::{Ends, Pair, StreamStop, stream};
-use hox_network::{AllKinds, ReadFault};
+use hox_network::AllKinds;
 use hox_stream::{NameFault, StreamFault};
 use kpn_front::{Refused, Status};
 use kpn_model::Text;
 use kpn_net::NetFault;
+use std::io;
 use std::rt::Files;
 
 /// Runs the network that a file describes, or standard input: from each file of the inputs tokens come into a
@@ -31,18 +33,22 @@ fn say_stream_stop<R: Print + Eprint + AllocGlobal>(rt: &R, stop: StreamStop<'_>
     match stop {
         StreamStop::Asked(stop) => say_stop(rt, &stop),
         StreamStop::OutputTwice => say_output_named_twice(rt),
-        StreamStop::Refused { file, refused } => say_description(rt, file, &refused),
+        StreamStop::Refused {
+            file,
+            refused,
+            error,
+        } => say_description(rt, file, &refused, error),
         StreamStop::Unopened {
             ends,
             channels,
             fault,
         } => say_fault(rt, &ends, channels.as_slice(), &fault),
-        StreamStop::Unread { file } => {
-            say_unread(rt, file, ReadFault::Failed);
+        StreamStop::Unread { file, error } => {
+            say_unreadable(rt, file, error);
             Status::Refused.code()
         }
-        StreamStop::Unwritten { file } => {
-            say_unwritten(rt, file);
+        StreamStop::Unwritten { file, error } => {
+            say_unwritten(rt, file, error);
             Status::WriteFailed.code()
         }
     }
@@ -54,9 +60,18 @@ fn say_output_named_twice<R: Eprint>(rt: &R) -> u8 {
     Status::WrongArguments.code()
 }
 
-/// Says why a description is refused, and returns the exit status.
-fn say_description<R: Eprint + AllocGlobal>(rt: &R, file: &str, refused: &Refused) -> u8 {
-    say_refused(rt, file, refused);
+/// Says why a description is refused, or could not be read for this reason, and returns the exit status.
+fn say_description<R: Eprint + AllocGlobal>(
+    rt: &R,
+    file: &str,
+    refused: &Refused,
+    error: Option<io::Error>,
+) -> u8 {
+    if refused.fault == NetFault::Input {
+        say_undescribed(rt, file, error);
+    } else {
+        say_refused(rt, file, refused);
+    }
     match refused.fault {
         NetFault::Memory => Status::MemoryRefused.code(),
         _ => Status::Refused.code(),

@@ -1,29 +1,47 @@
 //! What is told of a stream that ended.
-use crate::messages::{input_name, needed, say_no_memory, say_unread, say_unwritten};
+use crate::messages::{input_name, needed, say_no_memory};
+use crate::reasons::{say_unreadable, say_unwritten};
+use crate::taps::Failing;
+use crate::unused::say_unused_by_stream;
 use hox_execute::{Ends, Pair, Streamed};
-use hox_network::ReadFault;
-use hox_stream::{Finish, Inlet, LONGEST_LINE, LineRefusal, Outlet, Served};
+use hox_stream::{Finish, Inlet, LONGEST_RECORD, Outlet, Refusal, Served};
 use kpn_body::Body;
 use kpn_compute::Computes;
 use kpn_flow::Flow;
-use kpn_front::{Sink, Source};
+use kpn_front::{Sink, Source, Status};
 use kpn_model::{End, Verdict};
 use kpn_report::places_of;
 use kpn_verdict::{verdict_of, verdict_text};
 use std::alloc::{AllocError, Global};
+use std::io;
 
 /// Says on standard error how a stream ended and, unless it is not wanted, what was read and written. Returns the exit
-/// status.
-pub(crate) fn say_told<R: Eprint + AllocGlobal, F: Computes, I: Source, O: Sink>(
-    rt: &R,
-    streamed: &Streamed<'_, F, I, O>,
-    is_quiet: bool,
-) -> u8 {
+/// status. What was left unused is said anyhow, but nothing where the reader of a pipe is gone.
+pub(crate) fn say_told<
+    R: Eprint + AllocGlobal,
+    F: Computes,
+    I: Source + Failing,
+    O: Sink + Failing,
+>(rt: &R, streamed: &Streamed<'_, F, I, O>, is_quiet: bool) -> u8 {
     let (ends, served) = (&streamed.ends, &streamed.served);
+    if is_reader_gone(served.finish, served.outlets.as_slice()) {
+        return Status::WriteFailed.code();
+    }
     if !is_quiet {
         say_counts(rt, ends, served);
     }
-    say_fault(rt, served.finish, ends, served.inlets.as_slice());
+    say_fault(rt, ends, served);
+    let status = say_verdict(rt, served, is_quiet);
+    say_unused_by_stream(rt, streamed);
+    status
+}
+
+/// Says the verdict on how a stream left its network, unless it is not wanted, and returns the exit status.
+fn say_verdict<R: Eprint + AllocGlobal, F: Computes, I: Source, O: Sink>(
+    rt: &R,
+    served: &Served<F, I, O>,
+    is_quiet: bool,
+) -> u8 {
     match judged(rt.alloc(), &served.flow, served.finish) {
         Ok((verdict, line)) => {
             if !is_quiet {
@@ -85,18 +103,34 @@ fn judged<B: Body>(
     Ok((verdict, line))
 }
 
-/// Says what ended a stream before the network came to its end, if something did.
-fn say_fault<R: Eprint, I: Source>(rt: &R, finish: Finish, ends: &Ends<'_>, inlets: &[Inlet<I>]) {
+/// Whether a stream ended since the reader of a pipe to which it is written is gone.
+fn is_reader_gone<O: Sink + Failing>(finish: Finish, outlets: &[Outlet<O>]) -> bool {
     match finish {
-        Finish::Line(k, refusal) => say_line(rt, ends.inputs.as_slice(), inlets, k, refusal),
-        Finish::Unread(k) => match ends.inputs.get(k) {
-            Some(pair) => say_unread(rt, pair.file, ReadFault::Failed),
-            None => {}
+        Finish::Unwritten(k) => match failure_at(outlets, k) {
+            Some(error) => error.kind() == io::ErrorKind::BrokenPipe,
+            None => false,
         },
-        Finish::Unwritten(k) => match ends.outputs.get(k) {
-            Some(pair) => say_unwritten(rt, pair.file),
-            None => {}
-        },
+        _ => false,
+    }
+}
+
+/// Why the sink at this place could not be written.
+fn failure_at<O: Sink + Failing>(outlets: &[Outlet<O>], k: usize) -> Option<io::Error> {
+    outlets.get(k)?.sink().error()
+}
+
+/// Says what ended a stream before the network came to its end, if something did.
+fn say_fault<R: Eprint + AllocGlobal, F: Computes, I: Source + Failing, O: Sink + Failing>(
+    rt: &R,
+    ends: &Ends<'_>,
+    served: &Served<F, I, O>,
+) {
+    let (inlets, outlets) = (served.inlets.as_slice(), served.outlets.as_slice());
+    match served.finish {
+        Finish::Refused(k, refusal) => say_record(rt, ends.inputs.as_slice(), inlets, k, refusal),
+        Finish::Unread(k) => say_input_unread(rt, ends.inputs.as_slice(), inlets, k),
+        Finish::Unwritten(k) => say_output_unwritten(rt, ends.outputs.as_slice(), outlets, k),
+        Finish::Misfit(k) => say_misfit(rt, ends.outputs.as_slice(), outlets, k),
         Finish::Memory => {
             let _ = say_no_memory(rt);
         }
@@ -104,31 +138,76 @@ fn say_fault<R: Eprint, I: Source>(rt: &R, finish: Finish, ends: &Ends<'_>, inle
     }
 }
 
-/// Says which line of a source is refused, and what would do.
-fn say_line<R: Eprint, I: Source>(
+/// Says why the source at this place could not be read.
+fn say_input_unread<R: Eprint + AllocGlobal, I: Source + Failing>(
     rt: &R,
     inputs: &[Pair<'_>],
     inlets: &[Inlet<I>],
     k: usize,
-    refusal: LineRefusal,
 ) {
     let (Some(pair), Some(inlet)) = (inputs.get(k), inlets.get(k)) else {
         return;
     };
-    let (file, line) = (input_name(pair.file), inlet.lines().saturating_add(1));
+    match inlet.source().error() {
+        Some(error) => say_unreadable(rt, pair.file, error),
+        None => {}
+    }
+}
+
+/// Says why the sink at this place could not be written; if memory was refused for that, that it was.
+fn say_output_unwritten<R: Eprint + AllocGlobal, O: Sink + Failing>(
+    rt: &R,
+    outputs: &[Pair<'_>],
+    outlets: &[Outlet<O>],
+    k: usize,
+) {
+    let Some(pair) = outputs.get(k) else {
+        return;
+    };
+    match failure_at(outlets, k) {
+        Some(error) => say_unwritten(rt, pair.file, error),
+        None => {
+            let _ = say_no_memory(rt);
+        }
+    }
+}
+
+/// Says which token of a channel does not fit the file to which it goes.
+fn say_misfit<R: Eprint, O: Sink>(rt: &R, outputs: &[Pair<'_>], outlets: &[Outlet<O>], k: usize) {
+    let (Some(pair), Some(outlet)) = (outputs.get(k), outlets.get(k)) else {
+        return;
+    };
+    let (channel, token) = (pair.channel, outlet.tokens().saturating_add(1));
+    let file = pair.file;
+    let _ = eprintln!(rt;
+        "hox: token {token} of channel '{channel}' does not fit the file '{file}'"
+    );
+}
+
+/// Says which line of a source is refused, and what would do.
+fn say_record<R: Eprint, I: Source>(
+    rt: &R,
+    inputs: &[Pair<'_>],
+    inlets: &[Inlet<I>],
+    k: usize,
+    refusal: Refusal,
+) {
+    let (Some(pair), Some(inlet)) = (inputs.get(k), inlets.get(k)) else {
+        return;
+    };
+    let (file, line) = (input_name(pair.file), inlet.records().saturating_add(1));
     match refusal {
-        LineRefusal::Fault(fault) => say_what_line_is(rt, file, line, needed(fault)),
-        LineRefusal::NoText => say_what_line_is(rt, file, line, "not UTF-8"),
-        LineRefusal::TooLong => say_line_is_long(rt, file, line),
+        Refusal::Fault(fault) => say_what_line_is(rt, file, line, needed(fault)),
+        Refusal::TooLong => say_line_is_long(rt, file, line),
     }
 }
 
 /// Says what a line of a file is.
 fn say_what_line_is<R: Eprint>(rt: &R, file: &str, line: u64, what: &str) {
-    let _ = eprintln!(rt; "hox: line {line} of {file} is {what}");
+    let _ = eprintln!(rt; "hox: line {line} of {file} {what}");
 }
 
 /// Says that a line of a file is longer than a line may be.
 fn say_line_is_long<R: Eprint>(rt: &R, file: &str, line: u64) {
-    let _ = eprintln!(rt; "hox: line {line} of {file} has more than {LONGEST_LINE} bytes");
+    let _ = eprintln!(rt; "hox: line {line} of {file} has more than {LONGEST_RECORD} bytes");
 }

@@ -48,6 +48,7 @@ pub record IsRunOf (rows : List Row) (run : RunChoice) : Type 0 where
   pub tokens : map (λ s. s.now) run.tokens.items ≡ texts_of (codes "tokens") rows
   pub outputs : map (λ s. s.now) run.outputs.items ≡ texts_of (codes "out") rows
   pub show : map (λ s. s.now) run.show.items ≡ texts_of (codes "show") rows
+  pub unsigned : map (λ s. s.now) run.unsigned.items ≡ texts_of (codes "unsigned") rows
   pub budget : BudgetFrom (first_of (codes "budget") rows) run.budget
   pub workers : WorkersFrom (first_of (codes "workers") rows) run.workers
   pub progress : run.progress ≡ is_given (codes "progress") rows
@@ -67,6 +68,7 @@ pub record IsStreamOf (rows : List Row) (stream : StreamChoice) : Type 0 where
   pub file : option_map (λ s. s.now) stream.file ≡ first_of (codes "file") rows
   pub inputs : map (λ s. s.now) stream.inputs.items ≡ texts_of (codes "in") rows
   pub outputs : map (λ s. s.now) stream.outputs.items ≡ texts_of (codes "out") rows
+  pub unsigned : map (λ s. s.now) stream.unsigned.items ≡ texts_of (codes "unsigned") rows
   pub quiet : stream.quiet ≡ is_given (codes "quiet") rows
 
 -- the choice is what a command and its entries ask for

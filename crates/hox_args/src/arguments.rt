@@ -22,8 +22,8 @@ pub const MAX_WORKERS: usize = 16;
 
 /// A run that the arguments ask for: the file of the description, or standard input if it is absent or `-`;
 /// which files have the first tokens of which channels, and to which files which channels are written, each
-/// as `CHANNEL=FILE`; the channels whose streams the report has; the budget in place of that of the
-/// description; the number of workers, 1 to [`MAX_WORKERS`]; whether it is shown how far the run is, also where
+/// as `CHANNEL=FILE`; the channels whose streams the report has; the channels whose words are written unsigned,
+/// or `all`; the budget in place of that of the description; the number of workers, 1 to [`MAX_WORKERS`]; whether it is shown how far the run is, also where
 /// standard error is no terminal; and whether no report is wanted.
 #[derive(Debug, Drop)]
 pub struct RunChoice<'a> {
@@ -31,6 +31,7 @@ pub struct RunChoice<'a> {
     pub tokens: Vec<&'a str>,
     pub outputs: Vec<&'a str>,
     pub show: Vec<&'a str>,
+    pub unsigned: Vec<&'a str>,
     pub budget: Option<u64>,
     pub workers: usize,
     pub progress: bool,
@@ -50,12 +51,14 @@ pub struct DrawChoice<'a> {
 
 /// A run on tokens that come, which the arguments ask for: the file of the description, or standard input if
 /// it is absent or `-`; from which files tokens come into which channels, and to which files which channels
-/// are written, each as `CHANNEL=FILE`; and whether no report is wanted.
+/// are written, each as `CHANNEL=FILE`; the channels whose words are written unsigned, or `all`; and whether no
+/// report is wanted.
 #[derive(Debug, Drop)]
 pub struct StreamChoice<'a> {
     pub file: Option<&'a str>,
     pub inputs: Vec<&'a str>,
     pub outputs: Vec<&'a str>,
+    pub unsigned: Vec<&'a str>,
     pub quiet: bool,
 }
 
@@ -202,6 +205,7 @@ fn run_choice<'a>(alloc: Global, entries: &ArgMatches<'a>) -> Result<Choice<'a>,
     let tokens = texts_in(alloc, entries, "tokens")?;
     let outputs = texts_in(alloc, entries, "out")?;
     let show = texts_in(alloc, entries, "show")?;
+    let unsigned = texts_in(alloc, entries, "unsigned")?;
     let file = text_in(entries, "file");
     let progress = has_flag(entries, "progress");
     let quiet = has_flag(entries, "quiet");
@@ -210,6 +214,7 @@ fn run_choice<'a>(alloc: Global, entries: &ArgMatches<'a>) -> Result<Choice<'a>,
         tokens,
         outputs,
         show,
+        unsigned,
         budget,
         workers,
         progress,
@@ -244,10 +249,12 @@ fn stream_choice<'a>(alloc: Global, entries: &ArgMatches<'a>) -> Result<Choice<'
 {
     let file = text_in(entries, "file");
     let inputs = texts_in(alloc, entries, "in")?;
+    let written = texts_in(alloc, entries, "out")?;
     Ok(Choice::Stream(StreamChoice {
         file,
         inputs,
-        outputs: texts_in(alloc, entries, "out")?,
+        outputs: written,
+        unsigned: texts_in(alloc, entries, "unsigned")?,
         quiet: has_flag(entries, "quiet"),
     }))
 }

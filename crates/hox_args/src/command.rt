@@ -63,7 +63,8 @@ fn run<'a>(alloc: Global) -> Result<Command<'a>, AllocError>
 fn run_bounds<'a>(alloc: Global) -> Result<Command<'a>, AllocError>
     ensures { MakesLocal hox_run_bounds result }
 {
-    let budget = "How many entries the run may have [default: that of the description]";
+    let budget =
+        "How many entries the run may have [default: that of the description, or else the greatest of its version]";
     let run = with_arg(run_streams(alloc), option(alloc, "budget", "N", budget));
     with_arg(run, workers(alloc))
 }
@@ -81,7 +82,8 @@ fn run_streams<'a>(alloc: Global) -> Result<Command<'a>, AllocError>
     let show = "The report has the stream of this channel; may be given again";
     let run = with_arg(run, tokens(alloc));
     let run = with_arg(run, out(alloc));
-    with_arg(run, list(alloc, "show", "CHANNEL", show))
+    let run = with_arg(run, list(alloc, "show", "CHANNEL", show));
+    with_arg(run, unsigned(alloc))
 }
 
 fn draw<'a>(alloc: Global) -> Result<Command<'a>, AllocError>
@@ -121,6 +123,7 @@ fn stream<'a>(alloc: Global) -> Result<Command<'a>, AllocError>
         "The channel gets the tokens of the file as they come, one a line, - is standard input; may be given again";
     let stream = with_arg(stream, list(alloc, "in", "CHANNEL=FILE", input));
     let stream = with_arg(stream, out(alloc));
+    let stream = with_arg(stream, unsigned(alloc));
     let stream = with_arg(stream, quiet(alloc));
     with_arg(stream, file(alloc))
 }
@@ -149,6 +152,15 @@ fn out<'a>(alloc: Global) -> Arg<'a>
     let help =
         "Writes the stream of the channel to the file, one token a line, - is standard output; may be given again";
     list(alloc, "out", "CHANNEL=FILE", help)
+}
+
+fn unsigned<'a>(alloc: Global) -> Arg<'a>
+    ensures rule { rule_of result ≡ list_rule (codes "unsigned") }
+    ensures local { result.global ≡ false }
+{
+    let help =
+        "Writes the words of the channel as numbers from 0 to 2^64 - 1; all stands for all channels; repeatable";
+    list(alloc, "unsigned", "CHANNEL", help)
 }
 
 fn workers<'a>(alloc: Global) -> Arg<'a>

@@ -18,14 +18,16 @@ Exit status:
 ";
 
 /// How a description and a file of tokens are written, as the help of the subcommands tells it.
-pub(crate) const KINDS_AND_FILES: &str = "\
-A file of tokens has one a line: a word in decimal, or in hexadecimal after 0x, up to 2^64 - 1; a flag as true
-or false. What stands after a comma or after # counts for nothing, and so does a line without a token. There may
-be 1,000,000 tokens, and in version 1 of the description 65,535. The channel's capacity is at least their number.
+pub const KINDS_AND_FILES: &str = "\
+A file of tokens has one a line: a word in decimal, as 21 or -21, or in hexadecimal after 0x, from -2^63 to
+2^64 - 1; a flag as true or false. A word has 64 bits in two's complement: -1 and 18446744073709551615 are the same
+word, which is written -1 (--unsigned CHANNEL writes the other). What stands after a comma or after # is ignored,
+and so is a line without a token. There may be 1,000,000 tokens, and in version 1 of the description 65,535: files
+without end are for hox stream. The channel's capacity is at least their number.
 
 The description is TOML. Its keys, and in brackets what holds if one is absent:
   version         1 or 2
-  budget          how many entries a run may have [10000]
+  budget          how many entries a run may have [1000000, in version 2 2000000]
   step            how much a growth adds to a capacity, in version 2 [1]
   [[process]]
     name, kind    texts; a name has 1 to 16 of a to z, 0 to 9 and _, the first a letter
@@ -72,8 +74,8 @@ Kinds of processes, with their arguments and their ports, inputs -> outputs (w a
   delay N         w -> w      writes N zeros, then copies; N from 1 to 4
   low_pass K      w -> w      y += (x - y) / 2^K, rounded down, signed, from y = 0: writes y; K from 0 to 63
   clip LO HI      w -> w      writes the nearest word from LO to HI, signed
-Signed: a word is a number in two's complement, from 2^63 on itself less 2^64. V of constant and hold, and LO
-and HI of clip, may be below 0.
+Signed: a word is a number in two's complement, from 2^63 on itself less 2^64. V of constant, hold and prefix, K
+of scale, and LO and HI of clip, may be below 0.
 ";
 
 /// What the help of `draw` says of pictures.

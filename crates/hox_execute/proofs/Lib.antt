@@ -1,4 +1,7 @@
 pub mod Effects
+pub mod Tried
+pub mod Apart
+pub mod Misused
 pub mod Zipped
 pub mod Written
 pub mod Loaded
@@ -6,3 +9,4 @@ pub mod Sources
 pub mod Stopped
 pub mod Drawn
 pub mod Chosen
+pub mod Named

@@ -29,7 +29,7 @@ module _ (contents : List ℕ → Option (List ℕ)) (named : List ℕ → Optio
         has_failed = true;
         serves = record {
           loaded = Err Input;
-          loads = λ _. always (λ text. LoadsChanged (as_meant named signature) named signature true text (Err Input)) (contents name) (λ _. inl refl);
+          loads = λ _. always (λ text. LoadsChanged (as_meant named signature text) named signature true text (Err Input)) (contents name) (λ _. inl refl);
           failed = λ _ _. refl;
           comes = refused;
         };

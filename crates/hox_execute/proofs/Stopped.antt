@@ -1,5 +1,5 @@
 -- Why a stream is not run, from why it is not opened or its files aren't.
-use Rattle.std.proofs.Common.{inl, inr, ℕ, List, Option, Result, Ok, Err, IfErr, sym, subst}
+use Rattle.std.proofs.Common.{inl, inr, ℕ, Bool, List, Option, Result, Ok, Err, IfErr, sym, subst}
 use Rattle.kpn_model.specs.declared.kinds.Card.{Card}
 use Rattle.kpn_model.specs.declared.kinds.Signature.{Signature}
 use Rattle.kpn_sketch.specs.declared.sketch.Sketch.{Sketch}
@@ -15,14 +15,14 @@ use Rattle.hox_execute.specs.Streaming.{AreEnds, IsFaultyBetween, IsNoEnds, IsRe
 
 module _ (kinds : Family) (named : List ℕ → Option (ℕ × ℕ)) (signature : Card → Option Signature) (contents : List ℕ → Option (List ℕ)) where
   pub refused_unopened : (name : List ℕ) (ends : Ends) (unopened : Unopened) → IsRefusedIn named signature contents name unopened → IsUnopened kinds named signature contents name ends unopened
-  refused_unopened name ends (IsRefused refused) h = h
+  refused_unopened name ends (IsRefused refused error) h = h
   refused_unopened name ends (Faulty channels fault) (inl h) = absurd h
   refused_unopened name ends (Faulty channels fault) (inr h) = absurd h.2
   refused_unopened name ends NoMemory h = tt
 
   faulty : (name : List ℕ) (ends : Ends) (sketch : Sketch) → IsSketchIn named signature contents name sketch → (unopened : Unopened) → IsFaultyBetween kinds named signature sketch ends unopened
       → IsUnopened kinds named signature contents name ends unopened
-  faulty name ends sketch is_in (IsRefused refused) h = absurd h
+  faulty name ends sketch is_in (IsRefused refused error) h = absurd h
   faulty name ends sketch is_in (Faulty channels fault) h = (sketch, is_in, h)
   faulty name ends sketch is_in NoMemory h = tt
 
@@ -31,15 +31,15 @@ module _ (kinds : Family) (named : List ℕ → Option (ℕ × ℕ)) (signature 
   faulty_unopened {X} name ends sketch is_in (Ok x) h = tt
   faulty_unopened {X} name ends sketch is_in (Err e) h = faulty name ends sketch is_in e h
 
-  module _ (choice : StreamChoice) (ends : Ends) (chosen : AreEnds choice ends) where
-    unfit : (stop : StreamStop) → IsUnfit ends stop → IsStreamStop kinds named signature contents choice stop
-    unfit (Asked stop) h = subst (λ (s : Stop). IsNoEnds choice (Asked s)) (sym h) tt
+  module _ (clash : List ℕ → Bool → List ℕ → Bool → Option Bool) (choice : StreamChoice) (ends : Ends) (chosen : AreEnds clash choice ends) where
+    unfit : (stop : StreamStop) → IsUnfit ends stop → IsStreamStop kinds named signature contents clash choice stop
+    unfit (Asked stop) h = subst (λ (s : Stop). IsNoEnds clash choice (Asked s)) (sym h) tt
     unfit OutputTwice h = absurd h
-    unfit (Refused file refused) h = absurd h
+    unfit (Refused file refused error) h = absurd h
     unfit (NotOpened others channels fault) h = absurd h
-    unfit (Unread file) h = (ends, chosen, h)
-    unfit (Unwritten file) h = (ends, chosen, h)
+    unfit (Unread file error) h = (ends, chosen, h)
+    unfit (Unwritten file error) h = (ends, chosen, h)
 
-    pub unfit_stops : {X : Type 0} (r : Result X StreamStop) → IfErr r (IsUnfit ends) → IfErr r (IsStreamStop kinds named signature contents choice)
+    pub unfit_stops : {X : Type 0} (r : Result X StreamStop) → IfErr r (IsUnfit ends) → IfErr r (IsStreamStop kinds named signature contents clash choice)
     unfit_stops {X} (Ok x) h = tt
     unfit_stops {X} (Err stop) h = unfit stop h

@@ -4,7 +4,7 @@ use Rattle.std.specs.List.{AllZip}
 use Rattle.std.proofs.lemmas.List.{length-map, take_all, take_more}
 use Rattle.std.proofs.lemmas.Slice.Zip.{all_zipped_more}
 
-mapped_at : {C A : Type 0} (f : C → A) (cs : List C) (k : ℕ) (d : C) → get_or (map f cs) k (f d) ≡ f (get_or cs k d)
+pub mapped_at : {C A : Type 0} (f : C → A) (cs : List C) (k : ℕ) (d : C) → get_or (map f cs) k (f d) ≡ f (get_or cs k d)
 mapped_at f [] k d = refl
 mapped_at f (c ∷ cs) zero d = refl
 mapped_at f (c ∷ cs) (suc k) d = mapped_at f cs k d

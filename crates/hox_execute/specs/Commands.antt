@@ -9,13 +9,14 @@ use Rattle.kpn_front.specs.declared.status.Status.TheVariants.{Success}
 use Rattle.kpn_front.specs.Lines.{checked_line}
 use Rattle.hox_network.specs.declared.request.Fault.{Fault}
 use Rattle.hox_network.specs.declared.request.Request.{Request}
+use Rattle.hox_run.specs.declared.notes.Notes.{Notes}
 use Rattle.hox_run.specs.declared.telling.Told.{Told}
 use Rattle.hox_network.specs.Preparing.{GivesNet, IsFault}
 use Rattle.hox_run.specs.Serving.{GivesRun}
 use Rattle.hox_draw.specs.Drawing.{DrawsPrepared}
 use Rattle.hox_execute.specs.declared.reading.Asked.{Asked}
 use Rattle.hox_execute.specs.declared.stops.Stop.{Stop}
-use Rattle.hox_execute.specs.declared.stops.Stop.TheVariants.{InputTwice, Memory, NoPair, Refused, Unread, Words}
+use Rattle.hox_execute.specs.declared.stops.Stop.TheVariants.{Clash, InputTwice, Memory, NoPair, Refused, Unread, Words}
 use Rattle.hox_execute.specs.Files.{Effect, standard, wrote}
 use Rattle.hox_execute.specs.Reports.{Writes, written_of}
 use Rattle.hox_execute.specs.Requests.{IsAsked, IsUnasked, ServesFile, Want}
@@ -24,20 +25,21 @@ use Rattle.hox_execute.specs.Requests.{IsAsked, IsUnasked, ServesFile, Want}
 abbrev pub GivesDrawing : Family → (ℕ → List ℕ × ℕ) → Direction → Bool → Request → Network → Result (List ℕ) Fault → Type 0
 GivesDrawing kinds title direction is_run request net result = MatchResult result (DrawsPrepared kinds title direction is_run request net) (IsFault request net)
 
--- a family's names and ports; what each file holds, if that is known; what is wanted; and the texts CHANNEL=FILE of tokens and of
--- streams
-module _ (named : List ℕ → Option (ℕ × ℕ)) (signature : Card → Option Signature) (contents : List ℕ → Option (List ℕ)) (want : Want) (tokens outputs : List (List ℕ)) where
+-- a family's names and ports; what each file holds, and which can't be used beside each other, if that is known; what is wanted; and
+-- the texts CHANNEL=FILE of tokens and of streams
+module _ (named : List ℕ → Option (ℕ × ℕ)) (signature : Card → Option Signature) (contents : List ℕ → Option (List ℕ)) (clash : List ℕ → Bool → List ℕ → Bool → Option Bool) (want : Want) (tokens outputs : List (List ℕ)) where
   -- what is asked for is read, and this is what comes of the description and that
   pub record Comes {X : Type 0} (gives : Request → Network → Result X Fault → Type 0) (asked : Asked) (result : Result X Fault) : Type 0 where
-    pub is_asked : IsAsked contents want tokens outputs asked
+    pub is_asked : IsAsked contents clash want tokens outputs asked
     pub serves : ServesFile contents named signature (gives asked.request) want.file result
 
   -- why nothing is done: what is asked for can't be read, or it is refused
   abbrev pub IsStop : Stop → Type 0
   IsStop (Refused refusal) = (refusal.file.now ≡ want.file) × Comes GivesNet refusal.asked (Err refusal.fault)
-  IsStop (NoPair option text) = IsUnasked contents want tokens outputs (NoPair option text)
-  IsStop InputTwice = IsUnasked contents want tokens outputs InputTwice
-  IsStop (Unread file fault) = IsUnasked contents want tokens outputs (Unread file fault)
+  IsStop (NoPair option text) = IsUnasked contents clash want tokens outputs (NoPair option text)
+  IsStop InputTwice = IsUnasked contents clash want tokens outputs InputTwice
+  IsStop (Clash one other) = IsUnasked contents clash want tokens outputs (Clash one other)
+  IsStop (Unread file error) = IsUnasked contents clash want tokens outputs (Unread file error)
   IsStop Memory = Unit {0}
   IsStop (Words fault) = ⊥
 
@@ -50,12 +52,13 @@ module _ (named : List ℕ → Option (ℕ × ℕ)) (signature : Card → Option
       pub comes : Comes GivesNet asked (Ok net)
       pub writes : Writes Success (wrote standard (checked_line net) ∷ []) steady before after status
 
-    -- the network is run, and what is told of it is written
-    pub record HasRun (kinds : Family) (is_quiet : Bool) : Type 0 where
+    -- the network is run, and what is told of it is written; what it left unused is noted
+    pub record HasRun (kinds : Family) (notes : Notes) : Type 0 where
       pub asked : Asked
       pub told : Told
+      pub noted : notes ≡ told.notes
       pub comes : Comes (GivesRun kinds) asked (Ok told)
-      pub writes : Writes told.status (written_of is_quiet asked.outputs.items told) steady before after status
+      pub writes : Writes told.status (written_of want.is_quiet asked.outputs.items told) steady before after status
 
     -- the network is drawn, as it is or as a run left it, and the picture is written
     pub record HasDrawn (kinds : Family) (title : ℕ → List ℕ × ℕ) (direction : Direction) (is_run : Bool) : Type 0 where

@@ -1,7 +1,9 @@
 pub mod Files
 pub mod Statuses
 pub mod Pairs
+pub mod Uses
 pub mod Requests
+pub mod Served
 pub mod Reports
 pub mod Commands
 pub mod Program

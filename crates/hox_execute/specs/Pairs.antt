@@ -4,7 +4,7 @@ use Rattle.std.specs.List.{AllZip, Contains, after_first, before_first, position
 use Rattle.std.specs.Str.{bytes_eq}
 use Rattle.hox_execute.specs.declared.pairs.Pair.{Pair}
 use Rattle.hox_execute.specs.declared.stops.Stop.{Stop}
-use Rattle.hox_execute.specs.declared.stops.Stop.TheVariants.{InputTwice, Memory, NoPair, Refused, Unread, Words}
+use Rattle.hox_execute.specs.declared.stops.Stop.TheVariants.{Clash, InputTwice, Memory, NoPair, Refused, Unread, Words}
 use Rattle.hox_execute.specs.Files.{standard}
 
 -- the sign between a channel and its file, `=`
@@ -29,7 +29,8 @@ abbrev pub IsUnpaired : List ℕ → List (List ℕ) → Stop → Type 0
 IsUnpaired name texts (NoPair option text) = (option.now ≡ name) × Contains texts text.now × (HasEquals text.now → ⊥)
 IsUnpaired name texts Memory = Unit {0}
 IsUnpaired name texts InputTwice = ⊥
-IsUnpaired name texts (Unread file fault) = ⊥
+IsUnpaired name texts (Clash one other) = ⊥
+IsUnpaired name texts (Unread file error) = ⊥
 IsUnpaired name texts (Refused refusal) = ⊥
 IsUnpaired name texts (Words fault) = ⊥
 

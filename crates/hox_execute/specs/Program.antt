@@ -1,5 +1,5 @@
 -- What `hox` does, from its arguments and files to what is written.
-use Rattle.std.specs.Prelude.{◌≡◌, ℕ, Bool, List, [], map, Option, None, is_some, option_map, unwrap_or}
+use Rattle.std.specs.Prelude.{◌≡◌, ℕ, Bool, false, List, [], map, Option, None, is_some, option_map, unwrap_or}
 use Rattle.kpn_model.specs.declared.kinds.Card.{Card}
 use Rattle.kpn_model.specs.declared.kinds.Signature.{Signature}
 use Rattle.kpn_model.specs.Network.{Family}
@@ -9,46 +9,52 @@ use Rattle.hox_args.specs.declared.arguments.Choice.TheVariants.{Check, Run, Dra
 use Rattle.hox_args.specs.declared.arguments.DrawChoice.{DrawChoice}
 use Rattle.hox_args.specs.declared.arguments.RunChoice.{RunChoice}
 use Rattle.hox_args.specs.HoxChoices.{IsHoxChoice, IsHoxFault}
+use Rattle.hox_run.specs.declared.notes.Notes.{Notes}
 use Rattle.hox_execute.specs.declared.serving.Outcome.{Outcome}
-use Rattle.hox_execute.specs.declared.serving.Outcome.TheVariants.{Exits, Streams}
+use Rattle.hox_execute.specs.declared.serving.Outcome.TheVariants.{Exits, Ran, Streams}
 use Rattle.hox_execute.specs.declared.stops.Stop.{Stop}
-use Rattle.hox_execute.specs.declared.stops.Stop.TheVariants.{InputTwice, Memory, NoPair, Refused, Unread, Words}
+use Rattle.hox_execute.specs.declared.stops.Stop.TheVariants.{Clash, InputTwice, Memory, NoPair, Refused, Unread, Words}
 use Rattle.hox_execute.specs.Commands.{HasChecked, HasDrawn, HasRun, IsStop}
 use Rattle.hox_execute.specs.Files.{Effect, standard}
 use Rattle.hox_execute.specs.Requests.{Want}
 
 -- the network of the description in this file, or on standard input
-abbrev pub want_in : Option (List ℕ) → ℕ → Option ℕ → List (List ℕ) → Want
-want_in file workers budget show = record { file = unwrap_or file standard; workers = workers; budget = budget; show = show }
+abbrev pub want_in : Option (List ℕ) → ℕ → Want
+want_in file workers = record { file = unwrap_or file standard; workers = workers; budget = None; show = []; unsigned = []; is_quiet = false }
 
 abbrev pub want_of_run : RunChoice → Want
-want_of_run run = want_in (option_map (λ s. s.now) run.file) run.workers run.budget (map (λ s. s.now) run.show.items)
+want_of_run run =
+    record (want_in (option_map (λ s. s.now) run.file) run.workers) { budget = run.budget; show = map (λ s. s.now) run.show.items; unsigned = map (λ s. s.now) run.unsigned.items; is_quiet = run.quiet }
 
 -- a network is drawn by one worker if it is drawn as it is
 abbrev pub want_of_draw : DrawChoice → Want
-want_of_draw draw = want_in (option_map (λ s. s.now) draw.file) (unwrap_or draw.workers 1) None []
+want_of_draw draw = want_in (option_map (λ s. s.now) draw.file) (unwrap_or draw.workers 1)
 
--- a family, its names and ports; what each file holds, if that is known; whether it is known that no write fails; and what was done
+-- a family, its names and ports; what each file holds, and which can't be used beside each other, if that is known; whether it is known that no write fails; and what was done
 -- before and after
-module _ (kinds : Family) (named : List ℕ → Option (ℕ × ℕ)) (signature : Card → Option Signature) (contents : List ℕ → Option (List ℕ)) (steady : Bool) (before after : Option (List Effect)) where
-  abbrev pub RunsChoice : RunChoice → Status → Type 0
-  RunsChoice run status =
-      HasRun named signature contents (want_of_run run) (map (λ s. s.now) run.tokens.items) (map (λ s. s.now) run.outputs.items) steady before after status kinds run.quiet
+module _ (kinds : Family) (named : List ℕ → Option (ℕ × ℕ)) (signature : Card → Option Signature) (contents : List ℕ → Option (List ℕ)) (clash : List ℕ → Bool → List ℕ → Bool → Option Bool) (steady : Bool) (before after : Option (List Effect)) where
+  abbrev pub RunsChoice : RunChoice → Status → Notes → Type 0
+  RunsChoice run status notes =
+      HasRun named signature contents clash (want_of_run run) (map (λ s. s.now) run.tokens.items) (map (λ s. s.now) run.outputs.items) steady before after status kinds notes
 
   module _ (title : ℕ → List ℕ × ℕ) where
     abbrev pub DrawsChoice : DrawChoice → Status → Type 0
     DrawsChoice draw status =
-        HasDrawn named signature contents (want_of_draw draw) (map (λ s. s.now) draw.tokens.items) [] steady before after status kinds title draw.direction (is_some draw.workers)
+        HasDrawn named signature contents clash (want_of_draw draw) (map (λ s. s.now) draw.tokens.items) [] steady before after status kinds title draw.direction (is_some draw.workers)
 
     -- what was chosen is done, or is left to be streamed, with nothing done
     abbrev pub Does : Choice → Outcome → Type 0
-    Does (Check file tokens) (Exits status) = HasChecked named signature contents (want_in (option_map (λ s. s.now) file) 1 None []) (map (λ s. s.now) tokens.items) [] steady before after status
+    Does (Check file tokens) (Exits status) = HasChecked named signature contents clash (want_in (option_map (λ s. s.now) file) 1) (map (λ s. s.now) tokens.items) [] steady before after status
+    Does (Check file tokens) (Ran status notes) = ⊥
     Does (Check file tokens) (Streams stream) = ⊥
-    Does (Run run) (Exits status) = RunsChoice run status
+    Does (Run run) (Exits status) = ⊥
+    Does (Run run) (Ran status notes) = RunsChoice run status notes
     Does (Run run) (Streams stream) = ⊥
     Does (Draw draw) (Exits status) = DrawsChoice draw status
+    Does (Draw draw) (Ran status notes) = ⊥
     Does (Draw draw) (Streams stream) = ⊥
     Does (Stream chosen) (Exits status) = ⊥
+    Does (Stream chosen) (Ran status notes) = ⊥
     Does (Stream chosen) (Streams stream) = (stream ≡ chosen) × (after ≡ before)
 
     -- the arguments are a choice, and it is done
@@ -58,15 +64,15 @@ module _ (kinds : Family) (named : List ℕ → Option (ℕ × ℕ)) (signature 
       pub does : Does choice outcome
 
 -- why what was chosen is not done
-module _ (named : List ℕ → Option (ℕ × ℕ)) (signature : Card → Option Signature) (contents : List ℕ → Option (List ℕ)) where
+module _ (named : List ℕ → Option (ℕ × ℕ)) (signature : Card → Option Signature) (contents : List ℕ → Option (List ℕ)) (clash : List ℕ → Bool → List ℕ → Bool → Option Bool) where
   abbrev pub IsRunStop : RunChoice → Stop → Type 0
-  IsRunStop run stop = IsStop named signature contents (want_of_run run) (map (λ s. s.now) run.tokens.items) (map (λ s. s.now) run.outputs.items) stop
+  IsRunStop run stop = IsStop named signature contents clash (want_of_run run) (map (λ s. s.now) run.tokens.items) (map (λ s. s.now) run.outputs.items) stop
 
   abbrev pub IsDrawStop : DrawChoice → Stop → Type 0
-  IsDrawStop draw stop = IsStop named signature contents (want_of_draw draw) (map (λ s. s.now) draw.tokens.items) [] stop
+  IsDrawStop draw stop = IsStop named signature contents clash (want_of_draw draw) (map (λ s. s.now) draw.tokens.items) [] stop
 
   abbrev pub IsStopIn : Choice → Stop → Type 0
-  IsStopIn (Check file tokens) stop = IsStop named signature contents (want_in (option_map (λ s. s.now) file) 1 None []) (map (λ s. s.now) tokens.items) [] stop
+  IsStopIn (Check file tokens) stop = IsStop named signature contents clash (want_in (option_map (λ s. s.now) file) 1) (map (λ s. s.now) tokens.items) [] stop
   IsStopIn (Run run) stop = IsRunStop run stop
   IsStopIn (Draw draw) stop = IsDrawStop draw stop
   IsStopIn (Stream chosen) stop = ⊥
@@ -77,5 +83,6 @@ module _ (named : List ℕ → Option (ℕ × ℕ)) (signature : Card → Option
   IsProgramStop words (Refused refusal) = (choice : Choice) × IsHoxChoice words choice × IsStopIn choice (Refused refusal)
   IsProgramStop words (NoPair option text) = (choice : Choice) × IsHoxChoice words choice × IsStopIn choice (NoPair option text)
   IsProgramStop words InputTwice = (choice : Choice) × IsHoxChoice words choice × IsStopIn choice InputTwice
-  IsProgramStop words (Unread file fault) = (choice : Choice) × IsHoxChoice words choice × IsStopIn choice (Unread file fault)
+  IsProgramStop words (Clash one other) = (choice : Choice) × IsHoxChoice words choice × IsStopIn choice (Clash one other)
+  IsProgramStop words (Unread file error) = (choice : Choice) × IsHoxChoice words choice × IsStopIn choice (Unread file error)
   IsProgramStop words Memory = (choice : Choice) × IsHoxChoice words choice × IsStopIn choice Memory

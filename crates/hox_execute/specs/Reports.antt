@@ -1,10 +1,11 @@
 -- What is written of a run.
-use Rattle.std.specs.Prelude.{◌≡◌, ◌≢◌, ℕ, Bool, true, false, List, [], ◌∷◌, Option, string_bytes, nat_lt, if◌then◌else◌}
+use Rattle.std.specs.Prelude.{◌≡◌, ◌≢◌, ◌⊎◌, ◌||◌, not, ℕ, Bool, true, false, List, [], ◌∷◌, Option, string_bytes, nat_lt, if◌then◌else◌}
+use Rattle.std.specs.List.{AllZip}
 use Rattle.kpn_front.specs.declared.status.Status.{Status}
 use Rattle.kpn_front.specs.declared.status.Status.TheVariants.{WriteFailed}
 use Rattle.hox_run.specs.declared.telling.Told.{Told}
 use Rattle.hox_execute.specs.declared.pairs.Pair.{Pair}
-use Rattle.hox_execute.specs.Files.{Effect, GoOn, said, standard, wrote}
+use Rattle.hox_execute.specs.Files.{Effect, GoOn, not_said, not_written, said, standard, wrote}
 use Rattle.hox_execute.specs.Pairs.{count_standard}
 
 -- a report goes to standard output, and if a stream goes there to standard error
@@ -22,8 +23,39 @@ abbrev pub written_of : Bool → List Pair → Told → List Effect
 written_of true outputs told = streams_written outputs told.outputs.items
 written_of false outputs told = reported outputs (string_bytes told.report) ∷ streams_written outputs told.outputs.items
 
--- this is written, and the status is the one that is meant; or a write fails, and the status is 7, which comes only where a write can
--- fail
+-- what is left where an effect fails
+abbrev pub failure_of : Effect → Effect
+failure_of (wrote name bytes) = not_written name
+failure_of (said text) = not_said
+failure_of (not_written name) = not_written name
+failure_of not_said = not_said
+
+abbrev pub is_failure : Effect → Bool
+is_failure (wrote name bytes) = false
+is_failure (said text) = false
+is_failure (not_written name) = true
+is_failure not_said = true
+
+abbrev pub has_failure : List Effect → Bool
+has_failure [] = false
+has_failure (e ∷ es) = is_failure e || has_failure es
+
+-- an effect that is due comes about, or fails
+abbrev pub IsTried : Effect → Effect → Type 0
+IsTried due effect = (effect ≡ due) ⊎ (effect ≡ failure_of due)
+
+-- each of these effects is tried, in order and also where another has failed; and whether none has failed
+pub record Tries (effects : List Effect) (are_done : Bool) (before after : Option (List Effect)) : Type 0 where
+  pub tried : List Effect
+  pub each : AllZip IsTried effects tried
+  pub none_failed : are_done ≡ not (has_failure tried)
+  pub goes_on : GoOn tried before after
+
+-- each of these is tried; the status is the one that is meant if none fails, and else 7. So if the status is not 7 all is written as it
+-- is due, and 7 comes only where a write can fail, or is meant
 pub record Writes (status : Status) (effects : List Effect) (steady : Bool) (before after : Option (List Effect)) (given : Status) : Type 0 where
+  pub are_done : Bool
+  pub tries : Tries effects are_done before after
+  pub is : given ≡ (if are_done then status else WriteFailed)
   pub done : given ≢ WriteFailed → (given ≡ status) × GoOn effects before after
   pub sure : steady ≡ true → given ≡ status

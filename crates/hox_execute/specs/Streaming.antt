@@ -14,21 +14,27 @@ use Rattle.kpn_compute.specs.Both.{both_family, both_named, both_ports}
 use Rattle.kpn_flow.specs.Flows.{FlowView}
 use Rattle.hox_network.specs.Ports.{as_meant}
 use Rattle.hox_stream.specs.declared.finish.Finish.{Finish}
+use Rattle.hox_stream.specs.declared.serving.LaidOut.{LaidOut}
 use Rattle.hox_stream.specs.declared.starting.StreamFault.{StreamFault}
 use Rattle.hox_stream.specs.Exits.{exit_named, exit_ports, exits, with_exits}
 use Rattle.hox_stream.specs.Serves.{Serves, new_inlets, new_outlets}
 use Rattle.hox_stream.specs.Starts.{IsNoNetwork, IsStarted, IsStreamFault}
 use Rattle.hox_stream.specs.Views.{InletView, OutletView}
+use Rattle.kpn_tokens.specs.declared.layouts.Layout.{Layout}
+use Rattle.kpn_tokens.specs.declared.layouts.Layout.TheVariants.{Lines}
 use Rattle.hox_args.specs.declared.arguments.StreamChoice.{StreamChoice}
 use Rattle.hox_execute.specs.declared.pairs.Pair.{Pair}
-use Rattle.hox_execute.specs.declared.stops.Stop.TheVariants.{InputTwice, Memory, NoPair, Refused as WasRefused, Unread as NotRead, Words}
+use Rattle.hox_execute.specs.declared.stops.Stop.TheVariants.{Clash, InputTwice, Memory, NoPair, Refused as WasRefused, Unread as NotRead, Words}
 use Rattle.hox_execute.specs.declared.streaming.Ends.{Ends}
 use Rattle.hox_execute.specs.declared.streaming.StreamStop.{StreamStop}
 use Rattle.hox_execute.specs.declared.streaming.StreamStop.TheVariants.{Asked, OutputTwice, Refused, Unopened as NotOpened, Unread, Unwritten}
 use Rattle.hox_execute.specs.declared.streaming.Unopened.{Unopened}
 use Rattle.hox_execute.specs.declared.streaming.Unopened.TheVariants.{Refused as IsRefused, Faulty, Memory as NoMemory}
+use Rattle.hox_execute.specs.declared.uses.Role.TheVariants.{In}
 use Rattle.hox_execute.specs.Files.{standard}
 use Rattle.hox_execute.specs.Pairs.{ArePairs, IsUnpaired, channels_of, count_standard, is_named_twice}
+use Rattle.hox_execute.specs.Requests.{is_unsigned}
+use Rattle.hox_execute.specs.Uses.{AreApart, IsMisuse, Used, uses_in}
 
 -- the file of a choice, or standard input
 abbrev pub file_of : StreamChoice → List ℕ
@@ -40,85 +46,108 @@ inputs_of choice = map (λ s. s.now) choice.inputs.items
 abbrev pub outputs_of : StreamChoice → List (List ℕ)
 outputs_of choice = map (λ s. s.now) choice.outputs.items
 
--- the ends that are chosen: standard input and standard output are named once at most
-pub record AreEnds (choice : StreamChoice) (ends : Ends) : Type 0 where
-  pub inputs : ArePairs (inputs_of choice) ends.inputs.items
-  pub outputs : ArePairs (outputs_of choice) ends.outputs.items
-  pub one_input : is_named_twice (file_of choice) ends.inputs.items ≡ false
-  pub one_output : nat_lt 1 (count_standard ends.outputs.items) ≡ false
+abbrev pub unsigned_of : StreamChoice → List (List ℕ)
+unsigned_of choice = map (λ s. s.now) choice.unsigned.items
 
--- why there are none: a text names no file, standard input or standard output is named twice, or memory was refused
-abbrev pub IsNoEnds : StreamChoice → StreamStop → Type 0
-IsNoEnds choice (Asked (NoPair option text)) = IsUnpaired (codes "in") (inputs_of choice) (NoPair option text) ⊎ IsUnpaired (codes "out") (outputs_of choice) (NoPair option text)
-IsNoEnds choice (Asked InputTwice) = (inputs : List Pair) × ArePairs (inputs_of choice) inputs × (is_named_twice (file_of choice) inputs ≡ true)
-IsNoEnds choice (Asked Memory) = Unit {0}
-IsNoEnds choice (Asked (NotRead file fault)) = ⊥
-IsNoEnds choice (Asked (WasRefused refusal)) = ⊥
-IsNoEnds choice (Asked (Words fault)) = ⊥
-IsNoEnds choice OutputTwice = (outputs : List Pair) × ArePairs (outputs_of choice) outputs × (nat_lt 1 (count_standard outputs) ≡ true)
-IsNoEnds choice (Refused file refused) = ⊥
-IsNoEnds choice (NotOpened ends channels fault) = ⊥
-IsNoEnds choice (Unread file) = ⊥
-IsNoEnds choice (Unwritten file) = ⊥
+-- the uses of files between these ends. What is told goes to standard error
+abbrev pub uses_between : StreamChoice → List Pair → List Pair → List Used
+uses_between choice inputs outputs = uses_in In (file_of choice) inputs outputs false
+
+-- which files can't be used beside each other, if that is known
+module _ (clash : List ℕ → Bool → List ℕ → Bool → Option Bool) (choice : StreamChoice) where
+  -- the ends that are chosen: standard input and standard output are named once at most, and the uses of files stand beside each other
+  pub record AreEnds (ends : Ends) : Type 0 where
+    pub inputs : ArePairs (inputs_of choice) ends.inputs.items
+    pub outputs : ArePairs (outputs_of choice) ends.outputs.items
+    pub one_input : is_named_twice (file_of choice) ends.inputs.items ≡ false
+    pub one_output : nat_lt 1 (count_standard ends.outputs.items) ≡ false
+    pub apart : AreApart clash (uses_between choice ends.inputs.items ends.outputs.items)
+
+  -- why there are none: a text names no file, standard input or standard output is named twice, two uses of files can't stand beside
+  -- each other, or memory was refused
+  abbrev pub IsNoEnds : StreamStop → Type 0
+  IsNoEnds (Asked (NoPair option text)) = IsUnpaired (codes "in") (inputs_of choice) (NoPair option text) ⊎ IsUnpaired (codes "out") (outputs_of choice) (NoPair option text)
+  IsNoEnds (Asked InputTwice) = (inputs : List Pair) × ArePairs (inputs_of choice) inputs × (is_named_twice (file_of choice) inputs ≡ true)
+  IsNoEnds (Asked (Clash one other)) =
+      (inputs outputs : List Pair) × ArePairs (inputs_of choice) inputs × ArePairs (outputs_of choice) outputs × IsMisuse clash (uses_between choice inputs outputs) (Clash one other)
+  IsNoEnds (Asked Memory) = Unit {0}
+  IsNoEnds (Asked (NotRead file error)) = ⊥
+  IsNoEnds (Asked (WasRefused refusal)) = ⊥
+  IsNoEnds (Asked (Words fault)) = ⊥
+  IsNoEnds OutputTwice = (outputs : List Pair) × ArePairs (outputs_of choice) outputs × (nat_lt 1 (count_standard outputs) ≡ true)
+  IsNoEnds (Refused file refused error) = ⊥
+  IsNoEnds (NotOpened ends channels fault) = ⊥
+  IsNoEnds (Unread file error) = ⊥
+  IsNoEnds (Unwritten file error) = ⊥
+
+-- how tokens are laid out in the files of a stream: one a line, in decimal digits
+abbrev pub lines_of : Bool → Layout
+lines_of is_unsigned = Lines (record { digits = 0; is_unsigned = is_unsigned })
 
 -- a file that was opened to be read has what the file holds, if that is known; in one that was opened to be written is nothing
-pub record IsOpened {X : Type 0} (remaining : X → Option (List ℕ)) (has_failed : X → Bool) (contents : List ℕ → Option (List ℕ)) (pair : Pair) (source : X) : Type 0 where
-  pub bytes : remaining source ≡ contents pair.file.now
-  pub unfailed : has_failed source ≡ false
+pub record IsOpened {X : Type 0} (remaining : X → Option (List ℕ)) (has_failed : X → Bool) (contents : List ℕ → Option (List ℕ)) (pair : Pair) (source : LaidOut X) : Type 0 where
+  pub layout : source.layout ≡ lines_of false
+  pub bytes : remaining source.stream ≡ contents pair.file.now
+  pub unfailed : has_failed source.stream ≡ false
 
 abbrev pub IsEmpty : SinkView → Type 0
 IsEmpty sink = IfSome sink.contents (λ bytes. bytes ≡ [])
 
-abbrev pub IsCreated : {X : Type 0} → (X → SinkView) → Pair → X → Type 0
-IsCreated seen pair sink = IsEmpty (seen sink)
+pub record IsCreated {X : Type 0} (seen : X → SinkView) (unsigned : List (List ℕ)) (pair : Pair) (sink : LaidOut X) : Type 0 where
+  pub layout : sink.layout ≡ lines_of (is_unsigned unsigned pair.channel.now)
+  pub empty : IsEmpty (seen sink.stream)
 
 -- a file of some pair can't be opened to be read, or to be written; or memory was refused
 abbrev pub IsOfPair : List Pair → List ℕ → Type 0
 IsOfPair pairs name = Any (λ (p : Pair). p.file.now ≡ name) pairs
 
 abbrev pub IsUnread : List Pair → StreamStop → Type 0
-IsUnread pairs (Unread file) = IsOfPair pairs file.now
-IsUnread pairs (Unwritten file) = ⊥
+IsUnread pairs (Unread file error) = IsOfPair pairs file.now
+IsUnread pairs (Unwritten file error) = ⊥
 IsUnread pairs (Asked stop) = stop ≡ Memory
 IsUnread pairs OutputTwice = ⊥
-IsUnread pairs (Refused file refused) = ⊥
+IsUnread pairs (Refused file refused error) = ⊥
 IsUnread pairs (NotOpened ends channels fault) = ⊥
 
 abbrev pub IsUnwritten : List Pair → StreamStop → Type 0
-IsUnwritten pairs (Unread file) = ⊥
-IsUnwritten pairs (Unwritten file) = IsOfPair pairs file.now
+IsUnwritten pairs (Unread file error) = ⊥
+IsUnwritten pairs (Unwritten file error) = IsOfPair pairs file.now
 IsUnwritten pairs (Asked stop) = stop ≡ Memory
 IsUnwritten pairs OutputTwice = ⊥
-IsUnwritten pairs (Refused file refused) = ⊥
+IsUnwritten pairs (Refused file refused error) = ⊥
 IsUnwritten pairs (NotOpened ends channels fault) = ⊥
 
 abbrev pub IsUnfit : Ends → StreamStop → Type 0
-IsUnfit ends (Unread file) = IsOfPair ends.inputs.items file.now
-IsUnfit ends (Unwritten file) = IsOfPair ends.outputs.items file.now
+IsUnfit ends (Unread file error) = IsOfPair ends.inputs.items file.now
+IsUnfit ends (Unwritten file error) = IsOfPair ends.outputs.items file.now
 IsUnfit ends (Asked stop) = stop ≡ Memory
 IsUnfit ends OutputTwice = ⊥
-IsUnfit ends (Refused file refused) = ⊥
+IsUnfit ends (Refused file refused error) = ⊥
 IsUnfit ends (NotOpened others channels fault) = ⊥
+
+-- what the file of a pair holds, if that is known, a token a line
+abbrev pub held_in : (List ℕ → Option (List ℕ)) → Pair → LaidOut (Option (List ℕ))
+held_in contents pair = record { stream = contents pair.file.now; layout = lines_of false }
 
 -- the sources of a stream at its start, each with what its file holds
 abbrev pub sources_at : (List ℕ → Option (List ℕ)) → FlowView → List Pair → List InletView
-sources_at contents start pairs = new_inlets (λ (o : Option (List ℕ)). o) (λ _. false) start.network start.inputs (map (λ (p : Pair). contents p.file.now) pairs)
+sources_at contents start pairs = new_inlets (λ (o : Option (List ℕ)). o) (λ _. false) start.network start.inputs (map (held_in contents) pairs)
 
--- a stream runs from its start between files to its end
-pub record RunsBetween (kinds : Family) (contents : List ℕ → Option (List ℕ)) (ends : Ends) (start t : FlowView) (ins : List InletView) (outs : List OutletView) (finish : Finish) : Type 0 where
-  pub sinks : List SinkView
-  pub empty : AllZip (λ (p : Pair) sink. IsEmpty sink) ends.outputs.items sinks
+-- a stream runs from its start between files to its end; the words of these channels are written unsigned
+pub record RunsBetween (kinds : Family) (contents : List ℕ → Option (List ℕ)) (unsigned : List (List ℕ)) (ends : Ends) (start t : FlowView) (ins : List InletView) (outs : List OutletView) (finish : Finish) : Type 0 where
+  pub sinks : List (LaidOut SinkView)
+  pub created : AllZip (IsCreated (λ (v : SinkView). v) unsigned) ends.outputs.items sinks
   pub serves : Serves kinds start t (sources_at contents start ends.inputs.items) ins (new_outlets (λ (v : SinkView). v) start.outputs sinks) outs finish
 
 -- a text is refused as a description
 abbrev pub IsRefusedText : (List ℕ → Option (ℕ × ℕ)) → (Card → Option Signature) → List ℕ → Unopened → Type 0
-IsRefusedText named signature text (IsRefused refused) = LoadsChanged (as_meant named signature) named signature false text (Err refused.fault)
+IsRefusedText named signature text (IsRefused refused error) = LoadsChanged (as_meant named signature text) named signature false text (Err refused.fault)
 IsRefusedText named signature text (Faulty channels fault) = ⊥
 IsRefusedText named signature text NoMemory = Unit {0}
 
 -- a description can't be read
 abbrev pub IsUnreadText : Unopened → Type 0
-IsUnreadText (IsRefused refused) = refused.fault ≡ Input
+IsUnreadText (IsRefused refused error) = refused.fault ≡ Input
 IsUnreadText (Faulty channels fault) = ⊥
 IsUnreadText NoMemory = Unit {0}
 
@@ -126,7 +155,7 @@ IsUnreadText NoMemory = Unit {0}
 module _ (named : List ℕ → Option (ℕ × ℕ)) (signature : Card → Option Signature) where
   -- a text describes this sketch, as it is meant
   abbrev pub IsSketchOf : List ℕ → Sketch → Type 0
-  IsSketchOf text sketch = (described : Sketch) × Describes text described × (sketch ≡ as_meant named signature described)
+  IsSketchOf text sketch = (described : Sketch) × Describes text described × (sketch ≡ as_meant named signature text described)
 
   module _ (contents : List ℕ → Option (List ℕ)) (name : List ℕ) where
     -- this is the text of the file, if what it holds is known
@@ -158,7 +187,7 @@ module _ (kinds : Family) (named : List ℕ → Option (ℕ × ℕ)) where
         (channels_of ends.inputs.items) (channels_of ends.outputs.items) fault
 
     abbrev pub IsFaultyBetween : Sketch → Ends → Unopened → Type 0
-    IsFaultyBetween sketch ends (IsRefused refused) = ⊥
+    IsFaultyBetween sketch ends (IsRefused refused error) = ⊥
     IsFaultyBetween sketch ends (Faulty channels fault) = HasStreamFault sketch ends fault
     IsFaultyBetween sketch ends NoMemory = Unit {0}
 
@@ -173,22 +202,24 @@ module _ (kinds : Family) (named : List ℕ → Option (ℕ × ℕ)) where
       IsFaulty name ends fault = (sketch : Sketch) × IsSketchIn named signature contents name sketch × HasStreamFault sketch ends fault
 
       abbrev pub IsUnopened : List ℕ → Ends → Unopened → Type 0
-      IsUnopened name ends (IsRefused refused) = IsRefusedIn named signature contents name (IsRefused refused)
+      IsUnopened name ends (IsRefused refused error) = IsRefusedIn named signature contents name (IsRefused refused error)
       IsUnopened name ends (Faulty channels fault) = IsFaulty name ends fault
       IsUnopened name ends NoMemory = Unit {0}
 
-      -- what is chosen is streamed: between the ends that are chosen, from the start of the network of the description, to its end
-      pub record StreamsBetween (choice : StreamChoice) (ends : Ends) (t : FlowView) (ins : List InletView) (outs : List OutletView) (finish : Finish) : Type 0 where
-        pub chosen : AreEnds choice ends
-        pub start : FlowView
-        pub opens : Opens (file_of choice) ends start
-        pub runs : RunsBetween (both_family kinds exits) contents ends start t ins outs finish
+      -- which files can't be used beside each other, if that is known
+      module _ (clash : List ℕ → Bool → List ℕ → Bool → Option Bool) (choice : StreamChoice) where
+        -- what is chosen is streamed: between the ends that are chosen, from the start of the network of the description, to its end
+        pub record StreamsBetween (ends : Ends) (t : FlowView) (ins : List InletView) (outs : List OutletView) (finish : Finish) : Type 0 where
+          pub chosen : AreEnds clash choice ends
+          pub start : FlowView
+          pub opens : Opens (file_of choice) ends start
+          pub runs : RunsBetween (both_family kinds exits) contents (unsigned_of choice) ends start t ins outs finish
 
-      -- why it is not
-      abbrev pub IsStreamStop : StreamChoice → StreamStop → Type 0
-      IsStreamStop choice (Asked stop) = IsNoEnds choice (Asked stop)
-      IsStreamStop choice OutputTwice = IsNoEnds choice OutputTwice
-      IsStreamStop choice (Refused file refused) = (file.now ≡ file_of choice) × IsRefusedIn named signature contents (file_of choice) (IsRefused refused)
-      IsStreamStop choice (NotOpened ends channels fault) = AreEnds choice ends × IsFaulty (file_of choice) ends fault
-      IsStreamStop choice (Unread file) = (ends : Ends) × AreEnds choice ends × IsOfPair ends.inputs.items file.now
-      IsStreamStop choice (Unwritten file) = (ends : Ends) × AreEnds choice ends × IsOfPair ends.outputs.items file.now
+        -- why it is not
+        abbrev pub IsStreamStop : StreamStop → Type 0
+        IsStreamStop (Asked stop) = IsNoEnds clash choice (Asked stop)
+        IsStreamStop OutputTwice = IsNoEnds clash choice OutputTwice
+        IsStreamStop (Refused file refused error) = (file.now ≡ file_of choice) × IsRefusedIn named signature contents (file_of choice) (IsRefused refused error)
+        IsStreamStop (NotOpened ends channels fault) = AreEnds clash choice ends × IsFaulty (file_of choice) ends fault
+        IsStreamStop (Unread file error) = (ends : Ends) × AreEnds clash choice ends × IsOfPair ends.inputs.items file.now
+        IsStreamStop (Unwritten file error) = (ends : Ends) × AreEnds clash choice ends × IsOfPair ends.outputs.items file.now

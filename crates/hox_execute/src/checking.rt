@@ -6,10 +6,12 @@ ghost use Rattle.hox_network.specs.declared.request.Fault.{Fault as FaultV};
 ghost use Rattle.hox_network.specs.Preparing.{GivesNet};
 ghost use Rattle.hox_execute.specs.Commands.{HasChecked, IsStop};
 ghost use Rattle.hox_execute.specs.Requests.{ServesFile, want_of};
+ghost use Rattle.hox_execute.specs.Served.{ServesNamed};
 
 use crate::files::FileSystem;
 use crate::reading::{Wanted, asked_of};
-use crate::stops::{Refusal, Stop, unread};
+use crate::stops::{Refusal, Stop, Unserved, unopened};
+use crate::watching::Watched;
 use crate::writing::write_text;
 use hox_network::{Fault, Request, prepare};
 use kpn_front::{Status, say_checked};
@@ -29,17 +31,18 @@ pub(crate) fn check<'a, K: Kinds, S: FileSystem>(
     wanted: Wanted<'a, '_>,
     tokens: &[&'a str],
 ) -> Result<Status, Stop<'a>>
-    ensures done { IfOk result (HasChecked K.named K.signature (S.contents files.old) (want_of wanted.entry) (map (λ t. t.now) tokens.now) [] (S.is_steady files.old) (S.effects files.old) (S.effects files.new)) }
-    ensures stop { IfErr result (IsStop K.named K.signature (S.contents files.old) (want_of wanted.entry) (map (λ t. t.now) tokens.now) []) }
+    ensures done { IfOk result (HasChecked K.named K.signature (S.contents files.old) (S.clash files.old) (want_of wanted.entry) (map (λ t. t.now) tokens.now) [] (S.is_steady files.old) (S.effects files.old) (S.effects files.new)) }
+    ensures stop { IfErr result (IsStop K.named K.signature (S.contents files.old) (S.clash files.old) (want_of wanted.entry) (map (λ t. t.now) tokens.now) []) }
     ensures untouched { OnErr result (S.effects files.new ≡ S.effects files.old) }
 {
     let asked = asked_of(alloc, files, wanted, tokens, &[])?;
     match checked_line::<K, S>(alloc, files, &asked.request, wanted.file) {
         Ok(line) => Ok(write_text(files, line.as_slice())),
-        Err(fault) => Err(Stop::Refused(Refusal {
+        Err(Unserved { fault, error }) => Err(Stop::Refused(Refusal {
             file: wanted.file,
             asked,
             fault,
+            error,
         })),
     }
 }
@@ -50,14 +53,17 @@ fn checked_line<K: Kinds, S: FileSystem>(
     files: &S,
     request: &Request,
     name: &str,
-) -> Result<Vec<u8>, Fault>
+) -> Result<Vec<u8>, Unserved>
     ensures ok { IfOk result (λ line. (net : NetworkV) × ServesFile (S.contents files.now) K.named K.signature (GivesNet request.now) name.now (Ok net) × (line.items ≡ checked_line net)) }
-    ensures fault { IfErr result (λ fault. let refused : Result NetworkV FaultV = Err fault in ServesFile (S.contents files.now) K.named K.signature (GivesNet request.now) name.now refused) }
+    ensures fault { IfErr result (λ u. let refused : Result NetworkV FaultV = Err u.fault in ServesFile (S.contents files.now) K.named K.signature (GivesNet request.now) name.now refused) }
 {
     let net = prepared_net::<K, S>(alloc, files, request, name)?;
     match line_of(alloc, &net) {
         Ok(line) => Ok(line),
-        Err(_) => Err(Fault::Memory),
+        Err(_) => Err(Unserved {
+            fault: Fault::Memory,
+            error: None,
+        }),
     }
 }
 
@@ -68,12 +74,19 @@ fn prepared_net<K: Kinds, S: FileSystem>(
     files: &S,
     request: &Request,
     name: &str,
-) -> Result<Net<K>, Fault>
-    ensures { ServesFile (S.contents files.now) K.named K.signature (GivesNet request.now) name.now result }
+) -> Result<Net<K>, Unserved>
+    ensures { ServesNamed (S.contents files.now) K.named K.signature (GivesNet request.now) name.now result }
 {
-    match files.open(name) {
-        Ok(mut source) => prepare(alloc, request, &mut source),
-        Err(_) => Err(unread(alloc)),
+    let mut source = match files.open(name) {
+        Ok(source) => Watched::new(source),
+        Err(error) => return Err(unopened(alloc, error)),
+    };
+    match prepare(alloc, request, &mut source) {
+        Ok(net) => Ok(net),
+        Err(fault) => Err(Unserved {
+            fault,
+            error: source.error(),
+        }),
     }
 }
 

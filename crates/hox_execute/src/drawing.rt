@@ -4,14 +4,16 @@ ghost use Rattle.kpn_model.specs.Network.{family_of};
 ghost use Rattle.hox_draw.specs.Drawing.{GivesPicture};
 ghost use Rattle.hox_network.specs.Preparing.{HasFewWorkers};
 ghost use Rattle.hox_execute.specs.Commands.{HasDrawn, IsStop};
-ghost use Rattle.hox_execute.specs.Requests.{ServesFile, want_of};
+ghost use Rattle.hox_execute.specs.Requests.{want_of};
+ghost use Rattle.hox_execute.specs.Served.{ServesNamed};
 
 use crate::files::FileSystem;
 use crate::reading::{Wanted, asked_of};
-use crate::stops::{Refusal, Stop, unread};
+use crate::stops::{Refusal, Stop, Unserved, unopened};
+use crate::watching::Watched;
 use crate::writing::write_text;
 use hox_draw::{Direction, draw as picture_of};
-use hox_network::{Fault, Request};
+use hox_network::Request;
 use kpn_compute::Computes;
 use kpn_front::Status;
 use kpn_picture::Titled;
@@ -34,8 +36,8 @@ pub(crate) fn draw<'a, K: Computes + Titled, S: FileSystem, R: Wait + Clock + Th
     is_run: bool,
 ) -> Result<Status, Stop<'a>>
     requires { (1 ≤ wanted.workers) × (wanted.workers ≤ 16) }
-    ensures done { IfOk result (λ status. HasDrawn K.named K.signature (S.contents files.old) (want_of wanted.entry) (map (λ t. t.now) tokens.now) [] (S.is_steady files.old) (S.effects files.old) (S.effects files.new) status (family_of K.start K.answer_of) K.title direction is_run) }
-    ensures stop { IfErr result (IsStop K.named K.signature (S.contents files.old) (want_of wanted.entry) (map (λ t. t.now) tokens.now) []) }
+    ensures done { IfOk result (λ status. HasDrawn K.named K.signature (S.contents files.old) (S.clash files.old) (want_of wanted.entry) (map (λ t. t.now) tokens.now) [] (S.is_steady files.old) (S.effects files.old) (S.effects files.new) status (family_of K.start K.answer_of) K.title direction is_run) }
+    ensures stop { IfErr result (IsStop K.named K.signature (S.contents files.old) (S.clash files.old) (want_of wanted.entry) (map (λ t. t.now) tokens.now) []) }
     ensures untouched { OnErr result (S.effects files.new ≡ S.effects files.old) }
 {
     let asked = asked_of(alloc, files, wanted, tokens, &[])?;
@@ -49,10 +51,11 @@ pub(crate) fn draw<'a, K: Computes + Titled, S: FileSystem, R: Wait + Clock + Th
         is_run,
     ) {
         Ok(picture) => Ok(write_text(files, picture.as_str().as_bytes())),
-        Err(fault) => Err(Stop::Refused(Refusal {
+        Err(Unserved { fault, error }) => Err(Stop::Refused(Refusal {
             file: wanted.file,
             asked,
             fault,
+            error,
         })),
     }
 }
@@ -67,12 +70,19 @@ fn drawn<K: Computes + Titled, S: FileSystem, R: Wait + Clock + Threads + Sync>(
     name: &str,
     direction: Direction,
     is_run: bool,
-) -> Result<String, Fault>
+) -> Result<String, Unserved>
     requires { HasFewWorkers request.now }
-    ensures { ServesFile (S.contents files.now) K.named K.signature (GivesPicture (family_of K.start K.answer_of) K.title direction is_run request.now) name.now result }
+    ensures { ServesNamed (S.contents files.now) K.named K.signature (GivesPicture (family_of K.start K.answer_of) K.title direction is_run request.now) name.now result }
 {
-    match files.open(name) {
-        Ok(mut source) => picture_of::<K, _, _>(rt, alloc, request, direction, is_run, &mut source),
-        Err(_) => Err(unread(alloc)),
+    let mut source = match files.open(name) {
+        Ok(source) => Watched::new(source),
+        Err(error) => return Err(unopened(alloc, error)),
+    };
+    match picture_of::<K, _, _>(rt, alloc, request, direction, is_run, &mut source) {
+        Ok(picture) => Ok(picture),
+        Err(fault) => Err(Unserved {
+            fault,
+            error: source.error(),
+        }),
     }
 }

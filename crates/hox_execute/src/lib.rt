@@ -12,11 +12,14 @@ mod running;
 mod serving;
 mod stops;
 mod streaming;
+mod uses;
+mod watching;
 mod writing;
 
 pub use files::FileSystem;
 pub use pairs::{Pair, count_standard, is_named_twice, pairs_of};
-pub use reading::Asked;
+pub use reading::{Asked, ReadError};
 pub use serving::{Outcome, execute};
 pub use stops::{Refusal, Stop};
 pub use streaming::{Ends, StreamStop, Streamed, stream};
+pub use uses::{Role, Use};

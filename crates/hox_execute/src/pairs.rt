@@ -67,6 +67,13 @@ pub fn count_standard(pairs: &[Pair<'_>]) -> usize
     pairs.iter().filter(|pair| pair.file == STANDARD).count()
 }
 
+/// Whether pairs name standard output.
+pub(crate) fn is_output_named(pairs: &[Pair<'_>]) -> bool
+    ensures { result ≡ nat_lt 0 (count_standard pairs.now) }
+{
+    count_standard(pairs) > 0
+}
+
 /// Whether pairs name standard output more than once.
 pub(crate) fn is_written_twice(pairs: &[Pair<'_>]) -> bool
     ensures { result ≡ nat_lt 1 (count_standard pairs.now) }

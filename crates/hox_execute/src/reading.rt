@@ -1,25 +1,44 @@
 //! What is asked for, with the files of tokens.
-ghost use Rattle.std.specs.Prelude.{◌≡◌, ◌<◌, IfOk, IfErr, IfSome, map, length, get_or};
+ghost use Rattle.std.specs.Prelude.{◌≡◌, ◌<◌, IfOk, IfErr, IfSome, false, map, length, get_or};
 ghost use Rattle.std.specs.List.{AllZip};
 ghost use Rattle.hox_execute.specs.Pairs.{channels_of};
 ghost use Rattle.hox_execute.specs.declared.pairs.Pair.{Pair as PairV};
-ghost use Rattle.hox_execute.specs.Requests.{AsksRest, IsAsked, IsRead, IsReadFault, IsRequest, IsUnasked, IsUnfetched, want_of};
+ghost use Rattle.hox_execute.specs.Requests.{AsksRest, IsAsked, IsErrorIn, IsRead, IsReadError, IsRequest, IsUnasked, IsUnfetched, is_told, is_unsigned, stream_text_of, want_of};
 
 use crate::files::FileSystem;
-use crate::pairs::{Pair, is_named_twice, pairs_of};
+use crate::pairs::{Pair, count_standard, is_named_twice, pairs_of};
 use crate::stops::Stop;
-use hox_network::{ReadFault, Request, TokenFile, read_whole};
+use crate::uses::{Role, check_uses};
+use crate::watching::Watched;
+use hox_network::{ReadFault, Request, StreamText, TokenFile, read_whole};
+use kpn_front::Source;
 use kpn_model::{Listed, Text};
+use kpn_tokens::{Decimals, Layout};
 use std::alloc::{AllocError, Global};
+use std::io;
+
+/// The name by which all channels are named.
+const ALL: &str = "all";
 
 /// What a command wants of the network of a description: the name of the description's file, how many workers, which
-/// budget in place of the description's, and the streams of which channels in the report.
+/// budget in place of the description's, the streams of which channels in the report, the words of which channels
+/// unsigned, and that nothing is told but what goes through channels.
 #[derive(Clone, Copy, Debug)]
 pub(crate) struct Wanted<'a, 'b> {
     pub(crate) file: &'a str,
     pub(crate) workers: usize,
     pub(crate) budget: Option<u64>,
     pub(crate) show: &'b [&'a str],
+    pub(crate) unsigned: &'b [&'a str],
+    pub(crate) is_quiet: bool,
+}
+
+/// Why a file could not be read: for this reason of the system's; or it has more than 64 MiB; or memory was refused.
+#[derive(Clone, Copy, Debug)]
+pub enum ReadError {
+    Failed(io::Error),
+    TooLong,
+    Memory,
 }
 
 /// What is asked of a network, with the tokens of files that were read; and the files of its first tokens, and of
@@ -33,8 +52,8 @@ pub struct Asked<'a> {
 
 /// Reads what is asked for, with the files of tokens.
 ///
-/// Errors: a text that names no channel and file; standard input that is named twice; the first file that can't be
-/// read; or memory was refused.
+/// Errors: a text that names no channel and file; standard input that is named twice; two uses of files that can't
+/// stand beside each other; the first file that can't be read; or memory was refused.
 pub(crate) fn asked_of<'a, S: FileSystem>(
     alloc: Global,
     files: &S,
@@ -42,13 +61,20 @@ pub(crate) fn asked_of<'a, S: FileSystem>(
     tokens: &[&'a str],
     outputs: &[&'a str],
 ) -> Result<Asked<'a>, Stop<'a>>
-    ensures ok { IfOk result (IsAsked (S.contents files.now) (want_of wanted.entry) (map (λ t. t.now) tokens.now) (map (λ t. t.now) outputs.now)) }
-    ensures fault { IfErr result (IsUnasked (S.contents files.now) (want_of wanted.entry) (map (λ t. t.now) tokens.now) (map (λ t. t.now) outputs.now)) }
+    ensures ok { IfOk result (IsAsked (S.contents files.now) (S.clash files.now) (want_of wanted.entry) (map (λ t. t.now) tokens.now) (map (λ t. t.now) outputs.now)) }
+    ensures fault { IfErr result (IsUnasked (S.contents files.now) (S.clash files.now) (want_of wanted.entry) (map (λ t. t.now) tokens.now) (map (λ t. t.now) outputs.now)) }
 {
     let tokens = pairs_of(alloc, "tokens", tokens)?;
     let outputs = pairs_of(alloc, "out", outputs)?;
     if is_named_twice(wanted.file, tokens.as_slice()) {
         return Err(Stop::InputTwice);
+    }
+    let is_told = is_told(wanted.is_quiet, outputs.as_slice());
+    let (read, written) = (tokens.as_slice(), outputs.as_slice());
+    let file = wanted.file;
+    match check_uses(alloc, files, Role::Tokens, file, read, written, is_told) {
+        Ok(()) => {}
+        Err(stop) => return Err(stop),
     }
     let request = request_of(alloc, files, wanted, tokens.as_slice(), outputs.as_slice())?;
     Ok(Asked {
@@ -56,6 +82,13 @@ pub(crate) fn asked_of<'a, S: FileSystem>(
         outputs,
         request,
     })
+}
+
+/// Whether something is told on standard output: unless nothing is to be told, or a stream goes there.
+fn is_told(is_quiet: bool, outputs: &[Pair<'_>]) -> bool
+    ensures { result ≡ is_told is_quiet outputs.now }
+{
+    !is_quiet && count_standard(outputs) == 0
 }
 
 /// What is asked for, with the tokens of these files.
@@ -86,26 +119,68 @@ fn request_with(
     ensures tokens { IfOk result (λ request. request.tokens ≡ files.items) }
     ensures rest { IfOk result (AsksRest (want_of wanted.entry) outputs.now) }
 {
-    let names = names_of(alloc, outputs)?;
-    let show = shown_by(alloc, wanted.show)?;
+    let written = written_by(alloc, wanted.unsigned, outputs)?;
+    let show = shown_by(alloc, wanted.unsigned, wanted.show)?;
     Ok(Request {
         workers: wanted.workers,
         budget: wanted.budget,
         tokens: Listed::new(files),
         show: Listed::new(show),
-        outputs: Listed::new(names),
+        outputs: Listed::new(written),
     })
 }
 
-/// The names of the channels to show.
-fn shown_by(alloc: Global, show: &[&str]) -> Result<Vec<Text>, AllocError>
-    ensures { IfOk result (λ v. v.items ≡ map (λ s. s.now) show.now) }
+/// The channels to show, with how the words of each are written.
+fn shown_by(alloc: Global, unsigned: &[&str], show: &[&str]) -> Result<Vec<StreamText>, AllocError>
+    ensures { IfOk result (λ v. v.items ≡ map (stream_text_of (map (λ s. s.now) unsigned.now)) (map (λ s. s.now) show.now)) }
 {
     let mut shown = Vec::new(alloc);
     for name in show {
-        shown.push(text_of(alloc, *name)?)?;
+        shown.push(stream_text_of(alloc, unsigned, *name)?)?;
     }
     Ok(shown)
+}
+
+/// The channels of pairs, with how the words of each are written.
+fn written_by(
+    alloc: Global,
+    unsigned: &[&str],
+    pairs: &[Pair<'_>],
+) -> Result<Vec<StreamText>, AllocError>
+    ensures { IfOk result (λ v. v.items ≡ map (stream_text_of (map (λ s. s.now) unsigned.now)) (channels_of pairs.now)) }
+{
+    let mut written = Vec::new(alloc);
+    for pair in pairs {
+        written.push(stream_text_of(alloc, unsigned, pair.channel)?)?;
+    }
+    Ok(written)
+}
+
+/// A channel, with how its words are written.
+fn stream_text_of(alloc: Global, unsigned: &[&str], channel: &str) -> Result<StreamText, AllocError>
+    ensures { IfOk result (λ text. text ≡ stream_text_of (map (λ s. s.now) unsigned.now) channel.now) }
+{
+    Ok(StreamText {
+        channel: text_of(alloc, channel)?,
+        decimals: decimals_of(unsigned, channel),
+    })
+}
+
+/// How the words of a channel are written: with signs, unless it or all channels are named here.
+pub(crate) fn decimals_of(unsigned: &[&str], channel: &str) -> Decimals
+    ensures { result ≡ record { digits = 0; is_unsigned = is_unsigned (map (λ s. s.now) unsigned.now) channel.now } }
+{
+    Decimals {
+        digits: 0,
+        is_unsigned: is_unsigned(unsigned, channel),
+    }
+}
+
+/// Whether a channel is named, or all are.
+fn is_unsigned(names: &[&str], channel: &str) -> bool
+    ensures { result ≡ is_unsigned (map (λ s. s.now) names.now) channel.now }
+{
+    names.iter().any(|name| *name == channel || *name == ALL)
 }
 
 /// The names of the channels of pairs.
@@ -152,23 +227,24 @@ fn token_file<'a, S: FileSystem>(
     let pair = pairs[k];
     match read_file(alloc, files, pair.file) {
         Ok(bytes) => file_of(alloc, pair.channel, bytes),
-        Err(ReadFault::Memory) => Err(Stop::Memory),
-        Err(fault) => Err(Stop::Unread {
+        Err(ReadError::Memory) => Err(Stop::Memory),
+        Err(error) => Err(Stop::Unread {
             file: pair.file,
-            fault,
+            error,
         }),
     }
 }
 
 /// A file of tokens for a channel.
 fn file_of<'a>(alloc: Global, channel: &str, bytes: Vec<u8>) -> Result<TokenFile, Stop<'a>>
-    ensures ok { IfOk result (λ file. (file.channel ≡ channel.now) × (file.text ≡ bytes.items)) }
+    ensures ok { IfOk result (λ file. (file.channel ≡ channel.now) × (file.layout ≡ Layout.Lines (record { digits = 0; is_unsigned = false })) × (file.bytes ≡ bytes.items)) }
     ensures fault { IfErr result (λ stop. stop ≡ Stop.Memory) }
 {
     match text_of(alloc, channel) {
         Ok(channel) => Ok(TokenFile {
             channel,
-            text: Listed::new(bytes),
+            layout: Layout::PLAIN,
+            bytes: Listed::new(bytes),
         }),
         Err(_) => Err(Stop::Memory),
     }
@@ -179,13 +255,27 @@ pub(crate) fn read_file<S: FileSystem>(
     alloc: Global,
     files: &S,
     name: &str,
-) -> Result<Vec<u8>, ReadFault>
+) -> Result<Vec<u8>, ReadError>
     ensures ok { IfOk result (λ v. IfSome (S.contents files.now name.now) (λ bytes. v.items ≡ bytes)) }
-    ensures fault { IfErr result (IsReadFault (S.contents files.now) name.now) }
+    ensures fault { IfErr result (IsReadError (S.contents files.now) name.now) }
 {
     match files.open(name) {
-        Ok(mut input) => read_whole(alloc, &mut input),
-        Err(_) => Err(ReadFault::Failed),
+        Ok(input) => read_input(alloc, input),
+        Err(error) => Err(ReadError::Failed(error)),
+    }
+}
+
+/// The bytes of a file that was opened.
+fn read_input<I: Source + Drop>(alloc: Global, input: I) -> Result<Vec<u8>, ReadError>
+    ensures ok { IfOk result (λ v. IfSome (I.remaining input) (λ bytes. v.items ≡ bytes)) }
+    ensures fault { IfErr result (IsErrorIn (I.remaining input)) }
+{
+    let mut input = Watched::new(input);
+    match read_whole(alloc, &mut input) {
+        Ok(bytes) => Ok(bytes),
+        Err(ReadFault::Failed) => Err(ReadError::Failed(input.reason())),
+        Err(ReadFault::TooLong) => Err(ReadError::TooLong),
+        Err(ReadFault::Memory) => Err(ReadError::Memory),
     }
 }
 

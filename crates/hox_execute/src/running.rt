@@ -4,14 +4,18 @@ ghost use Rattle.kpn_model.specs.Network.{family_of};
 ghost use Rattle.hox_network.specs.Preparing.{HasFewWorkers};
 ghost use Rattle.hox_run.specs.Serving.{GivesRun};
 ghost use Rattle.hox_execute.specs.Commands.{HasRun, IsStop};
-ghost use Rattle.hox_execute.specs.Requests.{ServesFile, want_of};
+ghost use Rattle.hox_execute.specs.Reports.{Writes, written_of};
+ghost use Rattle.hox_execute.specs.Requests.{want_of};
+ghost use Rattle.hox_execute.specs.Served.{ServesNamed};
 
 use crate::files::FileSystem;
+use crate::pairs::Pair;
 use crate::reading::{Wanted, asked_of};
-use crate::stops::{Refusal, Stop, unread};
+use crate::stops::{Refusal, Stop, Unserved, unopened};
+use crate::watching::Watched;
 use crate::writing::write_told;
-use hox_network::{Fault, Request};
-use hox_run::{Progress, Told, serve};
+use hox_network::Request;
+use hox_run::{Notes, Progress, Told, serve};
 use kpn_compute::Computes;
 use kpn_front::Status;
 use std::alloc::Global;
@@ -19,8 +23,16 @@ use std::rt::Clock;
 use std::sync::Wait;
 use std::thread::Threads;
 
+/// The exit status of a run, and what it left unused.
+#[derive(Drop)]
+pub(crate) struct Ran {
+    pub(crate) status: Status,
+    pub(crate) notes: Notes,
+}
+
 /// Runs the network that is wanted on the tokens of files, and writes what is told of it: the report, unless it is not
-/// wanted, and each stream to its file. Returns the exit status. While it runs, `progress` is told how far it has come.
+/// wanted, and each stream to its file. Returns the exit status and what the run left unused. While it runs, `progress`
+/// is told how far it has come.
 ///
 /// Errors: see [`Stop`].
 pub(crate) fn run<'a, K: Computes, S: FileSystem, R: Wait + Clock + Threads + Sync, P: Progress>(
@@ -30,23 +42,33 @@ pub(crate) fn run<'a, K: Computes, S: FileSystem, R: Wait + Clock + Threads + Sy
     wanted: Wanted<'a, '_>,
     tokens: &[&'a str],
     outputs: &[&'a str],
-    is_quiet: bool,
     progress: &P,
-) -> Result<Status, Stop<'a>>
+) -> Result<Ran, Stop<'a>>
     requires { (1 ≤ wanted.workers) × (wanted.workers ≤ 16) }
-    ensures done { IfOk result (λ status. HasRun K.named K.signature (S.contents files.old) (want_of wanted.entry) (map (λ t. t.now) tokens.now) (map (λ t. t.now) outputs.now) (S.is_steady files.old) (S.effects files.old) (S.effects files.new) status (family_of K.start K.answer_of) is_quiet) }
-    ensures stop { IfErr result (IsStop K.named K.signature (S.contents files.old) (want_of wanted.entry) (map (λ t. t.now) tokens.now) (map (λ t. t.now) outputs.now)) }
+    ensures done { IfOk result (λ ran. HasRun K.named K.signature (S.contents files.old) (S.clash files.old) (want_of wanted.entry) (map (λ t. t.now) tokens.now) (map (λ t. t.now) outputs.now) (S.is_steady files.old) (S.effects files.old) (S.effects files.new) ran.status (family_of K.start K.answer_of) ran.notes) }
+    ensures stop { IfErr result (IsStop K.named K.signature (S.contents files.old) (S.clash files.old) (want_of wanted.entry) (map (λ t. t.now) tokens.now) (map (λ t. t.now) outputs.now)) }
     ensures untouched { OnErr result (S.effects files.new ≡ S.effects files.old) }
 {
     let asked = asked_of(alloc, files, wanted, tokens, outputs)?;
     match told_of::<K, S, R, P>(rt, alloc, files, &asked.request, wanted.file, progress) {
-        Ok(told) => Ok(write_told(files, &told, asked.outputs.as_slice(), is_quiet)),
-        Err(fault) => Err(Stop::Refused(Refusal {
+        Ok(told) => Ok(ran_of(files, told, asked.outputs.as_slice(), wanted.is_quiet)),
+        Err(Unserved { fault, error }) => Err(Stop::Refused(Refusal {
             file: wanted.file,
             asked,
             fault,
+            error,
         })),
     }
+}
+
+/// Writes what is told of a run, and returns its exit status and what it left unused.
+fn ran_of<S: FileSystem>(files: &mut S, told: Told, outputs: &[Pair<'_>], is_quiet: bool) -> Ran
+    ensures writes { Writes told.status (written_of is_quiet outputs.now told) (S.is_steady files.old) (S.effects files.old) (S.effects files.new) result.status }
+    ensures notes { result.notes ≡ told.notes }
+{
+    let status = write_told(files, &told, outputs, is_quiet);
+    let Told { notes, .. } = told;
+    Ran { status, notes }
 }
 
 /// What is told of the run of the network that the description in this file has, as a request wants it. A file that
@@ -58,12 +80,19 @@ fn told_of<K: Computes, S: FileSystem, R: Wait + Clock + Threads + Sync, P: Prog
     request: &Request,
     name: &str,
     progress: &P,
-) -> Result<Told, Fault>
+) -> Result<Told, Unserved>
     requires { HasFewWorkers request.now }
-    ensures { ServesFile (S.contents files.now) K.named K.signature (GivesRun (family_of K.start K.answer_of) request.now) name.now result }
+    ensures { ServesNamed (S.contents files.now) K.named K.signature (GivesRun (family_of K.start K.answer_of) request.now) name.now result }
 {
-    match files.open(name) {
-        Ok(mut source) => serve::<K, _, _, _>(rt, alloc, request, &mut source, progress),
-        Err(_) => Err(unread(alloc)),
+    let mut source = match files.open(name) {
+        Ok(source) => Watched::new(source),
+        Err(error) => return Err(unopened(alloc, error)),
+    };
+    match serve::<K, _, _, _>(rt, alloc, request, &mut source, progress) {
+        Ok(told) => Ok(told),
+        Err(fault) => Err(Unserved {
+            fault,
+            error: source.error(),
+        }),
     }
 }

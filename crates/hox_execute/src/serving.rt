@@ -1,6 +1,7 @@
 //! From arguments to what is done.
-ghost use Rattle.std.specs.Prelude.{◌≡◌, ◌≤◌, IfOk, IfErr, IfSome, MatchResult, None, OnErr, [], is_some, map, option_map};
+ghost use Rattle.std.specs.Prelude.{◌≡◌, ◌≤◌, IfOk, IfErr, IfSome, MatchResult, None, false, OnErr, [], is_some, map, option_map};
 ghost use Rattle.kpn_front.specs.declared.status.Status.{Status as StatusV};
+ghost use Rattle.hox_execute.specs.declared.running.Ran.{Ran as RanV};
 ghost use Rattle.kpn_model.specs.Network.{family_of};
 ghost use Rattle.hox_args.specs.HoxChoices.{HasFewHoxWorkers};
 ghost use Rattle.hox_execute.specs.Program.{Does, DrawsChoice, IsDrawStop, IsProgramStop, IsRunStop, IsStopIn, RunsChoice, Serves, want_in, want_of_run};
@@ -12,10 +13,10 @@ use crate::files::FileSystem;
 use crate::pairs::name_of;
 use crate::progress::Asking;
 use crate::reading::Wanted;
-use crate::running::run;
+use crate::running::{Ran, run};
 use crate::stops::Stop;
 use hox_args::{Choice, DrawChoice, RunChoice, StreamChoice, read_words};
-use hox_run::Progress;
+use hox_run::{Notes, Progress};
 use kpn_compute::Computes;
 use kpn_front::Status;
 use kpn_picture::Titled;
@@ -27,9 +28,11 @@ use std::thread::Threads;
 /// What was done, or is to be done.
 #[derive(Drop)]
 pub enum Outcome<'a> {
-    /// All was done, and the program exits with this status: for `check` and `draw` 0, for `run` that of the verdict,
-    /// and 7 if a write failed.
+    /// All was done, and the program exits with this status: 0, or 7 if a write failed.
     Exits(Status),
+    /// A network was run, and the program exits with this status, that of the verdict, or 7 if a write failed. This is
+    /// what the run left unused.
+    Ran(Status, Notes),
     /// This stream is to be run, and nothing was done yet.
     Streams(StreamChoice<'a>),
 }
@@ -53,8 +56,8 @@ pub fn execute<
     arguments: &'a [&'a str],
     progress: &P,
 ) -> Result<Outcome<'a>, Stop<'a>>
-    ensures done { IfOk result (Serves (family_of K.start K.answer_of) K.named K.signature (S.contents files.old) (S.is_steady files.old) (S.effects files.old) (S.effects files.new) K.title (map (λ w. w.now) arguments.entry.now)) }
-    ensures stop { IfErr result (IsProgramStop K.named K.signature (S.contents files.old) (map (λ w. w.now) arguments.entry.now)) }
+    ensures done { IfOk result (Serves (family_of K.start K.answer_of) K.named K.signature (S.contents files.old) (S.clash files.old) (S.is_steady files.old) (S.effects files.old) (S.effects files.new) K.title (map (λ w. w.now) arguments.entry.now)) }
+    ensures stop { IfErr result (IsProgramStop K.named K.signature (S.contents files.old) (S.clash files.old) (map (λ w. w.now) arguments.entry.now)) }
     ensures untouched { OnErr result (S.effects files.new ≡ S.effects files.old) }
 {
     match read_words(alloc, arguments) {
@@ -78,8 +81,8 @@ fn execute_choice<
     progress: &P,
 ) -> Result<Outcome<'a>, Stop<'a>>
     requires { HasFewHoxWorkers choice }
-    ensures done { IfOk result (Does (family_of K.start K.answer_of) K.named K.signature (S.contents files.old) (S.is_steady files.old) (S.effects files.old) (S.effects files.new) K.title choice.entry) }
-    ensures stop { IfErr result (IsStopIn K.named K.signature (S.contents files.old) choice.entry) }
+    ensures done { IfOk result (Does (family_of K.start K.answer_of) K.named K.signature (S.contents files.old) (S.clash files.old) (S.is_steady files.old) (S.effects files.old) (S.effects files.new) K.title choice.entry) }
+    ensures stop { IfErr result (IsStopIn K.named K.signature (S.contents files.old) (S.clash files.old) choice.entry) }
     ensures untouched { OnErr result (S.effects files.new ≡ S.effects files.old) }
 {
     match choice {
@@ -87,7 +90,7 @@ fn execute_choice<
             let wanted = network_in(file);
             exits(check::<K, S>(alloc, files, wanted, tokens.as_slice()))
         }
-        Choice::Run(run) => exits(run_choice::<K, S, R, P>(rt, alloc, files, &run, progress)),
+        Choice::Run(run) => has_run(run_choice::<K, S, R, P>(rt, alloc, files, &run, progress)),
         Choice::Draw(draw) => exits(draw_choice::<K, S, R>(rt, alloc, files, &draw)),
         Choice::Stream(stream) => Ok(Outcome::Streams(stream)),
     }
@@ -103,15 +106,27 @@ fn exits<'a>(done: Result<Status, Stop<'a>>) -> Result<Outcome<'a>, Stop<'a>>
     }
 }
 
+/// A network was run.
+fn has_run<'a>(done: Result<Ran, Stop<'a>>) -> Result<Outcome<'a>, Stop<'a>>
+    ensures { MatchResult result (λ outcome. (ran : RanV) × (outcome ≡ Outcome.Ran ran.status ran.notes) × (done.entry ≡ Ok ran)) (λ stop. done.entry ≡ Err stop) }
+{
+    match done {
+        Ok(Ran { status, notes }) => Ok(Outcome::Ran(status, notes)),
+        Err(stop) => Err(stop),
+    }
+}
+
 /// The network in this file is wanted, or on standard input.
 fn network_in<'a, 'b>(file: Option<&'a str>) -> Wanted<'a, 'b>
-    ensures { want_of result ≡ want_in (option_map (λ s. s.now) file.entry) 1 None [] }
+    ensures { want_of result ≡ want_in (option_map (λ s. s.now) file.entry) 1 }
 {
     Wanted {
         file: name_of(file),
         workers: 1,
         budget: None,
         show: &[],
+        unsigned: &[],
+        is_quiet: false,
     }
 }
 
@@ -122,10 +137,10 @@ fn run_choice<'a, K: Computes, S: FileSystem, R: Wait + Clock + Threads + Sync, 
     files: &mut S,
     choice: &RunChoice<'a>,
     progress: &P,
-) -> Result<Status, Stop<'a>>
+) -> Result<Ran, Stop<'a>>
     requires { (1 ≤ choice.now.workers) × (choice.now.workers ≤ 16) }
-    ensures done { IfOk result (RunsChoice (family_of K.start K.answer_of) K.named K.signature (S.contents files.old) (S.is_steady files.old) (S.effects files.old) (S.effects files.new) choice.now) }
-    ensures stop { IfErr result (IsRunStop K.named K.signature (S.contents files.old) choice.now) }
+    ensures done { IfOk result (λ ran. RunsChoice (family_of K.start K.answer_of) K.named K.signature (S.contents files.old) (S.clash files.old) (S.is_steady files.old) (S.effects files.old) (S.effects files.new) choice.now ran.status ran.notes) }
+    ensures stop { IfErr result (IsRunStop K.named K.signature (S.contents files.old) (S.clash files.old) choice.now) }
     ensures untouched { OnErr result (S.effects files.new ≡ S.effects files.old) }
 {
     let asking = Asking {
@@ -139,7 +154,6 @@ fn run_choice<'a, K: Computes, S: FileSystem, R: Wait + Clock + Threads + Sync, 
         wanted_of(choice),
         choice.tokens.as_slice(),
         choice.outputs.as_slice(),
-        choice.quiet,
         &asking,
     )
 }
@@ -154,6 +168,8 @@ fn wanted_of<'a, 'b>(choice: &'b RunChoice<'a>) -> Wanted<'a, 'b>
         workers: choice.workers,
         budget: choice.budget,
         show: choice.show.as_slice(),
+        unsigned: choice.unsigned.as_slice(),
+        is_quiet: choice.quiet,
     }
 }
 
@@ -165,8 +181,8 @@ fn draw_choice<'a, K: Computes + Titled, S: FileSystem, R: Wait + Clock + Thread
     choice: &DrawChoice<'a>,
 ) -> Result<Status, Stop<'a>>
     requires { IfSome choice.now.workers (λ n. (1 ≤ n) × (n ≤ 16)) }
-    ensures done { IfOk result (DrawsChoice (family_of K.start K.answer_of) K.named K.signature (S.contents files.old) (S.is_steady files.old) (S.effects files.old) (S.effects files.new) K.title choice.now) }
-    ensures stop { IfErr result (IsDrawStop K.named K.signature (S.contents files.old) choice.now) }
+    ensures done { IfOk result (DrawsChoice (family_of K.start K.answer_of) K.named K.signature (S.contents files.old) (S.clash files.old) (S.is_steady files.old) (S.effects files.old) (S.effects files.new) K.title choice.now) }
+    ensures stop { IfErr result (IsDrawStop K.named K.signature (S.contents files.old) (S.clash files.old) choice.now) }
     ensures untouched { OnErr result (S.effects files.new ≡ S.effects files.old) }
 {
     let wanted = Wanted {
@@ -174,6 +190,8 @@ fn draw_choice<'a, K: Computes + Titled, S: FileSystem, R: Wait + Clock + Thread
         workers: choice.workers.unwrap_or(1),
         budget: None,
         show: &[],
+        unsigned: &[],
+        is_quiet: false,
     };
     draw::<K, S, R>(
         rt,

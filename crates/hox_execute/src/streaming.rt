@@ -1,5 +1,5 @@
 //! Running a network on tokens that come from files, as they come.
-ghost use Rattle.std.specs.Prelude.{◌≡◌, IfOk, IfErr, IfSome};
+ghost use Rattle.std.specs.Prelude.{◌≡◌, IfOk, IfErr, IfSome, map};
 ghost use Rattle.std.specs.List.{AllZip};
 ghost use Rattle.kpn_model.specs.Network.{family_of};
 ghost use Rattle.hox_stream.specs.Serves.{Serves, new_inlets, new_outlets};
@@ -8,16 +8,19 @@ ghost use Rattle.hox_execute.specs.Streaming.{AreEnds, IsCreated, IsFaultyBetwee
 
 use crate::files::FileSystem;
 use crate::pairs::{Pair, is_named_twice, is_written_twice, name_of, pairs_of};
-use crate::reading::{names_of, read_file};
+use crate::reading::{ReadError, decimals_of, names_of, read_file};
 use crate::stops::Stop;
+use crate::uses::{Role, check_uses};
 use hox_args::StreamChoice;
-use hox_network::{ReadFault, channel_names, load_by_ports, sketch_by_ports};
-use hox_stream::{Exits, OpenStream, Served, StreamFault, open_stream, serve};
+use hox_network::{channel_names, load_by_ports, sketch_by_ports};
+use hox_stream::{Exits, LaidOut, OpenStream, Served, StreamFault, open_stream, serve};
 use kpn_compute::{Both, Computes};
 use kpn_front::{Refused, Sink, Source};
 use kpn_model::{Kinds, Listed, Text};
 use kpn_net::{Net, NetFault, Sketch};
+use kpn_tokens::Layout;
 use std::alloc::{AllocError, Global};
+use std::io;
 
 /// The ends of a stream: from which files tokens come into which channels, and to which files which channels go.
 #[derive(Drop)]
@@ -36,14 +39,17 @@ pub struct Streamed<'a, F: Computes, I: Source, O: Sink> {
 /// Why a stream is not run. Nothing was read of its inputs then, and nothing written.
 #[derive(Drop)]
 pub enum StreamStop<'a> {
-    /// A text names no file, or standard input is named more than once, or memory was refused.
+    /// A text names no file, or standard input is named more than once, or two uses of files can't stand beside each
+    /// other, or memory was refused.
     Asked(Stop<'a>),
     /// Standard output is named more than once.
     OutputTwice,
-    /// The description in this file is refused.
+    /// The description in this file is refused; and the system's reason, if it could not be read. If it could be, and
+    /// its fault is `Input`, it is too long.
     Refused {
         file: &'a str,
         refused: Refused,
+        error: Option<io::Error>,
     },
     /// The stream between these ends is not opened; the names that the channels have.
     Unopened {
@@ -54,10 +60,12 @@ pub enum StreamStop<'a> {
     /// The file of this name could not be opened, to be read.
     Unread {
         file: &'a str,
+        error: io::Error,
     },
     /// The file of this name could not be opened, to be written.
     Unwritten {
         file: &'a str,
+        error: io::Error,
     },
 }
 
@@ -71,14 +79,18 @@ pub fn stream<'a, K: Computes, S: FileSystem>(
     files: &S,
     choice: &StreamChoice<'a>,
 ) -> Result<Streamed<'a, Both<K, Exits>, S::Input, S::Output>, StreamStop<'a>>
-    ensures done { IfOk result (λ s. StreamsBetween (family_of K.start K.answer_of) K.named K.signature (S.contents files.now) choice.now s.ends s.served.flow s.served.inlets.items s.served.outlets.items s.served.finish) }
-    ensures stop { IfErr result (IsStreamStop (family_of K.start K.answer_of) K.named K.signature (S.contents files.now) choice.now) }
+    ensures done { IfOk result (λ s. StreamsBetween (family_of K.start K.answer_of) K.named K.signature (S.contents files.now) (S.clash files.now) choice.now s.ends s.served.flow s.served.inlets.items s.served.outlets.items s.served.finish) }
+    ensures stop { IfErr result (IsStreamStop (family_of K.start K.answer_of) K.named K.signature (S.contents files.now) (S.clash files.now) choice.now) }
 {
-    let ends = ends_of(alloc, choice)?;
+    let ends = ends_of(alloc, files, choice)?;
     let file = name_of(choice.file);
     match opened::<K, S>(alloc, files, file, &ends) {
-        Ok(start) => run_between(alloc, files, ends, start),
-        Err(Unopened::Refused(refused)) => Err(StreamStop::Refused { file, refused }),
+        Ok(start) => run_between(alloc, files, choice.unsigned.as_slice(), ends, start),
+        Err(Unopened::Refused(refused, error)) => Err(StreamStop::Refused {
+            file,
+            refused,
+            error,
+        }),
         Err(Unopened::Faulty(channels, fault)) => Err(StreamStop::Unopened {
             ends,
             channels,
@@ -89,9 +101,13 @@ pub fn stream<'a, K: Computes, S: FileSystem>(
 }
 
 /// The ends that are chosen.
-fn ends_of<'a>(alloc: Global, choice: &StreamChoice<'a>) -> Result<Ends<'a>, StreamStop<'a>>
-    ensures ok { IfOk result (AreEnds choice.now) }
-    ensures fault { IfErr result (IsNoEnds choice.now) }
+fn ends_of<'a, S: FileSystem>(
+    alloc: Global,
+    files: &S,
+    choice: &StreamChoice<'a>,
+) -> Result<Ends<'a>, StreamStop<'a>>
+    ensures ok { IfOk result (AreEnds (S.clash files.now) choice.now) }
+    ensures fault { IfErr result (IsNoEnds (S.clash files.now) choice.now) }
 {
     let inputs = match pairs_of(alloc, "in", choice.inputs.as_slice()) {
         Ok(inputs) => inputs,
@@ -101,20 +117,25 @@ fn ends_of<'a>(alloc: Global, choice: &StreamChoice<'a>) -> Result<Ends<'a>, Str
         Ok(outputs) => outputs,
         Err(stop) => return Err(StreamStop::Asked(stop)),
     };
-    if is_named_twice(name_of(choice.file), inputs.as_slice()) {
+    let file = name_of(choice.file);
+    if is_named_twice(file, inputs.as_slice()) {
         return Err(StreamStop::Asked(Stop::InputTwice));
     }
     if is_written_twice(outputs.as_slice()) {
         return Err(StreamStop::OutputTwice);
     }
-    Ok(Ends { inputs, outputs })
+    let (read, written) = (inputs.as_slice(), outputs.as_slice());
+    match check_uses(alloc, files, Role::In, file, read, written, false) {
+        Ok(()) => Ok(Ends { inputs, outputs }),
+        Err(stop) => Err(StreamStop::Asked(stop)),
+    }
 }
 
-/// Why a stream is not opened: its description is refused; or the stream of the sketch has a fault, and these are the
-/// names of channels; or memory was refused.
+/// Why a stream is not opened: its description is refused, or could not be read for this reason; or the stream of the
+/// sketch has a fault, and these are the names of channels; or memory was refused.
 #[derive(Drop)]
 pub(crate) enum Unopened {
-    Refused(Refused),
+    Refused(Refused, Option<io::Error>),
     Faulty(Listed<Text>, StreamFault),
     Memory,
 }
@@ -208,12 +229,21 @@ fn text_in<S: FileSystem>(alloc: Global, files: &S, name: &str) -> Result<Vec<u8
 {
     match read_file(alloc, files, name) {
         Ok(text) => Ok(text),
-        Err(ReadFault::Memory) => Err(Unopened::Memory),
-        Err(_) => Err(Unopened::Refused(Refused {
-            fault: NetFault::Input,
-            text: Vec::new(alloc),
-        })),
+        Err(ReadError::Failed(error)) => Err(unread_text(alloc, Some(error))),
+        Err(ReadError::TooLong) => Err(unread_text(alloc, None)),
+        Err(ReadError::Memory) => Err(Unopened::Memory),
     }
+}
+
+/// A description is refused since it could not be read for this reason, or is too long.
+fn unread_text(alloc: Global, error: Option<io::Error>) -> Unopened
+    ensures { IsUnreadText result }
+{
+    let refused = Refused {
+        fault: NetFault::Input,
+        text: Vec::new(alloc),
+    };
+    Unopened::Refused(refused, error)
 }
 
 /// The names of the channels of the network that a text describes.
@@ -224,7 +254,7 @@ fn channels_in<K: Kinds>(alloc: Global, text: &[u8]) -> Result<Listed<Text>, Uno
     let loaded: Result<Net<K>, Refused> = load_by_ports(alloc, &mut source);
     match loaded {
         Ok(net) => channel_names(alloc, &net).map_err(|_| Unopened::Memory),
-        Err(refused) => Err(Unopened::Refused(refused)),
+        Err(refused) => Err(Unopened::Refused(refused, None)),
     }
 }
 
@@ -232,13 +262,14 @@ fn channels_in<K: Kinds>(alloc: Global, text: &[u8]) -> Result<Listed<Text>, Uno
 fn run_between<'a, F: Computes, S: FileSystem>(
     alloc: Global,
     files: &S,
+    unsigned: &[&str],
     ends: Ends<'a>,
     start: OpenStream<F>,
 ) -> Result<Streamed<'a, F, S::Input, S::Output>, StreamStop<'a>>
-    ensures done { IfOk result (λ s. (s.ends ≡ ends.entry) × RunsBetween (family_of F.start F.answer_of) (S.contents files.now) ends.entry start s.served.flow s.served.inlets.items s.served.outlets.items s.served.finish) }
+    ensures done { IfOk result (λ s. (s.ends ≡ ends.entry) × RunsBetween (family_of F.start F.answer_of) (S.contents files.now) (map (λ s. s.now) unsigned.now) ends.entry start s.served.flow s.served.inlets.items s.served.outlets.items s.served.finish) }
     ensures stop { IfErr result (IsUnfit ends.entry) }
 {
-    match opened_between(alloc, files, &ends) {
+    match opened_between(alloc, files, unsigned, &ends) {
         Ok(opened) => run_opened(alloc, ends, start, opened),
         Err(stop) => Err(stop),
     }
@@ -247,8 +278,8 @@ fn run_between<'a, F: Computes, S: FileSystem>(
 /// The files of a stream, opened: those from which tokens come, and those to which they go.
 #[derive(Drop)]
 struct OpenFiles<I: Source, O: Sink> {
-    sources: Vec<I>,
-    sinks: Vec<O>,
+    sources: Vec<LaidOut<I>>,
+    sinks: Vec<LaidOut<O>>,
 }
 
 /// Runs a stream from its start between files that were opened.
@@ -267,19 +298,20 @@ fn run_opened<'a, F: Computes, I: Source + Drop, O: Sink + Drop>(
     }
 }
 
-/// The files of a stream between these ends, opened.
+/// The files of a stream between these ends, opened; the words of these channels are written unsigned.
 fn opened_between<'a, S: FileSystem>(
     alloc: Global,
     files: &S,
+    unsigned: &[&str],
     ends: &Ends<'a>,
 ) -> Result<OpenFiles<S::Input, S::Output>, StreamStop<'a>>
     ensures sources { IfOk result (λ f. AllZip (IsOpened S.Input.remaining S.Input.has_failed (S.contents files.now)) ends.now.inputs.items f.sources.items) }
-    ensures sinks { IfOk result (λ f. AllZip (IsCreated S.Output.seen) ends.now.outputs.items f.sinks.items) }
+    ensures sinks { IfOk result (λ f. AllZip (IsCreated S.Output.seen (map (λ s. s.now) unsigned.now)) ends.now.outputs.items f.sinks.items) }
     ensures stop { IfErr result (IsUnfit ends.now) }
 {
     Ok(OpenFiles {
         sources: sources_between(alloc, files, ends)?,
-        sinks: sinks_of(alloc, files, ends.outputs.as_slice())?,
+        sinks: sinks_of(alloc, files, unsigned, ends.outputs.as_slice())?,
     })
 }
 
@@ -288,7 +320,7 @@ fn sources_between<'a, S: FileSystem>(
     alloc: Global,
     files: &S,
     ends: &Ends<'a>,
-) -> Result<Vec<S::Input>, StreamStop<'a>>
+) -> Result<Vec<LaidOut<S::Input>>, StreamStop<'a>>
     ensures ok { IfOk result (λ v. AllZip (IsOpened S.Input.remaining S.Input.has_failed (S.contents files.now)) ends.now.inputs.items v.items) }
     ensures stop { IfErr result (IsUnread ends.now.inputs.items) }
 {
@@ -300,15 +332,20 @@ fn sources_of<'a, S: FileSystem>(
     alloc: Global,
     files: &S,
     pairs: &[Pair<'a>],
-) -> Result<Vec<S::Input>, StreamStop<'a>>
+) -> Result<Vec<LaidOut<S::Input>>, StreamStop<'a>>
     ensures ok { IfOk result (λ v. AllZip (IsOpened S.Input.remaining S.Input.has_failed (S.contents files.now)) pairs.now v.items) }
     ensures stop { IfErr result (IsUnread pairs.now) }
 {
     let mut sources = Vec::new(alloc);
     for k in 0..pairs.len() {
         let file = pairs[k].file;
-        let Ok(source) = files.open(file) else {
-            return Err(StreamStop::Unread { file });
+        let source = match files.open(file) {
+            Ok(source) => source,
+            Err(error) => return Err(StreamStop::Unread { file, error }),
+        };
+        let source = LaidOut {
+            stream: source,
+            layout: Layout::PLAIN,
         };
         let Ok(()) = sources.push(source) else {
             return Err(StreamStop::Asked(Stop::Memory));
@@ -317,20 +354,26 @@ fn sources_of<'a, S: FileSystem>(
     Ok(sources)
 }
 
-/// The files of these pairs, opened to be written.
+/// The files of these pairs, opened to be written; the words of these channels are written unsigned.
 fn sinks_of<'a, S: FileSystem>(
     alloc: Global,
     files: &S,
+    unsigned: &[&str],
     pairs: &[Pair<'a>],
-) -> Result<Vec<S::Output>, StreamStop<'a>>
-    ensures ok { IfOk result (λ v. AllZip (IsCreated S.Output.seen) pairs.now v.items) }
+) -> Result<Vec<LaidOut<S::Output>>, StreamStop<'a>>
+    ensures ok { IfOk result (λ v. AllZip (IsCreated S.Output.seen (map (λ s. s.now) unsigned.now)) pairs.now v.items) }
     ensures stop { IfErr result (IsUnwritten pairs.now) }
 {
     let mut sinks = Vec::new(alloc);
     for k in 0..pairs.len() {
         let file = pairs[k].file;
-        let Ok(sink) = files.create(file) else {
-            return Err(StreamStop::Unwritten { file });
+        let sink = match files.create(file) {
+            Ok(sink) => sink,
+            Err(error) => return Err(StreamStop::Unwritten { file, error }),
+        };
+        let sink = LaidOut {
+            stream: sink,
+            layout: Layout::Lines(decimals_of(unsigned, pairs[k].channel)),
         };
         let Ok(()) = sinks.push(sink) else {
             return Err(StreamStop::Asked(Stop::Memory));

@@ -1,17 +1,17 @@
 //! Writing a report and streams.
-ghost use Rattle.std.specs.Prelude.{◌≡◌, true, [], ◌∷◌, if◌then◌else◌};
-ghost use Rattle.hox_execute.specs.Files.{GoOn, standard, wrote};
-ghost use Rattle.hox_execute.specs.Reports.{Writes, reported, streams_written, written_of};
+ghost use Rattle.std.specs.Prelude.{◌≡◌, ◌++◌, true, List, [], ◌∷◌, Option, if◌then◌else◌};
+ghost use Rattle.hox_execute.specs.Files.{Effect, standard, wrote};
+ghost use Rattle.hox_execute.specs.Reports.{Tries, Writes, reported, streams_written, written_of};
 
 use crate::files::FileSystem;
-use crate::pairs::{Pair, STANDARD, count_standard};
+use crate::pairs::{Pair, STANDARD, is_output_named};
 use hox_run::Told;
 use kpn_front::Status;
-use kpn_model::Text;
+use kpn_model::Listed;
 
 /// Writes what is told of a run: the report, unless it is not wanted, to standard output, or to standard error if
-/// a stream goes to standard output; and each stream to its file. Returns the exit status, which is `WriteFailed`
-/// if a write fails.
+/// a stream goes to standard output; and each stream to its file, also where another write has failed. Returns the
+/// exit status, which is `WriteFailed` if a write fails.
 pub(crate) fn write_told<S: FileSystem>(
     files: &mut S,
     told: &Told,
@@ -26,9 +26,30 @@ pub(crate) fn write_told<S: FileSystem>(
             told.status,
         );
     }
-    let is_reported = write_report(files, told.report.as_str(), outputs);
-    let are_written = write_streams(files, outputs, told.outputs.as_slice());
-    status_if(is_reported && are_written, told.status)
+    let are_written = write_all(
+        files,
+        told.report.as_str(),
+        outputs,
+        told.outputs.as_slice(),
+    );
+    status_if(are_written, told.status)
+}
+
+/// Writes a report, and each stream to its file, also where the report could not be written. Returns whether all were
+/// written.
+#[tactic(auto, using(crate::proofs::Tried::first_done, crate::proofs::Tried::first_failed))]
+fn write_all<S: FileSystem>(
+    files: &mut S,
+    report: &str,
+    outputs: &[Pair<'_>],
+    texts: &[Listed<u8>],
+) -> bool
+    ensures tries { Tries (reported outputs.now report.now ∷ streams_written outputs.now texts.now) result (S.effects files.old) (S.effects files.new) }
+    ensures steady { S.is_steady files.old ≡ true → (result ≡ true) × (S.is_steady files.new ≡ true) }
+{
+    let is_reported = write_report(files, report, outputs);
+    let are_written = write_streams(files, outputs, texts);
+    is_reported && are_written
 }
 
 /// A status, or `WriteFailed` if not all was written.
@@ -44,35 +65,49 @@ fn status_if(is_written: bool, status: Status) -> Status
 
 /// Writes a report. Returns whether it was written.
 fn write_report<S: FileSystem>(files: &mut S, report: &str, outputs: &[Pair<'_>]) -> bool
-    ensures done { result ≡ true → GoOn (reported outputs.now report.now ∷ []) (S.effects files.old) (S.effects files.new) }
+    ensures tries { Tries (reported outputs.now report.now ∷ []) result (S.effects files.old) (S.effects files.new) }
     ensures steady { S.is_steady files.old ≡ true → (result ≡ true) × (S.is_steady files.new ≡ true) }
 {
-    if count_standard(outputs) > 0 {
+    if is_output_named(outputs) {
         files.say(report).is_ok()
     } else {
         files.write(STANDARD, report.as_bytes()).is_ok()
     }
 }
 
-/// Writes each stream to its file. Returns whether all were written.
-fn write_streams<S: FileSystem>(files: &mut S, outputs: &[Pair<'_>], texts: &[Text]) -> bool
-    ensures done { result ≡ true → GoOn (streams_written outputs.now texts.now) (S.effects files.old) (S.effects files.new) }
+/// Writes each stream to its file, also where another could not be written. Returns whether all were written.
+fn write_streams<S: FileSystem>(files: &mut S, outputs: &[Pair<'_>], texts: &[Listed<u8>]) -> bool
+    ensures tries { Tries (streams_written outputs.now texts.now) result (S.effects files.old) (S.effects files.new) }
     ensures steady { S.is_steady files.old ≡ true → (result ≡ true) × (S.is_steady files.new ≡ true) }
 {
     let mut are_written = true;
     for k in 0..outputs.len().min(texts.len()) {
-        let is_written = write_stream(files, outputs[k], &texts[k]);
-        are_written = are_written && is_written;
+        are_written = write_next(files, are_written, outputs[k], &texts[k]);
     }
     are_written
 }
 
+/// Writes a stream to the file of a pair, also where those before it were not written. Returns whether all were.
+#[tactic(auto, using(crate::proofs::Tried::next_done, crate::proofs::Tried::next_failed))]
+fn write_next<S: FileSystem>(
+    files: &mut S,
+    are_written: bool,
+    pair: Pair<'_>,
+    text: &Listed<u8>,
+) -> bool
+    ensures tries { (before : List Effect) (start : Option (List Effect)) → Tries before are_written start (S.effects files.old) → Tries (before ++ wrote pair.entry.file.now text.now ∷ []) result start (S.effects files.new) }
+    ensures steady { S.is_steady files.old ≡ true → (result ≡ are_written) × (S.is_steady files.new ≡ true) }
+{
+    let is_written = write_stream(files, pair, text);
+    are_written && is_written
+}
+
 /// Writes a stream to the file of a pair. Returns whether it was written.
-fn write_stream<S: FileSystem>(files: &mut S, pair: Pair<'_>, text: &Text) -> bool
-    ensures done { result ≡ true → GoOn (wrote pair.entry.file.now text.now ∷ []) (S.effects files.old) (S.effects files.new) }
+fn write_stream<S: FileSystem>(files: &mut S, pair: Pair<'_>, text: &Listed<u8>) -> bool
+    ensures tries { Tries (wrote pair.entry.file.now text.now ∷ []) result (S.effects files.old) (S.effects files.new) }
     ensures steady { S.is_steady files.old ≡ true → (result ≡ true) × (S.is_steady files.new ≡ true) }
 {
-    files.write(pair.file, text.as_str().as_bytes()).is_ok()
+    files.write(pair.file, text.as_slice()).is_ok()
 }
 
 /// Writes a text to standard output. Returns the exit status.

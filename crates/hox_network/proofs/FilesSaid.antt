@@ -5,17 +5,16 @@ use Rattle.kpn_model.specs.declared.token.Token.{Token}
 use Rattle.kpn_model.specs.Network.{Network, channel_of, number_of_channel}
 use Rattle.hox_network.specs.declared.request.TokenFile.{TokenFile}
 use Rattle.hox_network.specs.declared.presets.FileFault.{FileFault}
-use Rattle.hox_network.specs.declared.presets.FileFault.TheVariants.{NoChannel, NoText, Line, TooMany, Memory}
-use Rattle.hox_network.specs.Presets.{IsFileFault, IsTextFault, PresetAll, Presets, Stops, most_in, with_tokens, none, one, here, later}
+use Rattle.hox_network.specs.declared.presets.FileFault.TheVariants.{NoChannel, Record, TooMany, Memory}
+use Rattle.hox_network.specs.Presets.{IsFileFault, IsBytesFault, PresetAll, Presets, Stops, most_in, with_tokens, none, one, here, later}
 
--- a fault of the text of a file whose channel is known is a fault of the file
-pub of_text : (net : Network) (file : TokenFile) (c : ℕ) (fault : FileFault) → number_of_channel net file.channel ≡ Some c
-    → IsTextFault (channel_of net c).sort file.text (most_in net) fault → IsFileFault net file fault
-of_text net file c NoChannel named h = absurd h
-of_text net file c NoText named h = (c, named, h)
-of_text net file c (Line number fault) named h = (c, named, h)
-of_text net file c (TooMany n) named h = (c, named, h)
-of_text net file c Memory named h = (c, named, h)
+-- a fault of the bytes of a file whose channel is known is a fault of the file
+pub of_bytes : (net : Network) (file : TokenFile) (c : ℕ) (fault : FileFault) → number_of_channel net file.channel ≡ Some c
+    → IsBytesFault file.layout (channel_of net c).sort file.bytes (most_in net) fault → IsFileFault net file fault
+of_bytes net file c NoChannel named h = absurd h
+of_bytes net file c (Record number fault) named h = (c, named, h)
+of_bytes net file c (TooMany n) named h = (c, named, h)
+of_bytes net file c Memory named h = (c, named, h)
 
 module _ (files : List TokenFile) (n : ℕ) (file : TokenFile) (within : n < length files) (at : file ≡ get_or files n file) (first now : Network) where
   next : drop n files ≡ file ∷ drop (n + 1) files

@@ -3,4 +3,5 @@ pub mod Held
 pub mod Budgets
 pub mod Said
 pub mod FilesSaid
+pub mod Meant
 pub mod Served

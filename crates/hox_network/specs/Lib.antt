@@ -1,3 +1,4 @@
+pub mod Budgets
 pub mod Signs
 pub mod Ports
 pub mod Presets

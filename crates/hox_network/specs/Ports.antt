@@ -7,6 +7,7 @@ use Rattle.kpn_model.specs.declared.kinds.Signature.{Signature}
 use Rattle.kpn_sketch.specs.declared.sketch.ChannelSketch.{ChannelSketch}
 use Rattle.kpn_sketch.specs.declared.sketch.Sketch.{Sketch}
 use Rattle.kpn_net.specs.Faults.{sketched_out_sort, sketched_in_sort}
+use Rattle.hox_network.specs.Budgets.{with_greatest_budget}
 use Rattle.hox_network.specs.Signs.{with_signs}
 
 -- the sort of two ports where they agree, and else the one that is given
@@ -24,6 +25,7 @@ module _ (named : List ℕ → Option (ℕ × ℕ)) (signature : Card → Option
   abbrev pub by_ports : Sketch → Sketch
   by_ports sketch = record sketch { channels = map (channel_by_ports sketch) sketch.channels }
 
-  -- a sketch as it is meant: processes with arguments below 0 are of the kinds that take them, and then the ports say the sorts
-  abbrev pub as_meant : Sketch → Sketch
-  as_meant sketch = by_ports (with_signs named signature sketch)
+  -- the sketch of a text as it is meant: if the text says no budget, it has the greatest; processes with arguments below 0 are of the kinds
+  -- that take them; and then the ports say the sorts
+  abbrev pub as_meant : List ℕ → Sketch → Sketch
+  as_meant text sketch = by_ports (with_signs named signature (with_greatest_budget text sketch))

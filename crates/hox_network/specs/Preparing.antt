@@ -47,8 +47,8 @@ IsFault request net (Budget greatest) =
     (preset : Network) × PresetAll request.tokens net preset × (greatest ≡ greatest_budget preset.ceiling)
     × (n : ℕ) × (request.budget ≡ Some n) × ((n ≡ 0) ⊎ (greatest < n))
 IsFault request net (NoHolder file names) = Stops request.tokens net file NoChannel × (names ≡ channel_names net)
-IsFault request net (NoShown k names) = (other : Network) × Prepares request net other × LacksChannel other request.show k × (names ≡ channel_names other)
-IsFault request net (NoOutput k names) = (other : Network) × Prepares request net other × LacksChannel other request.outputs k × (names ≡ channel_names other)
+IsFault request net (NoShown k names) = (other : Network) × Prepares request net other × LacksChannel other (map (λ s. s.channel) request.show) k × (names ≡ channel_names other)
+IsFault request net (NoOutput k names) = (other : Network) × Prepares request net other × LacksChannel other (map (λ s. s.channel) request.outputs) k × (names ≡ channel_names other)
 IsFault request net Memory = Unit {0}
 IsFault request net Lost = 1 < request.workers
 
@@ -70,6 +70,6 @@ GivesLoaded gives (Err fault) result = MatchResult result (λ x. ⊥) (λ e. ref
 -- failed before and after
 pub record Serves {X : Type 0} (named : List ℕ → Option (ℕ × ℕ)) (signature : Card → Option Signature) (gives : Network → Result X Fault → Type 0) (input : Option (List ℕ)) (failed_before failed_after : Bool) (result : Result X Fault) : Type 0 where
   pub loaded : Result Network NetFault
-  pub loads : failed_before ≡ false → IfSome input (λ text. LoadsChanged (as_meant named signature) named signature failed_after text loaded)
+  pub loads : failed_before ≡ false → IfSome input (λ text. LoadsChanged (as_meant named signature text) named signature failed_after text loaded)
   pub failed : failed_before ≡ false → failed_after ≡ true → loaded ≡ Err Input
   pub comes : GivesLoaded gives loaded result

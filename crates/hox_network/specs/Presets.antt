@@ -1,15 +1,16 @@
 -- Networks whose channels hold at first what token files say.
-use Rattle.std.specs.Prelude.{◌≡◌, ◌≤◌, ◌<◌, ℕ, suc, List, [], ◌∷◌, length, max, min, set, Option, Some, None, IsUtf8, if◌then◌else◌, nat_le}
+use Rattle.std.specs.Prelude.{◌≡◌, ◌≤◌, ◌<◌, ℕ, suc, List, [], ◌∷◌, length, max, min, set, Option, Some, None, if◌then◌else◌, nat_le}
 use Rattle.kpn_model.specs.declared.token.Token.{Token}
 use Rattle.kpn_model.specs.declared.token.Sort.{Sort}
 use Rattle.kpn_model.specs.declared.parts.Channel.{Channel}
 use Rattle.kpn_model.specs.declared.limits.TheConstants.{CEILING, GREATEST_BUDGET, GREATEST_HIGH_BUDGET}
 use Rattle.kpn_model.specs.Network.{Network, channel_of, number_of_channel}
-use Rattle.kpn_tokens.specs.declared.text.TheConstants.{MOST_TOKENS}
-use Rattle.kpn_tokens.specs.TokenLines.{Begin, Fails, Say}
+use Rattle.kpn_tokens.specs.declared.reading.TheConstants.{MOST_TOKENS}
+use Rattle.kpn_tokens.specs.declared.layouts.Layout.{Layout}
+use Rattle.kpn_tokens.specs.Records.{Begin, Fails, Say}
 use Rattle.hox_network.specs.declared.request.TokenFile.{TokenFile}
 use Rattle.hox_network.specs.declared.presets.FileFault.{FileFault}
-use Rattle.hox_network.specs.declared.presets.FileFault.TheVariants.{NoChannel, NoText, Line, TooMany, Memory}
+use Rattle.hox_network.specs.declared.presets.FileFault.TheVariants.{NoChannel, Record, TooMany, Memory}
 
 -- a channel that holds these tokens at first, and has room for them
 abbrev pub holding : List Token → Channel → Channel
@@ -23,10 +24,10 @@ with_tokens net c tokens = record net { channels = set net.channels c (holding t
 abbrev pub most_in : Network → ℕ
 most_in net = min net.ceiling MOST_TOKENS
 
--- the lines of the file say these tokens, of the sort of channel c, whose name the file gives; they are no more than a channel may hold
+-- the records of the file say these tokens, of the sort of channel c, whose name the file gives; they are no more than a channel may hold
 pub record Presets (net : Network) (file : TokenFile) (c : ℕ) (tokens : List Token) : Type 0 where
   pub channel : number_of_channel net file.channel ≡ Some c
-  pub says : Say (channel_of net c).sort file.text tokens
+  pub says : Say file.layout (channel_of net c).sort file.bytes tokens
   pub few : length tokens ≤ most_in net
 
 -- one file after the other, each channel that a file names holds that file's tokens at first
@@ -35,19 +36,18 @@ pub data PresetAll : List TokenFile → Network → Network → Type 0 where
   one : {net other : Network} {file : TokenFile} {files : List TokenFile} (c : ℕ) (tokens : List Token) → Presets net file c tokens
       → PresetAll files (with_tokens net c tokens) other → PresetAll (file ∷ files) net other
 
--- when each fault is found in a text: it is not UTF-8; a line says no token of this sort, and it is the first; its first lines say
--- more tokens than may be; or memory was refused
-abbrev pub IsTextFault : Sort → List ℕ → ℕ → FileFault → Type 0
-IsTextFault sort text most NoChannel = ⊥
-IsTextFault sort text most NoText = IsUtf8 text → ⊥
-IsTextFault sort text most (Line number fault) = Fails sort text number fault
-IsTextFault sort text most (TooMany n) = (n ≡ most) × (tokens : List Token) × Begin sort text tokens × (most < length tokens)
-IsTextFault sort text most Memory = Unit {0}
+-- when each fault is found in the bytes of a file: a record says no token of this sort, and it is the first; the first records say more
+-- tokens than may be; or memory was refused
+abbrev pub IsBytesFault : Layout → Sort → List ℕ → ℕ → FileFault → Type 0
+IsBytesFault layout sort bytes most NoChannel = ⊥
+IsBytesFault layout sort bytes most (Record number fault) = Fails layout sort bytes number fault
+IsBytesFault layout sort bytes most (TooMany n) = (n ≡ most) × (tokens : List Token) × Begin layout sort bytes tokens × (most < length tokens)
+IsBytesFault layout sort bytes most Memory = Unit {0}
 
--- no channel has the name that the file gives, or its text has a fault
+-- no channel has the name that the file gives, or its bytes have a fault
 abbrev pub IsFileFault : Network → TokenFile → FileFault → Type 0
 IsFileFault net file NoChannel = number_of_channel net file.channel ≡ None
-IsFileFault net file fault = (c : ℕ) × (number_of_channel net file.channel ≡ Some c) × IsTextFault (channel_of net c).sort file.text (most_in net) fault
+IsFileFault net file fault = (c : ℕ) × (number_of_channel net file.channel ≡ Some c) × IsBytesFault file.layout (channel_of net c).sort file.bytes (most_in net) fault
 
 -- the file of this number, counted from 0, has the fault, and none before it has one
 pub data Stops : List TokenFile → Network → ℕ → FileFault → Type 0 where

@@ -1,26 +1,30 @@
-//! Descriptions that need not say of which sort a channel is, and that may have arguments below 0.
-ghost use Rattle.std.specs.Prelude.{◌≡◌, ◌≤◌, ◌+◌, false, true, IfOk, IfErr, IfSome, length, map};
+//! Descriptions that need not say of which sort a channel is or which budget a run has, and that may have
+//! arguments below 0.
+ghost use Rattle.std.specs.Prelude.{◌≡◌, ◌≤◌, ◌+◌, false, true, IfOk, IfErr, IfSome, IsUtf8, length, map};
 ghost use Rattle.kpn_sketch.specs.declared.sketch.Sketch.{Sketch as SketchV};
 ghost use Rattle.kpn_sketch.specs.Description.{Describes};
 ghost use Rattle.kpn_front.specs.Loading.{ConsumesAtMost, LoadsChanged, longest, without_text};
+ghost use Rattle.hox_network.specs.Budgets.{with_greatest_budget};
 ghost use Rattle.hox_network.specs.Ports.{agreed, as_meant, by_ports, channel_by_ports};
+ghost use Rattle.hox_network.specs.Signs.{with_signs};
 
+use crate::budget::with_greatest_budget;
 use crate::signs::with_signs;
 use kpn_front::{Refused, Source, read_text};
 use kpn_model::{Kinds, Listed, Sort};
 use kpn_net::faults::{in_sort, out_sort};
 use kpn_net::{ChannelSketch, Check, Net, NetFault, Sketch, read_sketch};
-use std::alloc::Global;
+use std::alloc::{AllocError, Global};
 
 /// Reads a description to its end, and makes its network, in which each channel has the sort of its two
 /// ports, whatever the description says, if they have the same. A process whose arguments are below 0, the
 /// first alone or the first and others, is of the kind with its kind's name and `, signed`, if there is one and
-/// it takes them: for an argument -1 - n it is given n, and how many are below 0 as one argument more. Reads at
-/// most 1,048,577 bytes.
+/// it takes them: for an argument -1 - n it is given n, and how many are below 0 as one argument more. If the
+/// description says no budget, the network has the greatest of its version. Reads at most 1,048,577 bytes.
 ///
 /// Errors: as those of `kpn_front::load_or_refuse`, with the text.
 pub fn load_by_ports<K: Kinds, S: Source>(alloc: Global, source: &mut S) -> Result<Net<K>, Refused>
-    ensures loads { S.has_failed source.old ≡ false → IfSome (S.remaining source.old) (λ text. LoadsChanged (as_meant K.named K.signature) K.named K.signature (S.has_failed source.new) text (without_text result)) }
+    ensures loads { S.has_failed source.old ≡ false → IfSome (S.remaining source.old) (λ text. LoadsChanged (as_meant K.named K.signature text) K.named K.signature (S.has_failed source.new) text (without_text result)) }
     ensures failed { S.has_failed source.old ≡ false → S.has_failed source.new ≡ true → without_text result ≡ Err NetFault.Input }
     ensures taken { ConsumesAtMost (longest + 1) (S.remaining source.old) (S.remaining source.new) }
 {
@@ -40,33 +44,47 @@ pub fn load_by_ports<K: Kinds, S: Source>(alloc: Global, source: &mut S) -> Resu
 /// The network that a text describes.
 fn net_of_text<K: Kinds>(alloc: Global, text: &[u8]) -> Result<Net<K>, NetFault>
     requires { length text.now ≤ longest }
-    ensures { LoadsChanged (as_meant K.named K.signature) K.named K.signature false text.now result }
+    ensures { LoadsChanged (as_meant K.named K.signature text.now) K.named K.signature false text.now result }
 {
     let sketch = read_sketch(alloc, text)?;
-    let meant = as_meant::<K>(alloc, sketch)?;
+    let meant = as_meant::<K>(alloc, text, sketch)?;
     Net::check(alloc, &meant)
 }
 
 /// Returns the sketch that a text describes, as `load_by_ports` makes a network of it; `None` if it describes
 /// none, or memory was refused.
 pub fn sketch_by_ports<K: Kinds>(alloc: Global, text: &[u8]) -> Option<Sketch>
-    ensures { IfSome result (λ sketch. (described : SketchV) × Describes text.now described × (sketch ≡ as_meant K.named K.signature described)) }
+    ensures { IfSome result (λ sketch. (described : SketchV) × Describes text.now described × (sketch ≡ as_meant K.named K.signature text.now described)) }
 {
     match read_sketch(alloc, text) {
-        Ok(sketch) => as_meant::<K>(alloc, sketch).ok(),
+        Ok(sketch) => as_meant::<K>(alloc, text, sketch).ok(),
         Err(_) => None,
     }
 }
 
-/// The sketch, as it is meant. Fails if memory was refused.
-fn as_meant<K: Kinds>(alloc: Global, sketch: Sketch) -> Result<Sketch, NetFault>
-    ensures ok { IfOk result (λ meant. meant ≡ as_meant K.named K.signature sketch) }
+/// The sketch of a text, as it is meant. Fails if memory was refused.
+fn as_meant<K: Kinds>(alloc: Global, text: &[u8], sketch: Sketch) -> Result<Sketch, NetFault>
+    requires { IsUtf8 text.now }
+    ensures ok { IfOk result (λ meant. meant ≡ as_meant K.named K.signature text.now sketch) }
     ensures memory { IfErr result (λ e. e ≡ NetFault.Memory) }
 {
-    match with_signs::<K>(alloc, sketch) {
+    match signed_with_budget::<K>(alloc, text, sketch) {
         Ok(signed) => sorted_by_ports::<K>(alloc, signed),
         Err(_) => Err(NetFault::Memory),
     }
+}
+
+/// The sketch of a text with the budget that it is to have, and with the kinds that take arguments below 0.
+fn signed_with_budget<K: Kinds>(
+    alloc: Global,
+    text: &[u8],
+    sketch: Sketch,
+) -> Result<Sketch, AllocError>
+    requires { IsUtf8 text.now }
+    ensures { IfOk result (λ signed. signed ≡ with_signs K.named K.signature (with_greatest_budget text.now sketch)) }
+{
+    let budgeted = with_greatest_budget(alloc, text, sketch)?;
+    with_signs::<K>(alloc, budgeted)
 }
 
 /// The sketch, with the sorts of the ports. Fails if memory was refused.

@@ -2,6 +2,7 @@
 //! files in its channels and with another budget, from bytes to a network.
 #![tactic(auto)]
 
+mod budget;
 mod described;
 mod family;
 mod names;
@@ -18,4 +19,4 @@ pub use names::channel_names;
 pub use preparing::prepare;
 pub use presets::{FileFault, PresetFault};
 pub use reading::{LONGEST_FILE, ReadFault, read_whole};
-pub use request::{Fault, Request, RunFault, TokenFile};
+pub use request::{Fault, Request, RunFault, StreamText, TokenFile};

@@ -1,29 +1,27 @@
 //! Tokens of files, which channels hold at first.
 ghost use Rattle.std.specs.Prelude.{◌≡◌, ◌<◌, ◌≤◌, ◌⊎◌, ℕ, List, false, OnOk, IfOk, IfErr, IfSome, IsTrue, length};
+ghost use Rattle.std.specs.List.{AllByRecursion};
 ghost use Rattle.kpn_model.specs.declared.token.Token.{Token as TokenV};
 ghost use Rattle.kpn_model.specs.Network.{channel_of, number_of_channel};
-ghost use Rattle.kpn_model.specs.Valid.{IsValid};
+ghost use Rattle.kpn_model.specs.Valid.{IsOfSort, IsValid};
 ghost use Rattle.kpn_network.specs.Parts.{network_of};
-ghost use Rattle.kpn_tokens.specs.TokenLines.{Say};
-ghost use Rattle.hox_network.specs.Presets.{IsFileFault, IsTextFault, PresetAll, Presets, Stops, greatest_budget, with_tokens};
+ghost use Rattle.kpn_tokens.specs.Records.{Say};
+ghost use Rattle.hox_network.specs.Presets.{IsFileFault, IsBytesFault, PresetAll, Presets, Stops, greatest_budget, with_tokens};
 
 use crate::request::TokenFile;
 use kpn_model::limits::{CEILING, GREATEST_BUDGET, GREATEST_HIGH_BUDGET};
 use kpn_model::{Kinds, Listed, Sort, Token};
 use kpn_network::Parts;
-use kpn_tokens::{LineFault, MOST_TOKENS, TokensFault, read_tokens};
+use kpn_tokens::{Layout, MOST_TOKENS, RecordFault, TokensFault, read_tokens};
 use std::alloc::Global;
-use std::str;
 
 /// Why a token file is refused.
 #[derive(Clone, Copy, Debug, PartialEq, Eq)]
 pub enum FileFault {
     /// No channel has the name.
     NoChannel,
-    /// The file is no text: it is not UTF-8.
-    NoText,
-    /// What is wrong with a line, of which the number counts from 1.
-    Line { number: usize, fault: LineFault },
+    /// What is wrong with a record, a line or a frame, whose number counts from 1.
+    Record { number: usize, fault: RecordFault },
     /// There are more tokens than this: no channel may hold more.
     TooMany { most: usize },
     /// Memory was refused.
@@ -73,7 +71,7 @@ fn preset_one<K: Kinds>(alloc: Global, parts: &mut Parts, file: &TokenFile) -> R
     };
     let most = parts.ceiling.min(MOST_TOKENS);
     let sort = sort_of(parts, channel);
-    match tokens_of(alloc, sort, file.text.as_slice(), most) {
+    match tokens_of(alloc, file.layout, sort, file.bytes.as_slice(), most) {
         Ok(tokens) => {
             hold(parts, channel, tokens);
             Ok(())
@@ -98,20 +96,24 @@ fn sort_of(parts: &Parts, channel: usize) -> Sort
     parts.channels[channel].sort
 }
 
-/// The tokens of a text, at most so many.
-fn tokens_of(alloc: Global, sort: Sort, bytes: &[u8], most: usize) -> Result<Vec<Token>, FileFault>
+/// The tokens of a file, at most so many.
+fn tokens_of(
+    alloc: Global,
+    layout: Layout,
+    sort: Sort,
+    bytes: &[u8],
+    most: usize,
+) -> Result<Vec<Token>, FileFault>
     requires { most ≤ 1000000 }
-    ensures says { IfOk result (λ tokens. Say sort bytes.now tokens.items) }
+    ensures says { IfOk result (λ tokens. Say layout sort bytes.now tokens.items) }
+    ensures sorted { IfOk result (λ tokens. AllByRecursion (IsOfSort sort) tokens.items) }
     ensures few { IfOk result (λ tokens. length tokens.items ≤ most) }
-    ensures fault { IfErr result (IsTextFault sort bytes.now most) }
+    ensures fault { IfErr result (IsBytesFault layout sort bytes.now most) }
 {
-    let Ok(text) = str::from_utf8(bytes) else {
-        return Err(FileFault::NoText);
-    };
-    match read_tokens(alloc, sort, text) {
+    match read_tokens(alloc, layout, sort, bytes) {
         Ok(tokens) => at_most(tokens, most),
         Err(TokensFault::TooMany) => Err(FileFault::TooMany { most }),
-        Err(TokensFault::Line { number, fault }) => Err(FileFault::Line { number, fault }),
+        Err(TokensFault::Record { number, fault }) => Err(FileFault::Record { number, fault }),
         Err(TokensFault::Memory) => Err(FileFault::Memory),
     }
 }

@@ -6,12 +6,21 @@ use crate::presets::{FileFault, PresetFault};
 use kpn_front::{Refused, Status};
 use kpn_model::{Listed, Text};
 use kpn_sketch::NetFault;
+use kpn_tokens::{Decimals, Layout};
 
-/// The tokens of a file, one on each line, for the channel of this name.
+/// The bytes of a file, and how they are laid out as tokens for the channel of this name.
 #[derive(Drop)]
 pub struct TokenFile {
     pub channel: Text,
-    pub text: Listed<u8>,
+    pub layout: Layout,
+    pub bytes: Listed<u8>,
+}
+
+/// A channel whose stream is written as text, and how its words are written.
+#[derive(Drop)]
+pub struct StreamText {
+    pub channel: Text,
+    pub decimals: Decimals,
 }
 
 /// How a described network is to be run: by 1 to 16 workers; with this budget, in entries of a history, in
@@ -22,8 +31,8 @@ pub struct Request {
     pub workers: usize,
     pub budget: Option<u64>,
     pub tokens: Listed<TokenFile>,
-    pub show: Listed<Text>,
-    pub outputs: Listed<Text>,
+    pub show: Listed<StreamText>,
+    pub outputs: Listed<StreamText>,
 }
 
 /// Why a request is not done.
@@ -85,6 +94,6 @@ fn status_of_file(fault: FileFault) -> Status
     match fault {
         FileFault::NoChannel => Status::WrongArguments,
         FileFault::Memory => Status::MemoryRefused,
-        FileFault::NoText | FileFault::Line { .. } | FileFault::TooMany { .. } => Status::Refused,
+        FileFault::Record { .. } | FileFault::TooMany { .. } => Status::Refused,
     }
 }

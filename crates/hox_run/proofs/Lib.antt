@@ -1,4 +1,6 @@
 pub mod Cutting
 pub mod ToldRuns
 pub mod Progressing
+pub mod Named
 pub mod Served
+pub mod Grown

@@ -24,7 +24,10 @@ use Rattle.kpn_model.specs.Verdicts.{IsVerdict}
 use Rattle.kpn_laws.proofs.ReportedStreams.{each_stream}
 use Rattle.kpn_report.specs.Text.{end_line, digest_text, report_text}
 use Rattle.kpn_verdict.specs.VerdictText.{verdict_line}
-use Rattle.kpn_tokens.specs.TokenLines.{token_line}
+use Rattle.kpn_tokens.specs.declared.layouts.Layout.TheVariants.{Lines}
+use Rattle.kpn_tokens.specs.Records.{record_text}
+use Rattle.hox_run.specs.declared.shown.ChannelText.{ChannelText}
+use Rattle.hox_run.specs.Notes.{AreNotes}
 use Rattle.hox_run.specs.declared.telling.Told.{Told}
 use Rattle.hox_run.specs.Cuts.{after_verdict, before_verdict, left_at, tokens_line}
 use Rattle.hox_run.proofs.Cutting.{follows_from, leaves_of, nothing_after, nothing_follows}
@@ -57,17 +60,17 @@ module _ (kinds : Family) (net : Network) where
   over_text Memory E M over = elim over [ ]
 
   -- the streams that are shown of a run that is over, from its digest
-  abbrev shown_of : List ℕ → Digest → List ℕ
-  shown_of show d = flat_map (λ c. tokens_line net (codes "stream ") (slice_index_or d.streams c []) c) show
+  abbrev shown_of : List ChannelText → Digest → List ℕ
+  shown_of show d = flat_map (λ c. tokens_line net (codes "stream ") (slice_index_or d.streams c.channel []) c) show
 
-  over_shown : (show : List ℕ) (cause : End) (E : List Entry) (M : State) → IsOver kinds net M cause → before_verdict net cause E show ≡ shown_of show (digest kinds net cause E M)
+  over_shown : (show : List ChannelText) (cause : End) (E : List Entry) (M : State) → IsOver kinds net M cause → before_verdict net cause E show ≡ shown_of show (digest kinds net cause E M)
   over_shown show Terminated E M over = refl
   over_shown show Deadlock E M over = refl
   over_shown show Ceiling E M over = refl
   over_shown show Budget E M over = elim over [ ]
   over_shown show Memory E M over = elim over [ ]
 
-  module _ (show outputs : List ℕ) (told : Told) (one : OneDigest kinds) where
+  module _ (show outputs : List ChannelText) (told : Told) (one : OneDigest kinds) where
     pub told_of_each : (cause b : End) (E F : List Entry) (M N : State) (verdict : Verdict) → IsFinal kinds net E M cause → IsFinal kinds net F N b
         → TellsOf kinds net show outputs told cause E M verdict → TellsOf kinds net show outputs told b F N verdict
     told_of_each cause b E F M N verdict e f tells =
@@ -77,7 +80,7 @@ module _ (kinds : Family) (net : Network) where
         let texts : report_text kinds net cause E M None ≡ report_text kinds net b F N None = over_text cause E M e.over ∙ ap text_of same ∙ sym (over_text b F N f.over) in
         let shown : before_verdict net cause E show ≡ before_verdict net b F show = over_shown show cause E M e.over ∙ ap (shown_of show) same ∙ sym (over_shown show b F N f.over) in
         let at : (c : ℕ) → stream net E c ≡ stream net F c = λ c. each_stream kinds net (start kinds net) E M e.run c ∙ ap (λ (ss : List (List Token)). get_or ss c []) streams ∙ sym (each_stream kinds net (start kinds net) F N f.run c) in
-        let outs : stream_text net E ≡ stream_text net F = fun_ext (λ c. ap (flat_map token_line) (at c)) in
+        let outs : stream_text net E ≡ stream_text net F = fun_ext (λ c. ap (flat_map (record_text (Lines c.decimals))) (at c.channel)) in
         record {
           judged = subst (λ (d : Digest). IsVerdict net d.places d.cause verdict) same tells.judged;
           status_is = tells.status_is;
@@ -86,30 +89,31 @@ module _ (kinds : Family) (net : Network) where
           report_is = tells.report_is ∙ ap (λ t. t ++ before_verdict net cause E show ++ verdict_line net (places_in kinds net M) verdict ++ tells.after) texts
               ∙ ap (λ t. report_text kinds net b F N None ++ t ++ verdict_line net (places_in kinds net M) verdict ++ tells.after) shown
               ∙ ap (λ (p : List Place). report_text kinds net b F N None ++ before_verdict net b F show ++ verdict_line net p verdict ++ tells.after) places;
-          outputs_are = tells.outputs_are ∙ ap (λ (o : ℕ → List ℕ). map o outputs) outs;
+          outputs_are = tells.outputs_are ∙ ap (λ (o : ChannelText → List ℕ). map o outputs) outs;
         }
 
 -- so is what is told of the run of a machine that has ended
 pub told_so :
-    (kinds : Family) (admits : Card → List ℕ → Option Token → Type 0) (s : MachineView) (cause : End) (places : List Place) (verdict : Verdict) (show outputs : List ℕ) (told : Told)
+    (kinds : Family) (admits : Card → List ℕ → Option Token → Type 0) (s : MachineView) (cause : End) (places : List Place) (verdict : Verdict) (show outputs : List ChannelText) (told : Told)
     → IsFaithful kinds admits s → TakesLeastRoom kinds s.network s.history s.state → ApproachLeastSolution kinds s.network s.history s.state → AllPrefixComparable kinds → OneDigest kinds
     → s.end ≡ Some cause → places ≡ each_process s.network (λ p. place_of s.network p (parked_answer (standing s.standings p)))
     → IsVerdict s.network places cause verdict → told.status ≡ status_of_verdict verdict
     → ((has_report cause ≡ true → places ≡ places_in kinds s.network s.state) → string_bytes told.report ≡ report_text kinds s.network cause s.history s.state None ++ before_verdict s.network cause s.history show ++ verdict_line s.network places verdict ++ after_verdict s.network cause s.history (left_at s.standings places) show)
-    → told.outputs.items ≡ map (stream_text s.network s.history) outputs → TellsRun kinds s.network show outputs told
-told_so kinds admits s cause places verdict show outputs told faithful room streams comparable one ended places_are judged status_is report outputs_are =
+    → told.outputs.items ≡ map (stream_text s.network s.history) outputs → AreNotes s.network cause s.history (left_at s.standings places) told.notes → TellsRun kinds s.network show outputs told
+told_so kinds admits s cause places verdict show outputs told faithful room streams comparable one ended places_are judged status_is report outputs_are notes =
     let net = s.network in
     let here = places_in kinds net s.state in
     let same : has_report cause ≡ true → places ≡ here = λ has. places_are ∙ at_rest kinds admits s cause faithful ended has in
     let both = judged_anyhow net places here cause verdict same judged in
     let left = left_at s.standings places in
+    let leaves = leaves_of kinds admits s places faithful places_are in
     let after = after_verdict net cause s.history left show in
     let justified = justified_by kinds admits s cause faithful ended in
     let tells : TellsOf kinds net show outputs told cause s.history s.state verdict = record {
       judged = both.0;
       status_is = status_is;
       after = after;
-      follows = follows_from kinds net show cause s.history s.state left (leaves_of kinds admits s places faithful places_are);
+      follows = follows_from kinds net show cause s.history s.state left leaves;
       report_is = report same ∙ ap (λ (l : List ℕ). report_text kinds net cause s.history s.state None ++ before_verdict net cause s.history show ++ l ++ after) both.1;
       outputs_are = outputs_are;
     } in
@@ -124,6 +128,9 @@ told_so kinds admits s cause places verdict show outputs told faithful room stre
       streams = streams;
       comparable = λ sizes F N run. comparable net sizes s.history F s.state N faithful.run run;
       tells = tells;
+      left = left;
+      leaves = leaves;
+      notes = notes;
       settled = λ has F N b final.
           told_of_each kinds net show outputs told one cause b s.history F s.state N verdict (record { run = faithful.run; over = over_of kinds net cause s.history s.state has justified }) final tells;
     }

@@ -13,7 +13,10 @@ use Rattle.kpn_model.specs.Semantics.{State, wants, IsEnabled}
 use Rattle.kpn_model.specs.History.{each_channel, place_of, stream}
 use Rattle.kpn_state.specs.declared.standing.Standing.{Standing}
 use Rattle.kpn_state.specs.Standings.{standing, is_busy}
-use Rattle.kpn_report.specs.Text.{place_text, token_part}
+use Rattle.kpn_report.specs.Text.{place_text}
+use Rattle.kpn_tokens.specs.declared.layouts.Decimals.{Decimals}
+use Rattle.kpn_tokens.specs.Numbers.{token_text}
+use Rattle.hox_run.specs.declared.shown.ChannelText.{ChannelText}
 
 -- a cut left each process so: no place is told of one that was ready, as each is that can go on, and else the place at which it
 -- waits, or that it has stopped
@@ -25,7 +28,15 @@ pub record Leaves (kinds : Family) (net : Network) (M : State) (left : ℕ → O
 abbrev pub left_at : List Standing → List Place → ℕ → Option Place
 left_at standings places p = if is_busy (standing standings p) then None else Some (slice_index_or places p Stopped)
 
+-- a token after a space
+abbrev pub token_part : Decimals → Token → List ℕ
+token_part decimals token = codes " " ++ token_text decimals token
+
 module _ (net : Network) where
+  -- the network has the channel
+  abbrev pub IsWithin : ChannelText → Type 0
+  IsWithin c = c.channel < length net.channels
+
   abbrev pub left_text : Option Place → List ℕ
   left_text None = codes "ready"
   left_text (Some place) = place_text net place
@@ -33,25 +44,25 @@ module _ (net : Network) where
   abbrev pub left_line : (ℕ → Option Place) → ℕ → List ℕ
   left_line left p = codes "process " ++ process_name net p ++ codes " " ++ left_text (left p) ++ codes "\n"
 
-  -- a line with these tokens of channel c, which begins with a word
-  abbrev pub tokens_line : List ℕ → List Token → ℕ → List ℕ
-  tokens_line word tokens c = word ++ channel_name net c ++ flat_map token_part tokens ++ codes "\n"
+  -- a line with these tokens of a channel, which begins with a word
+  abbrev pub tokens_line : List ℕ → List Token → ChannelText → List ℕ
+  tokens_line word tokens c = word ++ channel_name net c.channel ++ flat_map (token_part c.decimals) tokens ++ codes "\n"
 
   -- such a line for the stream of each of these channels
-  abbrev pub streams_text : List ℕ → List Entry → List ℕ → List ℕ
-  streams_text word E channels = flat_map (λ c. tokens_line word (slice_index_or (each_channel net (λ b. stream net E b)) c []) c) channels
+  abbrev pub streams_text : List ℕ → List Entry → List ChannelText → List ℕ
+  streams_text word E channels = flat_map (λ c. tokens_line word (slice_index_or (each_channel net (λ b. stream net E b)) c.channel []) c) channels
 
   -- the streams of the channels to show, of a run that has a report
-  abbrev pub before_verdict : End → List Entry → List ℕ → List ℕ
+  abbrev pub before_verdict : End → List Entry → List ChannelText → List ℕ
   before_verdict Budget E show = []
   before_verdict Memory E show = []
   before_verdict _ E show = streams_text (codes "stream ") E show
 
   -- how a cut left the processes, and the streams so far of the channels to show
-  abbrev pub cut_text : List Entry → (ℕ → Option Place) → List ℕ → List ℕ
+  abbrev pub cut_text : List Entry → (ℕ → Option Place) → List ChannelText → List ℕ
   cut_text E left show = lines_upto (left_line left) (length net.processes) ++ streams_text (codes "prefix ") E show
 
   -- the text that follows the verdict
-  abbrev pub after_verdict : End → List Entry → (ℕ → Option Place) → List ℕ → List ℕ
+  abbrev pub after_verdict : End → List Entry → (ℕ → Option Place) → List ChannelText → List ℕ
   after_verdict Budget E left show = cut_text E left show
   after_verdict _ E left show = []

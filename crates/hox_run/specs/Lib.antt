@@ -1,3 +1,4 @@
 pub mod Cuts
+pub mod Notes
 pub mod Telling
 pub mod Serving

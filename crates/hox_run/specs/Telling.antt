@@ -18,11 +18,14 @@ use Rattle.kpn_laws.specs.StreamsOfRun.{ApproachLeastSolution}
 use Rattle.kpn_run.specs.Runs.{IsComparable}
 use Rattle.kpn_report.specs.Text.{report_text}
 use Rattle.kpn_verdict.specs.VerdictText.{verdict_line}
-use Rattle.kpn_tokens.specs.TokenLines.{token_line}
+use Rattle.kpn_tokens.specs.declared.layouts.Layout.TheVariants.{Lines}
+use Rattle.kpn_tokens.specs.Records.{record_text}
 use Rattle.kpn_front.specs.declared.status.Status.{Status}
 use Rattle.kpn_front.specs.declared.status.Status.TheVariants.{Success, BudgetSpent, MemoryRefused, Deadlocked, AtCeiling}
+use Rattle.hox_run.specs.declared.shown.ChannelText.{ChannelText}
 use Rattle.hox_run.specs.declared.telling.Told.{Told}
 use Rattle.hox_run.specs.Cuts.{Leaves, before_verdict, cut_text}
+use Rattle.hox_run.specs.Notes.{AreNotes}
 
 -- the exit status of a run with this verdict
 abbrev pub status_of_verdict : Verdict → Status
@@ -33,9 +36,9 @@ status_of_verdict Cut = BudgetSpent
 status_of_verdict Full = AtCeiling
 status_of_verdict Memory = MemoryRefused
 
--- what went through channel c, its start tokens first, one token a line
-abbrev pub stream_text : Network → List Entry → ℕ → List ℕ
-stream_text net E c = flat_map token_line (stream net E c)
+-- what went through a channel, its start tokens first, one token a line
+abbrev pub stream_text : Network → List Entry → ChannelText → List ℕ
+stream_text net E c = flat_map (record_text (Lines c.decimals)) (stream net E c.channel)
 
 module _ (kinds : Family) (net : Network) where
   -- where the run to M left each process
@@ -43,11 +46,11 @@ module _ (kinds : Family) (net : Network) where
   places_in M = each_process net (λ p. place_of net p (wants kinds net M p))
 
   -- this follows the verdict: of a run that was cut, how it left each process, and the streams so far of the channels to show
-  abbrev pub Follows : List ℕ → End → List Entry → State → List ℕ → Type 0
+  abbrev pub Follows : List ChannelText → End → List Entry → State → List ℕ → Type 0
   Follows show Budget E M text = (left : ℕ → Option Place) × Leaves kinds net M left × (text ≡ cut_text net E left show)
   Follows show cause E M text = text ≡ []
 
-  module _ (show outputs : List ℕ) (told : Told) where
+  module _ (show outputs : List ChannelText) (told : Told) where
     -- it is told of the run E to M, which ended for this cause, with this verdict on it
     pub record TellsOf (cause : End) (E : List Entry) (M : State) (verdict : Verdict) : Type 0 where
       pub judged : IsVerdict net (places_in M) cause verdict
@@ -59,7 +62,8 @@ module _ (kinds : Family) (net : Network) where
 
     -- a run from the start ended for a cause that justifies its end; it took no more room than the network needs, its streams
     -- approach the least solution of the network's equations, and they and those of any other run are prefix-comparable; it is told
-    -- of this run, and if it came to its own end, the same is told of each run that is over, whatever the schedule
+    -- of this run, and if it came to its own end, the same is told of each run that is over, whatever the schedule; and what it left
+    -- unused is noted
     pub record TellsRun : Type 0 where
       pub history : List Entry
       pub state : State
@@ -71,4 +75,7 @@ module _ (kinds : Family) (net : Network) where
       pub streams : ApproachLeastSolution kinds net history state
       pub comparable : IsComparable kinds net history
       pub tells : TellsOf cause history state verdict
+      pub left : ℕ → Option Place
+      pub leaves : Leaves kinds net state left
+      pub notes : AreNotes net cause history left told.notes
       pub settled : has_report cause ≡ true → (F : List Entry) (N : State) (b : End) → IsFinal kinds net F N b → TellsOf b F N verdict

@@ -3,7 +3,7 @@ ghost use Rattle.std.specs.Prelude.{◌≡◌, ◌++◌, ◌<◌, OnOk, length, 
 ghost use Rattle.kpn_model.specs.NamesAndLines.{lines_upto};
 ghost use Rattle.hox_run.specs.Cuts.{after_verdict, left_at, left_line, left_text};
 
-use crate::shown::{channel_name, push_streams};
+use crate::shown::{ChannelText, channel_name, push_streams};
 use kpn_model::{End, Entry, Kinds, Place};
 use kpn_network::Net;
 use kpn_state::Standing;
@@ -23,7 +23,7 @@ pub(crate) fn push_after_verdict<K: Kinds>(
     standings: &[Standing],
     places: &[Place],
     end: End,
-    show: &[usize],
+    show: &[ChannelText],
 ) -> Result<(), AllocError>
     ensures { OnOk result (string_bytes out.new ≡ string_bytes out.old ++ after_verdict net.now end history.now (left_at standings.now places.now) show.now) }
 {
@@ -52,7 +52,7 @@ fn push_left<K: Kinds>(
 }
 
 /// What is known of a process: its place, unless it was ready.
-fn left_at(standings: &[Standing], places: &[Place], process: usize) -> Option<Place>
+pub(crate) fn left_at(standings: &[Standing], places: &[Place], process: usize) -> Option<Place>
     ensures { result ≡ left_at standings.now places.now process }
 {
     match standings.get(process) {

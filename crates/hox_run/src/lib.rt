@@ -3,13 +3,16 @@
 #![tactic(auto)]
 
 mod cut;
+mod notes;
 mod progress;
 mod running;
 mod serving;
 mod shown;
 mod telling;
 
+pub use notes::{Notes, SourceNote};
 pub use progress::{Progress, Silent, SoFar};
 pub use running::execute;
 pub use serving::serve;
+pub use shown::ChannelText;
 pub use telling::Told;

@@ -1,6 +1,7 @@
 //! Telling how far a run has come.
 ghost use Rattle.std.specs.Prelude.{◌≡◌, Some, length};
 ghost use Rattle.std.specs.List.{count_by};
+ghost use Rattle.kpn_model.specs.History.{growths};
 ghost use Rattle.kpn_state.specs.Standings.{is_ready};
 
 use kpn_body::Body;
@@ -67,18 +68,25 @@ pub(crate) fn tell_of<B: Body, P: Progress>(machine: &Machine<B>, progress: &P) 
 /// How far a machine has come.
 fn so_far<B: Body>(machine: &Machine<B>) -> SoFar
     ensures entries { result.entries ≡ length machine.now.history }
+    ensures growths { result.growths ≡ length (growths machine.now.history) }
     ensures ready { result.ready ≡ Some (count_by is_ready machine.now.standings) }
 {
     let history = machine.history();
-    let growths = history
-        .iter()
-        .filter(|entry| matches!(**entry, Entry::Grew { .. }))
-        .count();
     SoFar {
         entries: history.len() as u64,
-        growths: growths as u64,
+        growths: count_growths(history) as u64,
         ready: Some(machine.ready()),
     }
+}
+
+/// How many entries of a history are growths.
+fn count_growths(history: &[Entry]) -> usize
+    ensures { result ≡ length (growths history.now) }
+{
+    history
+        .iter()
+        .filter(|entry| matches!(**entry, Entry::Grew { .. }))
+        .count()
 }
 
 /// Looks at the board of a run by several workers, and never wishes to stop.

@@ -4,9 +4,11 @@ ghost use Rattle.std.specs.List.{All};
 ghost use Rattle.kpn_model.specs.Network.{family_of};
 ghost use Rattle.kpn_state.specs.declared.standing.Standing.TheVariants.{Out};
 ghost use Rattle.kpn_state.specs.Standings.{standing};
+ghost use Rattle.hox_run.specs.Cuts.{IsWithin};
 ghost use Rattle.hox_run.specs.Telling.{TellsRun};
 
 use crate::progress::{OnBoard, Progress, tell_of};
+use crate::shown::ChannelText;
 use crate::telling::{Told, told_of};
 use hox_network::RunFault;
 use kpn_body::Body;
@@ -42,12 +44,12 @@ pub fn execute<K: Computes, R: Wait + Clock + Threads + Sync, P: Progress>(
     alloc: Global,
     net: Net<K>,
     workers: usize,
-    show: &[usize],
-    outputs: &[usize],
+    show: &[ChannelText],
+    outputs: &[ChannelText],
     progress: &P,
 ) -> Result<Told, RunFault>
     requires workers { (1 ≤ workers) × (workers ≤ 16) }
-    requires within { All (λ c. c < length net.channels) outputs.now }
+    requires within { All (IsWithin net) outputs.now }
     ensures told { IfOk result (TellsRun (family_of K.start K.answer_of) net show.now outputs.now) }
     ensures lost { result ≡ Err RunFault.Lost → 1 < workers }
 {
@@ -68,11 +70,11 @@ fn execute_alone<K: Computes, P: Progress>(
     alloc: Global,
     net: Net<K>,
     bodies: Vec<CardBody<K>>,
-    show: &[usize],
-    outputs: &[usize],
+    show: &[ChannelText],
+    outputs: &[ChannelText],
     progress: &P,
 ) -> Result<Told, AllocError>
-    requires within { All (λ c. c < length net.channels) outputs.now }
+    requires within { All (IsWithin net) outputs.now }
     ensures { IfOk result (TellsRun (family_of K.start K.answer_of) net show.now outputs.now) }
 {
     let Ok(mut machine) = Machine::open(alloc, net, bodies) else {
@@ -114,12 +116,12 @@ fn execute_by_workers<K: Computes, R: Wait + Clock + Threads + Sync>(
     net: Net<K>,
     bodies: Vec<CardBody<K>>,
     workers: usize,
-    show: &[usize],
-    outputs: &[usize],
+    show: &[ChannelText],
+    outputs: &[ChannelText],
 ) -> Result<Told, RunFault>
     requires cards { map ⟦<CardBody<K> as Body>⟧.card bodies.items ≡ map (λ p. p.card) net.processes }
     requires workers { (1 < workers) × (workers ≤ 16) }
-    requires within { All (λ c. c < length net.channels) outputs.now }
+    requires within { All (IsWithin net) outputs.now }
     ensures { IfOk result (TellsRun (family_of K.start K.answer_of) net show.now outputs.now) }
 {
     match run(rt, alloc, net, bodies, workers, &Prompt) {
@@ -140,13 +142,13 @@ fn execute_watched<K: Computes, R: Wait + Clock + Threads + Sync, P: Progress>(
     net: Net<K>,
     bodies: Vec<CardBody<K>>,
     workers: usize,
-    show: &[usize],
-    outputs: &[usize],
+    show: &[ChannelText],
+    outputs: &[ChannelText],
     progress: &P,
 ) -> Result<Told, RunFault>
     requires cards { map ⟦<CardBody<K> as Body>⟧.card bodies.items ≡ map (λ p. p.card) net.processes }
     requires workers { (1 < workers) × (workers ≤ 16) }
-    requires within { All (λ c. c < length net.channels) outputs.now }
+    requires within { All (IsWithin net) outputs.now }
     ensures { IfOk result (TellsRun (family_of K.start K.answer_of) net show.now outputs.now) }
 {
     let observer = OnBoard { progress };
@@ -166,10 +168,10 @@ fn execute_watched<K: Computes, R: Wait + Clock + Threads + Sync, P: Progress>(
 fn told_of_watched<K: Computes>(
     alloc: Global,
     ran: &WatchedRun<K>,
-    show: &[usize],
-    outputs: &[usize],
+    show: &[ChannelText],
+    outputs: &[ChannelText],
 ) -> Result<Told, RunFault>
-    requires within { All (λ c. c < length ran.now.machine.network.channels) outputs.now }
+    requires within { All (IsWithin ran.now.machine.network) outputs.now }
     ensures { IfOk result (TellsRun (family_of K.start K.answer_of) ran.now.machine.network show.now outputs.now) }
 {
     if ran.end().is_none() {

@@ -1,15 +1,17 @@
 //! Running a described network as it is asked for, from bytes to bytes.
-ghost use Rattle.std.specs.Prelude.{◌≡◌, ◌<◌, ◌+◌, ◌⊎◌, ℕ, IfOk, IfErr, IfSome, MatchResult, length};
+ghost use Rattle.std.specs.Prelude.{◌≡◌, ◌<◌, ◌+◌, ◌⊎◌, ℕ, IfOk, IfErr, IfNone, IfSome, MatchResult, None, length};
 ghost use Rattle.std.specs.List.{All};
-ghost use Rattle.kpn_model.specs.Network.{family_of, Network as NetworkV};
+ghost use Rattle.kpn_model.specs.Network.{family_of, number_of_channel, Network as NetworkV};
 ghost use Rattle.kpn_front.specs.Loading.{ConsumesAtMost, longest};
 ghost use Rattle.hox_network.specs.Preparing.{HasFewWorkers, LacksChannel, Prepares, Serves, channel_names};
-ghost use Rattle.hox_run.specs.Serving.{AreNamed, GivesRun};
+ghost use Rattle.hox_run.specs.Cuts.{IsWithin};
+ghost use Rattle.hox_run.specs.Serving.{AreNamed, GivesRun, IsNamed, names_of};
 
 use crate::progress::Progress;
 use crate::running::execute;
+use crate::shown::ChannelText;
 use crate::telling::Told;
-use hox_network::{Fault, Request, RunFault, channel_names, prepare};
+use hox_network::{Fault, Request, RunFault, StreamText, channel_names, prepare};
 use kpn_compute::Computes;
 use kpn_front::Source;
 use kpn_model::{Kinds, Listed, Text};
@@ -71,11 +73,15 @@ fn serve_prepared<K: Computes, R: Wait + Clock + Threads + Sync, P: Progress>(
 }
 
 /// The channels to show.
-fn shown_in<K: Kinds>(alloc: Global, net: &Net<K>, names: &[Text]) -> Result<Vec<usize>, Fault>
-    ensures named { IfOk result (λ v. AreNamed net.now names.now v.items) }
-    ensures fault { IfErr result (λ e. (e ≡ Fault.Memory) ⊎ ((k : ℕ) × (e ≡ Fault.NoShown k (channel_names net.now)) × LacksChannel net.now names.now k)) }
+fn shown_in<K: Kinds>(
+    alloc: Global,
+    net: &Net<K>,
+    texts: &[StreamText],
+) -> Result<Vec<ChannelText>, Fault>
+    ensures named { IfOk result (λ v. AreNamed net.now texts.now v.items) }
+    ensures fault { IfErr result (λ e. (e ≡ Fault.Memory) ⊎ ((k : ℕ) × (e ≡ Fault.NoShown k (channel_names net.now)) × LacksChannel net.now (names_of texts.now) k)) }
 {
-    match channels_in(alloc, net, names) {
+    match channels_in(alloc, net, texts) {
         Ok(shown) => Ok(shown),
         Err(Missing::Channel(k)) => Err(Fault::NoShown(k, names_in(alloc, net)?)),
         Err(Missing::Memory) => Err(Fault::Memory),
@@ -83,12 +89,16 @@ fn shown_in<K: Kinds>(alloc: Global, net: &Net<K>, names: &[Text]) -> Result<Vec
 }
 
 /// The channels whose streams are wanted as texts of their own.
-fn outputs_in<K: Kinds>(alloc: Global, net: &Net<K>, names: &[Text]) -> Result<Vec<usize>, Fault>
-    ensures named { IfOk result (λ v. AreNamed net.now names.now v.items) }
-    ensures within { IfOk result (λ v. All (λ c. c < length net.now.channels) v.items) }
-    ensures fault { IfErr result (λ e. (e ≡ Fault.Memory) ⊎ ((k : ℕ) × (e ≡ Fault.NoOutput k (channel_names net.now)) × LacksChannel net.now names.now k)) }
+fn outputs_in<K: Kinds>(
+    alloc: Global,
+    net: &Net<K>,
+    texts: &[StreamText],
+) -> Result<Vec<ChannelText>, Fault>
+    ensures named { IfOk result (λ v. AreNamed net.now texts.now v.items) }
+    ensures within { IfOk result (λ v. All (IsWithin net.now) v.items) }
+    ensures fault { IfErr result (λ e. (e ≡ Fault.Memory) ⊎ ((k : ℕ) × (e ≡ Fault.NoOutput k (channel_names net.now)) × LacksChannel net.now (names_of texts.now) k)) }
 {
-    match channels_in(alloc, net, names) {
+    match channels_in(alloc, net, texts) {
         Ok(outputs) => Ok(outputs),
         Err(Missing::Channel(k)) => Err(Fault::NoOutput(k, names_in(alloc, net)?)),
         Err(Missing::Memory) => Err(Fault::Memory),
@@ -103,14 +113,18 @@ enum Missing {
 }
 
 /// The channels of these names.
-fn channels_in<K: Kinds>(alloc: Global, net: &Net<K>, names: &[Text]) -> Result<Vec<usize>, Missing>
-    ensures named { IfOk result (λ v. AreNamed net.now names.now v.items) }
-    ensures within { IfOk result (λ v. All (λ c. c < length net.now.channels) v.items) }
-    ensures missing { IfErr result (λ e. (e ≡ Missing.Memory) ⊎ ((k : ℕ) × (e ≡ Missing.Channel k) × LacksChannel net.now names.now k)) }
+fn channels_in<K: Kinds>(
+    alloc: Global,
+    net: &Net<K>,
+    texts: &[StreamText],
+) -> Result<Vec<ChannelText>, Missing>
+    ensures named { IfOk result (λ v. AreNamed net.now texts.now v.items) }
+    ensures within { IfOk result (λ v. All (IsWithin net.now) v.items) }
+    ensures missing { IfErr result (λ e. (e ≡ Missing.Memory) ⊎ ((k : ℕ) × (e ≡ Missing.Channel k) × LacksChannel net.now (names_of texts.now) k)) }
 {
     let mut channels = Vec::new(alloc);
-    for k in 0..names.len() {
-        let Some(channel) = net.find_channel(names[k].as_str()) else {
+    for k in 0..texts.len() {
+        let Some(channel) = channel_of(net, &texts[k]) else {
             return Err(Missing::Channel(k));
         };
         if channels.push(channel).is_err() {
@@ -118,6 +132,19 @@ fn channels_in<K: Kinds>(alloc: Global, net: &Net<K>, names: &[Text]) -> Result<
         }
     }
     Ok(channels)
+}
+
+/// The channel of a name, with how its words are written.
+fn channel_of<K: Kinds>(net: &Net<K>, text: &StreamText) -> Option<ChannelText>
+    ensures named { IfSome result (IsNamed net.now text.now) }
+    ensures within { IfSome result (IsWithin net.now) }
+    ensures none { IfNone result (number_of_channel net.now text.now.channel ≡ None) }
+{
+    let channel = net.find_channel(text.channel.as_str())?;
+    Some(ChannelText {
+        channel,
+        decimals: text.decimals,
+    })
 }
 
 /// The names of a network's channels, for a fault.

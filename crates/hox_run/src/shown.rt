@@ -3,14 +3,21 @@ ghost use Rattle.std.specs.Prelude.{◌≡◌, ◌++◌, [], OnOk, slice_index_o
 ghost use Rattle.std.specs.List.{flat_map};
 ghost use Rattle.kpn_model.specs.History.{each_channel, stream};
 ghost use Rattle.kpn_model.specs.NamesAndLines.{channel_name};
-ghost use Rattle.kpn_report.specs.Text.{token_part};
-ghost use Rattle.hox_run.specs.Cuts.{before_verdict, streams_text, tokens_line};
+ghost use Rattle.hox_run.specs.Cuts.{before_verdict, streams_text, token_part, tokens_line};
 
 use kpn_model::{End, Entry, Kinds, Token};
 use kpn_network::Net;
 use kpn_report::stream_of;
+use kpn_tokens::{Decimals, append_token};
 use std::alloc::{AllocError, Global};
-use std::fmt::Write;
+use std::str;
+
+/// A channel whose stream is written as text, and how its words are written.
+#[derive(Clone, Copy, Debug, PartialEq, Eq)]
+pub struct ChannelText {
+    pub channel: usize,
+    pub decimals: Decimals,
+}
 
 /// Appends, of a run with this end that has a report, a line `stream` for each channel of `show`.
 ///
@@ -21,7 +28,7 @@ pub(crate) fn push_before_verdict<K: Kinds>(
     net: &Net<K>,
     history: &[Entry],
     end: End,
-    show: &[usize],
+    show: &[ChannelText],
 ) -> Result<(), AllocError>
     ensures { OnOk result (string_bytes out.new ≡ string_bytes out.old ++ before_verdict net.now end history.now show.now) }
 {
@@ -41,7 +48,7 @@ pub(crate) fn push_streams<K: Kinds>(
     out: &mut String,
     net: &Net<K>,
     history: &[Entry],
-    channels: &[usize],
+    channels: &[ChannelText],
     word: &str,
 ) -> Result<(), AllocError>
     ensures { OnOk result (string_bytes out.new ≡ string_bytes out.old ++ streams_text net.now word.now history.now channels.now) }
@@ -58,48 +65,63 @@ fn push_stream<K: Kinds>(
     out: &mut String,
     net: &Net<K>,
     history: &[Entry],
-    channel: usize,
+    channel: ChannelText,
     word: &str,
 ) -> Result<(), AllocError>
-    ensures { OnOk result (string_bytes out.new ≡ string_bytes out.old ++ tokens_line net.now word.now (slice_index_or (each_channel net.now (λ b. stream net.now history.now b)) channel []) channel) }
+    ensures { OnOk result (string_bytes out.new ≡ string_bytes out.old ++ tokens_line net.now word.now (slice_index_or (each_channel net.now (λ b. stream net.now history.now b)) channel.channel []) channel) }
 {
-    let tokens = stream_of(alloc, net, history, channel)?;
-    push_line(out, net, tokens.as_slice(), channel, word)
+    let tokens = stream_of(alloc, net, history, channel.channel)?;
+    push_line(alloc, out, net, tokens.as_slice(), channel, word)
 }
 
 /// Appends a line with these tokens of a channel.
 fn push_line<K: Kinds>(
+    alloc: Global,
     out: &mut String,
     net: &Net<K>,
     tokens: &[Token],
-    channel: usize,
+    channel: ChannelText,
     word: &str,
 ) -> Result<(), AllocError>
     ensures { OnOk result (string_bytes out.new ≡ string_bytes out.old ++ tokens_line net.now word.now tokens.now channel) }
 {
     out.push_str(word)?;
-    out.push_str(channel_name(net, channel))?;
-    push_tokens(out, tokens)?;
+    out.push_str(channel_name(net, channel.channel))?;
+    push_tokens(alloc, out, channel.decimals, tokens)?;
     out.push_str("\n")
 }
 
 /// Appends some tokens, each after a space.
-fn push_tokens(out: &mut String, tokens: &[Token]) -> Result<(), AllocError>
-    ensures { OnOk result (string_bytes out.new ≡ string_bytes out.old ++ flat_map token_part tokens.now) }
+fn push_tokens(
+    alloc: Global,
+    out: &mut String,
+    decimals: Decimals,
+    tokens: &[Token],
+) -> Result<(), AllocError>
+    ensures { OnOk result (string_bytes out.new ≡ string_bytes out.old ++ flat_map (token_part decimals) tokens.now) }
 {
+    let mut bytes = Vec::new(alloc);
     for token in tokens {
-        push_token(out, *token)?;
+        append_part(&mut bytes, decimals, *token)?;
     }
-    Ok(())
+    push_bytes(out, bytes.as_slice())
 }
 
 /// Appends a space and a token.
-fn push_token(out: &mut String, token: Token) -> Result<(), AllocError>
-    ensures { OnOk result (string_bytes out.new ≡ string_bytes out.old ++ token_part token) }
+fn append_part(out: &mut Vec<u8>, decimals: Decimals, token: Token) -> Result<(), AllocError>
+    ensures { OnOk result (out.new.items ≡ out.old.items ++ token_part decimals token) }
 {
-    match token {
-        Token::Word(word) => write!(out, " {word}"),
-        Token::Flag(flag) => write!(out, " {flag}"),
+    out.extend_from_slice(b" ")?;
+    append_token(out, decimals, token)
+}
+
+/// Appends bytes that are UTF-8, as those of tokens are.
+fn push_bytes(out: &mut String, bytes: &[u8]) -> Result<(), AllocError>
+    ensures { OnOk result (string_bytes out.new ≡ string_bytes out.old ++ bytes.now) }
+{
+    match str::from_utf8(bytes) {
+        Ok(text) => out.push_str(text),
+        Err(_) => Err(AllocError),
     }
 }
 

@@ -7,31 +7,33 @@ ghost use Rattle.kpn_model.specs.Endings.{has_report};
 ghost use Rattle.kpn_model.specs.Verdicts.{IsVerdict};
 ghost use Rattle.kpn_report.specs.Text.{report_text};
 ghost use Rattle.kpn_verdict.specs.VerdictText.{verdict_line};
-ghost use Rattle.kpn_tokens.specs.TokenLines.{token_line};
-ghost use Rattle.hox_run.specs.Cuts.{after_verdict, before_verdict, left_at};
+ghost use Rattle.kpn_tokens.specs.Records.{record_text};
+ghost use Rattle.hox_run.specs.Cuts.{IsWithin, after_verdict, before_verdict, left_at};
 ghost use Rattle.hox_run.specs.Telling.{TellsRun, places_in, status_of_verdict, stream_text};
 
 use crate::cut::push_after_verdict;
-use crate::shown::push_before_verdict;
+use crate::notes::{Notes, notes_of};
+use crate::shown::{ChannelText, push_before_verdict};
 use kpn_front::Status;
 use kpn_laws::{determinacy_of, least_room_of, least_solution_of};
 use kpn_machine::Chronicle;
-use kpn_model::{End, Entry, Kinds, Place, Text, Token, Verdict};
+use kpn_model::{End, Entry, Kinds, Listed, Place, Token, Verdict};
 use kpn_network::Net;
 use kpn_report::{places_of, stream_of, text_of};
 use kpn_state::Standing;
-use kpn_tokens::tokens_text;
+use kpn_tokens::{Decimals, Layout, append_tokens};
 use kpn_verdict::{verdict_of, verdict_text};
 use std::alloc::{AllocError, Global};
 
 /// What is told of a run: the exit status, the report with the line of the verdict, and for each channel
-/// that was asked for its stream, one token a line. The report on a run that was cut says too where it left each
-/// process, and what went so far through the channels to show.
+/// that was asked for its stream, one token a line; and what the run left unused. The report on a run that was cut
+/// says too where it left each process, and what went so far through the channels to show.
 #[derive(Drop)]
 pub struct Told {
     pub status: Status,
     pub report: String,
-    pub outputs: Vec<Text>,
+    pub outputs: Vec<Listed<u8>>,
+    pub notes: Notes,
 }
 
 /// A verdict, and the report with its line.
@@ -47,11 +49,11 @@ struct Judged {
 pub(crate) fn told_of<K: Kinds>(
     alloc: Global,
     chronicle: &Chronicle<K>,
-    show: &[usize],
-    outputs: &[usize],
+    show: &[ChannelText],
+    outputs: &[ChannelText],
 ) -> Result<Told, AllocError>
     requires ended { IsSome chronicle.now.end }
-    requires within { All (λ c. c < length chronicle.now.network.channels) outputs.now }
+    requires within { All (IsWithin chronicle.now.network) outputs.now }
     ensures { IfOk result (TellsRun (family_of K.start K.answer_of) chronicle.now.network show.now outputs.now) }
 {
     let Some(end) = chronicle.end() else {
@@ -69,6 +71,7 @@ pub(crate) fn told_of<K: Kinds>(
         status: status_of(judged.verdict),
         report: judged.report,
         outputs: outputs_of(alloc, net, history, outputs)?,
+        notes: notes_of(alloc, net, history, standings, places.as_slice(), end)?,
     })
 }
 
@@ -80,7 +83,7 @@ fn judge<K: Kinds>(
     standings: &[Standing],
     places: &[Place],
     end: End,
-    show: &[usize],
+    show: &[ChannelText],
 ) -> Result<Judged, AllocError>
     ensures verdict { IfOk result (λ judged. IsVerdict net.now places.now end judged.verdict) }
     ensures report { IfOk result (λ judged. (kinds : Family) (M : State) → (has_report end ≡ true → places.now ≡ places_in kinds net.now M) → string_bytes judged.report ≡ report_text kinds net.now end history.now M None ++ before_verdict net.now end history.now show.now ++ verdict_line net.now places.now judged.verdict ++ after_verdict net.now end history.now (left_at standings.now places.now) show.now) }
@@ -110,7 +113,7 @@ fn push_judged<K: Kinds>(
     standings: &[Standing],
     places: &[Place],
     end: End,
-    show: &[usize],
+    show: &[ChannelText],
     verdict: Verdict,
 ) -> Result<(), AllocError>
     ensures { OnOk result (string_bytes out.new ≡ string_bytes out.old ++ before_verdict net.now end history.now show.now ++ verdict_line net.now places.now verdict ++ after_verdict net.now end history.now (left_at standings.now places.now) show.now) }
@@ -139,9 +142,9 @@ fn outputs_of<K: Kinds>(
     alloc: Global,
     net: &Net<K>,
     history: &[Entry],
-    channels: &[usize],
-) -> Result<Vec<Text>, AllocError>
-    requires { All (λ c. c < length net.now.channels) channels.now }
+    channels: &[ChannelText],
+) -> Result<Vec<Listed<u8>>, AllocError>
+    requires { All (IsWithin net.now) channels.now }
     ensures { IfOk result (λ v. v.items ≡ map (stream_text net.now history.now) channels.now) }
 {
     let mut outputs = Vec::with_capacity(alloc, channels.len())?;
@@ -156,20 +159,24 @@ fn output_of<K: Kinds>(
     alloc: Global,
     net: &Net<K>,
     history: &[Entry],
-    channel: usize,
-) -> Result<Text, AllocError>
-    requires { channel < length net.now.channels }
+    channel: ChannelText,
+) -> Result<Listed<u8>, AllocError>
+    requires { IsWithin net.now channel }
     ensures { IfOk result (λ text. text ≡ stream_text net.now history.now channel) }
 {
-    let tokens = stream_of(alloc, net, history, channel)?;
-    lines_of(alloc, tokens.as_slice())
+    let tokens = stream_of(alloc, net, history, channel.channel)?;
+    lines_of(alloc, channel.decimals, tokens.as_slice())
 }
 
-/// Tokens as a text, one a line.
-fn lines_of(alloc: Global, tokens: &[Token]) -> Result<Text, AllocError>
-    ensures { IfOk result (λ text. text ≡ flat_map token_line tokens.now) }
+/// Tokens as a text, one a line. Each fits, so that it fails for want of memory alone.
+fn lines_of(alloc: Global, decimals: Decimals, tokens: &[Token]) -> Result<Listed<u8>, AllocError>
+    ensures { IfOk result (λ text. text ≡ flat_map (record_text (Layout.Lines decimals)) tokens.now) }
 {
-    Ok(Text::new(tokens_text(alloc, tokens)?))
+    let mut lines = Vec::new(alloc);
+    match append_tokens(&mut lines, Layout::Lines(decimals), tokens) {
+        Ok(_) => Ok(Listed::new(lines)),
+        Err(_) => Err(AllocError),
+    }
 }
 
 /// The exit status of a run with this verdict.

@@ -5,7 +5,7 @@ use Rattle.std.proofs.lemmas.List.{get_or-set_same, get_or-set_other}
 use Rattle.kpn_model.specs.Network.{Family}
 use Rattle.kpn_flow.specs.Flows.{FlowView}
 use Rattle.hox_stream.specs.Ports.{Writes}
-use Rattle.hox_stream.specs.Streams.{AllFailedStay, AreWritten, Streams, outlet_at}
+use Rattle.hox_stream.specs.Streams.{AllFaultsStay, AreWritten, FaultsStay, Streams, outlet_at}
 use Rattle.hox_stream.specs.Views.{InletView, OutletView, no_outlet}
 use Rattle.hox_stream.proofs.Streamed.{streams_both, streams_flushed, streams_none}
 
@@ -16,16 +16,19 @@ IsFailedAt outs k = (k < length outs) × ((outlet_at outs k).has_failed ≡ true
 pub record Flushes (outs after : List OutletView) (n : ℕ) (failed : Option ℕ) : Type 0 where
   pub streams : (kinds : Family) (s : FlowView) (ins : List InletView) → Streams kinds s s ins ins outs after
   pub written : (k : ℕ) → k < n → (outlet_at after k).has_failed ≡ false → (outlet_at after k).waiting ≡ []
-  pub still : AllFailedStay outs after
+  pub still : AllFaultsStay outs after
   pub failed_at : IfSome failed (IsFailedAt after)
 
 pub flushes_none : (outs : List OutletView) → Flushes outs outs 0 None
 flushes_none outs = record {
   streams = λ kinds s ins. streams_none kinds s s ins outs refl;
   written = λ k h. absurd (omega (arith, h));
-  still = (refl, λ k e. e);
+  still = (refl, λ k. record { failed = λ e. e; misfit = refl });
   failed_at = tt;
 }
+
+both_stay : {p q r : OutletView} → FaultsStay p q → FaultsStay q r → FaultsStay p r
+both_stay x y = record { failed = λ e. y.failed (x.failed e); misfit = y.misfit ∙ x.misfit }
 
 -- what holds of the sink that was put there, and of the others, holds of each
 at_set : (P : OutletView → Type 0) (outs : List OutletView) (n k : ℕ) (q : OutletView) → n < length outs → (k ≡ n → P q) → ((k ≡ n → ⊥) → P (outlet_at outs k)) → P (outlet_at (set outs n q) k)
@@ -34,21 +37,21 @@ at_set P outs n k q within here there = ⊎_elim
     (λ ne. subst P (sym (get_or-set_other outs n k q no_outlet ne)) (there ne))
     (cases_eq k n)
 
-module _ (outs after : List OutletView) (n : ℕ) (p q : OutletView) (within : n < length after) (at : p ≡ outlet_at after n) (writes : Writes p q []) (written : q.has_failed ≡ false → q.waiting ≡ []) (still : p.has_failed ≡ true → q.has_failed ≡ true) where
-  failed_stays : (k : ℕ) → (outlet_at after k).has_failed ≡ true → (outlet_at (set after n q) k).has_failed ≡ true
-  failed_stays k h = at_set (λ o. o.has_failed ≡ true) after n k q within
-      (λ e. still (ap (λ (o : OutletView). o.has_failed) at ∙ ap (λ i. (outlet_at after i).has_failed) (sym e) ∙ h))
-      (λ ne. h)
+module _ (outs after : List OutletView) (n : ℕ) (p q : OutletView) (within : n < length after) (at : p ≡ outlet_at after n) (writes : Writes p q []) (written : q.has_failed ≡ false → q.waiting ≡ []) (still : FaultsStay p q) where
+  faults_stay : (k : ℕ) → FaultsStay (outlet_at after k) (outlet_at (set after n q) k)
+  faults_stay k = at_set (λ o. FaultsStay (outlet_at after k) o) after n k q within
+      (λ e. subst (λ (o : OutletView). FaultsStay o q) (at ∙ ap (λ i. outlet_at after i) (sym e)) still)
+      (λ ne. record { failed = λ e. e; misfit = refl })
 
   failed_there : (failed : Option ℕ) → IfSome failed (IsFailedAt after) → IfSome failed (IsFailedAt (set after n q))
   failed_there None h = tt
-  failed_there (Some k) h = (subst (λ m. k < m) (sym (length-set after n q)) h.0, failed_stays k h.1)
+  failed_there (Some k) h = (subst (λ m. k < m) (sym (length-set after n q)) h.0, (faults_stay k).failed h.1)
 
   flushes_more : (before failed : Option ℕ) → Flushes outs after n before → IfSome failed (IsFailedAt (set after n q)) → Flushes outs (set after n q) (n + 1) failed
   flushes_more before failed x there = record {
     streams = λ kinds s ins. streams_both kinds s s s ins ins ins outs after (set after n q) (x.streams kinds s ins) (streams_flushed kinds s ins after n p q within at writes);
     written = λ k h. at_set (λ o. o.has_failed ≡ false → o.waiting ≡ []) after n k q within (λ e. written) (λ ne. x.written k (omega (arith, h, ne)));
-    still = (length-set after n q ∙ x.still.0, λ k e. failed_stays k (x.still.1 k e));
+    still = (length-set after n q ∙ x.still.0, λ k. both_stay (x.still.1 k) (faults_stay k));
     failed_at = there;
   }
 

@@ -1,9 +1,11 @@
-pub mod Lines
+pub mod Pieces
+pub mod Fitting
 pub mod Counted
 pub mod Buffered
 pub mod Ported
 pub mod Flowed
 pub mod Streamed
+pub mod Reading
 pub mod Flushed
 pub mod LawfulExits
 pub mod Paired

@@ -11,12 +11,12 @@ use Rattle.kpn_flow.specs.Events.{Event, Went, Fed, Drained, fed, drained}
 use Rattle.kpn_flow.specs.Flows.{FlowView, IsSameFlow, is_among}
 use Rattle.kpn_flow.specs.Pauses.{Advances}
 use Rattle.kpn_flow.proofs.Stretches.{at_ends_both, at_ends_went, flows_both, flows_run, went}
-use Rattle.hox_stream.specs.declared.cutting.LineRefusal.{LineRefusal}
+use Rattle.hox_stream.specs.declared.cutting.Refusal.{Refusal}
 use Rattle.hox_stream.specs.Cutting.{IsRefused}
 use Rattle.hox_stream.specs.Ports.{Pours, Takes, Tells, Writes}
 use Rattle.hox_stream.specs.declared.finish.Finish.{Finish}
-use Rattle.hox_stream.specs.declared.finish.Finish.TheVariants.{Over, Line, Unread, OtherSort, Unwritten, Idle, Memory, Cut}
-use Rattle.hox_stream.specs.Streams.{AllFailedStay, AreInletsApart, AreOutletsApart, IsFinish, Streams, inlet_at, outlet_at}
+use Rattle.hox_stream.specs.declared.finish.Finish.TheVariants.{Over, Refused, Unread, OtherSort, Unwritten, Misfit, Idle, Memory, Cut}
+use Rattle.hox_stream.specs.Streams.{AllFaultsStay, AreInletsApart, AreOutletsApart, IsFinish, Streams, inlet_at, outlet_at}
 use Rattle.hox_stream.specs.Views.{InletView, OutletView, no_inlet, no_outlet}
 use Rattle.hox_stream.proofs.Flowed.{at_ends_there, flows_there, same_net_both, same_net_none, same_net_of}
 use Rattle.hox_stream.proofs.Ported.{takes_both, takes_none, writes_both, writes_none}
@@ -202,13 +202,13 @@ pub some_each : {X Y : Type 0} (P : X → Y → Type 0) (o : Option X) → IfSom
 some_each P None h y = tt
 some_each P (Some x) h y = h y
 
--- a line is refused there
-pub refused_there : (ins : List InletView) (k : ℕ) (q : InletView) (refusal : LineRefusal) → k < length ins → IsRefused q.sort q.kept q.is_over refusal
-    → (k < length (set ins k q)) × IsRefused (inlet_at (set ins k q) k).sort (inlet_at (set ins k q) k).kept (inlet_at (set ins k q) k).is_over refusal
+-- a record is refused there
+pub refused_there : (ins : List InletView) (k : ℕ) (q : InletView) (refusal : Refusal) → k < length ins → IsRefused q.layout q.sort q.kept q.is_over refusal
+    → (k < length (set ins k q)) × IsRefused (inlet_at (set ins k q) k).layout (inlet_at (set ins k q) k).sort (inlet_at (set ins k q) k).kept (inlet_at (set ins k q) k).is_over refusal
 refused_there ins k q refusal within h =
     let here : inlet_at (set ins k q) k ≡ q = get_or-set_same ins k q no_inlet within in
     let long = length-set ins k q in
-    (omega (arith, long), subst (λ (p : InletView). IsRefused p.sort p.kept p.is_over refusal) (sym here) h)
+    (omega (arith, long), subst (λ (p : InletView). IsRefused p.layout p.sort p.kept p.is_over refusal) (sym here) h)
 
 -- a sink is flushed
 pub streams_flushed :
@@ -217,12 +217,13 @@ streams_flushed kinds s ins outs k p q within at w =
     streams_told kinds s s ins outs k p q within at (record { same = same_net_none s; tokens = []; writes = w; flows = refl; at_ends = tt })
 
 -- why a stream ends stays so while sinks are flushed
-pub finish_stays : (kinds : Family) (s : FlowView) (ins : List InletView) (outs after : List OutletView) (finish : Finish) → AllFailedStay outs after → IsFinish kinds s ins outs finish → IsFinish kinds s ins after finish
+pub finish_stays : (kinds : Family) (s : FlowView) (ins : List InletView) (outs after : List OutletView) (finish : Finish) → AllFaultsStay outs after → IsFinish kinds s ins outs finish → IsFinish kinds s ins after finish
 finish_stays kinds s ins outs after (Over end) still h = h
-finish_stays kinds s ins outs after (Line k refusal) still h = h
+finish_stays kinds s ins outs after (Refused k refusal) still h = h
 finish_stays kinds s ins outs after (Unread k) still h = h
 finish_stays kinds s ins outs after (OtherSort k) still h = h
-finish_stays kinds s ins outs after (Unwritten k) still h = (subst (λ n. k < n) (sym still.0) h.0, still.1 k h.1)
+finish_stays kinds s ins outs after (Unwritten k) still h = (subst (λ n. k < n) (sym still.0) h.0, (still.1 k).failed h.1)
+finish_stays kinds s ins outs after (Misfit k) still h = (subst (λ n. k < n) (sym still.0) h.0, (still.1 k).misfit ∙ h.1)
 finish_stays kinds s ins outs after Idle still h = h
 finish_stays kinds s ins outs after Memory still h = h
 finish_stays kinds s ins outs after Cut still h = h

@@ -1,5 +1,5 @@
 -- What comes of a stream from its start.
-use Rattle.std.proofs.Common.{◌≡◌, ◌≢◌, ◌<◌, ℕ, Bool, false, List, length, Option, refl, sym, ap, ◌∙◌, subst}
+use Rattle.std.proofs.Common.{◌≡◌, ◌≢◌, ◌<◌, ◌≤◌, ℕ, Bool, false, List, length, Option, refl, sym, ap, ◌∙◌, subst, arith}
 use Rattle.std.specs.List.{zip}
 use Rattle.kpn_front.specs.Written.{SinkView}
 use Rattle.kpn_model.specs.Network.{Family, Network, channel_of}
@@ -9,28 +9,38 @@ use Rattle.kpn_flow.specs.Flows.{FlowView}
 use Rattle.kpn_flow.specs.Ends.{has_twice}
 use Rattle.kpn_flow.specs.Pieces.{IsOneRunInPieces}
 use Rattle.hox_stream.specs.declared.finish.Finish.{Finish}
+use Rattle.hox_stream.specs.declared.serving.LaidOut.{LaidOut}
 use Rattle.hox_stream.specs.declared.finish.Finish.TheVariants.{OtherSort}
 use Rattle.hox_stream.specs.Serves.{Serves, new_inlet, new_inlets, new_outlet, new_outlets}
 use Rattle.hox_stream.specs.Starts.{IsStart}
-use Rattle.hox_stream.specs.Streams.{AreInletsApart, AreOutletsApart, AreWritten, IsFinish, Streams, inlet_at}
+use Rattle.hox_stream.specs.Streams.{AreInletsApart, AreOutletsApart, AreWritten, IsFinish, Streams, inlet_at, outlet_at}
 use Rattle.hox_stream.specs.Views.{InletView, OutletView, no_inlet, no_outlet}
 use Rattle.hox_stream.proofs.Paired.{apart, each_made, made_at}
 
-module _ {X : Type 0} (remaining : X → Option (List ℕ)) (has_failed : X → Bool) (net : Network) (channels : List ℕ) (once : has_twice channels ≡ false) (sources : List X) where
+module _ {X : Type 0} (remaining : X → Option (List ℕ)) (has_failed : X → Bool) (net : Network) (channels : List ℕ) (once : has_twice channels ≡ false) (sources : List (LaidOut X)) where
   inlets_apart : AreInletsApart (new_inlets remaining has_failed net channels sources)
   inlets_apart j k h i e =
-      let a = made_at (λ (p : InletView). p.channel) no_inlet (λ (p : ℕ × X). new_inlet net p.0 (remaining p.1) (has_failed p.1)) (λ p. refl) channels sources j h in
-      let b = made_at (λ (p : InletView). p.channel) no_inlet (λ (p : ℕ × X). new_inlet net p.0 (remaining p.1) (has_failed p.1)) (λ p. refl) channels sources k i in
+      let a = made_at (λ (p : InletView). p.channel) no_inlet (λ (p : ℕ × LaidOut X). new_inlet net p.0 p.1.layout (remaining p.1.stream) (has_failed p.1.stream)) (λ p. refl) channels sources j h in
+      let b = made_at (λ (p : InletView). p.channel) no_inlet (λ (p : ℕ × LaidOut X). new_inlet net p.0 p.1.layout (remaining p.1.stream) (has_failed p.1.stream)) (λ p. refl) channels sources k i in
       apart channels once j k a.0 b.0 (sym a.1 ∙ e ∙ b.1)
 
   -- the tokens of each source have the sort of its channel
   sorts_fit : (k : ℕ) → k < length (new_inlets remaining has_failed net channels sources) → (inlet_at (new_inlets remaining has_failed net channels sources) k).sort ≡ (channel_of net (inlet_at (new_inlets remaining has_failed net channels sources) k).channel).sort
-  sorts_fit k h = each_made (λ (p : InletView). p.sort ≡ (channel_of net p.channel).sort) no_inlet (λ (p : ℕ × X). new_inlet net p.0 (remaining p.1) (has_failed p.1)) (λ p. refl) (zip channels sources) k h
+  sorts_fit k h = each_made (λ (p : InletView). p.sort ≡ (channel_of net p.channel).sort) no_inlet (λ (p : ℕ × LaidOut X). new_inlet net p.0 p.1.layout (remaining p.1.stream) (has_failed p.1.stream)) (λ p. refl) (zip channels sources) k h
 
-outlets_apart : {X : Type 0} (seen : X → SinkView) (channels : List ℕ) → has_twice channels ≡ false → (sinks : List X) → AreOutletsApart (new_outlets seen channels sinks)
+-- nothing is kept of a source of which nothing was read, and nothing waits at a sink to which nothing was written
+none_kept : {X : Type 0} (remaining : X → Option (List ℕ)) (has_failed : X → Bool) (net : Network) (channels : List ℕ) (sources : List (LaidOut X)) (k : ℕ)
+    → k < length (new_inlets remaining has_failed net channels sources) → length (inlet_at (new_inlets remaining has_failed net channels sources) k).kept ≤ 8192
+none_kept {X} remaining has_failed net channels sources k h = each_made (λ (p : InletView). length p.kept ≤ 8192) no_inlet (λ (p : ℕ × LaidOut X). new_inlet net p.0 p.1.layout (remaining p.1.stream) (has_failed p.1.stream)) (λ p. omega arith) (zip channels sources) k h
+
+none_waiting : {X : Type 0} (seen : X → SinkView) (channels : List ℕ) (sinks : List (LaidOut X)) (k : ℕ)
+    → k < length (new_outlets seen channels sinks) → length (outlet_at (new_outlets seen channels sinks) k).waiting ≤ 4096
+none_waiting {X} seen channels sinks k h = each_made (λ (p : OutletView). length p.waiting ≤ 4096) no_outlet (λ (p : ℕ × LaidOut X). new_outlet p.0 p.1.layout (seen p.1.stream).contents) (λ p. omega arith) (zip channels sinks) k h
+
+outlets_apart : {X : Type 0} (seen : X → SinkView) (channels : List ℕ) → has_twice channels ≡ false → (sinks : List (LaidOut X)) → AreOutletsApart (new_outlets seen channels sinks)
 outlets_apart {X} seen channels once sinks j k h i e =
-    let a = made_at (λ (p : OutletView). p.channel) no_outlet (λ (p : ℕ × X). new_outlet p.0 (seen p.1).contents) (λ p. refl) channels sinks j h in
-    let b = made_at (λ (p : OutletView). p.channel) no_outlet (λ (p : ℕ × X). new_outlet p.0 (seen p.1).contents) (λ p. refl) channels sinks k i in
+    let a = made_at (λ (p : OutletView). p.channel) no_outlet (λ (p : ℕ × LaidOut X). new_outlet p.0 p.1.layout (seen p.1.stream).contents) (λ p. refl) channels sinks j h in
+    let b = made_at (λ (p : OutletView). p.channel) no_outlet (λ (p : ℕ × LaidOut X). new_outlet p.0 p.1.layout (seen p.1.stream).contents) (λ p. refl) channels sinks k i in
     apart channels once j k a.0 b.0 (sym a.1 ∙ e ∙ b.1)
 
 -- if the tokens of all sources had the sorts of their channels, they still have them
@@ -42,7 +52,7 @@ never_other kinds s t ins after outs left x single fit finish h k e =
     let takes = x.taken single k within in
     bad.1 (takes.sort ∙ fit k within ∙ ap (λ c. (channel_of s.network c).sort) (sym takes.channel) ∙ ap (λ (net : Network). (channel_of net (inlet_at after k).channel).sort) (sym x.same.network))
 
-pub serves : {X Y : Type 0} (remaining : X → Option (List ℕ)) (has_failed : X → Bool) (seen : Y → SinkView) (sources : List X) (sinks : List Y)
+pub serves : {X Y : Type 0} (remaining : X → Option (List ℕ)) (has_failed : X → Bool) (seen : Y → SinkView) (sources : List (LaidOut X)) (sinks : List (LaidOut Y))
     (kinds : Family) (s t : FlowView) (inputs outputs : List ℕ) (after : List InletView) (left : List OutletView) (finish : Finish)
     → IsStart kinds s inputs outputs
     → Streams kinds s t (new_inlets remaining has_failed s.network inputs sources) after (new_outlets seen outputs sinks) left
@@ -50,6 +60,7 @@ pub serves : {X Y : Type 0} (remaining : X → Option (List ℕ)) (has_failed : 
     → Serves kinds s t (new_inlets remaining has_failed s.network s.inputs sources) after (new_outlets seen s.outputs sinks) left finish
 serves remaining has_failed seen sources sinks kinds s t inputs outputs after left finish at_start x told ended one_run =
     let single = inlets_apart remaining has_failed s.network inputs at_start.apart.inputs_once sources in
+    let single_out = outlets_apart seen outputs at_start.apart.outputs_once sinks in
     let made : Serves kinds s t (new_inlets remaining has_failed s.network inputs sources) after (new_outlets seen outputs sinks) left finish = record {
       same = x.same;
       events = x.events;
@@ -58,7 +69,9 @@ serves remaining has_failed seen sources sinks kinds s t inputs outputs after le
       as_many_inlets = x.as_many_inlets;
       as_many_outlets = x.as_many_outlets;
       taken = λ k h. x.taken single k h;
-      written = λ k h. x.written (outlets_apart seen outputs at_start.apart.outputs_once sinks) k h;
+      written = λ k h. x.written single_out k h;
+      kept = λ k h. (x.taken single k h).held (none_kept remaining has_failed s.network inputs sources k h);
+      waiting = λ k h. (x.written single_out k h).held (none_waiting seen outputs sinks k h);
       told = told;
       ended = ended;
       sorts_fit = never_other kinds s t _ after _ left x single (sorts_fit remaining has_failed s.network inputs at_start.apart.inputs_once sources) finish ended;

@@ -2,6 +2,7 @@ pub mod Views
 pub mod Cutting
 pub mod Ports
 pub mod Streams
+pub mod Turns
 pub mod Exits
 pub mod Finishes
 pub mod Starts

@@ -1,46 +1,97 @@
 -- Tokens that come in from a source, and go out to a sink.
-use Rattle.std.specs.Prelude.{◌≡◌, ◌≤◌, ◌+◌, ◌-◌, ◌^◌, ◌++◌, ℕ, false, List, length, map}
-use Rattle.std.specs.List.{flat_map}
+use Rattle.std.specs.Prelude.{◌≡◌, ◌<◌, ◌≤◌, ◌+◌, ◌-◌, ◌^◌, ◌++◌, ◌&&◌, ◌||◌, ◌⊎◌, ℕ, Bool, true, false, not, List, [], length, map, if◌then◌else◌}
+use Rattle.std.specs.List.{flat_map, list_all, take_while}
 use Rattle.std.specs.Io.Iter.{u64_saturate}
 use Rattle.std.specs.Io.KnownBytes.{Appends, Consumes}
 use Rattle.kpn_model.specs.declared.token.Token.{Token}
 use Rattle.kpn_model.specs.Network.{Family}
-use Rattle.kpn_tokens.specs.TokenLines.{token_line}
+use Rattle.kpn_tokens.specs.declared.layouts.Layout.{Layout}
+use Rattle.kpn_tokens.specs.Records.{clips, fits, misfits, record_text}
 use Rattle.kpn_flow.specs.Events.{Fed, Drained, Flows}
 use Rattle.kpn_flow.specs.Flows.{FlowView, is_among}
 use Rattle.kpn_flow.specs.Preloaded.{IsAtEnds}
-use Rattle.hox_stream.specs.Cutting.{Passes}
+use Rattle.hox_stream.specs.declared.outlet.WriteFault.{WriteFault}
+use Rattle.hox_stream.specs.declared.outlet.WriteFault.TheVariants.{Failed, Misfit, Memory}
+use Rattle.hox_stream.specs.Cutting.{Passes, has_record}
 use Rattle.hox_stream.specs.Views.{InletView, OutletView, unread}
 
 -- m is n and k more; a count stays at 2 ^ 64 - 1 once it is there
 abbrev pub CountsOn : ℕ → ℕ → ℕ → Type 0
 CountsOn n m k = n ≤ 2 ^ 64 - 1 → m ≡ u64_saturate (n + k)
 
--- these tokens were taken from a source: they are what the lines say that were read of it
+-- these tokens were taken from a source: they are what the records say that were read of it; at most 8,192 bytes are kept
 pub record Takes (p q : InletView) (tokens : List Token) : Type 0 where
   pub channel : q.channel ≡ p.channel
+  pub layout : q.layout ≡ p.layout
   pub sort : q.sort ≡ p.sort
   pub counted : CountsOn p.tokens q.tokens (length tokens)
-  pub lines : ℕ
-  pub counted_lines : CountsOn p.lines q.lines lines
-  pub passes : Passes p.sort (unread p) (unread q) tokens lines
+  pub records : ℕ
+  pub counted_records : CountsOn p.records q.records records
+  pub passes : Passes p.layout p.sort (unread p) (unread q) tokens records
+  pub held : length p.kept ≤ 8192 → length q.kept ≤ 8192
 
--- these tokens were written to a sink, one on each line, unless a write has failed
+-- each of these tokens has a record in the layout, or is clipped
+abbrev pub are_written : Layout → List Token → Bool
+are_written layout tokens = clips layout || list_all (fits layout) tokens
+
+-- of these tokens those that have a record in the layout: up to the first that does not fit, unless that is clipped. Once one did not
+-- fit there are no more
+abbrev pub written_of : Layout → Bool → List Token → List Token
+written_of layout misfit tokens = if misfit then [] else if clips layout then tokens else take_while (fits layout) tokens
+
+-- how many of them are clipped
+abbrev pub clipped_of : Layout → Bool → List Token → ℕ
+clipped_of layout misfit tokens = if misfit then 0 else if clips layout then misfits layout tokens else 0
+
+-- these tokens were written to a sink, each as a record, up to the first that does not fit, unless a write has failed; at most 4,096
+-- bytes wait
 pub record Writes (p q : OutletView) (tokens : List Token) : Type 0 where
   pub channel : q.channel ≡ p.channel
+  pub layout : q.layout ≡ p.layout
   pub unfailed : q.has_failed ≡ false → p.has_failed ≡ false
-  pub written : q.has_failed ≡ false → Appends p.contents q.contents (flat_map token_line tokens)
-  pub counted : q.has_failed ≡ false → CountsOn p.tokens q.tokens (length tokens)
+  pub written : q.has_failed ≡ false → Appends p.contents q.contents (flat_map (record_text p.layout) (written_of p.layout p.is_misfit tokens))
+  pub misfit : q.has_failed ≡ false → q.is_misfit ≡ (p.is_misfit || not (are_written p.layout tokens))
+  pub counted : q.has_failed ≡ false → CountsOn p.tokens q.tokens (length (written_of p.layout p.is_misfit tokens))
+  pub clipped : q.has_failed ≡ false → CountsOn p.clipped q.clipped (clipped_of p.layout p.is_misfit tokens)
+  pub held : length p.waiting ≤ 4096 → length q.waiting ≤ 4096
 
--- a source was read on: its lines are as they were
+-- when tokens are not written for each cause: a write has failed, or memory was refused; or a token does not fit
+abbrev pub IsWriteFault : OutletView → WriteFault → Type 0
+IsWriteFault q Failed = q.has_failed ≡ true
+IsWriteFault q Misfit = q.is_misfit ≡ true
+IsWriteFault q Memory = q.has_failed ≡ true
+
+-- a source was read on: its records are as they were
 pub record ReadsOn (p q : InletView) : Type 0 where
   pub channel : q.channel ≡ p.channel
+  pub layout : q.layout ≡ p.layout
   pub sort : q.sort ≡ p.sort
   pub bytes : List ℕ
   pub kept : q.kept ≡ p.kept ++ bytes
   pub consumed : Consumes p.remaining q.remaining bytes
+  pub held : length q.kept ≤ 8192
   pub tokens : q.tokens ≡ p.tokens
-  pub lines : q.lines ≡ p.lines
+  pub records : q.records ≡ p.records
+
+-- a source has to be read on for its next record: that is not there to its end, and the source is not over
+abbrev pub wants_more : InletView → Bool
+wants_more p = not p.is_over && not (has_record p.layout p.kept)
+
+-- a read of the source was made: bytes came, or it is over now
+abbrev pub IsRead : InletView → InletView → Type 0
+IsRead p q = (length p.kept < length q.kept) ⊎ ((p.is_over ≡ false) × (q.is_over ≡ true))
+
+-- no read of the source was made
+pub record IsNotRead (p q : InletView) : Type 0 where
+  pub kept : length q.kept ≤ length p.kept
+  pub remaining : q.remaining ≡ p.remaining
+  pub is_over : q.is_over ≡ p.is_over
+
+-- a read of the source was made, and then only records were taken that had come
+pub record IsReadOnce (p q : InletView) : Type 0 where
+  pub between : InletView
+  pub read : IsRead p between
+  pub taken : IsNotRead between q
 
 -- the flow is of the same network, with the same inputs and outputs
 pub record IsSameNet (s t : FlowView) : Type 0 where

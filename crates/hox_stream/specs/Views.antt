@@ -3,34 +3,44 @@ use Rattle.std.specs.Prelude.{ℕ, Bool, false, List, [], Option, None}
 use Rattle.std.specs.Io.KnownBytes.{prepend_known}
 use Rattle.kpn_model.specs.declared.token.Sort.{Sort}
 use Rattle.kpn_model.specs.declared.token.Sort.TheVariants.{Words}
+use Rattle.kpn_tokens.specs.declared.layouts.Layout.{Layout}
+use Rattle.kpn_tokens.specs.declared.layouts.Layout.TheVariants.{Lines}
 
--- a source of tokens for a channel: what was read and is not yet said, what is left to read, if that is known, whether a read has
--- failed, and whether the source has come to its end; and how many lines and how many tokens were taken
+-- a source of tokens for a channel, and how they are laid out in it: what was read and is not yet said, what is left to read, if that
+-- is known, whether a read has failed, and whether the source has come to its end; and how many records and how many tokens were taken
 pub record InletView : Type 0 where
   pub channel : ℕ
+  pub layout : Layout
   pub sort : Sort
   pub kept : List ℕ
   pub remaining : Option (List ℕ)
   pub has_failed : Bool
   pub is_over : Bool
-  pub lines : ℕ
+  pub records : ℕ
   pub tokens : ℕ
 
 -- what is still to be said, if that is known
 abbrev pub unread : InletView → Option (List ℕ)
 unread p = prepend_known p.kept p.remaining
 
--- a sink for the tokens of a channel: what was written, if that is known, with what waits to be written; what of it waits; whether a
--- write has failed; and how many tokens were written, or wait to be
+-- a sink for the tokens of a channel, and how they are laid out in it: what was written, if that is known, with what waits to be
+-- written; what of it waits; whether a write has failed, and whether a token did not fit; and how many tokens were written, or wait to
+-- be, and how many of them were clipped
 pub record OutletView : Type 0 where
   pub channel : ℕ
+  pub layout : Layout
   pub contents : Option (List ℕ)
   pub waiting : List ℕ
   pub has_failed : Bool
+  pub is_misfit : Bool
   pub tokens : ℕ
+  pub clipped : ℕ
+
+abbrev pub no_layout : Layout
+no_layout = Lines (record { digits = 0; is_unsigned = false })
 
 abbrev pub no_inlet : InletView
-no_inlet = record { channel = 0; sort = Words; kept = []; remaining = None; has_failed = false; is_over = false; lines = 0; tokens = 0 }
+no_inlet = record { channel = 0; layout = no_layout; sort = Words; kept = []; remaining = None; has_failed = false; is_over = false; records = 0; tokens = 0 }
 
 abbrev pub no_outlet : OutletView
-no_outlet = record { channel = 0; contents = None; waiting = []; has_failed = false; tokens = 0 }
+no_outlet = record { channel = 0; layout = no_layout; contents = None; waiting = []; has_failed = false; is_misfit = false; tokens = 0; clipped = 0 }

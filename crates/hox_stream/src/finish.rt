@@ -2,7 +2,7 @@
 ghost use Rattle.std.specs.Prelude.{◌≡◌};
 ghost use Rattle.hox_stream.specs.Finishes.{status_of};
 
-use crate::cutting::LineRefusal;
+use crate::cutting::Refusal;
 use kpn_front::Status;
 use kpn_model::{End, Verdict};
 
@@ -12,8 +12,8 @@ pub enum Finish {
     /// No process can go on, and neither a token more nor room would help; for this cause, as a run ends. It is
     /// `Memory` if a growth was refused memory.
     Over(End),
-    /// The next line of this source is refused. What came before it was fed.
-    Line(usize, LineRefusal),
+    /// The next record of this source is refused. What came before it was fed.
+    Refused(usize, Refusal),
     /// A read of this source has failed.
     Unread(usize),
     /// The channel of this source has another sort than its tokens. `serve` gives each the sort of its channel, and
@@ -21,6 +21,8 @@ pub enum Finish {
     OtherSort(usize),
     /// This sink could not be written.
     Unwritten(usize),
+    /// The next token for this sink does not fit its layout, and is not clipped. What came before it was written.
+    Misfit(usize),
     /// A process waits for a token in an input for which there is no source.
     Idle,
     /// Memory was refused for what is read or written.
@@ -42,7 +44,9 @@ impl Finish {
                 Verdict::Full => Status::AtCeiling,
                 Verdict::Memory => Status::MemoryRefused,
             },
-            Finish::Line(..) | Finish::Unread(_) | Finish::OtherSort(_) => Status::Refused,
+            Finish::Refused(..) | Finish::Unread(_) | Finish::OtherSort(_) | Finish::Misfit(_) => {
+                Status::Refused
+            }
             Finish::Unwritten(_) => Status::WriteFailed,
             Finish::Memory => Status::MemoryRefused,
             Finish::Cut => Status::BudgetSpent,

@@ -1,21 +1,22 @@
 //! Sources of tokens.
-ghost use Rattle.std.specs.Prelude.{◌≡◌, ◌≤◌, ◌+◌, ◌++◌, [], false, true, Err, length, drop, IfOk, Option, vec_len, vec_capacity};
+ghost use Rattle.std.specs.Prelude.{◌≡◌, ◌<◌, ◌≤◌, ◌+◌, ◌++◌, ◌⊎◌, [], false, true, Err, length, drop, IfOk, Option, vec_len, vec_capacity};
+ghost use Rattle.std.specs.List.{list_any};
 ghost use Rattle.std.specs.Io.Iter.{u64_saturate};
 ghost use Rattle.std.specs.Io.KnownBytes.{IsAtEnd};
-ghost use Rattle.kpn_tokens.specs.TokenLines.{listed};
+ghost use Rattle.kpn_tokens.specs.Records.{listed};
 ghost use Rattle.hox_stream.specs.Cutting.{IsNext};
-ghost use Rattle.hox_stream.specs.Ports.{ReadsOn};
+ghost use Rattle.hox_stream.specs.Ports.{IsRead, ReadsOn, wants_more};
 
-use crate::cutting::{LONGEST_LINE, Next, next_of};
+use crate::cutting::{LONGEST_RECORD, Next, next_of};
 use kpn_front::Source;
-use kpn_tokens::{Sort, Token};
+use kpn_tokens::{Layout, Sort, Token, record_in};
 use std::alloc::{AllocError, Global};
 use std::marker::Model;
 
 /// How many bytes one read takes at most.
 const PIECE: usize = 4096;
 
-/// How many bytes are held of a source at most: the longest line, and one piece more.
+/// How many bytes are held of a source at most: the longest record, and one piece more.
 const ROOM: usize = 8192;
 
 /// Why a source could not be read on: a read failed, or memory was refused.
@@ -25,20 +26,21 @@ pub(crate) enum ReadFault {
     Memory,
 }
 
-/// A source of tokens for a channel, one on each line, which is read piece by piece. At most 8,192 bytes of
-/// it are held at any time.
+/// A source of tokens for a channel, which is read piece by piece. At most 8,192 bytes of it are held at any
+/// time.
 ///
-/// Contracts see the bytes that were read and are not yet said, whether a read has failed, and the number of
-/// lines and of tokens that were taken.
+/// Contracts see how tokens are laid out in it, the bytes that were read and are not yet said, whether a read has
+/// failed, and the number of records and of tokens that were taken.
 #[derive(Drop)]
 pub struct Inlet<S: Source> {
     channel: usize,
+    layout: Layout,
     sort: Sort,
     source: S,
     held: Vec<u8>,
     next: usize,
     is_over: bool,
-    lines: u64,
+    records: u64,
     tokens: u64,
 }
 
@@ -50,24 +52,31 @@ impl<S: Source> Model for Inlet<S> {
     ghost use Rattle.std.specs.Prelude.{◌≡◌, ◌≤◌, true, drop, length};
     ghost use Rattle.std.specs.Io.KnownBytes.{IsAtEnd};
 
-    ghost view = { λ m. record { channel = m.channel; sort = m.sort; kept = drop m.next m.held.items; remaining = S.remaining m.source; has_failed = S.has_failed m.source; is_over = m.is_over; lines = m.lines; tokens = m.tokens } };
+    ghost view = { λ m. record { channel = m.channel; layout = m.layout; sort = m.sort; kept = drop m.next m.held.items; remaining = S.remaining m.source; has_failed = S.has_failed m.source; is_over = m.is_over; records = m.records; tokens = m.tokens } };
 
     ghost invariant = { λ m. (m.next ≤ length m.held.items) × (length m.held.items ≤ 8192) × (m.is_over ≡ true → IsAtEnd (S.remaining m.source)) };
 }
 
 impl<S: Source> Inlet<S> {
     /// Makes a source of tokens of this sort for a channel. Nothing of it is read yet.
-    pub(crate) fn new(alloc: Global, channel: usize, sort: Sort, source: S) -> Inlet<S>
-        ensures { result ≡ record { channel = channel; sort = sort; kept = []; remaining = S.remaining source; has_failed = S.has_failed source; is_over = false; lines = 0; tokens = 0 } }
+    pub(crate) fn new(
+        alloc: Global,
+        channel: usize,
+        layout: Layout,
+        sort: Sort,
+        source: S,
+    ) -> Inlet<S>
+        ensures { result ≡ record { channel = channel; layout = layout; sort = sort; kept = []; remaining = S.remaining source; has_failed = S.has_failed source; is_over = false; records = 0; tokens = 0 } }
     {
         Inlet {
             channel,
+            layout,
             sort,
             source,
             held: Vec::new(alloc),
             next: 0,
             is_over: false,
-            lines: 0,
+            records: 0,
             tokens: 0,
         }
     }
@@ -79,11 +88,18 @@ impl<S: Source> Inlet<S> {
         self.channel
     }
 
-    /// Returns how many lines were taken; `u64::MAX` if they are as many or more.
-    pub fn lines(&self) -> u64
-        ensures { result ≡ self.now.lines }
+    /// Returns the sort of the tokens.
+    pub(crate) fn sort(&self) -> Sort
+        ensures { result ≡ self.now.sort }
     {
-        self.lines
+        self.sort
+    }
+
+    /// Returns how many records were taken; `u64::MAX` if they are as many or more.
+    pub fn records(&self) -> u64
+        ensures { result ≡ self.now.records }
+    {
+        self.records
     }
 
     /// Returns how many tokens were taken; `u64::MAX` if they are as many or more.
@@ -101,35 +117,47 @@ impl<S: Source> Inlet<S> {
         self.is_over
     }
 
-    /// What the next line says.
-    pub(crate) fn next(&self) -> Next
-        ensures next { IsNext self.now.sort self.now.kept self.now.is_over result }
-        ensures at_end { self.now.is_over ≡ true → IsAtEnd self.now.remaining }
+    /// Returns the source. What was read and is not yet said is read no more.
+    pub fn source(&self) -> &S
+        ensures remaining { S.remaining result.now ≡ self.now.remaining }
+        ensures failed { S.has_failed result.now ≡ self.now.has_failed }
     {
-        next_of(self.sort, &self.held[self.next..], self.is_over)
+        &self.source
     }
 
-    /// Takes the next line, of so many bytes, which said this.
+    /// What the next record says.
+    pub(crate) fn next(&self, alloc: Global) -> Next
+        ensures next { IsNext self.now.layout self.now.sort self.now.kept self.now.is_over result }
+        ensures at_end { self.now.is_over ≡ true → IsAtEnd self.now.remaining }
+    {
+        let bytes = &self.held[self.next..];
+        next_of(alloc, self.layout, self.sort, bytes, self.is_over)
+    }
+
+    /// Takes the next record, of so many bytes, which said this.
     pub(crate) fn pass(&mut self, used: usize, said: Option<Token>)
         requires { used ≤ length self.old.kept }
-        ensures { self.new ≡ record self.old { kept = drop used self.old.kept; lines = u64_saturate (self.old.lines + 1); tokens = u64_saturate (self.old.tokens + length (listed said)) } }
+        ensures { self.new ≡ record self.old { kept = drop used self.old.kept; records = u64_saturate (self.old.records + 1); tokens = u64_saturate (self.old.tokens + length (listed said)) } }
     {
         self.next += used;
-        self.lines = self.lines.saturating_add(1);
+        self.records = self.records.saturating_add(1);
         self.tokens = self.tokens.saturating_add(count_of(said));
     }
 
-    /// Returns whether the source has to be read on for its next line.
-    pub(crate) fn wants_more(&self) -> bool {
-        !self.is_over && !self.held[self.next..].contains(&b'\n')
+    /// Returns whether the source has to be read on for its next record.
+    pub(crate) fn wants_more(&self) -> bool
+        ensures { result ≡ wants_more self.now }
+    {
+        !self.is_over && record_in(self.layout, &self.held[self.next..], false).is_none()
     }
 
-    /// Reads a piece more, unless there is more than a line may have. What was read before is kept.
+    /// Reads a piece more, unless there is more than a record may have. What was read before is kept.
     pub(crate) fn refill(&mut self, alloc: Global) -> Result<(), ReadFault>
         ensures reads { ReadsOn self.old self.new }
+        ensures read { self.old.is_over ≡ false → IfOk result (λ _. IsRead self.old self.new ⊎ (4096 < length self.new.kept)) }
         ensures failed { result ≡ Err ReadFault.Failed → self.new.has_failed ≡ true }
     {
-        if self.held.len() - self.next > LONGEST_LINE {
+        if self.held.len() - self.next > LONGEST_RECORD {
             return Ok(());
         }
         let Ok(mut held) = with_room(alloc, &self.held[self.next..]) else {
@@ -148,7 +176,7 @@ impl<S: Source> Inlet<S> {
     }
 }
 
-/// How many tokens a line said.
+/// How many tokens a record said.
 fn count_of(said: Option<Token>) -> u64
     ensures { result ≡ length (listed said) }
 {
@@ -179,7 +207,9 @@ fn append(held: &mut Vec<u8>, bytes: &[u8])
     }
 }
 
-/// Whether a source has to be read on for its next line.
-pub(crate) fn wants_more<S: Source>(inlets: &[Inlet<S>]) -> bool {
+/// Whether a source has to be read on for its next record.
+pub(crate) fn wants_more<S: Source>(inlets: &[Inlet<S>]) -> bool
+    ensures { result ≡ list_any wants_more inlets.now }
+{
     inlets.iter().any(|inlet| inlet.wants_more())
 }

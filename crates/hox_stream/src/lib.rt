@@ -1,4 +1,4 @@
-//! A network between sources and sinks of tokens, one on each line, in bounded memory: from the sketch of a
+//! A network between sources and sinks of tokens, laid out in lines, columns or frames, in bounded memory: from the sketch of a
 //! description and the names of channels to what is written, and why it ended.
 #![tactic(auto)]
 
@@ -14,10 +14,10 @@ mod starting;
 mod streaming;
 mod telling;
 
-pub use cutting::{LONGEST_LINE, LineRefusal};
+pub use cutting::{LONGEST_RECORD, Refusal};
 pub use exits::Exits;
 pub use finish::Finish;
 pub use inlet::Inlet;
 pub use outlet::Outlet;
-pub use serving::{Served, serve};
+pub use serving::{LaidOut, Served, serve};
 pub use starting::{NameFault, OpenStream, StreamFault, open_stream};

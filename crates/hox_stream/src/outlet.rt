@@ -1,39 +1,46 @@
 //! Sinks of tokens.
-ghost use Rattle.std.specs.Prelude.{◌≡◌, [], false, true, IfErr, IfOk, string_bytes};
-ghost use Rattle.std.specs.Io.KnownBytes.{append_known};
-ghost use Rattle.hox_stream.specs.Ports.{Writes};
+ghost use Rattle.std.specs.Prelude.{◌≡◌, ◌≤◌, ◌++◌, [], false, true, not, Err, IfErr, IfOk, OnOk, length};
+ghost use Rattle.std.specs.List.{flat_map};
+ghost use Rattle.std.specs.Io.KnownBytes.{Appends, append_known};
+ghost use Rattle.kpn_tokens.specs.Records.{record_text};
+ghost use Rattle.hox_stream.specs.Ports.{IsWriteFault, Writes, are_written, clipped_of, written_of};
+ghost use Rattle.hox_stream.specs.Streams.{FaultsStay};
 
 use kpn_front::Sink;
-use kpn_tokens::{Token, append_tokens};
+use kpn_tokens::{AppendFault, Layout, Token, append_tokens};
 use std::alloc::{AllocError, Global};
 use std::marker::Model;
 
-/// How many bytes wait at most before they are written.
+/// How many bytes wait at most.
 const PIECE: usize = 4096;
 
-/// How many bytes there is room for at once: those that wait, and the lines of the tokens that are drained at once.
+/// How many bytes there is room for at once: those that wait, and the records of the tokens that are drained at once.
 const ROOM: usize = 8192;
 
-/// Why tokens were not written: a write failed, of which some bytes may have been written; or memory was
-/// refused.
+/// Why tokens were not written: a write failed, of which some bytes may have been written; a token does not fit the
+/// layout, and those before it were written, or wait; or memory was refused.
 #[derive(Clone, Copy, Debug, PartialEq, Eq)]
 pub(crate) enum WriteFault {
     Failed,
+    Misfit,
     Memory,
 }
 
-/// A sink for the tokens of a channel, one on each line. Lines wait until there are 4,096 bytes of them, or
-/// until they are flushed.
+/// A sink for the tokens of a channel. Records wait until there are more than 4,096 bytes of them, or until they are
+/// flushed.
 ///
-/// Contracts see what was written with what waits.
+/// Contracts see how tokens are laid out in it, and what was written with what waits.
 #[derive(Drop)]
 pub struct Outlet<S: Sink> {
     channel: usize,
+    layout: Layout,
     sink: S,
-    waiting: String,
+    waiting: Vec<u8>,
     has_failed: bool,
+    is_misfit: bool,
     tokens: u64,
-    /// How many of them were written when nothing waited last.
+    clipped: u64,
+    /// How many of the tokens were written when nothing waited last.
     flushed: u64,
 }
 
@@ -42,26 +49,36 @@ impl<S: Sink> Model for Outlet<S> {
 
     ghost Value = { OutletView };
 
-    ghost use Rattle.std.specs.Prelude.{string_bytes};
+    ghost use Rattle.std.specs.Prelude.{◌≤◌, length};
     ghost use Rattle.std.specs.Io.KnownBytes.{append_known};
 
-    ghost view = { λ m. record { channel = m.channel; contents = append_known (S.seen m.sink).contents (string_bytes m.waiting); waiting = string_bytes m.waiting; has_failed = m.has_failed; tokens = m.tokens } };
+    ghost view = { λ m. record { channel = m.channel; layout = m.layout; contents = append_known (S.seen m.sink).contents m.waiting.items; waiting = m.waiting.items; has_failed = m.has_failed; is_misfit = m.is_misfit; tokens = m.tokens; clipped = m.clipped } };
+
+    ghost invariant = { λ m. length m.waiting.items ≤ 4096 };
 }
 
 impl<S: Sink + Drop> Outlet<S> {
-    /// Makes a sink for the tokens of a channel, with room for the lines that wait. Nothing is written yet.
+    /// Makes a sink for the tokens of a channel, with room for the records that wait. Nothing is written yet.
     ///
     /// Errors: memory was refused.
-    pub(crate) fn new(alloc: Global, channel: usize, sink: S) -> Result<Outlet<S>, AllocError>
-        ensures { IfOk result (λ o. o ≡ record { channel = channel; contents = (S.seen sink).contents; waiting = []; has_failed = false; tokens = 0 }) }
+    pub(crate) fn new(
+        alloc: Global,
+        channel: usize,
+        layout: Layout,
+        sink: S,
+    ) -> Result<Outlet<S>, AllocError>
+        ensures { IfOk result (λ o. o ≡ record { channel = channel; layout = layout; contents = (S.seen sink).contents; waiting = []; has_failed = false; is_misfit = false; tokens = 0; clipped = 0 }) }
     {
-        let waiting = String::with_capacity(alloc, ROOM)?;
+        let waiting = Vec::with_capacity(alloc, ROOM)?;
         Ok(Outlet {
             channel,
+            layout,
             sink,
             waiting,
             has_failed: false,
+            is_misfit: false,
             tokens: 0,
+            clipped: 0,
             flushed: 0,
         })
     }
@@ -83,11 +100,33 @@ impl<S: Sink> Outlet<S> {
         self.tokens
     }
 
+    /// Returns for how many of the tokens the nearest was written that fits; `u64::MAX` if they are as many or more.
+    pub fn clipped(&self) -> u64
+        ensures { result ≡ self.now.clipped }
+    {
+        self.clipped
+    }
+
+    /// Returns how many bytes wait to be written: 4,096 at most.
+    pub fn waiting(&self) -> usize
+        ensures is { result ≡ length self.now.waiting }
+        ensures few { result ≤ 4096 }
+    {
+        self.waiting.len()
+    }
+
     /// Returns whether a write has failed, or memory was refused for one.
     pub fn has_failed(&self) -> bool
         ensures { result ≡ self.now.has_failed }
     {
         self.has_failed
+    }
+
+    /// Lends the sink, to which what waits is not yet written.
+    pub fn sink(&self) -> &S
+        ensures { append_known (S.seen result.now).contents self.now.waiting ≡ self.now.contents }
+    {
+        &self.sink
     }
 
     /// Returns the sink. What waits is not written to it.
@@ -98,49 +137,117 @@ impl<S: Sink> Outlet<S> {
         sink
     }
 
-    /// Writes tokens, one on each line, or has them wait. If it fails, some of them may have been written.
+    /// Has tokens wait, each as a record, and writes what waits if that is more than 4,096 bytes. If it fails, some of
+    /// them may have been written; once it has failed, no more tokens are taken.
     pub(crate) fn write(&mut self, tokens: &[Token]) -> Result<(), WriteFault>
         ensures writes { Writes self.old self.new tokens.now }
-        ensures failed { IfErr result (λ _. self.new.has_failed ≡ true) }
+        ensures fault { IfErr result (IsWriteFault self.new) }
     {
-        self.append(tokens)?;
-        if self.waiting.len() < PIECE {
-            return Ok(());
+        if self.has_failed {
+            return Err(WriteFault::Failed);
         }
-        self.flush()
+        if self.is_misfit {
+            return Err(WriteFault::Misfit);
+        }
+        let Ok(appended) = append_to(&mut self.waiting, self.layout, tokens) else {
+            self.waiting.clear();
+            return self.fail(WriteFault::Memory);
+        };
+        self.tokens = self.tokens.saturating_add(appended.written as u64);
+        self.clipped = self.clipped.saturating_add(appended.clipped as u64);
+        self.is_misfit = appended.is_misfit;
+        if self.waiting.len() <= PIECE {
+            return self.end_of_write();
+        }
+        if write_out(&mut self.sink, &mut self.waiting).is_err() {
+            return self.fail(WriteFault::Failed);
+        }
+        self.flushed = self.tokens;
+        self.end_of_write()
     }
 
-    /// Has tokens wait.
-    fn append(&mut self, tokens: &[Token]) -> Result<(), WriteFault>
-        ensures writes { Writes self.old self.new tokens.now }
-        ensures failed { IfErr result (λ _. self.new.has_failed ≡ true) }
+    /// What a write comes to that has not failed.
+    fn end_of_write(&self) -> Result<(), WriteFault>
+        ensures { IfErr result (IsWriteFault self.now) }
     {
-        if append_tokens(&mut self.waiting, tokens).is_err() {
-            self.has_failed = true;
-            self.tokens = self.flushed;
-            return Err(WriteFault::Memory);
+        if self.is_misfit {
+            Err(WriteFault::Misfit)
+        } else {
+            Ok(())
         }
-        self.tokens = self.tokens.saturating_add(tokens.len() as u64);
-        Ok(())
     }
 
     /// Writes what waits, unless a write has failed. If it fails, some of it may have been written.
     pub(crate) fn flush(&mut self) -> Result<(), WriteFault>
         ensures writes { Writes self.old self.new [] }
         ensures written { self.new.has_failed ≡ false → self.new.waiting ≡ [] }
-        ensures still { self.old.has_failed ≡ true → self.new.has_failed ≡ true }
+        ensures still { FaultsStay self.old self.new }
         ensures failed { IfErr result (λ _. self.new.has_failed ≡ true) }
     {
         if self.has_failed || self.waiting.is_empty() {
             return Ok(());
         }
-        if self.sink.write_all(self.waiting.as_bytes()).is_err() {
-            self.has_failed = true;
-            self.tokens = self.flushed;
-            return Err(WriteFault::Failed);
+        if write_out(&mut self.sink, &mut self.waiting).is_err() {
+            return self.fail(WriteFault::Failed);
         }
-        self.waiting.clear();
         self.flushed = self.tokens;
         Ok(())
     }
+
+    /// Remembers that a write has failed, and returns why.
+    fn fail(&mut self, fault: WriteFault) -> Result<(), WriteFault>
+        ensures failed { self.new ≡ record self.old { has_failed = true; tokens = self.new.tokens } }
+        ensures fault { result ≡ Err fault }
+    {
+        self.has_failed = true;
+        self.tokens = self.flushed;
+        Err(fault)
+    }
+}
+
+/// How many tokens have their records, for how many of these the nearest was written that fits, and whether the next
+/// one does not fit.
+#[derive(Clone, Copy, Debug, PartialEq, Eq)]
+struct Appended {
+    written: usize,
+    clipped: usize,
+    is_misfit: bool,
+}
+
+/// Appends tokens, each as a record, up to the first that does not fit.
+///
+/// Errors: memory was refused.
+fn append_to(
+    waiting: &mut Vec<u8>,
+    layout: Layout,
+    tokens: &[Token],
+) -> Result<Appended, AllocError>
+    ensures appended { OnOk result (waiting.new.items ≡ waiting.old.items ++ flat_map (record_text layout) (written_of layout false tokens.now)) }
+    ensures written { IfOk result (λ a. a.written ≡ length (written_of layout false tokens.now)) }
+    ensures clipped { IfOk result (λ a. a.clipped ≡ clipped_of layout false tokens.now) }
+    ensures misfit { IfOk result (λ a. a.is_misfit ≡ not (are_written layout tokens.now)) }
+{
+    match append_tokens(waiting, layout, tokens) {
+        Ok(clipped) => Ok(Appended {
+            written: tokens.len(),
+            clipped,
+            is_misfit: false,
+        }),
+        Err(AppendFault::DoesNotFit { place }) => Ok(Appended {
+            written: place,
+            clipped: 0,
+            is_misfit: true,
+        }),
+        Err(AppendFault::Memory) => Err(AllocError),
+    }
+}
+
+/// Writes what waits. Nothing waits any more then, even if the write fails.
+fn write_out<S: Sink>(sink: &mut S, waiting: &mut Vec<u8>) -> Result<(), WriteFault>
+    ensures written { OnOk result (Appends (S.seen sink.old).contents (S.seen sink.new).contents waiting.old.items) }
+    ensures none { waiting.new.items ≡ [] }
+{
+    let written = sink.write_all(waiting.as_slice());
+    waiting.clear();
+    written.map_err(|_| WriteFault::Failed)
 }

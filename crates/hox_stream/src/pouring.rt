@@ -1,27 +1,29 @@
 //! From a source into its channel.
-ghost use Rattle.std.specs.Prelude.{◌≡◌, ◌≢◌, ◌<◌, true, false, [], Err, IsTrue, IfSome, IfNone, ◌≤◌, ℕ, List, length, map};
+ghost use Rattle.std.specs.Prelude.{◌≡◌, ◌≢◌, ◌<◌, true, false, [], Err, IsTrue, IfOk, IfSome, IfNone, ◌≤◌, ℕ, List, length, map};
 ghost use Rattle.std.specs.Io.KnownBytes.{IsAtEnd};
 ghost use Rattle.kpn_model.specs.Network.{channel_of, family_of};
-ghost use Rattle.kpn_tokens.specs.TokenLines.{listed};
+ghost use Rattle.kpn_tokens.specs.Records.{listed};
 ghost use Rattle.kpn_flow.specs.Events.{Fed, Flows};
 ghost use Rattle.kpn_flow.specs.Flows.{IsSameFlow, is_among, with_ended};
 ghost use Rattle.kpn_flow.specs.Preloaded.{IsAtEnds};
-ghost use Rattle.hox_stream.specs.declared.cutting.LineRefusal.{LineRefusal as LineRefusalV};
+ghost use Rattle.hox_stream.specs.declared.cutting.Refusal.{Refusal as RefusalV};
 ghost use Rattle.hox_stream.specs.Cutting.{IsNext, IsRefused};
-ghost use Rattle.hox_stream.specs.Ports.{Pours, ReadsOn};
+ghost use Rattle.hox_stream.specs.Ports.{IsNotRead, IsRead, IsReadOnce, Pours, ReadsOn, wants_more};
 ghost use Rattle.hox_stream.specs.Streams.{Streams, IsFinish, NoneIsWaitedFor, inlet_at, is_waited_for};
+ghost use Rattle.hox_stream.specs.Turns.{AreReadIfWanted, IsTurnOf, TakesTurn};
 ghost use Rattle.hox_stream.specs.Views.{OutletView};
 
-use crate::cutting::{LineRefusal, Next};
+use crate::cutting::{Next, Refusal};
 use crate::finish::Finish;
 use crate::inlet::{Inlet, ReadFault};
+use crate::serving::sort_of;
 use kpn_body::Body;
 use kpn_flow::Flow;
 use kpn_front::Source;
 use kpn_model::Token;
 use std::alloc::Global;
 
-/// Feeds what a line said, if there is room, and returns whether that was done.
+/// Feeds what a record said, if there is room, and returns whether that was done.
 fn feed_said<B: Body>(flow: &mut Flow<B>, channel: usize, said: Option<Token>) -> bool
     ensures same { IsSameFlow flow.old flow.new }
     ensures flows { IsTrue result → Flows (family_of B.Kinds.start B.Kinds.answer_of) flow.old.network flow.old.state (map (λ token. Fed channel token) (listed said)) flow.new.state }
@@ -35,7 +37,7 @@ fn feed_said<B: Body>(flow: &mut Flow<B>, channel: usize, said: Option<Token>) -
     }
 }
 
-/// Takes the next line of a source, which says this and has so many bytes, and feeds its token, if there is room.
+/// Takes the next record of a source, which says this and has so many bytes, and feeds its token, if there is room.
 /// Returns whether that was done.
 fn take_said<B: Body, S: Source>(
     flow: &mut Flow<B>,
@@ -43,9 +45,10 @@ fn take_said<B: Body, S: Source>(
     said: Option<Token>,
     used: usize,
 ) -> bool
-    requires next { IsNext inlet.old.sort inlet.old.kept inlet.old.is_over (Next.Line said used) }
+    requires next { IsNext inlet.old.layout inlet.old.sort inlet.old.kept inlet.old.is_over (Next.Record said used) }
     requires at_end { inlet.old.is_over ≡ true → IsAtEnd inlet.old.remaining }
-    ensures { Pours (family_of B.Kinds.start B.Kinds.answer_of) flow.old flow.new inlet.old inlet.new }
+    ensures pours { Pours (family_of B.Kinds.start B.Kinds.answer_of) flow.old flow.new inlet.old inlet.new }
+    ensures unread { IsNotRead inlet.old inlet.new }
 {
     if !feed_said(flow, inlet.channel(), said) {
         return false;
@@ -54,37 +57,48 @@ fn take_said<B: Body, S: Source>(
     true
 }
 
-/// Takes the next line of a source and feeds its token, if there is room and a line. Returns whether that was
-/// done. Where there is no room, no line is read.
-fn take_line<B: Body, S: Source>(flow: &mut Flow<B>, inlet: &mut Inlet<S>) -> bool
-    ensures { Pours (family_of B.Kinds.start B.Kinds.answer_of) flow.old flow.new inlet.old inlet.new }
+/// Takes the next record of a source and feeds its token, if there is room and a record. Returns whether that was
+/// done. Where there is no room, no record is read.
+fn take_record<B: Body, S: Source>(alloc: Global, flow: &mut Flow<B>, inlet: &mut Inlet<S>) -> bool
+    ensures pours { Pours (family_of B.Kinds.start B.Kinds.answer_of) flow.old flow.new inlet.old inlet.new }
+    ensures unread { IsNotRead inlet.old inlet.new }
 {
     if !flow.has_room(inlet.channel()) {
         return false;
     }
-    let Next::Line { said, used } = inlet.next() else {
+    let Next::Record { said, used } = inlet.next(alloc) else {
         return false;
     };
     take_said(flow, inlet, said, used)
 }
 
-/// Takes the next line of a source, which says this and has so many bytes, and then line after line, as long as
-/// there are room and lines.
-fn take_lines<B: Body, S: Source>(
+/// Takes the next record of a source, which says this and has so many bytes, and then one after another, as long as
+/// there are room and records.
+fn take_records<B: Body, S: Source>(
+    alloc: Global,
     flow: &mut Flow<B>,
     inlet: &mut Inlet<S>,
     said: Option<Token>,
     used: usize,
 )
-    requires next { IsNext inlet.old.sort inlet.old.kept inlet.old.is_over (Next.Line said used) }
+    requires next { IsNext inlet.old.layout inlet.old.sort inlet.old.kept inlet.old.is_over (Next.Record said used) }
     requires at_end { inlet.old.is_over ≡ true → IsAtEnd inlet.old.remaining }
-    ensures { Pours (family_of B.Kinds.start B.Kinds.answer_of) flow.old flow.new inlet.old inlet.new }
+    ensures pours { Pours (family_of B.Kinds.start B.Kinds.answer_of) flow.old flow.new inlet.old inlet.new }
+    ensures unread { IsNotRead inlet.old inlet.new }
 {
     if !take_said(flow, inlet, said, used) {
         return;
     }
-    'lines: for _ in 0..u64::MAX {
-        if !take_line(flow, inlet) {
+    take_more(alloc, flow, inlet);
+}
+
+/// Takes one record after another of a source and feeds their tokens, as long as there are room and records.
+fn take_more<B: Body, S: Source>(alloc: Global, flow: &mut Flow<B>, inlet: &mut Inlet<S>)
+    ensures pours { Pours (family_of B.Kinds.start B.Kinds.answer_of) flow.old flow.new inlet.old inlet.new }
+    ensures unread { IsNotRead inlet.old inlet.new }
+{
+    'records: for _ in 0..u64::MAX {
+        if !take_record(alloc, flow, inlet) {
             return;
         }
     }
@@ -93,14 +107,14 @@ fn take_lines<B: Body, S: Source>(
 /// Why nothing was fed from a source.
 #[derive(Clone, Copy, Debug, PartialEq, Eq)]
 pub(crate) enum PourFault {
-    Line(LineRefusal),
+    Refused(Refusal),
     Failed,
     OtherSort,
     Memory,
 }
 
-/// Feeds lines of a source for which there is room; if there is no line yet, reads on; and if no more comes,
-/// has the input end.
+/// Feeds records of a source for which there is room; if there is no record yet, first reads on; and if no more
+/// comes, has the input end.
 fn pour<B: Body, S: Source>(
     alloc: Global,
     flow: &mut Flow<B>,
@@ -108,29 +122,32 @@ fn pour<B: Body, S: Source>(
 ) -> Result<(), PourFault>
     requires { is_among flow.old.unended inlet.old.channel ≡ true }
     ensures pours { Pours (family_of B.Kinds.start B.Kinds.answer_of) flow.old flow.new inlet.old inlet.new }
+    ensures read { IfOk result (λ _. wants_more inlet.old ≡ true → IsReadOnce inlet.old inlet.new) }
+    ensures only_if_wanted { wants_more inlet.old ≡ false → IsNotRead inlet.old inlet.new }
     ensures ended { inlet.old.is_over ≡ true → inlet.old.kept ≡ [] → flow.new ≡ with_ended flow.old inlet.old.channel }
-    ensures line { (refusal : LineRefusalV) → result ≡ Err (PourFault.Line refusal) → IsRefused inlet.new.sort inlet.new.kept inlet.new.is_over refusal }
+    ensures refused { (refusal : RefusalV) → result ≡ Err (PourFault.Refused refusal) → IsRefused inlet.new.layout inlet.new.sort inlet.new.kept inlet.new.is_over refusal }
     ensures failed { result ≡ Err PourFault.Failed → inlet.new.has_failed ≡ true }
     ensures other_sort { result ≡ Err PourFault.OtherSort → inlet.new.sort ≢ (channel_of flow.new.network inlet.new.channel).sort }
 {
     let channel = inlet.channel();
-    match inlet.next() {
-        Next::Line { said, used } => {
-            if let Some(token) = said {
-                if !flow.may_feed(channel, token) {
-                    return Err(PourFault::OtherSort);
-                }
+    match inlet.next(alloc) {
+        Next::Record { said, used } => {
+            if sort_of(flow.net(), channel) != inlet.sort() {
+                return Err(PourFault::OtherSort);
             }
-            take_lines(flow, inlet, said, used);
+            take_records(alloc, flow, inlet, said, used);
             Ok(())
         }
-        Next::Refused(refusal) => Err(PourFault::Line(refusal)),
+        Next::Refused(refusal) => Err(PourFault::Refused(refusal)),
+        Next::Memory => Err(PourFault::Memory),
         Next::Wanting => {
             if inlet.is_over() {
                 flow.end_input(channel);
                 Ok(())
             } else {
-                read_on(alloc, inlet)
+                read_on(alloc, inlet)?;
+                take_more(alloc, flow, inlet);
+                Ok(())
             }
         }
     }
@@ -138,8 +155,11 @@ fn pour<B: Body, S: Source>(
 
 /// Reads a source on.
 fn read_on<S: Source>(alloc: Global, inlet: &mut Inlet<S>) -> Result<(), PourFault>
+    requires unended { inlet.old.is_over ≡ false }
+    requires few { length inlet.old.kept ≤ 4096 }
     ensures reads { ReadsOn inlet.old inlet.new }
-    ensures no_line { (refusal : LineRefusalV) → result ≢ Err (PourFault.Line refusal) }
+    ensures read { IfOk result (λ _. IsRead inlet.old inlet.new) }
+    ensures unrefused { (refusal : RefusalV) → result ≢ Err (PourFault.Refused refusal) }
     ensures failed { result ≡ Err PourFault.Failed → inlet.new.has_failed ≡ true }
     ensures same_sort { result ≢ Err PourFault.OtherSort }
 {
@@ -161,10 +181,13 @@ fn pour_at<B: Body, S: Source>(
     requires input { is_among flow.old.unended (inlet_at inlets.old k).channel ≡ true }
     ensures streams { (outs : List OutletView) → Streams (family_of B.Kinds.start B.Kinds.answer_of) flow.old flow.new inlets.old inlets.new outs outs }
     ensures finish { IfSome result (λ f. (outs : List OutletView) → IsFinish (family_of B.Kinds.start B.Kinds.answer_of) flow.new inlets.new outs f) }
+    ensures read { IfNone result (wants_more (inlet_at inlets.old k) ≡ true → IsReadOnce (inlet_at inlets.old k) (inlet_at inlets.new k)) }
+    ensures only_if_wanted { AreReadIfWanted inlets.old inlets.new }
+    ensures others { (j : ℕ) → (j ≡ k → ⊥) → inlet_at inlets.new j ≡ inlet_at inlets.old j }
 {
     match pour(alloc, flow, &mut inlets[k]) {
         Ok(()) => None,
-        Err(PourFault::Line(refusal)) => Some(Finish::Line(k, refusal)),
+        Err(PourFault::Refused(refusal)) => Some(Finish::Refused(k, refusal)),
         Err(PourFault::Failed) => Some(Finish::Unread(k)),
         Err(PourFault::OtherSort) => Some(Finish::OtherSort(k)),
         Err(PourFault::Memory) => Some(Finish::Memory),
@@ -187,6 +210,8 @@ fn first_starved<B: Body, S: Source>(
 ) -> Option<usize>
     ensures within { IfSome result (λ k. k < length inlets.now) }
     ensures waited { IfSome result (λ k. is_waited_for flow.now (inlet_at inlets.now k) ≡ true) }
+    ensures on { IfSome result (λ k. from ≤ k) }
+    ensures first { IfSome result (λ k. (j : ℕ) → j < k → from ≤ j → is_waited_for flow.now (inlet_at inlets.now j) ≡ false) }
     ensures none { IfNone result ((k : ℕ) → k < length inlets.now → from ≤ k → is_waited_for flow.now (inlet_at inlets.now k) ≡ false) }
 {
     for k in from..inlets.len() {
@@ -203,8 +228,7 @@ fn next_starved<B: Body, S: Source>(
     inlets: &[Inlet<S>],
     from: usize,
 ) -> Option<usize>
-    ensures within { IfSome result (λ k. k < length inlets.now) }
-    ensures waited { IfSome result (λ k. is_waited_for flow.now (inlet_at inlets.now k) ≡ true) }
+    ensures turn { IfSome result (IsTurnOf flow.now inlets.now from) }
     ensures none { IfNone result (NoneIsWaitedFor flow.now inlets.now) }
 {
     match first_starved(flow, inlets, from) {
@@ -223,6 +247,8 @@ pub(crate) fn pour_next<B: Body, S: Source>(
 ) -> Option<Finish>
     ensures streams { (outs : List OutletView) → Streams (family_of B.Kinds.start B.Kinds.answer_of) flow.old flow.new inlets.old inlets.new outs outs }
     ensures finish { IfSome result (λ f. (outs : List OutletView) → IsFinish (family_of B.Kinds.start B.Kinds.answer_of) flow.new inlets.new outs f) }
+    ensures takes_turn { IfNone result (TakesTurn flow.old inlets.old inlets.new turn.old turn.new) }
+    ensures only_if_wanted { AreReadIfWanted inlets.old inlets.new }
 {
     let Some(k) = next_starved(flow, inlets, *turn) else {
         return Some(Finish::Idle);

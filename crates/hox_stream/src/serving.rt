@@ -13,7 +13,15 @@ use kpn_flow::Flow;
 use kpn_front::{Sink, Source};
 use kpn_model::{Kinds, Sort};
 use kpn_net::Net;
+use kpn_tokens::Layout;
 use std::alloc::{AllocError, Global};
+
+/// A source or a sink, and how tokens are laid out in it.
+#[derive(Drop)]
+pub struct LaidOut<S> {
+    pub stream: S,
+    pub layout: Layout,
+}
 
 /// What is left of a stream that ended: its flow, what is left of its sources and its sinks, in order, and why it
 /// ended.
@@ -30,20 +38,21 @@ pub struct Served<F: Computes, I: Source, O: Sink> {
 /// What came out is written before a source is read on, and at the end; and a source is read only where a process
 /// waits for its tokens.
 ///
-/// What was fed into the channel of each source is what the lines say that were read of it, and what was drained
-/// of the channel of each sink is what was written to it, one token a line. So what is written begins the stream of
+/// What was fed into the channel of each source is what the records say that were read of it, and what was drained
+/// of the channel of each sink is what was written to it, each token as a record, up to one that does not fit the
+/// layout. So what is written begins the stream of
 /// every run of the network into whose inputs the same comes (Kahn 1974), and the pieces in which it was read don't
 /// matter (docs/endless.md).
 ///
-/// Memory is taken for what is held of a source, at most 8,192 bytes, for what waits to be written to a sink, 8,192
-/// bytes, and for growths.
+/// Memory is taken for what is held of a source, at most 8,192 bytes, for what waits to be written to a sink, at most
+/// 4,096 bytes and the records of 64 tokens, and for growths.
 ///
 /// Errors: memory was refused before anything was read or written.
 pub fn serve<F: Computes, I: Source + Drop, O: Sink + Drop>(
     alloc: Global,
     opened: OpenStream<F>,
-    sources: Vec<I>,
-    sinks: Vec<O>,
+    sources: Vec<LaidOut<I>>,
+    sinks: Vec<LaidOut<O>>,
 ) -> Result<Served<F, I, O>, AllocError>
     ensures { IfOk result (λ r. Serves (family_of F.start F.answer_of) opened r.flow (new_inlets I.remaining I.has_failed opened.network opened.inputs sources.items) r.inlets.items (new_outlets O.seen opened.outputs sinks.items) r.outlets.items r.finish) }
 {
@@ -81,8 +90,8 @@ struct Ports<I: Source, O: Sink> {
 fn ports_of<F: Computes, I: Source + Drop, O: Sink + Drop>(
     alloc: Global,
     opened: &OpenStream<F>,
-    sources: Vec<I>,
-    sinks: Vec<O>,
+    sources: Vec<LaidOut<I>>,
+    sinks: Vec<LaidOut<O>>,
 ) -> Result<Ports<I, O>, AllocError>
     ensures inlets { IfOk result (λ r. r.inlets.items ≡ new_inlets I.remaining I.has_failed opened.now.network opened.now.inputs sources.items) }
     ensures outlets { IfOk result (λ r. r.outlets.items ≡ new_outlets O.seen opened.now.outputs sinks.items) }
@@ -99,7 +108,7 @@ fn inlets_of<K: Kinds, S: Source + Drop>(
     alloc: Global,
     net: &Net<K>,
     channels: &[usize],
-    sources: Vec<S>,
+    sources: Vec<LaidOut<S>>,
 ) -> Result<Vec<Inlet<S>>, AllocError>
     ensures { IfOk result (λ v. v.items ≡ new_inlets S.remaining S.has_failed net.now channels.now sources.items) }
 {
@@ -120,16 +129,16 @@ fn inlet_for<K: Kinds, S: Source>(
     alloc: Global,
     net: &Net<K>,
     channel: usize,
-    source: S,
+    source: LaidOut<S>,
 ) -> Inlet<S>
-    ensures { result ≡ new_inlet net.now channel (S.remaining source) (S.has_failed source) }
+    ensures { result ≡ new_inlet net.now channel source.layout (S.remaining source.stream) (S.has_failed source.stream) }
 {
     let sort = sort_of(net, channel);
-    Inlet::new(alloc, channel, sort, source)
+    Inlet::new(alloc, channel, source.layout, sort, source.stream)
 }
 
 /// The sort of a channel; words if there is no such channel.
-fn sort_of<K: Kinds>(net: &Net<K>, channel: usize) -> Sort
+pub(crate) fn sort_of<K: Kinds>(net: &Net<K>, channel: usize) -> Sort
     ensures { result ≡ (channel_of net.now channel).sort }
 {
     if channel < net.channels() {
@@ -143,7 +152,7 @@ fn sort_of<K: Kinds>(net: &Net<K>, channel: usize) -> Sort
 fn outlets_of<S: Sink + Drop>(
     alloc: Global,
     channels: &[usize],
-    sinks: Vec<S>,
+    sinks: Vec<LaidOut<S>>,
 ) -> Result<Vec<Outlet<S>>, AllocError>
     ensures { IfOk result (λ v. v.items ≡ new_outlets S.seen channels.now sinks.items) }
 {
@@ -154,7 +163,7 @@ fn outlets_of<S: Sink + Drop>(
             continue;
         };
         rest = later;
-        let outlet = Outlet::new(alloc, *channel, sink)?;
+        let outlet = Outlet::new(alloc, *channel, sink.layout, sink.stream)?;
         outlets.push(outlet)?;
     }
     Ok(outlets)

@@ -1,8 +1,9 @@
 //! A flow between sources and sinks.
-ghost use Rattle.std.specs.Prelude.{IfSome, List};
+ghost use Rattle.std.specs.Prelude.{IfNone, IfSome, List};
 ghost use Rattle.kpn_model.specs.Network.{family_of};
 ghost use Rattle.kpn_flow.specs.Pieces.{IsOneRunInPieces};
 ghost use Rattle.hox_stream.specs.Streams.{AreWritten, IsFinish, Streams};
+ghost use Rattle.hox_stream.specs.Turns.{AreReadUnheld, PassesTurn, TakesTurn};
 ghost use Rattle.hox_stream.specs.Views.{InletView, OutletView};
 
 use crate::finish::Finish;
@@ -69,6 +70,8 @@ fn turn<B: Body, I: Source, O: Sink>(
 ) -> Option<Finish>
     ensures streams { Streams (family_of B.Kinds.start B.Kinds.answer_of) flow.old flow.new inlets.old inlets.new outlets.old outlets.new }
     ensures finish { IfSome result (IsFinish (family_of B.Kinds.start B.Kinds.answer_of) flow.new inlets.new outlets.new) }
+    ensures turn { IfNone result (PassesTurn inlets.old inlets.new next.old next.new) }
+    ensures unheld { AreReadUnheld inlets.old inlets.new outlets.new }
 {
     let pause = flow.advance(STRETCH);
     match tell_all(flow, outlets) {
@@ -94,6 +97,8 @@ fn pour<B: Body, I: Source, O: Sink>(
 ) -> Option<Finish>
     ensures streams { Streams (family_of B.Kinds.start B.Kinds.answer_of) flow.old flow.new inlets.old inlets.new outlets.old outlets.new }
     ensures finish { IfSome result (IsFinish (family_of B.Kinds.start B.Kinds.answer_of) flow.new inlets.new outlets.new) }
+    ensures turn { IfNone result (TakesTurn flow.old inlets.old inlets.new next.old next.new) }
+    ensures unheld { AreReadUnheld inlets.old inlets.new outlets.new }
 {
     if wants_more(inlets) {
         if let Err(finish) = flush_all(outlets) {

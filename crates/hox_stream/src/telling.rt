@@ -2,8 +2,8 @@
 ghost use Rattle.std.specs.Prelude.{◌≡◌, ◌<◌, true, false, Ok, IfErr, List, length};
 ghost use Rattle.kpn_model.specs.Network.{Family, family_of};
 ghost use Rattle.kpn_flow.specs.Flows.{FlowView, IsSameFlow};
-ghost use Rattle.hox_stream.specs.Ports.{Tells};
-ghost use Rattle.hox_stream.specs.Streams.{AllFailedStay, AreWritten, IsFinish, Streams};
+ghost use Rattle.hox_stream.specs.Ports.{IsWriteFault, Tells};
+ghost use Rattle.hox_stream.specs.Streams.{AllFaultsStay, AreWritten, IsFinish, Streams};
 ghost use Rattle.hox_stream.specs.Views.{InletView};
 
 use crate::finish::Finish;
@@ -21,7 +21,7 @@ fn tell<B: Body, S: Sink>(flow: &mut Flow<B>, outlet: &mut Outlet<S>) -> Result<
     ensures tells { Tells (family_of B.Kinds.start B.Kinds.answer_of) flow.old flow.new outlet.old outlet.new }
     ensures same { IsSameFlow flow.old flow.new }
     ensures none { result ≡ Ok false → flow.new.state ≡ flow.old.state }
-    ensures failed { IfErr result (λ _. outlet.new.has_failed ≡ true) }
+    ensures fault { IfErr result (IsWriteFault outlet.new) }
 {
     let channel = outlet.channel();
     if !flow.is_output(channel) {
@@ -53,6 +53,7 @@ fn tell_at<B: Body, S: Sink>(
     match tell(flow, &mut outlets[k]) {
         Ok(has_moved) => Ok(has_moved),
         Err(WriteFault::Failed) => Err(Finish::Unwritten(k)),
+        Err(WriteFault::Misfit) => Err(Finish::Misfit(k)),
         Err(WriteFault::Memory) => Err(Finish::Memory),
     }
 }
@@ -81,7 +82,7 @@ pub(crate) fn tell_all<B: Body, S: Sink>(
 pub(crate) fn flush_all<S: Sink>(outlets: &mut [Outlet<S>]) -> Result<(), Finish>
     ensures streams { (kinds : Family) (s : FlowView) (ins : List InletView) → Streams kinds s s ins ins outlets.old outlets.new }
     ensures written { AreWritten outlets.new }
-    ensures still { AllFailedStay outlets.old outlets.new }
+    ensures still { AllFaultsStay outlets.old outlets.new }
     ensures finish { IfErr result (λ f. (kinds : Family) (s : FlowView) (ins : List InletView) → IsFinish kinds s ins outlets.new f) }
 {
     let mut failed = None;

@@ -31,7 +31,13 @@ fn status_of<R: Env + Input + Print + Eprint + AllocGlobal + Wait + Clock + Thre
             say_why(rt, &served);
             served.status
         }
-        Err(fault) => say_words_refused(rt, &fault),
+        Err(fault) => {
+            let status = say_words_refused(rt, &fault);
+            if !fault.asks_for_help() {
+                say_where_it_reads(rt, texts.as_slice());
+            }
+            status
+        }
     }
 }
 
@@ -42,6 +48,29 @@ fn say_why<R: Eprint>(rt: &R, served: &Served) {
         (None, Some(fault)) => eprintln!(rt; "kpn: {fault}"),
         (None, None) => Ok(()),
     };
+}
+
+/// Says on standard error that the description comes from standard input, if the arguments name a file. An argument
+/// is taken for one if it is no option, no value of an option and no subcommand.
+fn say_where_it_reads<R: Eprint>(rt: &R, texts: &[&str]) {
+    let Some(command) = texts.get(1) else {
+        return;
+    };
+    let mut is_value = false;
+    for text in texts.iter().skip(2) {
+        if !text.starts_with('-') && !is_value {
+            say_input(rt, *command, *text);
+            return;
+        }
+        is_value = matches!(*text, "--workers" | "--show");
+    }
+}
+
+/// Says how a description is given that is in this file.
+fn say_input<R: Eprint>(rt: &R, command: &str, file: &str) {
+    let _ = eprintln!(rt;
+        "\nkpn reads the description from standard input:\n  kpn {command} < {file}"
+    );
 }
 
 /// Says that the arguments could not be collected, since memory was refused.

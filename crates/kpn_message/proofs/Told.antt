@@ -1,7 +1,10 @@
 -- Messages that are added to those before.
-use Rattle.std.proofs.Common.{◌≡◌, ◌≢◌, ◌<◌, ◌≤◌, ◌+◌, ℕ, zero, suc, Bool, true, false, ◌&&◌, List, [], ◌∷◌, ◌++◌, length, map, take, get_or, string_bytes, if◌then◌else◌, sym, ap, subst, ◌∙◌, arith}
+use Rattle.std.proofs.Common.{◌≡◌, ◌≢◌, ◌<◌, ◌≤◌, ◌+◌, ◌-◌, ◌^◌, ⊎_elim, ℕ, zero, suc, Bool, true, false, ◌&&◌, List, [], ◌∷◌, ◌++◌, length, map, take, get_or, string_bytes, if◌then◌else◌, sym, ap, subst, ◌∙◌, arith}
 use Rattle.std.proofs.lemmas.List.{append-nil, append_assoc, length-append, length-map, length-take, map-append, take_all, take-append-le, take_more, flat_map_more}
+use Rattle.std.proofs.Math.Nat.{min-eq_left, min_comm}
+use Rattle.std.proofs.lemmas.Bool.{cases_lt}
 use Rattle.std.proofs.lemmas.List.Elements.{All-append}
+use Rattle.std.specs.Io.Iter.{u64_saturate}
 use Rattle.std.specs.List.{All, flat_map}
 use Rattle.kpn_sketch.specs.declared.fault.NetFault.{NetFault}
 use Rattle.kpn_message.specs.declared.location.Location.{Location}
@@ -10,16 +13,30 @@ use Rattle.kpn_message.specs.declared.every_fault.Messages.{Messages}
 use Rattle.kpn_message.specs.declared.every_fault.TheConstants.{MOST_MESSAGES}
 use Rattle.kpn_message.specs.EveryFault.{Adds, Tells, for_each_below, subject}
 
--- there is no room for more
-pub told_full : (before more : List (NetFault × Location)) (m : Messages) → MOST_MESSAGES ≤ length m.told.items → Tells before m → Tells (before ++ more) m
-told_full before more m long t = record {
-  few = t.few;
-  said = t.said;
-  all = λ e.
-      let kept : map subject m.told.items ≡ take MOST_MESSAGES before = t.all e in
-      let n : MOST_MESSAGES ≤ length before = omega (arith, ap length kept, length-map m.told.items subject, length-take MOST_MESSAGES before) in
-      kept ∙ sym (take-append-le MOST_MESSAGES before more n);
-}
+-- as many as there are, and one more
+saturate_next : (n m : ℕ) → m ≡ u64_saturate n → u64_saturate (m + 1) ≡ u64_saturate (n + 1)
+saturate_next n m e = ⊎_elim
+    (λ (below : n < 2 ^ 64 - 1). ap (λ k. u64_saturate (k + 1)) (e ∙ min-eq_left (omega arith)))
+    (λ (above : 2 ^ 64 - 1 ≤ n).
+    let at : m ≡ 2 ^ 64 - 1 = e ∙ (min_comm n (2 ^ 64 - 1) ∙ min-eq_left above) in
+    ap (λ k. u64_saturate (k + 1)) at ∙ sym (min_comm (n + 1) (2 ^ 64 - 1) ∙ min-eq_left (omega (arith, above))))
+    (cases_lt n (2 ^ 64 - 1))
+
+-- there is no room for more, and one more is counted
+pub told_full : (before : List (NetFault × Location)) (x : NetFault × Location) (first last : Messages) → MOST_MESSAGES ≤ length first.told.items → last.told.items ≡ first.told.items
+    → last.are_all ≡ first.are_all → last.more ≡ u64_saturate (first.more + 1) → Tells before first → Tells (before ++ x ∷ []) last
+told_full before x first last long items flag more t =
+    let due : first.are_all ≡ true → MOST_MESSAGES ≤ length before =
+    λ e. omega (arith, ap length (t.all e), length-map first.told.items subject, length-take MOST_MESSAGES before, long) in
+    record {
+      few = omega (arith, ap length items, t.few);
+      said = subst (All (λ (m : Message). string_bytes m.text ≢ [])) (sym items) t.said;
+      all = λ e. ap (map subject) items ∙ (t.all (sym flag ∙ e) ∙ sym (take-append-le MOST_MESSAGES before (x ∷ []) (due (sym flag ∙ e))));
+      counted = λ e.
+          let old : first.more ≡ u64_saturate (length before - MOST_MESSAGES) = t.counted (sym flag ∙ e) in
+          let next : (length before - MOST_MESSAGES) + 1 ≡ length (before ++ x ∷ []) - MOST_MESSAGES = omega (arith, due (sym flag ∙ e), length-append before (x ∷ [])) in
+          more ∙ (saturate_next (length before - MOST_MESSAGES) first.more old ∙ ap u64_saturate next);
+    }
 
 -- what holds of one item
 all_one : (P : Message → Type 0) (x : Message) → P x → All P (x ∷ [])
@@ -28,8 +45,8 @@ all_one P x p (suc k) d l = absurd (omega arith)
 
 -- there is one more
 told_one : (before : List (NetFault × Location)) (first last : Messages) (x : Message) → length first.told.items < MOST_MESSAGES → last.told.items ≡ first.told.items ++ x ∷ []
-    → last.are_all ≡ first.are_all → string_bytes x.text ≢ [] → Tells before first → Tells (before ++ subject x ∷ []) last
-told_one before first last x room items flag said t = record {
+    → last.are_all ≡ first.are_all → last.more ≡ first.more → string_bytes x.text ≢ [] → Tells before first → Tells (before ++ subject x ∷ []) last
+told_one before first last x room items flag more said t = record {
   few = omega (arith, ap length items, length-append first.told.items (x ∷ []));
   said = subst (All (λ (m : Message). string_bytes m.text ≢ [])) (sym items) (All-append (λ (m : Message). string_bytes m.text ≢ []) first.told.items (x ∷ []) t.said (all_one (λ (m : Message). string_bytes m.text ≢ []) x said));
   all = λ e.
@@ -38,6 +55,11 @@ told_one before first last x room items flag said t = record {
       let whole : take MOST_MESSAGES before ≡ before = take_all MOST_MESSAGES before (omega arith) in
       let fits : take MOST_MESSAGES (before ++ subject x ∷ []) ≡ before ++ subject x ∷ [] = take_all MOST_MESSAGES (before ++ subject x ∷ []) (omega (arith, length-append before (subject x ∷ []))) in
       ap (map subject) items ∙ (map-append subject first.told.items (x ∷ []) ∙ (ap (λ ys. ys ++ subject x ∷ []) (kept ∙ whole) ∙ sym fits));
+  counted = λ e.
+      let kept : map subject first.told.items ≡ take MOST_MESSAGES before = t.all (sym flag ∙ e) in
+      let short : length before < MOST_MESSAGES = omega (arith, ap length kept, length-map first.told.items subject, length-take MOST_MESSAGES before) in
+      let same : length before - MOST_MESSAGES ≡ length (before ++ subject x ∷ []) - MOST_MESSAGES = omega (arith, short, length-append before (subject x ∷ [])) in
+      more ∙ (t.counted (sym flag ∙ e) ∙ ap u64_saturate same);
 }
 
 -- one lacks
@@ -46,13 +68,15 @@ told_lacks before more first last items flag t = record {
   few = omega (arith, ap length items, t.few);
   said = subst (All (λ (m : Message). string_bytes m.text ≢ [])) (sym items) t.said;
   all = λ e. absurd (cc);
+  counted = λ e. absurd (cc);
 }
 
 -- there is one more, or it lacks
 pub told_or_lost : (before : List (NetFault × Location)) (first last : Messages) (x : Message) (is_added : Bool) → length first.told.items < MOST_MESSAGES → string_bytes x.text ≢ []
-    → last.told.items ≡ (if is_added then first.told.items ++ x ∷ [] else first.told.items) → last.are_all ≡ (is_added && first.are_all) → Tells before first → Tells (before ++ subject x ∷ []) last
-told_or_lost before first last x true room said items flag t = told_one before first last x room items flag said t
-told_or_lost before first last x false room said items flag t = told_lacks before (subject x ∷ []) first last items flag t
+    → last.told.items ≡ (if is_added then first.told.items ++ x ∷ [] else first.told.items) → last.are_all ≡ (is_added && first.are_all) → last.more ≡ first.more → Tells before first
+    → Tells (before ++ subject x ∷ []) last
+told_or_lost before first last x true room said items flag more t = told_one before first last x room items flag more said t
+told_or_lost before first last x false room said items flag more t = told_lacks before (subject x ∷ []) first last items flag t
 
 -- nothing is added, or one after the other
 pub adds_none : (first : Messages) → Adds [] first first

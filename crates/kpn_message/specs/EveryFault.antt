@@ -1,5 +1,6 @@
 -- What is told of a sketch: each fault that stands by itself, at each place that has it.
-use Rattle.std.specs.Prelude.{◌≡◌, ◌≢◌, ◌≤◌, ℕ, zero, suc, Bool, true, not, ◌&&◌, ◌||◌, List, [], ◌∷◌, ◌++◌, length, map, take, string_bytes, Option, if◌then◌else◌}
+use Rattle.std.specs.Prelude.{◌≡◌, ◌≢◌, ◌≤◌, ◌-◌, ℕ, zero, suc, Bool, true, not, ◌&&◌, ◌||◌, List, [], ◌∷◌, ◌++◌, length, map, take, string_bytes, Option, if◌then◌else◌}
+use Rattle.std.specs.Io.Iter.{u64_saturate}
 use Rattle.std.specs.List.{All, flat_map}
 use Rattle.kpn_sketch.specs.declared.fault.NetFault.{NetFault}
 use Rattle.kpn_sketch.specs.declared.fault.NetFault.TheVariants.{Version, Counts, Name, Kind, Args, NoEnd, Twice, Unused, Sorts, Capacity, Budget, Tokens, Step}
@@ -27,11 +28,13 @@ for_each_below f (suc n) = for_each_below f n ++ f n
 abbrev pub subject : Message → NetFault × Location
 subject message = (message.fault, message.place)
 
--- there are at most 20 messages, and none is empty; if none lacks, their subjects are the first 20 of those that are due
+-- there are at most 20 messages, and none is empty; if none lacks, their subjects are the first 20 of those that are due, and the
+-- others are counted
 pub record Tells (due : List (NetFault × Location)) (messages : Messages) : Type 0 where
   pub few : length messages.told.items ≤ MOST_MESSAGES
   pub said : All (λ message. string_bytes message.text ≢ []) messages.told.items
   pub all : messages.are_all ≡ true → map subject messages.told.items ≡ take MOST_MESSAGES due
+  pub counted : messages.are_all ≡ true → messages.more ≡ u64_saturate (length due - MOST_MESSAGES)
 
 -- to what was due before this is due too
 abbrev pub Adds : List (NetFault × Location) → Messages → Messages → Type 0

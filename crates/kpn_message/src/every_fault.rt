@@ -38,17 +38,18 @@ pub struct Message {
     pub text: String,
 }
 
-/// What is wrong with a sketch, and whether that is all that is to be told: where memory is refused, messages may
-/// lack.
+/// What is wrong with a sketch; how many faults more it has than are told (`u64::MAX` if they are as many or
+/// more); and whether memory sufficed: where it is refused, messages may lack, and so may the count.
 #[derive(Drop)]
 pub struct Messages {
     pub told: Vec<Message>,
+    pub more: u64,
     pub are_all: bool,
 }
 
 /// Returns what is wrong with a sketch: for each fault that stands by itself, in the order of their numbers,
 /// each process and each channel that has it, on a line of its own that no line feed ends; at most
-/// `MOST_MESSAGES` of them. So the first is of the fault that the sketch is refused for. What may only follow
+/// `MOST_MESSAGES` of them, and how many more there are. So the first is of the fault that the sketch is refused for. What may only follow
 /// from another fault is not told: an end that is missing, or an unused port, where a name, a kind or an
 /// argument is wrong; or a capacity where the version is. `kinds` names the kinds that there are.
 ///
@@ -64,6 +65,7 @@ pub fn messages_of_sketch<K: Kinds>(alloc: Global, sketch: &Sketch, kinds: &str)
 {
     let mut messages = Messages {
         told: Vec::new(alloc),
+        more: 0,
         are_all: true,
     };
     for fault in FAULTS {
@@ -177,7 +179,7 @@ fn push_place<K: Kinds>(
     push_message::<K>(alloc, messages, sketch, fault, place, kinds);
 }
 
-/// The message of a fault at a place, if there is room for one more.
+/// The message of a fault at a place, if there is room for one more; else it is counted.
 fn push_message<K: Kinds>(
     alloc: Global,
     messages: &mut Messages,
@@ -189,6 +191,7 @@ fn push_message<K: Kinds>(
     ensures { Adds ((fault, place) ∷ []) messages.old messages.new }
 {
     if is_full(messages) {
+        messages.more = messages.more.saturating_add(1);
         return;
     }
     let Some(text) = message_at::<K>(alloc, sketch, fault, place, kinds) else {

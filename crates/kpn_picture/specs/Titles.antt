@@ -5,15 +5,15 @@ use Rattle.kpn_model.specs.declared.kinds.Card.{Card}
 use Rattle.kpn_model.specs.declared.kinds.Signature.{Signature}
 use Rattle.kpn_standard.specs.Locals.{at}
 use Rattle.kpn_standard.specs.Table.{row_of, numbered}
-use Rattle.kpn_signals.specs.Table.{row_of as row_of_signal, numbered as signal_numbered, plain}
+use Rattle.kpn_signals.specs.Table.{numbered as signal_numbered, called_by}
 
 -- the title of each standard kind, by its number; no title for any other number
 abbrev pub standard_title : ℕ → List ℕ × ℕ
 standard_title number = option_map_or (λ kind. ((row_of kind).name, (row_of kind).arguments)) (numbered number) ([], 0)
 
--- the title of each kind for signals: that of the kind by which a description calls it
+-- the title of each kind for signals: what a description calls it by
 abbrev pub signals_title : ℕ → List ℕ × ℕ
-signals_title number = option_map_or (λ kind. ((row_of_signal (plain kind)).name, (row_of_signal (plain kind)).arguments)) (signal_numbered number) ([], 0)
+signals_title number = option_map_or called_by (signal_numbered number) ([], 0)
 
 -- how many of the arguments of a card are below 0, from the first on, if its title has so many arguments: the one after these says it
 abbrev pub below : Card → ℕ → ℕ

@@ -3,7 +3,7 @@ ghost use Rattle.std.specs.Prelude.{◌≡◌, Some, IsSome};
 ghost use Rattle.kpn_standard.specs.Signatures.{named, signature};
 ghost use Rattle.kpn_standard.specs.Table.{row_of};
 ghost use Rattle.kpn_signals.specs.Signatures.{number_named, ports};
-ghost use Rattle.kpn_signals.specs.Table.{row_of as row_of_signal, plain};
+ghost use Rattle.kpn_signals.specs.Table.{called_by};
 ghost use Rattle.kpn_picture.specs.Titles.{standard_title, signals_title, both_title, below};
 
 use kpn_compute::both::{is_first, own_card};
@@ -95,18 +95,8 @@ impl Titled for Signals {
         let Some(signal) = Signal::numbered(card.kind) else {
             unreachable!()
         };
-        title_of_signal(signal)
+        signal.called_by()
     }
-}
-
-// The title of the kind by which a description calls a kind for signals.
-fn title_of_signal(signal: Signal) -> (&'static str, usize)
-    ensures name { result.0.now ≡ (row_of_signal (plain signal)).name }
-    ensures arity { result.1 ≡ (row_of_signal (plain signal)).arguments }
-    ensures means { number_named result.0.now ≡ Some ((row_of_signal (plain signal)).number, result.1) }
-{
-    let found = signal.plain().row();
-    (found.name, found.arguments)
 }
 
 impl<A: Titled, B: Titled> Titled for Both<A, B> {

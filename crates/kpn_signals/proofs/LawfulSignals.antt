@@ -11,11 +11,12 @@ use Rattle.kpn_standard.specs.Table.{one_word}
 use Rattle.kpn_standard.specs.Signatures.{given}
 use Rattle.kpn_standard.proofs.Laws.{passes}
 use Rattle.kpn_signals.specs.declared.signal.Signal.{Signal}
-use Rattle.kpn_signals.specs.declared.signal.Signal.TheVariants.{Input, InputFlags, Drain, DrainFlags, Constant, CountUp, Sub, Mul, Shift, Left, Less, Equal, Not, And, Or, Decimate, Repeat, Hold, Delay, LowPass, Clip, SignedConstant, SignedHold, SignedClip}
+use Rattle.kpn_signals.specs.declared.signal.Signal.TheVariants.{Input, InputFlags, Drain, DrainFlags, Constant, CountUp, Sub, Mul, Shift, Left, Less, Equal, Not, And, Or, Decimate, Repeat, Hold, Delay, LowPass, Clip, SignedConstant, SignedHold, SignedClip, SignedScale, SignedPrefix}
 use Rattle.kpn_signals.specs.Words.{word_below, bound}
 use Rattle.kpn_signals.specs.Shapes.{Admitted}
-use Rattle.kpn_signals.specs.Arithmetic.{sub_join, mul_join, shift_step, left_step}
+use Rattle.kpn_signals.specs.Arithmetic.{sub_join, mul_join, shift_step, left_step, scale_step}
 use Rattle.kpn_signals.specs.Logic.{less_join, equal_join, not_step, and_join, or_join}
+use Rattle.kpn_signals.specs.Ends.{prefix_answer}
 use Rattle.kpn_signals.specs.Rates.{decimate_answer, repeat_answer}
 use Rattle.kpn_signals.specs.Filters.{choice, hold_join, delay_step, low_pass_step, clip_step}
 use Rattle.kpn_signals.specs.Table.{row_of, numbered}
@@ -69,6 +70,15 @@ module _ (card : Card) (s : Signature) (is : ports card ≡ Some s) where
   repeat_lawful n small ins outs l (Some t) fits last_fits =
       let w = word_fits t last_fits in writes card s is _ 0 _ (omega arith) w (rw outs refl) (omega arith, w, omega arith, omega arith)
 
+  -- prefix, whose card has the same
+  prefix_lawful : (v : ℕ) → v < 2 ^ 64 → s.ins ≡ one_word → s.outs ≡ one_word → (l : List ℕ) (last : Option Token) → IsLocal l → LastFits last → IsLawful card (prefix_answer v l last)
+  prefix_lawful v small ins outs l None fits last_fits =
+      by_flag (λ a. IsLawful card a) (at l 0 == 0) _ _
+      (writes card s is _ 0 _ (omega arith) small (rw outs refl) (omega arith, omega arith, omega arith, omega arith))
+      (reads card s is _ 0 (omega arith) (rw ins refl) (omega arith, omega arith, omega arith, omega arith))
+  prefix_lawful v small ins outs l (Some t) fits last_fits =
+      writes card s is _ 0 _ (omega arith) (word_fits t last_fits) (rw outs refl) (omega arith, omega arith, omega arith, omega arith)
+
 -- an answer of each kind is lawful
 kind_lawful : (kind : Signal) (card : Card) → CardFits card → numbered card.kind ≡ Some kind → accepts kind card.args ≡ true → AnswersWell kind card
 kind_lawful Input card small is taken = λ l last fits last_fits. stops card l
@@ -107,6 +117,9 @@ kind_lawful SignedHold card small is taken =
 kind_lawful SignedClip card small is taken =
     step_lawful card _ (has_ports SignedClip card is taken) (clip_step (word_below (at card.args 0)) (bound (at card.args 1) (at card.args 2))) refl
     (λ kept t kept_fits fits. (kept_fits, nearest_fits _ _ _ (below_fits (at card.args 0)) (bound_fits (at card.args 1) (at card.args 2) (argument card 1 (omega arith) small)) (word_fits t fits), refl))
+kind_lawful SignedScale card small is taken =
+    step_lawful card _ (has_ports SignedScale card is taken) (scale_step (word_below (at card.args 0))) refl (λ kept t kept_fits fits. (kept_fits, omega arith, refl))
+kind_lawful SignedPrefix card small is taken = prefix_lawful card _ (has_ports SignedPrefix card is taken) (word_below (at card.args 0)) (below_fits (at card.args 0)) refl refl
 
 -- the start of each kind is a local state
 start_fits : (kind : Signal) (args : List ℕ) → at args 0 < 2 ^ 64 → IsLocal (start_of kind args)

@@ -20,6 +20,10 @@ product x y = (x * y) % 2 ^ 64
 abbrev pub mul_join : ℕ → ℕ → Token → ℕ × Token
 mul_join kept x t = (kept, Word (product x (word t)))
 
+-- scale, signed: steps from a word to its product by k, modulo 2^64
+abbrev pub scale_step : ℕ → List ℕ → Token → List ℕ × Token
+scale_step k kept t = (kept, Word (product (word t) k))
+
 -- shift: steps from a word to the word that stands for its number divided by 2^k, rounded down
 abbrev pub right_shift : ℕ → ℕ → ℕ
 right_shift k w = word_of (int_shr (signed w) k)

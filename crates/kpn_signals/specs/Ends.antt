@@ -1,9 +1,11 @@
--- The kinds that stop at once, that only read, or that only write: what they answer in a local state.
-use Rattle.std.specs.Prelude.{ℕ, ◌+◌, ◌%◌, ◌^◌, List}
+-- The kinds that stop at once, that only read, or that only write, and the one that writes a word before it copies: what they answer
+-- in a local state.
+use Rattle.std.specs.Prelude.{ℕ, ◌+◌, ◌%◌, ◌^◌, ◌==◌, if◌then◌else◌, List, Option, Some, None}
+use Rattle.kpn_model.specs.declared.token.Token.{Token}
 use Rattle.kpn_model.specs.declared.token.Token.TheVariants.{Word}
 use Rattle.kpn_model.specs.declared.kinds.Act.TheVariants.{Read, Write}
 use Rattle.kpn_model.specs.declared.kinds.Answer.{Answer}
-use Rattle.kpn_standard.specs.Locals.{at, says, stays}
+use Rattle.kpn_standard.specs.Locals.{at, says, stays, word}
 
 -- input and input_flags: stop at once; what their channels hold comes from outside
 --     any   the same   stop
@@ -24,3 +26,11 @@ constant_answer v l = record { next = l; act = Write 0 (Word v) }
 --     [i]   [(i + 1) % 2^64]   write i to output 0
 abbrev pub count_up_answer : List ℕ → Answer
 count_up_answer l = says ((at l 0 + 1) % 2 ^ 64) 0 0 (Write 0 (Word (at l 0)))
+
+-- prefix, signed: writes a word v, then each word that it reads
+--     [0]           none  [1]   write v to output 0
+--     [p], p not 0  none  [1]   read input 0
+--     any           w     [1]   write w to output 0
+abbrev pub prefix_answer : ℕ → List ℕ → Option Token → Answer
+prefix_answer v l None = if at l 0 == 0 then says 1 0 0 (Write 0 (Word v)) else says 1 0 0 (Read 0)
+prefix_answer v l (Some t) = says 1 0 0 (Write 0 (Word (word t)))

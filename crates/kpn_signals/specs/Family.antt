@@ -7,11 +7,11 @@ use Rattle.kpn_model.specs.Network.{Family}
 use Rattle.kpn_standard.specs.Locals.{at, one, three, stays}
 use Rattle.kpn_signals.specs.declared.turns.TheConstants.{READS_FIRST}
 use Rattle.kpn_signals.specs.declared.signal.Signal.{Signal}
-use Rattle.kpn_signals.specs.declared.signal.Signal.TheVariants.{Input, InputFlags, Drain, DrainFlags, Constant, CountUp, Sub, Mul, Shift, Left, Less, Equal, Not, And, Or, Decimate, Repeat, Hold, Delay, LowPass, Clip, SignedConstant, SignedHold, SignedClip}
+use Rattle.kpn_signals.specs.declared.signal.Signal.TheVariants.{Input, InputFlags, Drain, DrainFlags, Constant, CountUp, Sub, Mul, Shift, Left, Less, Equal, Not, And, Or, Decimate, Repeat, Hold, Delay, LowPass, Clip, SignedConstant, SignedHold, SignedClip, SignedScale, SignedPrefix}
 use Rattle.kpn_signals.specs.Words.{word_below, bound}
 use Rattle.kpn_signals.specs.Shapes.{step_answer, join_answer}
-use Rattle.kpn_signals.specs.Ends.{input_answer, drain_answer, constant_answer, count_up_answer}
-use Rattle.kpn_signals.specs.Arithmetic.{sub_join, mul_join, shift_step, left_step}
+use Rattle.kpn_signals.specs.Ends.{input_answer, drain_answer, constant_answer, count_up_answer, prefix_answer}
+use Rattle.kpn_signals.specs.Arithmetic.{sub_join, mul_join, shift_step, left_step, scale_step}
 use Rattle.kpn_signals.specs.Logic.{less_join, equal_join, not_step, and_join, or_join}
 use Rattle.kpn_signals.specs.Rates.{decimate_answer, repeat_answer}
 use Rattle.kpn_signals.specs.Filters.{hold_join, delay_step, low_pass_step, clip_step}
@@ -43,6 +43,8 @@ answer_of Clip args l last = step_answer (clip_step (at args 0) (at args 1)) l l
 answer_of SignedConstant args l last = constant_answer (word_below (at args 0)) l
 answer_of SignedHold args l last = join_answer hold_join l last
 answer_of SignedClip args l last = step_answer (clip_step (word_below (at args 0)) (bound (at args 1) (at args 2))) l last
+answer_of SignedScale args l last = step_answer (scale_step (word_below (at args 0))) l last
+answer_of SignedPrefix args l last = prefix_answer (word_below (at args 0)) l last
 
 -- the local state in which a process of a kind begins: hold keeps its argument at first, all else is 0
 abbrev pub start_of : Signal → List ℕ → List ℕ

@@ -5,7 +5,7 @@ use Rattle.kpn_model.specs.declared.kinds.Signature.{Signature}
 use Rattle.kpn_standard.specs.Locals.{at}
 use Rattle.kpn_standard.specs.Signatures.{are_used, given}
 use Rattle.kpn_signals.specs.declared.signal.Signal.{Signal}
-use Rattle.kpn_signals.specs.declared.signal.Signal.TheVariants.{Shift, Left, LowPass, Decimate, Repeat, Delay, Clip, SignedConstant, SignedHold, SignedClip}
+use Rattle.kpn_signals.specs.declared.signal.Signal.TheVariants.{Shift, Left, LowPass, Decimate, Repeat, Delay, Clip, SignedConstant, SignedHold, SignedClip, SignedScale, SignedPrefix}
 use Rattle.kpn_signals.specs.Words.{signed, word_below, bound}
 use Rattle.kpn_signals.specs.Table.{row_of, numbered, called}
 
@@ -16,6 +16,10 @@ number_named name = option_map (λ kind. ((row_of kind).number, (row_of kind).ar
 -- an argument below 0, of which a card has n for -1 - n
 abbrev pub is_below : ℕ → Bool
 is_below n = nat_lt n (2 ^ 63)
+
+-- the arguments of a kind that takes one below 0: that one, and how many there are
+abbrev pub is_one_below : List ℕ → Bool
+is_one_below args = is_below (at args 0) && (at args 1 == 1)
 
 -- the arguments of `clip, signed`: the first bound is below 0, and the second one too if two are
 abbrev pub are_bounds : ℕ → ℕ → ℕ → Bool
@@ -31,8 +35,10 @@ suit Decimate args = nat_lt 0 (at args 0)
 suit Repeat args = nat_lt 0 (at args 0)
 suit Delay args = nat_lt 0 (at args 0) && nat_lt (at args 0) 5
 suit Clip args = int_le (signed (at args 0)) (signed (at args 1))
-suit SignedConstant args = is_below (at args 0) && (at args 1 == 1)
-suit SignedHold args = is_below (at args 0) && (at args 1 == 1)
+suit SignedConstant args = is_one_below args
+suit SignedHold args = is_one_below args
+suit SignedScale args = is_one_below args
+suit SignedPrefix args = is_one_below args
 suit SignedClip args = are_bounds (at args 0) (at args 1) (at args 2)
 suit _ args = true
 

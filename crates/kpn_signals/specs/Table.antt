@@ -6,7 +6,7 @@ use Rattle.kpn_model.specs.declared.token.Sort.{Sort}
 use Rattle.kpn_model.specs.declared.token.Sort.TheVariants.{Flags}
 use Rattle.kpn_standard.specs.Table.{Row, tabled, no_port, one_word, two_words, one_flag, word_and_flag}
 use Rattle.kpn_signals.specs.declared.signal.Signal.{Signal}
-use Rattle.kpn_signals.specs.declared.signal.Signal.TheVariants.{Input, InputFlags, Drain, DrainFlags, Constant, CountUp, Sub, Mul, Shift, Left, Less, Equal, Not, And, Or, Decimate, Repeat, Hold, Delay, LowPass, Clip, SignedConstant, SignedHold, SignedClip}
+use Rattle.kpn_signals.specs.declared.signal.Signal.TheVariants.{Input, InputFlags, Drain, DrainFlags, Constant, CountUp, Sub, Mul, Shift, Left, Less, Equal, Not, And, Or, Decimate, Repeat, Hold, Delay, LowPass, Clip, SignedConstant, SignedHold, SignedClip, SignedScale, SignedPrefix}
 
 abbrev pub two_flags : List (Option Sort)
 two_flags = Some Flags ∷ Some Flags ∷ None ∷ []
@@ -37,16 +37,21 @@ row_of Clip = tabled 20 (codes "clip") 2 one_word one_word
 row_of SignedConstant = tabled 21 (codes "constant, signed") 2 no_port one_word
 row_of SignedHold = tabled 22 (codes "hold, signed") 2 word_and_flag one_word
 row_of SignedClip = tabled 23 (codes "clip, signed") 3 one_word one_word
+row_of SignedScale = tabled 24 (codes "scale, signed") 2 one_word one_word
+row_of SignedPrefix = tabled 25 (codes "prefix, signed") 2 one_word one_word
 
--- the kind by which a description calls a kind: another one only where arguments are below 0
-abbrev pub plain : Signal → Signal
-plain SignedConstant = Constant
-plain SignedHold = Hold
-plain SignedClip = Clip
-plain kind = kind
+-- the name by which a description calls a kind, and how many arguments it then takes: another one than its own only where arguments are
+-- below 0
+abbrev pub called_by : Signal → List ℕ × ℕ
+called_by SignedConstant = (codes "constant", 1)
+called_by SignedHold = (codes "hold", 1)
+called_by SignedClip = (codes "clip", 2)
+called_by SignedScale = (codes "scale", 1)
+called_by SignedPrefix = (codes "prefix", 1)
+called_by kind = ((row_of kind).name, (row_of kind).arguments)
 
 abbrev pub all_kinds : List Signal
-all_kinds = Input ∷ InputFlags ∷ Drain ∷ DrainFlags ∷ Constant ∷ CountUp ∷ Sub ∷ Mul ∷ Shift ∷ Left ∷ Less ∷ Equal ∷ Not ∷ And ∷ Or ∷ Decimate ∷ Repeat ∷ Hold ∷ Delay ∷ LowPass ∷ Clip ∷ SignedConstant ∷ SignedHold ∷ SignedClip ∷ []
+all_kinds = Input ∷ InputFlags ∷ Drain ∷ DrainFlags ∷ Constant ∷ CountUp ∷ Sub ∷ Mul ∷ Shift ∷ Left ∷ Less ∷ Equal ∷ Not ∷ And ∷ Or ∷ Decimate ∷ Repeat ∷ Hold ∷ Delay ∷ LowPass ∷ Clip ∷ SignedConstant ∷ SignedHold ∷ SignedClip ∷ SignedScale ∷ SignedPrefix ∷ []
 
 -- the kind with this number
 abbrev pub numbered : ℕ → Option Signal

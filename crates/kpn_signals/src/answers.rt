@@ -3,8 +3,8 @@ ghost use Rattle.std.specs.Prelude.{◌≡◌, true};
 ghost use Rattle.kpn_signals.specs.Family.{answer_of};
 ghost use Rattle.kpn_signals.specs.Signatures.{accepts};
 
-use crate::arithmetic::{left, mul, shift, sub};
-use crate::ends::{constant, count_up};
+use crate::arithmetic::{left, mul, scale, shift, sub};
+use crate::ends::{constant, count_up, prefix};
 use crate::filters::{clip, delay, hold, low_pass};
 use crate::logic::{and, equal, less, not, or};
 use crate::rates::{decimate, repeat};
@@ -44,5 +44,7 @@ pub fn answer(kind: Signal, args: [u64; 3], local: Local, last: Option<Token>) -
         Signal::SignedConstant => constant(word_below(a), local),
         Signal::SignedHold => hold(local, last),
         Signal::SignedClip => clip(word_below(a), bound(b, c), local, last),
+        Signal::SignedScale => scale(word_below(a), local, last),
+        Signal::SignedPrefix => prefix(word_below(a), local, last),
     }
 }

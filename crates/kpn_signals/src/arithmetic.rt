@@ -1,7 +1,7 @@
 //! The kinds that compute words: each function returns the next answer of its kind.
 ghost use Rattle.std.specs.Prelude.{◌≡◌, ◌<◌};
 ghost use Rattle.kpn_signals.specs.Shapes.{step_answer, join_answer};
-ghost use Rattle.kpn_signals.specs.Arithmetic.{sub_join, mul_join, right_shift, shift_step, left_step};
+ghost use Rattle.kpn_signals.specs.Arithmetic.{sub_join, mul_join, right_shift, scale_step, shift_step, left_step};
 
 use crate::turns::{joined, latest, reads, word, writes_word};
 use kpn_model::{Answer, Local, Token};
@@ -22,6 +22,16 @@ pub(crate) fn mul(local: Local, last: Option<Token>) -> Answer
     let [_, first, kept, _] = local;
     let product = first.wrapping_mul(word(latest(last)));
     joined(local, last, kept, Token::Word(product))
+}
+
+/// Reads a word, and writes its product by `factor` modulo 2^64, for ever.
+pub(crate) fn scale(factor: u64, local: Local, last: Option<Token>) -> Answer
+    ensures { result ≡ step_answer (scale_step factor) local last }
+{
+    match last {
+        None => reads(local),
+        Some(token) => writes_word(local, word(token).wrapping_mul(factor)),
+    }
 }
 
 /// Reads a word, and writes it shifted to the right by `bits` as a signed number, for ever.

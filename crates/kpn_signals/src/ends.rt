@@ -1,9 +1,9 @@
-//! The kinds that only read, or only write: each function returns the next answer of its kind.
+//! The kinds that only write, and the one that writes a word before it copies: each function returns the next answer of its kind.
 ghost use Rattle.std.specs.Prelude.{◌≡◌};
-ghost use Rattle.kpn_signals.specs.Ends.{constant_answer, count_up_answer};
+ghost use Rattle.kpn_signals.specs.Ends.{constant_answer, count_up_answer, prefix_answer};
 
-use crate::turns::writes_word;
-use kpn_model::{Answer, Local};
+use crate::turns::{reads, word, writes_word};
+use kpn_model::{Answer, Local, Token};
 
 /// Writes `value` for ever.
 pub(crate) fn constant(value: u64, local: Local) -> Answer
@@ -18,4 +18,16 @@ pub(crate) fn count_up(local: Local) -> Answer
 {
     let [count, _, _, _] = local;
     writes_word([count.wrapping_add(1), 0, 0, 0], count)
+}
+
+/// Writes `first`, and then each word that it reads, for ever.
+pub(crate) fn prefix(first: u64, local: Local, last: Option<Token>) -> Answer
+    ensures { result ≡ prefix_answer first local last }
+{
+    let begun = [1, 0, 0, 0];
+    match last {
+        Some(token) => writes_word(begun, word(token)),
+        None if local[0] == 0 => writes_word(begun, first),
+        None => reads(begun),
+    }
 }

@@ -4,8 +4,9 @@
 //! Sums, differences and products are modulo 2^64. Where a kind is signed (`shift`, `less`, `low_pass`
 //! and `clip`), a word is a number in two's complement: from 2^63 on it stands for itself less 2^64.
 //!
-//! `constant`, `hold` and `clip` have a second kind each, `constant, signed` and so on, for arguments below 0,
-//! which no card has: of -1 - n it has n, and after its arguments how many of them are below 0.
+//! `constant`, `hold` and `clip`, and the standard `scale` and `prefix`, have a second kind each, `constant, signed`
+//! and so on, for arguments below 0, which no card has: of -1 - n it has n, and after its arguments how many of them
+//! are below 0.
 #![tactic(auto)]
 
 pub mod answers;

@@ -1,7 +1,8 @@
 //! The table of the kinds for signals.
-ghost use Rattle.std.specs.Prelude.{◌≡◌, Some, IfSome};
-ghost use Rattle.kpn_signals.specs.Table.{row_of, numbered, called, plain};
-ghost use Rattle.kpn_signals.specs.Signatures.{accepts, are_bounds, number_named};
+ghost use Rattle.std.specs.Prelude.{◌≡◌, ◌==◌, ◌&&◌, Some, IfSome};
+ghost use Rattle.kpn_signals.specs.Table.{row_of, numbered, called, called_by};
+ghost use Rattle.kpn_standard.specs.Locals.{at};
+ghost use Rattle.kpn_signals.specs.Signatures.{accepts, are_bounds, is_one_below, number_named};
 ghost use Rattle.kpn_signals.specs.Family.{start_of};
 
 use crate::signs::{FIRST_BELOW, bound, word_below};
@@ -63,6 +64,11 @@ pub enum Signal {
     /// `Clip` of numbers of which the first alone or both are below 0: for such a number -1 - n it is given n;
     /// and how many are below 0.
     SignedClip,
+    /// Writes the product of each word by a number below 0, which is given in the same way as to `SignedConstant`,
+    /// modulo 2^64.
+    SignedScale,
+    /// Writes a number below 0, which is given in the same way, and then each word.
+    SignedPrefix,
 }
 
 /// The longest delay: as many words as a process keeps.
@@ -136,6 +142,8 @@ impl Signal {
             Signal::SignedConstant => (21, "constant, signed", 2),
             Signal::SignedHold => (22, "hold, signed", 2),
             Signal::SignedClip => (23, "clip, signed", 3),
+            Signal::SignedScale => (24, "scale, signed", 2),
+            Signal::SignedPrefix => (25, "prefix, signed", 2),
         }
     }
 
@@ -159,7 +167,9 @@ impl Signal {
             | Signal::Delay
             | Signal::LowPass
             | Signal::Clip
-            | Signal::SignedClip => (ONE_WORD, ONE_WORD),
+            | Signal::SignedClip
+            | Signal::SignedScale
+            | Signal::SignedPrefix => (ONE_WORD, ONE_WORD),
             Signal::Less | Signal::Equal => (TWO_WORDS, ONE_FLAG),
             Signal::Not => (ONE_FLAG, ONE_FLAG),
             Signal::And | Signal::Or => (TWO_FLAGS, ONE_FLAG),
@@ -197,6 +207,8 @@ impl Signal {
             21 => Some(Signal::SignedConstant),
             22 => Some(Signal::SignedHold),
             23 => Some(Signal::SignedClip),
+            24 => Some(Signal::SignedScale),
+            25 => Some(Signal::SignedPrefix),
             _ => None,
         }
     }
@@ -230,19 +242,28 @@ impl Signal {
             "constant, signed" => Some(Signal::SignedConstant),
             "hold, signed" => Some(Signal::SignedHold),
             "clip, signed" => Some(Signal::SignedClip),
+            "scale, signed" => Some(Signal::SignedScale),
+            "prefix, signed" => Some(Signal::SignedPrefix),
             _ => None,
         }
     }
 
-    /// Returns the kind by which a description calls this one: another one only where arguments are below 0.
-    pub fn plain(self) -> Signal
-        ensures { result ≡ plain self }
+    /// Returns the name by which a description calls the kind, and how many arguments it then takes: those of
+    /// its row, unless arguments are below 0.
+    pub fn called_by(self) -> (&'static str, usize)
+        ensures name { result.0.now ≡ (called_by self).0 }
+        ensures arguments { result.1 ≡ (called_by self).1 }
     {
         match self {
-            Signal::SignedConstant => Signal::Constant,
-            Signal::SignedHold => Signal::Hold,
-            Signal::SignedClip => Signal::Clip,
-            kind => kind,
+            Signal::SignedConstant => ("constant", 1),
+            Signal::SignedHold => ("hold", 1),
+            Signal::SignedClip => ("clip", 2),
+            Signal::SignedScale => ("scale", 1),
+            Signal::SignedPrefix => ("prefix", 1),
+            kind => {
+                let row = kind.row();
+                (row.name, row.arguments)
+            }
         }
     }
 
@@ -260,7 +281,8 @@ impl Signal {
             Signal::Decimate | Signal::Repeat => one_used && a > 0,
             Signal::Delay => one_used && a > 0 && a <= MAX_DELAY,
             Signal::Constant | Signal::Hold => one_used,
-            Signal::SignedConstant | Signal::SignedHold => two_used && a < FIRST_BELOW && b == 1,
+            Signal::SignedConstant | Signal::SignedHold => is_one_below(args),
+            Signal::SignedScale | Signal::SignedPrefix => is_one_below(args),
             Signal::SignedClip => are_bounds(a, b, c),
             Signal::Input | Signal::InputFlags | Signal::Drain | Signal::DrainFlags => none_used,
             Signal::CountUp | Signal::Sub | Signal::Mul | Signal::Less => none_used,
@@ -278,6 +300,14 @@ impl Signal {
             _ => [0; 4],
         }
     }
+}
+
+/// Whether these are an argument below 0 and how many there are: one.
+fn is_one_below(args: [u64; 3]) -> bool
+    ensures { result ≡ (at args 2 == 0 && is_one_below args) }
+{
+    let [a, below, none] = args;
+    none == 0 && a < FIRST_BELOW && below == 1
 }
 
 /// Whether a process can clip to these bounds, of which the first alone or both are below 0.

@@ -1,1 +1,5 @@
-pub mod TokenLines
+pub mod Numbers
+pub mod Rows
+pub mod Samples
+pub mod Records
+pub mod Heads

@@ -1,11 +1,31 @@
-//! Tokens as text, one on each line.
+//! Tokens as files have them: lines of text, a column of a CSV file, and samples.
+//!
+//! A [`Layout`] says how a file is cut into records, each of which says one token or nothing, and how a token
+//! is written in one. What stands before the records is a head: of a WAV file, or a row of names.
 #![tactic(auto)]
 
-mod line;
-mod text;
-mod written;
+mod appending;
+mod cutting;
+mod heads;
+mod laws;
+mod layouts;
+mod names;
+mod numbers;
+mod reading;
+mod rows;
+mod samples;
+mod saying;
 
+pub use appending::{AppendFault, append_frame, append_row, append_tokens};
+pub use cutting::record_in;
+pub use heads::{LONGEST_HEAD, WavFault, WavHead, append_wav_head, wav_head, wav_sample};
 pub use kpn_model::{Sort, Token};
-pub use line::{LineFault, token_of_line};
-pub use text::{MOST_TOKENS, TokensFault, read_tokens};
-pub use written::{append_tokens, tokens_text};
+pub use laws::reads_back;
+pub use layouts::{
+    Cell, Coding, Column, Cut, Decimals, Endian, Frame, Layout, RecordFault, Sample, Separator,
+    Width,
+};
+pub use names::{append_names, column_named};
+pub use numbers::append_token;
+pub use reading::{MOST_TOKENS, TokensFault, read_tokens};
+pub use saying::token_of_record;

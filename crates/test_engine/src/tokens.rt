@@ -1,59 +1,35 @@
-//! Texts with a token on each line, and what is read of them, worked out by hand.
+//! Files of tokens, and what is read of them and written in them. What is due was worked out by hand, or is what
+//! Python's struct, wave and csv modules read and write.
 use crate::checks::same;
-use kpn_net::Token;
-use kpn_tokens::{
-    LineFault, Sort, TokensFault, append_tokens, read_tokens, token_of_line, tokens_text,
-};
+use kpn_tokens::{Layout, Sort, Token, append_tokens, read_tokens};
+use std::alloc::Global;
+use std::process::Abort;
 
-/// Words: in decimal and hexadecimal, with comments, blanks, other columns, and no line feed at the end.
-const WORDS: &str = "1\n  0x1F # thirty-one\n\n# nothing\n18446744073709551615,3,4\r\n\t7";
+mod columns;
+mod heads;
+mod lines;
+mod samples;
 
-#[test]
-fn reads_words_line_by_line(rt: HostRuntime) {
-    let alloc = rt.alloc();
-    let tokens = read_tokens(alloc, Sort::Words, WORDS).expect(&rt, "words");
-    let due = [1, 31, u64::MAX, 7].map(Token::Word);
-    same(&rt, "words", tokens.as_slice(), due.as_slice());
-    let text = tokens_text(alloc, tokens.as_slice()).expect(&rt, "no memory");
-    same(
-        &rt,
-        "text",
-        text.as_str(),
-        "1\n31\n18446744073709551615\n7\n",
-    );
+/// The word for a number below zero, of which this is the magnitude.
+pub(crate) fn minus(number: u64) -> u64 {
+    0u64.wrapping_sub(number)
 }
 
-#[test]
-fn reads_flags_line_by_line(rt: HostRuntime) {
-    let alloc = rt.alloc();
-    let tokens = read_tokens(alloc, Sort::Flags, "true\nfalse # no\n").expect(&rt, "flags");
-    let due = [true, false].map(Token::Flag);
-    same(&rt, "flags", tokens.as_slice(), due.as_slice());
-    let mut text = tokens_text(alloc, tokens.as_slice()).expect(&rt, "no memory");
-    append_tokens(&mut text, &[Token::Word(5)]).expect(&rt, "no memory");
-    same(&rt, "text", text.as_str(), "true\nfalse\n5\n");
-}
-
-/// Lines that are no token of their sort.
-static WRONG: [(&str, Sort, LineFault); 6] = [
-    ("18446744073709551616", Sort::Words, LineFault::NotAWord),
-    ("-1", Sort::Words, LineFault::NotAWord),
-    ("0x", Sort::Words, LineFault::NotAWord),
-    ("1 2", Sort::Words, LineFault::NotAWord),
-    ("true", Sort::Words, LineFault::NotAWord),
-    ("1", Sort::Flags, LineFault::NotAFlag),
-];
-
-#[test]
-fn names_the_line_that_is_wrong(rt: HostRuntime) {
-    for (line, sort, fault) in &WRONG {
-        same(&rt, line, token_of_line(*sort, line), Err(*fault));
+/// Reads words of bytes, and writes them.
+pub(crate) fn reads_and_writes(
+    rt: &impl Abort,
+    alloc: Global,
+    layout: Layout,
+    bytes: &[u8],
+    words: &[u64],
+) {
+    let tokens = read_tokens(alloc, layout, Sort::Words, bytes).expect(rt, "words");
+    same(rt, "how many", tokens.len(), words.len());
+    for (token, word) in tokens.iter().zip(words) {
+        same(rt, "word", *token, Token::Word(*word));
     }
-    let fault = read_tokens(rt.alloc(), Sort::Words, "1\n\nx\n").err();
-    let number = 3;
-    let due = TokensFault::Line {
-        number,
-        fault: LineFault::NotAWord,
-    };
-    same(&rt, "line", fault, Some(due));
+    let mut out = Vec::new(alloc);
+    let clipped = append_tokens(&mut out, layout, tokens.as_slice());
+    same(rt, "clipped", clipped, Ok(0));
+    same(rt, "bytes", out.as_slice(), bytes);
 }

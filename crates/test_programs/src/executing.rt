@@ -1,5 +1,5 @@
 //! Worked command lines of hox between files in memory: what is written, in order, and the exit status.
-ghost use Rattle.std.specs.Prelude.{◌≡◌, ◌++◌, ◌∷◌, [], OnErr, OnOk};
+ghost use Rattle.std.specs.Prelude.{◌≡◌, ◌++◌, ◌∷◌, []};
 
 use crate::checks::same;
 use crate::drawing::{COUNTER, COUNTER_LINES, drawn};
@@ -19,44 +19,50 @@ use std::rt::Clock;
 use std::sync::Wait;
 use std::thread::Threads;
 
-/// Bytes that were written under a name, or said.
+/// Bytes that were written under a name, or said; or that were to be, which failed.
 #[derive(Drop)]
 struct Done {
     is_said: bool,
+    has_failed: bool,
     name: Text,
     bytes: Listed<u8>,
 }
 
 /// A file of tokens, t, and a description under every other name but none, which can't be opened; and what was done.
+/// Nothing can be written under `full`, nor to standard output if `is_full`.
 #[derive(Drop)]
-struct Memory<'a> {
-    alloc: Global,
+struct Memory<'a, R> {
+    rt: &'a R,
     description: &'a [u8],
     tokens: &'a [u8],
+    is_full: bool,
     done: Vec<Done>,
 }
 
-impl<'a> Memory<'a> {
-    /// Notes what was done.
-    fn note(&mut self, is_said: bool, name: &str, bytes: &[u8]) -> Result<(), AllocError>
-        ensures kept { OnErr result (self.new.done.items ≡ self.old.done.items) }
-        ensures done { OnOk result (self.new.done.items ≡ self.old.done.items ++ record { is_said = is_said; name = name.now; bytes = bytes.now } ∷ []) }
+impl<'a, R: AllocGlobal + Abort> Memory<'a, R> {
+    /// Notes what was done, or has failed.
+    fn note(&mut self, is_said: bool, has_failed: bool, name: &str, bytes: &[u8])
+        ensures { self.new.done.items ≡ self.old.done.items ++ record { is_said = is_said; has_failed = has_failed; name = name.now; bytes = bytes.now } ∷ [] }
     {
-        let name = Text::new(String::from_str(self.alloc, name)?);
-        let bytes = Listed::new(Vec::from_slice(self.alloc, bytes)?);
-        self.done.push(Done {
+        let (rt, alloc) = (self.rt, self.rt.alloc());
+        let name = String::from_str(alloc, name).expect(rt, "no memory");
+        let bytes = Vec::from_slice(alloc, bytes).expect(rt, "no memory");
+        let done = Done {
             is_said,
-            name,
-            bytes,
-        })?;
-        Ok(())
+            has_failed,
+            name: Text::new(name),
+            bytes: Listed::new(bytes),
+        };
+        if self.done.push(done).is_err() {
+            panic!(rt; "no memory");
+        }
     }
 }
 
-impl<'a> FileSystem for Memory<'a> {
-    ghost use Rattle.std.specs.Prelude.{Some, false, codes, map, if◌then◌else◌};
+impl<'a, R: AllocGlobal + Abort> FileSystem for Memory<'a, R> {
+    ghost use Rattle.std.specs.Prelude.{◌&&◌, ◌||◌, Bool, List, ℕ, not, Some, false, codes, map, if◌then◌else◌};
     ghost use Rattle.std.specs.Str.{bytes_eq};
-    ghost use Rattle.hox_execute.specs.Files.{said, wrote};
+    ghost use Rattle.hox_execute.specs.Files.{not_said, not_written, said, standard, wrote};
 
     type Input = &'a [u8];
 
@@ -64,7 +70,9 @@ impl<'a> FileSystem for Memory<'a> {
 
     ghost contents = { λ m name. Some (if bytes_eq name (codes "t") then m.tokens.now else m.description.now) };
 
-    ghost effects = { λ m. Some (map (λ d. if d.is_said then said d.bytes else wrote d.name d.bytes) m.done.items) };
+    ghost clash = { λ _ a w b v. Some (bytes_eq a b && (if bytes_eq a standard then w && v else w || v)) };
+
+    ghost effects = { λ m. Some (map (λ d. if d.is_said then (if d.has_failed then not_said else said d.bytes) else if d.has_failed then not_written d.name else wrote d.name d.bytes) m.done.items) };
 
     ghost is_steady = { λ _. false };
 
@@ -76,29 +84,50 @@ impl<'a> FileSystem for Memory<'a> {
         }
     }
 
+    fn clashes(&self, one: &str, writes_one: bool, other: &str, writes_other: bool) -> bool {
+        let is_clash = match one {
+            "-" => writes_one && writes_other,
+            _ => writes_one || writes_other,
+        };
+        one == other && is_clash
+    }
+
     fn create(&self, _name: &str) -> io::Result<Vec<u8>> {
-        Ok(Vec::new(self.alloc))
+        Ok(Vec::new(self.rt.alloc()))
     }
 
     fn write(&mut self, name: &str, bytes: &[u8]) -> io::Result<()> {
-        self.note(false, name, bytes)?;
+        if name == "full" || self.is_full && name == "-" {
+            self.note(false, true, name, bytes);
+            return Err(io::ErrorKind::StorageFull.into());
+        }
+        self.note(false, false, name, bytes);
         Ok(())
     }
 
     fn say(&mut self, text: &str) -> io::Result<()> {
-        self.note(true, "", text.as_bytes())?;
+        self.note(true, false, "", text.as_bytes());
         Ok(())
     }
 }
 
-/// What was done, as a text: after `> NAME` what was written under it, and after `!` what was said.
-fn trace_of(alloc: Global, memory: &Memory<'_>) -> Result<String, AllocError> {
+/// What was done, as a text: after `> NAME` what was written under it, and after `!` what was said; and `x NAME` where
+/// nothing could be.
+fn trace_of(alloc: Global, done: &[Done]) -> Result<String, AllocError> {
     let mut trace = String::new(alloc);
-    for done in memory.done.as_slice() {
-        trace.push_str(if done.is_said { "!" } else { "> " })?;
+    for done in done {
+        trace.push_str(if done.has_failed {
+            "x "
+        } else if done.is_said {
+            "!"
+        } else {
+            "> "
+        })?;
         trace.push_str(done.name.as_str())?;
         trace.push_str("\n")?;
-        push_bytes(&mut trace, done.bytes.as_slice())?;
+        if !done.has_failed {
+            push_bytes(&mut trace, done.bytes.as_slice())?;
+        }
     }
     Ok(trace)
 }
@@ -114,19 +143,20 @@ fn push_bytes(trace: &mut String, bytes: &[u8]) -> Result<(), AllocError> {
 /// The exit status, or 9 if a stream is to be run.
 fn status_of(outcome: &Result<Outcome<'_>, Stop<'_>>) -> u8 {
     match outcome {
-        Ok(Outcome::Exits(status)) => status.code(),
+        Ok(Outcome::Exits(status) | Outcome::Ran(status, _)) => status.code(),
         Ok(Outcome::Streams(_)) => 9,
         Err(stop) => stop.status().code(),
     }
 }
 
 /// A file of two words, and a description.
-fn memory_of<'a>(alloc: Global, description: &'a str) -> Memory<'a> {
+fn memory_of<'a, R: AllocGlobal>(rt: &'a R, description: &'a str) -> Memory<'a, R> {
     Memory {
-        alloc,
+        rt,
         description: description.as_bytes(),
         tokens: b"1, first\n0x10",
-        done: Vec::new(alloc),
+        is_full: false,
+        done: Vec::new(rt.alloc()),
     }
 }
 
@@ -138,17 +168,27 @@ fn does<R: AllocGlobal + Wait + Clock + Threads + Abort + Sync>(
     status: u8,
     due: &str,
 ) {
+    does_among(rt, memory_of(rt, description), line, status, due);
+}
+
+/// The same, with these files.
+fn does_among<R: AllocGlobal + Wait + Clock + Threads + Abort + Sync>(
+    rt: &R,
+    mut memory: Memory<'_, R>,
+    line: &str,
+    status: u8,
+    due: &str,
+) {
     let alloc = rt.alloc();
     let words: Vec<&str> = line.split(' ').collect(alloc).expect(rt, "no memory");
-    let mut memory = memory_of(alloc, description);
     let outcome = execute::<AllKinds, _, _, _>(rt, alloc, &mut memory, words.as_slice(), &Silent);
     same(rt, line, status_of(&outcome), status);
-    let trace = trace_of(alloc, &memory).expect(rt, "no memory");
+    let trace = trace_of(alloc, memory.done.as_slice()).expect(rt, "no memory");
     same(rt, line, trace.as_str(), due);
 }
 
 /// Command lines on a network through which two words go, with the exit status and what is done.
-static ROWS: [(&str, u8, &str); 14] = [
+static ROWS: [(&str, u8, &str); 23] = [
     (
         "hox check d --tokens x=t",
         0,
@@ -179,6 +219,23 @@ static ROWS: [(&str, u8, &str); 14] = [
         3,
         "> o\n",
     ),
+    (
+        "hox run d --tokens x=t --quiet --out y=full --out x=p",
+        7,
+        "x full\n> p\n1\n16\n",
+    ),
+    (
+        "hox run d --tokens x=t --quiet --out y=o --out x=full",
+        7,
+        "> o\n1\n16\nx full\n",
+    ),
+    ("hox run d --tokens x=t --out y=t", 1, ""),
+    ("hox run d --tokens x=t --out y=d", 1, ""),
+    ("hox run d --tokens x=t --out y=o --out x=o", 1, ""),
+    ("hox run d --tokens x=t --out y=- --out x=-", 1, ""),
+    ("hox run d --tokens x=t --tokens x=u", 1, ""),
+    ("hox check d --tokens x=t --tokens x=t", 1, ""),
+    ("hox run d --tokens x=t --tokens y=t --quiet", 0, ""),
     ("hox run d --tokens x", 1, ""),
     ("hox run d --tokens x=none", 2, ""),
     ("hox run - --tokens x=-", 1, ""),
@@ -193,6 +250,46 @@ static ROWS: [(&str, u8, &str); 14] = [
 fn does_what_a_command_line_asks_for(rt: HostRuntime) {
     for (line, status, due) in &ROWS {
         does(&rt, COPY, line, *status, due);
+    }
+}
+
+/// The streams are written also where the report could not be.
+#[test]
+fn writes_streams_where_standard_output_is_full(rt: HostRuntime) {
+    let mut memory = memory_of(&rt, COPY);
+    memory.is_full = true;
+    does_among(
+        &rt,
+        memory,
+        "hox run d --tokens x=t --out y=o --out x=p",
+        7,
+        "x -\n> o\n1\n16\n> p\n1\n16\n",
+    );
+}
+
+/// Command lines on the words -1 and 2^64 - 1, which are one word, with what is done.
+static WORDS: [(&str, &str); 4] = [
+    ("hox run d --tokens x=t --quiet --out y=o", "> o\n-1\n-1\n"),
+    (
+        "hox run d --tokens x=t --quiet --out y=o --unsigned x",
+        "> o\n-1\n-1\n",
+    ),
+    (
+        "hox run d --tokens x=t --quiet --out y=o --unsigned y",
+        "> o\n18446744073709551615\n18446744073709551615\n",
+    ),
+    (
+        "hox run d --tokens x=t --quiet --out y=o --unsigned all",
+        "> o\n18446744073709551615\n18446744073709551615\n",
+    ),
+];
+
+#[test]
+fn writes_words_with_signs_or_without(rt: HostRuntime) {
+    for (line, due) in &WORDS {
+        let mut memory = memory_of(&rt, COPY);
+        memory.tokens = b"-1\n18446744073709551615\n";
+        does_among(&rt, memory, line, 0, due);
     }
 }
 
@@ -211,9 +308,10 @@ fn streamed<R: AllocGlobal + Abort>(rt: &R, input: &'static str, output: &'stati
         file: None,
         inputs: vec![in alloc; input].expect(rt, "no memory"),
         outputs: vec![in alloc; output].expect(rt, "no memory"),
+        unsigned: Vec::new(alloc),
         quiet: true,
     };
-    let written = match stream::<AllKinds, _>(alloc, &memory_of(alloc, COPY), &choice) {
+    let written = match stream::<AllKinds, _>(alloc, &memory_of(rt, COPY), &choice) {
         Ok(mut streamed) => match streamed.served.outlets.pop() {
             Some(outlet) => String::from_utf8(outlet.into_sink()).ok(),
             None => None,
@@ -226,6 +324,7 @@ fn streamed<R: AllocGlobal + Abort>(rt: &R, input: &'static str, output: &'stati
 /// Why a stream is not run, in a word.
 fn why(stop: &StreamStop<'_>) -> &'static str {
     match stop {
+        StreamStop::Asked(Stop::Clash { .. }) => "clash",
         StreamStop::Asked(_) => "asked",
         StreamStop::OutputTwice => "output twice",
         StreamStop::Refused { .. } => "refused",
@@ -240,6 +339,8 @@ fn streams_from_file_to_file(rt: HostRuntime) {
     for (input, output, due) in [
         ("x=t", "y=o", "1\n16\n"),
         ("x=t", "y", "asked"),
+        ("x=t", "y=t", "clash"),
+        ("x=t", "y=-", "1\n16\n"),
         ("x=none", "y=o", "unread"),
         ("z=t", "y=o", "unopened"),
     ] {

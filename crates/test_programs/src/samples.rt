@@ -4,11 +4,13 @@ ghost use Rattle.std.specs.Prelude.{◌≡◌, ◌≤◌};
 use crate::checks::same;
 use hox_args::{Choice, WordsFault, channel_and_file, read_words};
 use hox_network::{
-    AllKinds, Fault, FileFault, PresetFault, Request, TokenFile, channel_names, load_by_ports,
-    prepare, read_whole, sketch_by_ports,
+    AllKinds, Fault, FileFault, KINDS, PresetFault, Request, StreamText, TokenFile, channel_names,
+    load_by_ports, prepare, read_whole, sketch_by_ports,
 };
-use hox_run::{Progress, Silent, SoFar, Told, execute, serve};
+use hox_run::{Notes, Progress, Silent, SoFar, Told, execute, serve};
+use kpn_message::messages_of_sketch;
 use kpn_net::{Listed, Net, Sort, Text};
+use kpn_tokens::{Decimals, Layout, RecordFault};
 use std::alloc::Global;
 use std::process::Abort;
 use std::rt::Clock;
@@ -64,13 +66,22 @@ fn text_of<R: Abort>(rt: &R, alloc: Global, text: &str) -> Text {
     Text::new(String::from_str(alloc, text).expect(rt, "no memory"))
 }
 
-/// Texts of one's own.
-fn texts_of<R: Abort>(rt: &R, alloc: Global, texts: &[&str]) -> Listed<Text> {
-    let mut own = Vec::new(alloc);
-    for text in texts {
-        own.push(text_of(rt, alloc, *text)).expect(rt, "no memory");
+/// A channel whose stream is wanted, with signs where they are due.
+fn stream_text<R: Abort>(rt: &R, alloc: Global, channel: &str) -> StreamText {
+    StreamText {
+        channel: text_of(rt, alloc, channel),
+        decimals: Decimals::WHOLE,
     }
-    Listed::new(own)
+}
+
+/// Channels whose streams are wanted.
+fn stream_texts<R: Abort>(rt: &R, alloc: Global, channels: &[&str]) -> Listed<StreamText> {
+    let mut texts = Vec::new(alloc);
+    for channel in channels {
+        let text = stream_text(rt, alloc, *channel);
+        texts.push(text).expect(rt, "no memory");
+    }
+    Listed::new(texts)
 }
 
 /// What is asked for without a file of tokens.
@@ -91,7 +102,8 @@ fn file_of<R: Abort>(rt: &R, alloc: Global, channel: &str, tokens: &str) -> Toke
     let bytes = Vec::from_slice(alloc, tokens.as_bytes()).expect(rt, "no memory");
     TokenFile {
         channel: text_of(rt, alloc, channel),
-        text: Listed::new(bytes),
+        layout: Layout::PLAIN,
+        bytes: Listed::new(bytes),
     }
 }
 
@@ -110,7 +122,7 @@ fn asked<R: Abort>(rt: &R, alloc: Global, tokens: &str, workers: usize) -> Reque
     ensures { result.workers ≡ workers }
 {
     let mut request = with_tokens(rt, alloc, tokens, workers);
-    let wanted = text_of(rt, alloc, "y");
+    let wanted = stream_text(rt, alloc, "y");
     request.outputs.push(wanted).expect(rt, "no memory");
     request
 }
@@ -141,7 +153,7 @@ fn compare_report<R: Abort>(rt: &R, told: &Told, status: u8, lines: &str) {
 /// Compares the first output.
 fn compare_output<R: Abort>(rt: &R, told: &Told, lines: &str) {
     let y = told.outputs.as_slice().first().expect(rt, "no output");
-    same(rt, "y", y.as_str(), lines);
+    same(rt, "y", y.as_slice(), lines.as_bytes());
 }
 
 /// Runs the network by so many workers, and compares what is told.
@@ -163,9 +175,57 @@ fn words_of_a_file_go_through(rt: HostRuntime) {
 #[test]
 fn the_streams_of_two_channels_are_shown(rt: HostRuntime) {
     let mut request = asked(&rt, rt.alloc(), "5\n6\n7\n", 1);
-    request.show = texts_of(&rt, rt.alloc(), &["y", "x"]);
+    request.show = stream_texts(&rt, rt.alloc(), &["y", "x"]);
     let told = told_of(&rt, COPY, &request, &Silent);
     compare_report(&rt, &told, 0, SHOWN_LINES);
+}
+
+/// What is noted of the sources of a run: of the first, its channel, its tokens and how many were not read; how many
+/// there are; and the budget that was spent.
+fn noted(notes: &Notes) -> (Option<(&str, usize, usize)>, usize, Option<u64>) {
+    let first = match notes.sources.first() {
+        Some(source) => Some((source.channel.as_str(), source.tokens, source.unread)),
+        None => None,
+    };
+    (first, notes.sources.len(), notes.budget)
+}
+
+#[test]
+fn a_run_notes_what_it_left(rt: HostRuntime) {
+    let request = with_tokens(&rt, rt.alloc(), "5\n-6\n7\n8\n", 1);
+    let told = told_of(&rt, COPY, &request, &Silent);
+    same(
+        &rt,
+        "unread",
+        noted(&told.notes),
+        (Some(("x", 4, 2)), 1, None),
+    );
+    let told = told_of(&rt, COPY, &plain(rt.alloc(), 2), &Silent);
+    same(
+        &rt,
+        "empty",
+        noted(&told.notes),
+        (Some(("x", 0, 0)), 1, None),
+    );
+    let told = told_of(&rt, LOOP, &plain(rt.alloc(), 1), &Silent);
+    same(&rt, "spent", noted(&told.notes), (None, 0, Some(3)));
+}
+
+#[test]
+fn words_below_0_are_read_and_written(rt: HostRuntime) {
+    let mut request = asked(
+        &rt,
+        rt.alloc(),
+        "-9223372036854775808\n18446744073709551615\n",
+        1,
+    );
+    request.show = stream_texts(&rt, rt.alloc(), &["x"]);
+    let told = told_of(&rt, COPY, &request, &Silent);
+    compare_output(&rt, &told, "-9223372036854775808\n-1\n");
+    let has_line = told
+        .report
+        .contains("\nstream x -9223372036854775808 -1\nverdict ran dry\n");
+    same(&rt, "shown", has_line, true);
 }
 
 /// Counts how often it is told how far a run has come, and keeps the entries that it was told last.
@@ -195,7 +255,7 @@ fn shown<R: Abort>(rt: &R, alloc: Global, workers: usize) -> Request
     ensures { result.workers ≡ workers }
 {
     let mut request = plain(alloc, workers);
-    request.show = texts_of(rt, alloc, &["a", "a"]);
+    request.show = stream_texts(rt, alloc, &["a", "a"]);
     request
 }
 
@@ -245,9 +305,9 @@ fn a_line_that_is_no_word_is_told(rt: HostRuntime) {
     };
     let due = PresetFault {
         file: 0,
-        fault: FileFault::Line {
+        fault: FileFault::Record {
             number: 2,
-            fault: kpn_tokens::LineFault::NotAWord,
+            fault: RecordFault::NotAWord,
         },
     };
     same(&rt, "line", stop_in(&fault), (2, Some(due)));
@@ -287,15 +347,16 @@ fn misnamed<R: Abort>(rt: &R, alloc: Global, place: &str) -> Request
     ensures { result.workers ≡ 1 }
 {
     let mut request = asked(rt, alloc, "1\n", 1);
-    let channel = text_of(rt, alloc, "z");
     match place {
         "tokens" => {
-            let text = Listed::new(Vec::new(alloc));
-            let file = TokenFile { channel, text };
+            let file = file_of(rt, alloc, "z", "");
             request.tokens.push(file).expect(rt, "no memory");
         }
-        "show" => request.show = texts_of(rt, alloc, &["y", "z"]),
-        _ => request.outputs.push(channel).expect(rt, "no memory"),
+        "show" => request.show = stream_texts(rt, alloc, &["y", "z"]),
+        _ => {
+            let output = stream_text(rt, alloc, "z");
+            request.outputs.push(output).expect(rt, "no memory");
+        }
     }
     request
 }
@@ -373,8 +434,35 @@ fn an_argument_may_be_negative(rt: HostRuntime) {
     let words = "18446744073709551466\n18446744073709551516\n7\n101\n";
     let request = asked(&rt, rt.alloc(), words, 1);
     let told = told_of(&rt, WITHIN, &request, &Silent);
-    let due = "18446744073709551516\n18446744073709551516\n7\n100\n";
+    let due = "-100\n-100\n7\n100\n";
     compare_output(&rt, &told, due);
+}
+
+/// Two faults, at a process and at a channel.
+const FAULTY: &str = r#"version = 2
+process = [{ name = "src", kind = "input", args = [1] }, { name = "snk", kind = "drain" }]
+channel = [{ name = "x", from = "src", to = "snk", capacity = 0 }]
+"#;
+
+/// Appends a message as a line.
+fn say_of<R: Abort>(rt: &R, said: &mut String, message: &str) {
+    if said.push_str(message).is_err() || said.push_str("\n").is_err() {
+        panic!(rt; "no memory");
+    }
+}
+
+#[test]
+fn each_fault_of_a_description_is_told(rt: HostRuntime) {
+    let rt = &rt;
+    let mut said = String::new(rt.alloc());
+    let sketch = sketch_by_ports::<AllKinds>(rt.alloc(), FAULTY.as_bytes()).expect(rt, "no sketch");
+    let file = &mut said;
+    for message in &messages_of_sketch::<AllKinds>(rt.alloc(), &sketch, KINDS).told {
+        say_of(rt, file, message.text.as_str());
+    }
+    let due =
+        "process \"src\": args has length 1; kind \"input\" takes 0\nchannel \"x\": capacity 0; it must be 1 to 1000000\n";
+    same(rt, "faults", said.as_str(), due);
 }
 
 #[test]

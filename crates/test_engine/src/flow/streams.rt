@@ -1,14 +1,16 @@
 //! Streams between bytes in memory.
 use crate::checks::same;
 use hox_stream::{
-    Exits, Finish, LineRefusal, NameFault, OpenStream, Outlet, Served, StreamFault, open_stream,
-    serve,
+    Exits, Finish, LaidOut, NameFault, OpenStream, Outlet, Refusal, Served, StreamFault,
+    open_stream, serve,
 };
 use kpn_body::Standard;
 use kpn_compute::Both;
 use kpn_model::{End, Text, Verdict};
 use kpn_net::read_sketch;
-use kpn_tokens::LineFault;
+use kpn_tokens::{
+    Coding, Column, Decimals, Endian, Frame, Layout, RecordFault, Sample, Separator, Width,
+};
 use std::alloc::Global;
 use std::process::Abort;
 
@@ -48,49 +50,180 @@ fn name<R: Abort>(rt: &R, alloc: Global, name: &str) -> Text {
     Text::new(String::from_str(alloc, name).expect(rt, "no memory"))
 }
 
-/// One source, of a text.
-fn sources_of<'a, R: Abort>(rt: &R, alloc: Global, text: &'a str) -> Vec<&'a [u8]> {
+/// One source, of bytes that are laid out so.
+fn sources_of<'a, R: Abort>(
+    rt: &R,
+    alloc: Global,
+    bytes: &'a [u8],
+    layout: Layout,
+) -> Vec<LaidOut<&'a [u8]>> {
     let mut sources = Vec::new(alloc);
-    sources.push(text.as_bytes()).expect(rt, "no memory");
+    let source = LaidOut {
+        stream: bytes,
+        layout,
+    };
+    sources.push(source).expect(rt, "no memory");
     sources
 }
 
-/// One sink, of bytes.
-fn sinks_of<R: Abort>(rt: &R, alloc: Global) -> Vec<Vec<u8>> {
+/// One sink, of bytes that are laid out so.
+fn sinks_of<R: Abort>(rt: &R, alloc: Global, layout: Layout) -> Vec<LaidOut<Vec<u8>>> {
     let mut sinks = Vec::new(alloc);
-    sinks.push(Vec::new(alloc)).expect(rt, "no memory");
+    let sink = LaidOut {
+        stream: Vec::new(alloc),
+        layout,
+    };
+    sinks.push(sink).expect(rt, "no memory");
     sinks
 }
 
-/// What is left of the stream of the sums that was fed with a text.
+/// What is left of the stream of the sums that was fed with bytes, from one layout to another.
 fn served_of<'a, R: Abort>(
     rt: &R,
     alloc: Global,
-    text: &'a str,
+    bytes: &'a [u8],
+    from: Layout,
+    to: Layout,
 ) -> Served<Kinds, &'a [u8], Vec<u8>> {
-    let sources = sources_of(rt, alloc, text);
-    let sinks = sinks_of(rt, alloc);
+    let sources = sources_of(rt, alloc, bytes, from);
+    let sinks = sinks_of(rt, alloc, to);
     let (fed, drained) = (name(rt, alloc, "x"), name(rt, alloc, "y"));
     let stream = opened(rt, alloc, &[fed], &[drained]);
     let stream = stream.ok().expect(rt, "no stream");
     serve(alloc, stream, sources, sinks).expect(rt, "no memory")
 }
 
+/// How many records were read and how many tokens were written, and how many of these were clipped.
+fn counted<R: Abort>(rt: &R, served: &Served<Kinds, &[u8], Vec<u8>>) -> (u64, u64, u64) {
+    let inlet = served.inlets.as_slice().first().expect(rt, "no source");
+    let outlet = served.outlets.as_slice().first().expect(rt, "no sink");
+    (inlet.records(), outlet.tokens(), outlet.clipped())
+}
+
 /// Compares what was written to the one sink.
-fn wrote<R: Abort>(rt: &R, outlets: &mut Vec<Outlet<Vec<u8>>>, due: &str) {
+fn wrote<R: Abort>(rt: &R, outlets: &mut Vec<Outlet<Vec<u8>>>, due: &[u8]) {
     let sink = outlets.pop().expect(rt, "no sink").into_sink();
-    same(rt, "written", sink.as_slice(), due.as_bytes());
+    same(rt, "written", sink.as_slice(), due);
 }
 
 /// Streams a text through the sums, compares what was written and why it ended, and returns whether nothing
 /// is left to do.
 fn streamed<R: Abort>(rt: &R, alloc: Global, text: &str, written: &str, due: Finish) -> bool {
-    let mut served = served_of(rt, alloc, text);
+    let mut served = served_of(rt, alloc, text.as_bytes(), Layout::PLAIN, Layout::PLAIN);
     same(rt, "finish", served.finish, due);
-    wrote(rt, &mut served.outlets, written);
+    wrote(rt, &mut served.outlets, written.as_bytes());
     let is_exhausted = served.flow.is_exhausted();
     drop(served);
     is_exhausted
+}
+
+/// Samples of so many bytes, signed.
+fn samples(width: Width, endian: Endian, clips: bool) -> Layout {
+    Layout::Frames(Frame::of(Sample {
+        width,
+        coding: Coding::Signed,
+        endian,
+        clips,
+    }))
+}
+
+/// Streams samples of two bytes, the low one first, through the sums, and compares what was written, what was
+/// counted and why it ended.
+fn sampled<R: Abort>(
+    rt: &R,
+    alloc: Global,
+    bytes: &[u8],
+    to: Layout,
+    written: &[u8],
+    counts: (u64, u64, u64),
+    due: Finish,
+) {
+    let from = samples(Width::Two, Endian::Little, false);
+    let mut served = served_of(rt, alloc, bytes, from, to);
+    same(rt, "finish", served.finish, due);
+    same(rt, "counts", counted(rt, &served), counts);
+    wrote(rt, &mut served.outlets, written);
+    drop(served);
+}
+
+/// 3, -1 and 300, of which the sums are 3, 2 and 299.
+const SAMPLES: &[u8] = &[3, 0, 0xFF, 0xFF, 0x2C, 1];
+
+#[test]
+fn sums_come_of_samples(rt: HostRuntime) {
+    let alloc = rt.alloc();
+    let over = Finish::Over(End::Deadlock);
+    let big = samples(Width::Two, Endian::Big, false);
+    sampled(
+        &rt,
+        alloc,
+        SAMPLES,
+        big,
+        &[0, 3, 0, 2, 1, 0x2B],
+        (3, 3, 0),
+        over,
+    );
+    let clipped = samples(Width::One, Endian::Little, true);
+    sampled(&rt, alloc, SAMPLES, clipped, &[3, 2, 127], (3, 3, 1), over);
+    let narrow = samples(Width::One, Endian::Little, false);
+    sampled(
+        &rt,
+        alloc,
+        SAMPLES,
+        narrow,
+        &[3, 2],
+        (3, 2, 0),
+        Finish::Misfit(0),
+    );
+    let short = Finish::Refused(0, Refusal::Fault(RecordFault::CutShort));
+    sampled(
+        &rt,
+        alloc,
+        &SAMPLES[..5],
+        big,
+        &[0, 3, 0, 2],
+        (2, 2, 0),
+        short,
+    );
+    same(
+        &rt,
+        "status",
+        Finish::Misfit(0).status(Verdict::RanDry).code(),
+        2,
+    );
+}
+
+#[test]
+fn sums_come_of_a_column(rt: HostRuntime) {
+    let alloc = rt.alloc();
+    let from = Layout::Fields(Column {
+        place: 1,
+        separator: Separator::Semicolon,
+        decimals: Decimals {
+            digits: 2,
+            is_unsigned: false,
+        },
+    });
+    let bytes = b"a;0.5\n\"b;c\";-1.25;7\nd;\n";
+    let mut served = served_of(&rt, alloc, bytes, from, Layout::PLAIN);
+    let empty = Finish::Refused(0, Refusal::Fault(RecordFault::EmptyField));
+    same(&rt, "finish", served.finish, empty);
+    wrote(&rt, &mut served.outlets, b"50\n-75\n");
+    drop(served);
+}
+
+#[test]
+fn a_long_line_is_read_on(rt: HostRuntime) {
+    let alloc = rt.alloc();
+    let mut text = Vec::new(alloc);
+    for _ in 0..4096 {
+        text.push(b'#').expect(&rt, "no memory");
+    }
+    text.extend_from_slice(b"\n2\n").expect(&rt, "no memory");
+    let mut served = served_of(&rt, alloc, text.as_slice(), Layout::PLAIN, Layout::PLAIN);
+    same(&rt, "finish", served.finish, Finish::Over(End::Deadlock));
+    wrote(&rt, &mut served.outlets, b"2\n");
+    drop(served);
 }
 
 #[test]
@@ -103,8 +236,8 @@ fn sums_come_of_lines(rt: HostRuntime) {
 
 #[test]
 fn a_line_is_refused(rt: HostRuntime) {
-    let fault = LineRefusal::Fault(LineFault::NotAWord);
-    let due = Finish::Line(0, fault);
+    let fault = Refusal::Fault(RecordFault::NotAWord);
+    let due = Finish::Refused(0, fault);
     streamed(&rt, rt.alloc(), "3\n4\nx\n5\n", "3\n7\n", due);
     same(&rt, "status", due.status(Verdict::RanDry).code(), 2);
 }

@@ -27,7 +27,7 @@ type Row = (
     Act,
 );
 
-static ROWS: [Row; 38] = [
+static ROWS: [Row; 40] = [
     (Signal::Input, [0, 0, 0], &[], &[], &[], Stop),
     (Signal::InputFlags, [0, 0, 0], &[], &[], &[], Stop),
     (
@@ -375,6 +375,22 @@ static ROWS: [Row; 38] = [
         &[Word(LEAST), Word(u64::MAX - 1), Word(u64::MAX - 1)],
         Read(0),
     ),
+    (
+        Signal::SignedScale,
+        [2, 1, 0],
+        &[Word(5), Word(u64::MAX), Word(LEAST)],
+        &[],
+        &[Word(u64::MAX - 14), Word(3), Word(LEAST)],
+        Read(0),
+    ),
+    (
+        Signal::SignedPrefix,
+        [4, 1, 0],
+        &[Word(7), Word(0)],
+        &[],
+        &[Word(u64::MAX - 4), Word(7), Word(0)],
+        Read(0),
+    ),
 ];
 
 /// The longest row has fewer acts.
@@ -486,7 +502,7 @@ fn compare_help<R: Abort>(rt: &R, number: u16, help: &Help)
     same(rt, help.name, found, due);
     let kind = Signal::numbered(number).expect(rt, "no kind");
     same(rt, help.name, Signal::called(help.name), Some(kind));
-    same(rt, help.name, kind.plain(), kind);
+    same(rt, help.name, kind.called_by(), (help.name, arguments));
     let row = kind.row();
     let ports = Signature {
         ins: row.ins,
@@ -500,19 +516,27 @@ fn help_lists_the_kinds(rt: HostRuntime) {
     for number in 0..KINDS {
         compare_help(&rt, number, &LINES[usize::from(number)]);
     }
-    let plain = [
-        Signal::SignedConstant.plain(),
-        Signal::SignedHold.plain(),
-        Signal::SignedClip.plain(),
+    let called = [
+        Signal::SignedConstant.called_by(),
+        Signal::SignedHold.called_by(),
+        Signal::SignedClip.called_by(),
+        Signal::SignedScale.called_by(),
+        Signal::SignedPrefix.called_by(),
     ];
-    let due = [Signal::Constant, Signal::Hold, Signal::Clip];
-    same(&rt, "plain", plain, due);
-    same(&rt, "numbered", Signal::numbered(KINDS + 3), None);
+    let due = [
+        ("constant", 1),
+        ("hold", 1),
+        ("clip", 2),
+        ("scale", 1),
+        ("prefix", 1),
+    ];
+    same(&rt, "called", called, due);
+    same(&rt, "numbered", Signal::numbered(KINDS + 5), None);
     same(&rt, "named", meant::<Signals>("count"), None);
 }
 
 /// A kind's number, arguments, and whether they are accepted.
-static ARGUMENTS: [(u16, [u64; 3], bool); 24] = [
+static ARGUMENTS: [(u16, [u64; 3], bool); 27] = [
     (2, [0, 0, 0], true),
     (2, [1, 0, 0], false),
     (4, [u64::MAX, 0, 0], true),
@@ -536,7 +560,10 @@ static ARGUMENTS: [(u16, [u64; 3], bool); 24] = [
     (23, [4, 1, 2], true),
     (23, [1, 4, 2], false),
     (23, [1, 4, 3], false),
-    (24, [0, 0, 0], false),
+    (24, [GREATEST, 1, 0], true),
+    (24, [2, 0, 0], false),
+    (25, [LEAST, 1, 0], false),
+    (26, [0, 0, 0], false),
 ];
 
 #[test]

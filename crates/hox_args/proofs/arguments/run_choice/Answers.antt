@@ -10,6 +10,7 @@ returns-clause-ok c = (
     tokens = c.in_ok-tokens.ensures.ok;
     outputs = c.in_ok-outputs.ensures.ok;
     show = c.in_ok-show.ensures.ok;
+    unsigned = c.in_ok-unsigned.ensures.ok;
     budget = rw c.text_in-2.ensures at c.in_ok-budget.ensures.ok;
     workers = rw c.text_in.ensures at c.in_ok-workers.ensures.ok;
     progress = c.has_flag-progress.ensures;

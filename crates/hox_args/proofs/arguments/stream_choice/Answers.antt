@@ -8,7 +8,8 @@ returns-clause-ok c = (
   record {
     file = c.text_in-file.ensures;
     inputs = c.in_ok-inputs.ensures.ok;
-    outputs = c.in_ok-texts_in.ensures.ok;
+    outputs = c.in_ok-written.ensures.ok;
+    unsigned = c.in_ok-texts_in.ensures.ok;
     quiet = c.has_flag.ensures;
   },
 )

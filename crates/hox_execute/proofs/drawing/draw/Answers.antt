@@ -32,6 +32,6 @@ returns-clause-stop g c =
       refl,
       record {
         is_asked = c.in_ok-asked.ensures.ok;
-        serves = file_refused (g.S.FileSystem.contents c.args.files.now) g.K.Kinds.named g.K.Kinds.signature c.args.wanted.file.now _ (GivesNet request) c.in-Err.fault (λ net h. h) c.in-Err.ensures;
+        serves = file_refused (g.S.FileSystem.contents c.args.files.now) g.K.Kinds.named g.K.Kinds.signature c.args.wanted.file.now _ (GivesNet request) c.in-Err.field-0.fault (λ net h. h) c.in-Err.ensures;
       },
     )

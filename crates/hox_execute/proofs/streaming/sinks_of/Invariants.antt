@@ -1,7 +1,7 @@
-use Rattle.std.proofs.Common.{take}
+use Rattle.std.proofs.Common.{map, take}
 use Rattle.std.specs.List.{AllZip}
 use Rattle.hox_execute.specs.Streaming.{IsCreated}
 use Rattle.hox_execute.proofs.streaming.sinks_of.Given as goal
 
 abbrev pub invariant-loop-k : goal.invariant-loop-k
-invariant-loop-k g l = AllZip (IsCreated g.S.Output.Sink.seen) (take l.k l.pairs) l.sinks.items
+invariant-loop-k g l = AllZip (IsCreated g.S.Output.Sink.seen (map (λ s. s.now) l.unsigned)) (take l.k l.pairs) l.sinks.items

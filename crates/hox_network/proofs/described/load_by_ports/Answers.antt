@@ -1,7 +1,7 @@
--- A refused text is the source's own, and so its fault is that of the source.
-use Rattle.std.proofs.Common.{false, ◌∙◌, Err}
+-- What the text describes is loaded of the source: a network, or a fault.
+use Rattle.std.proofs.Common.{false, ◌∙◌, Ok, Err}
 use Rattle.kpn_front.specs.Loading.{LoadsChanged}
-use Rattle.kpn_front.proofs.Loaded.{loads_known}
+use Rattle.hox_network.proofs.Meant.{loads_known}
 use Rattle.hox_network.specs.Ports.{as_meant}
 use Rattle.hox_network.proofs.described.load_by_ports.Goals as goal
 
@@ -10,5 +10,13 @@ returns-in-Err-net_of_text-clause-loads g c fresh =
     let named = g.K.Kinds.named in
     let signature = g.K.Kinds.signature in
     let unfailed = c.in-Ok.ensures.failed (λ e. cc) ∙ fresh in
-    let loaded : LoadsChanged (as_meant named signature) named signature false c.in-Ok.text.items (Err c.in-Err-net_of_text.fault) = rw (← c.as_slice.ensures.value) c.in-Err-net_of_text.ensures in
-    loads_known named signature (as_meant named signature) _ _ c.in-Ok.text.items (Err c.in-Err-net_of_text.fault) c.in-Ok.ensures.ok.1 unfailed loaded
+    let loaded : LoadsChanged (as_meant named signature c.in-Ok.text.items) named signature false c.in-Ok.text.items (Err c.in-Err-net_of_text.fault) = rw (← c.as_slice.ensures.value) c.in-Err-net_of_text.ensures in
+    loads_known (as_meant named signature) named signature _ _ c.in-Ok.text.items (Err c.in-Err-net_of_text.fault) c.in-Ok.ensures.ok.1 unfailed loaded
+
+pub returns-in-Ok-net_of_text-clause-loads : goal.returns-in-Ok-net_of_text-clause-loads
+returns-in-Ok-net_of_text-clause-loads g c fresh =
+    let named = g.K.Kinds.named in
+    let signature = g.K.Kinds.signature in
+    let unfailed = c.in-Ok.ensures.failed (λ e. cc) ∙ fresh in
+    let loaded : LoadsChanged (as_meant named signature c.in-Ok.text.items) named signature false c.in-Ok.text.items (Ok c.in-Ok-net_of_text.net) = rw (← c.as_slice.ensures.value) c.in-Ok-net_of_text.ensures in
+    loads_known (as_meant named signature) named signature _ _ c.in-Ok.text.items (Ok c.in-Ok-net_of_text.net) c.in-Ok.ensures.ok.1 unfailed loaded

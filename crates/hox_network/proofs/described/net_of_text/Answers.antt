@@ -8,5 +8,5 @@ pub returns : goal.returns
 returns g c =
     let named = g.K.Kinds.named in
     let signature = g.K.Kinds.signature in
-    loads_from named signature (as_meant named signature) false c.args.text.now c.in_ok-sketch.sketch c.check.result
+    loads_from named signature (as_meant named signature c.args.text.now) false c.args.text.now c.in_ok-sketch.sketch c.check.result
     (refl, c.requires) c.in_ok-sketch.ensures.ok (rw c.in_ok-meant.ensures.ok at c.check.ensures.ok) (rw c.in_ok-meant.ensures.ok at c.check.ensures.fault)

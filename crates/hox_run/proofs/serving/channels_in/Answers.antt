@@ -1,12 +1,18 @@
-use Rattle.std.proofs.Common.{◌≡◌, [], None, get_or, inr, refl, sym, ap, ◌∙◌}
-use Rattle.std.proofs.lemmas.List.{get_or_read}
-use Rattle.kpn_model.specs.Network.{number_of_channel}
+-- One name more, or one that no channel has.
+use Rattle.std.proofs.Common.{◌≡◌, ◌++◌, ◌∷◌, [], inr, refl, rules}
+use Rattle.hox_run.proofs.Named.{lacks, named_all, named_more}
 use Rattle.hox_run.proofs.serving.channels_in.Goals as goal
 
 pub returns-in_default-clause-missing : goal.returns-in_default-clause-missing
 returns-in_default-clause-missing g c =
-    let names = c.args.names.now in
-    let k = c.loop-k.k in
-    let named : c.as_str.result.now ≡ get_or names k [] = c.as_str.ensures ∙ get_or_read names k c.index-names-k.result c.loop-k-test.true c.index-names-k.is [] in
-    let unknown : number_of_channel c.args.net.now (get_or names k []) ≡ None = ap (number_of_channel c.args.net.now) (sym named) ∙ sym c.in_default.ensures.is in
-    inr (k, refl, (c.loop-k-test.true, unknown))
+    inr (c.loop-k.k, refl, lacks c.args.net.now c.args.texts.now c.loop-k.k c.index-texts-k.result c.loop-k-test.true c.index-texts-k.is c.in_default.ensures.none)
+
+pub loop-k-preserved : goal.loop-k-preserved
+loop-k-preserved g c =
+    let net = c.args.net.now in
+    let l = c.loop-k in
+    let pushed : c.push.new.self.items ≡ l.channels.items ++ c.in-Some.channel ∷ [] = search rules in
+    record {
+      named = named_more net c.args.texts.now l.k c.index-texts-k.result l.channels.items c.push.new.self.items c.in-Some.channel c.loop-k-test.true c.index-texts-k.is l.invariant.named pushed c.in-Some.ensures.named;
+      within = rw pushed (search rules);
+    }

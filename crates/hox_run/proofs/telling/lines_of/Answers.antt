@@ -2,5 +2,5 @@
 use Rattle.std.proofs.Common.{rules}
 use Rattle.hox_run.proofs.telling.lines_of.Goals as goal
 
-pub returns : goal.returns
-returns c = search rules
+pub returns-in-Ok : goal.returns-in-Ok
+returns-in-Ok c = search rules

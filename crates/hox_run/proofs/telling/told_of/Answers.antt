@@ -34,3 +34,4 @@ returns g c =
     c.status_of.ensures
     told
     (rw (c.net-net.ensures, c.history-history.ensures) at c.in_ok-outputs_of.ensures)
+    (rw (c.net-net.ensures, c.history-history.ensures, c.standings-standings.ensures, c.as_slice-2.ensures.value) at c.in_ok-notes_of.ensures)

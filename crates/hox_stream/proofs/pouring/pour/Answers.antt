@@ -1,17 +1,9 @@
 -- Nothing is fed, but the source is read on, or the input ends.
-use Rattle.std.proofs.Common.{refl, subst, rules}
-use Rattle.std.proofs.lemmas.Bool.{iff_false}
-use Rattle.std.specs.List.{before_first}
+use Rattle.std.proofs.Common.{◌≡◌, false, refl, sym, ◌∙◌, rules}
 use Rattle.kpn_model.specs.Network.{family_of}
-use Rattle.kpn_model.specs.declared.token.Sort.{Sort}
-use Rattle.kpn_model.specs.Valid.{IsOfSort}
-use Rattle.kpn_tokens.specs.TokenLines.{is_line_feed}
-use Rattle.hox_stream.proofs.Lines.{said_of_sort}
 use Rattle.hox_stream.proofs.Flowed.{pours_ended, pours_none, pours_read}
+use Rattle.hox_stream.proofs.Reading.{never_wants, wants, wants_not}
 use Rattle.hox_stream.proofs.pouring.pour.Goals as goal
-
-pub returns-then-not-may_feed-clause-pours : goal.returns-then-not-may_feed-clause-pours
-returns-then-not-may_feed-clause-pours g c = pours_none (family_of g.B.Kinds.Kinds.start g.B.Kinds.Kinds.answer_of) _ _ _ _ refl refl
 
 pub returns-in-Refused-clause-pours : goal.returns-in-Refused-clause-pours
 returns-in-Refused-clause-pours g c = pours_none (family_of g.B.Kinds.Kinds.start g.B.Kinds.Kinds.answer_of) _ _ _ _ refl refl
@@ -19,16 +11,27 @@ returns-in-Refused-clause-pours g c = pours_none (family_of g.B.Kinds.Kinds.star
 pub returns-then-is_over-clause-pours : goal.returns-then-is_over-clause-pours
 returns-then-is_over-clause-pours g c = pours_ended (family_of g.B.Kinds.Kinds.start g.B.Kinds.Kinds.answer_of) _ _ _ _ c.end_input.ensures
 
-pub returns-else-is_over-clause-pours : goal.returns-else-is_over-clause-pours
-returns-else-is_over-clause-pours g c = pours_read (family_of g.B.Kinds.Kinds.start g.B.Kinds.Kinds.answer_of) _ _ _ c.read_on.ensures.reads
-
-pub returns-then-not-may_feed-clause-other_sort : goal.returns-then-not-may_feed-clause-other_sort
-returns-then-not-may_feed-clause-other_sort g c = λ is same.
-    iff_false c.may_feed.ensures c.if-not-may_feed.true
-    (record {
-      input = rw c.channel-channel.ensures c.requires;
-      sort = rw c.channel-channel.ensures (subst (λ (s : Sort). IsOfSort s c.in-Some.token) same (said_of_sort c.args.inlet.now.sort (before_first is_line_feed c.args.inlet.now.kept) c.in-Line.said c.in-Some.token c.in-Line.ensures.next.0 c.in-Some.is));
-    })
+pub returns-in_err-read_on-in-Wanting-clause-pours : goal.returns-in_err-read_on-in-Wanting-clause-pours
+returns-in_err-read_on-in-Wanting-clause-pours g c = pours_read (family_of g.B.Kinds.Kinds.start g.B.Kinds.Kinds.answer_of) _ _ _ c.read_on.ensures.reads
 
 pub returns-then-is_over-clause-ended : goal.returns-then-is_over-clause-ended
 returns-then-is_over-clause-ended g c = search rules
+
+pub returns-in-Memory-clause-pours : goal.returns-in-Memory-clause-pours
+returns-in-Memory-clause-pours g c = pours_none (family_of g.B.Kinds.Kinds.start g.B.Kinds.Kinds.answer_of) _ _ _ _ refl refl
+
+pub returns-in_err-read_on-in-Wanting-clause-only_if_wanted : goal.returns-in_err-read_on-in-Wanting-clause-only_if_wanted
+returns-in_err-read_on-in-Wanting-clause-only_if_wanted g c = λ no.
+    let unended : c.args.inlet.now.is_over ≡ false = sym c.is_over.ensures.is ∙ c.if-is_over.false in
+    never_wants c.args.inlet.now no (wants c.args.inlet.now unended c.in-Wanting.ensures.next.0)
+
+pub returns-in_ok-read_on-in-Wanting-clause-only_if_wanted : goal.returns-in_ok-read_on-in-Wanting-clause-only_if_wanted
+returns-in_ok-read_on-in-Wanting-clause-only_if_wanted g c = λ no.
+    let unended : c.args.inlet.now.is_over ≡ false = sym c.is_over.ensures.is ∙ c.if-is_over.false in
+    never_wants c.args.inlet.now no (wants c.args.inlet.now unended c.in-Wanting.ensures.next.0)
+
+pub returns-then-ne-clause-pours : goal.returns-then-ne-clause-pours
+returns-then-ne-clause-pours g c = pours_none (family_of g.B.Kinds.Kinds.start g.B.Kinds.Kinds.answer_of) _ _ _ _ refl refl
+
+pub returns-else-ne-clause-read : goal.returns-else-ne-clause-read
+returns-else-ne-clause-read g c = λ more. never_wants c.args.inlet.now (wants_not c.args.inlet.now c.in-Record.ensures.next.4) more

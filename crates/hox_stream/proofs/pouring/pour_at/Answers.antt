@@ -5,14 +5,15 @@ use Rattle.kpn_model.specs.Network.{family_of}
 use Rattle.kpn_flow.specs.Flows.{is_among}
 use Rattle.hox_stream.specs.Views.{InletView, no_inlet}
 use Rattle.hox_stream.proofs.Streamed.{failed_there, other_sort_there, refused_there, streams_poured}
+use Rattle.hox_stream.proofs.Reading.{only_there}
 use Rattle.hox_stream.proofs.pouring.pour_at.Goals as goal
 
 pub returns-in-Ok-clause-streams : goal.returns-in-Ok-clause-streams
 returns-in-Ok-clause-streams g c = λ outs.
     streams_poured (family_of g.B.Kinds.Kinds.start g.B.Kinds.Kinds.answer_of) _ _ c.args.inlets.now outs c.args.k _ c.pour.new.inlet c.requires.within (get_or_default c.args.inlets.now c.args.k c.index-inlets-k.result no_inlet c.requires.within) c.pour.ensures.pours
 
-pub returns-in-Err-Line-clause-streams : goal.returns-in-Err-Line-clause-streams
-returns-in-Err-Line-clause-streams g c = λ outs.
+pub returns-in-Err-Refused-clause-streams : goal.returns-in-Err-Refused-clause-streams
+returns-in-Err-Refused-clause-streams g c = λ outs.
     streams_poured (family_of g.B.Kinds.Kinds.start g.B.Kinds.Kinds.answer_of) _ _ c.args.inlets.now outs c.args.k _ c.pour.new.inlet c.requires.within (get_or_default c.args.inlets.now c.args.k c.index-inlets-k.result no_inlet c.requires.within) c.pour.ensures.pours
 
 pub returns-in-Err-Failed-clause-streams : goal.returns-in-Err-Failed-clause-streams
@@ -27,9 +28,9 @@ pub returns-in-Err-Memory-clause-streams : goal.returns-in-Err-Memory-clause-str
 returns-in-Err-Memory-clause-streams g c = λ outs.
     streams_poured (family_of g.B.Kinds.Kinds.start g.B.Kinds.Kinds.answer_of) _ _ c.args.inlets.now outs c.args.k _ c.pour.new.inlet c.requires.within (get_or_default c.args.inlets.now c.args.k c.index-inlets-k.result no_inlet c.requires.within) c.pour.ensures.pours
 
-pub returns-in-Err-Line-clause-finish : goal.returns-in-Err-Line-clause-finish
-returns-in-Err-Line-clause-finish g c = λ outs.
-    refused_there c.args.inlets.now c.args.k c.pour.new.inlet c.in-Err-Line.refusal c.requires.within (c.in-Err-Line.ensures.line c.in-Err-Line.refusal (cc))
+pub returns-in-Err-Refused-clause-finish : goal.returns-in-Err-Refused-clause-finish
+returns-in-Err-Refused-clause-finish g c = λ outs.
+    refused_there c.args.inlets.now c.args.k c.pour.new.inlet c.in-Err-Refused.refusal c.requires.within (c.in-Err-Refused.ensures.refused c.in-Err-Refused.refusal (cc))
 
 pub returns-in-Err-Failed-clause-finish : goal.returns-in-Err-Failed-clause-finish
 returns-in-Err-Failed-clause-finish g c = λ outs. failed_there c.args.inlets.now c.args.k c.pour.new.inlet c.requires.within (c.in-Err-Failed.ensures.failed (cc))
@@ -42,3 +43,23 @@ pour-requires g c =
     let waited : is_among c.args.flow.now.unended (get_or c.args.inlets.now c.args.k c.index-inlets-k.result).channel ≡ true =
     subst (λ (p : InletView). is_among c.args.flow.now.unended p.channel ≡ true) (sym (get_or_default c.args.inlets.now c.args.k c.index-inlets-k.result no_inlet c.requires.within)) c.requires.input in
     search (rules, waited)
+
+pub returns-in-Ok-clause-only_if_wanted : goal.returns-in-Ok-clause-only_if_wanted
+returns-in-Ok-clause-only_if_wanted g c =
+    only_there c.args.inlets.now c.args.k (get_or c.args.inlets.now c.args.k c.index-inlets-k.result) c.pour.new.inlet c.requires.within (get_or_default c.args.inlets.now c.args.k c.index-inlets-k.result no_inlet c.requires.within) c.pour.ensures.only_if_wanted
+
+pub returns-in-Err-Refused-clause-only_if_wanted : goal.returns-in-Err-Refused-clause-only_if_wanted
+returns-in-Err-Refused-clause-only_if_wanted g c =
+    only_there c.args.inlets.now c.args.k (get_or c.args.inlets.now c.args.k c.index-inlets-k.result) c.pour.new.inlet c.requires.within (get_or_default c.args.inlets.now c.args.k c.index-inlets-k.result no_inlet c.requires.within) c.pour.ensures.only_if_wanted
+
+pub returns-in-Err-Failed-clause-only_if_wanted : goal.returns-in-Err-Failed-clause-only_if_wanted
+returns-in-Err-Failed-clause-only_if_wanted g c =
+    only_there c.args.inlets.now c.args.k (get_or c.args.inlets.now c.args.k c.index-inlets-k.result) c.pour.new.inlet c.requires.within (get_or_default c.args.inlets.now c.args.k c.index-inlets-k.result no_inlet c.requires.within) c.pour.ensures.only_if_wanted
+
+pub returns-in-Err-OtherSort-clause-only_if_wanted : goal.returns-in-Err-OtherSort-clause-only_if_wanted
+returns-in-Err-OtherSort-clause-only_if_wanted g c =
+    only_there c.args.inlets.now c.args.k (get_or c.args.inlets.now c.args.k c.index-inlets-k.result) c.pour.new.inlet c.requires.within (get_or_default c.args.inlets.now c.args.k c.index-inlets-k.result no_inlet c.requires.within) c.pour.ensures.only_if_wanted
+
+pub returns-in-Err-Memory-clause-only_if_wanted : goal.returns-in-Err-Memory-clause-only_if_wanted
+returns-in-Err-Memory-clause-only_if_wanted g c =
+    only_there c.args.inlets.now c.args.k (get_or c.args.inlets.now c.args.k c.index-inlets-k.result) c.pour.new.inlet c.requires.within (get_or_default c.args.inlets.now c.args.k c.index-inlets-k.result no_inlet c.requires.within) c.pour.ensures.only_if_wanted

@@ -9,4 +9,4 @@ pub returns-in_default-clause-streams : goal.returns-in_default-clause-streams
 returns-in_default-clause-streams g c = λ outs. streams_none (family_of g.B.Kinds.Kinds.start g.B.Kinds.Kinds.answer_of) _ _ _ outs refl
 
 pub pour_at-requires-clause-input : goal.pour_at-requires-clause-input
-pour_at-requires-clause-input g c = λ κs lives. (and_parts _ _ c.in-Some.ensures.waited).0
+pour_at-requires-clause-input g c = λ κs lives. (and_parts _ _ c.in-Some.ensures.turn.waited).0

@@ -1,19 +1,19 @@
--- A line is taken, and its token is fed.
+-- A record is taken, and its token is fed.
 use Rattle.std.proofs.Common.{refl}
 use Rattle.kpn_model.specs.Network.{family_of}
-use Rattle.kpn_tokens.specs.TokenLines.{listed}
+use Rattle.kpn_tokens.specs.Records.{listed}
 use Rattle.hox_stream.proofs.Flowed.{pours_none, same_net_of}
-use Rattle.hox_stream.proofs.Ported.{takes_line}
+use Rattle.hox_stream.proofs.Ported.{takes_record}
 use Rattle.hox_stream.proofs.pouring.take_said.Goals as goal
 
-pub returns-then-not-feed_said : goal.returns-then-not-feed_said
-returns-then-not-feed_said g c = pours_none (family_of g.B.Kinds.Kinds.start g.B.Kinds.Kinds.answer_of) _ _ _ _ (c.if-not-feed_said.ensures.not refl) refl
+pub returns-then-not-feed_said-clause-pours : goal.returns-then-not-feed_said-clause-pours
+returns-then-not-feed_said-clause-pours g c = pours_none (family_of g.B.Kinds.Kinds.start g.B.Kinds.Kinds.answer_of) _ _ _ _ (c.if-not-feed_said.ensures.not refl) refl
 
-pub returns : goal.returns
-returns g c = record {
+pub returns-clause-pours : goal.returns-clause-pours
+returns-clause-pours g c = record {
   same = same_net_of _ _ c.feed_said.ensures.same;
   tokens = listed c.args.said;
-  takes = takes_line _ _ c.args.used c.args.said c.requires.next c.requires.at_end c.pass.ensures;
+  takes = takes_record _ _ c.args.used c.args.said c.requires.next c.requires.at_end c.pass.ensures;
   flows = rw c.channel.ensures at (c.if-not-feed_said.ensures.flows refl);
   at_ends = rw c.channel.ensures at (c.if-not-feed_said.ensures.at_ends refl);
 }

@@ -5,7 +5,7 @@ use Rattle.hox_stream.proofs.Paired.{empty, made_more, made_none, made_over, zip
 use Rattle.hox_stream.proofs.serving.inlets_of.Goals as goal
 
 pub loop-source-init : goal.loop-source-init
-loop-source-init g c = record { made = made_none (λ p. new_inlet c.args.net.now p.0 (g.S.Source.remaining p.1) (g.S.Source.has_failed p.1)) c.args.channels.now c.new-inlets.result.items c.new-inlets.ensures.items; left = refl }
+loop-source-init g c = record { made = made_none (λ p. new_inlet c.args.net.now p.0 p.1.layout (g.S.Source.remaining p.1.stream) (g.S.Source.has_failed p.1.stream)) c.args.channels.now c.new-inlets.result.items c.new-inlets.ensures.items; left = refl }
 
 pub loop-source-preserved-in_default : goal.loop-source-preserved-in_default
 loop-source-preserved-in_default g c =

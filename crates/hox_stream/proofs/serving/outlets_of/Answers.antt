@@ -5,7 +5,7 @@ use Rattle.hox_stream.proofs.Paired.{empty, made_more, made_none, made_over, zip
 use Rattle.hox_stream.proofs.serving.outlets_of.Goals as goal
 
 pub loop-sink-init : goal.loop-sink-init
-loop-sink-init g c = record { made = made_none (λ p. new_outlet p.0 (g.S.Sink.seen p.1).contents) c.args.channels.now c.new-outlets.result.items c.new-outlets.ensures.items; rest = refl }
+loop-sink-init g c = record { made = made_none (λ p. new_outlet p.0 p.1.layout (g.S.Sink.seen p.1.stream).contents) c.args.channels.now c.new-outlets.result.items c.new-outlets.ensures.items; rest = refl }
 
 pub loop-sink-preserved-in_default : goal.loop-sink-preserved-in_default
 loop-sink-preserved-in_default g c =

@@ -1,8 +1,9 @@
 -- What came out is written where a source may have to be read on.
-use Rattle.std.proofs.Common.{List, sym, subst}
+use Rattle.std.proofs.Common.{inl, List, sym, ◌∙◌, subst}
 use Rattle.kpn_model.specs.Network.{family_of}
-use Rattle.hox_stream.specs.Streams.{Streams}
+use Rattle.hox_stream.specs.Streams.{AreWritten, Streams}
 use Rattle.hox_stream.specs.Views.{OutletView}
+use Rattle.hox_stream.proofs.Reading.{unheld}
 use Rattle.hox_stream.proofs.Streamed.{some_each, streams_both}
 use Rattle.hox_stream.proofs.streaming.pour.Goals as goal
 use Rattle.hox_stream.proofs.streaming.pour.Goals.{then-wants_more+in_default, else-wants_more}
@@ -24,3 +25,10 @@ returns-clause-streams g c =
 
 pub returns-clause-finish : goal.returns-clause-finish
 returns-clause-finish g c = some_each _ c.pour_next.result c.pour_next.ensures.finish c.if-wants_more.outlets
+
+pub returns-clause-unheld : goal.returns-clause-unheld
+returns-clause-unheld g c =
+    elim c.if-wants_more.branch [
+      | then-wants_more+in_default w ↦ inl (subst AreWritten (sym w.outlets-is) w.flush_all.ensures.written)
+      | else-wants_more w ↦ unheld c.args.inlets.now c.pour_next.new.inlets c.if-wants_more.outlets c.pour_next.ensures.only_if_wanted (sym c.wants_more.ensures ∙ w.if-wants_more.false)
+    ]

@@ -1,7 +1,10 @@
 -- What is drained is written.
-use Rattle.std.proofs.Common.{◌≡◌, true, take, sym, ◌∙◌, subst}
+use Rattle.std.proofs.Common.{◌≡◌, ℕ, [], true, map, take, sym, ◌∙◌, subst}
+use Rattle.kpn_model.specs.Network.{family_of}
+use Rattle.kpn_flow.specs.Events.{Drained, Flows}
 use Rattle.kpn_flow.specs.Flows.{is_among}
-use Rattle.hox_stream.proofs.Flowed.{drained_at_ends, same_net_of}
+use Rattle.hox_stream.proofs.Flowed.{drained_at_ends, same_net_of, tells_none}
+use Rattle.hox_stream.proofs.Ported.{writes_none}
 use Rattle.hox_stream.proofs.telling.tell.Goals as goal
 
 pub returns-in-Ok-clause-tells : goal.returns-in-Ok-clause-tells
@@ -24,4 +27,19 @@ returns-in-Err-clause-tells g c =
       writes = c.write.ensures.writes;
       flows = rw c.channel-channel.ensures at c.drain_into-count.ensures.drained;
       at_ends = drained_at_ends (is_among c.args.flow.now.inputs) (is_among c.args.flow.now.outputs) c.args.outlet.now.channel (take c.drain_into-count.result c.drain_into-count.new.buffer) output;
+    }
+
+pub returns-then-not-is_output-clause-tells : goal.returns-then-not-is_output-clause-tells
+returns-then-not-is_output-clause-tells g c = tells_none (family_of g.B.Kinds.Kinds.start g.B.Kinds.Kinds.answer_of) c.args.flow.now c.args.outlet.now
+
+pub returns-then-count-eq0-clause-tells : goal.returns-then-count-eq0-clause-tells
+returns-then-count-eq0-clause-tells g c =
+    let kinds = family_of g.B.Kinds.Kinds.start g.B.Kinds.Kinds.answer_of in
+    let Led : ℕ → Type 0 = λ n. Flows kinds c.args.flow.now.network c.args.flow.now.state (map (λ token. Drained c.channel-channel.result token) (take n c.drain_into-count.new.buffer)) c.drain_into-count.new.self.state in
+    record {
+      same = same_net_of _ _ c.drain_into-count.ensures.same;
+      tokens = [];
+      writes = writes_none c.args.outlet.now;
+      flows = subst Led c.if-count-eq0.true c.drain_into-count.ensures.drained;
+      at_ends = tt;
     }

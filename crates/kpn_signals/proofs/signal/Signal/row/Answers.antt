@@ -1,7 +1,7 @@
 -- The name in a kind's row means this kind.
 use Rattle.std.proofs.Common.{◌≡◌, Some, refl}
 use Rattle.kpn_signals.specs.declared.signal.Signal.{Signal}
-use Rattle.kpn_signals.specs.declared.signal.Signal.TheVariants.{Input, InputFlags, Drain, DrainFlags, Constant, CountUp, Sub, Mul, Shift, Left, Less, Equal, Not, And, Or, Decimate, Repeat, Hold, Delay, LowPass, Clip, SignedConstant, SignedHold, SignedClip}
+use Rattle.kpn_signals.specs.declared.signal.Signal.TheVariants.{Input, InputFlags, Drain, DrainFlags, Constant, CountUp, Sub, Mul, Shift, Left, Less, Equal, Not, And, Or, Decimate, Repeat, Hold, Delay, LowPass, Clip, SignedConstant, SignedHold, SignedClip, SignedScale, SignedPrefix}
 use Rattle.kpn_signals.specs.Table.{row_of}
 use Rattle.kpn_signals.specs.Signatures.{number_named}
 use Rattle.kpn_signals.proofs.signal.Signal.row.Goals as goal
@@ -31,6 +31,8 @@ means_itself Clip = refl
 means_itself SignedConstant = refl
 means_itself SignedHold = refl
 means_itself SignedClip = refl
+means_itself SignedScale = refl
+means_itself SignedPrefix = refl
 
 pub returns-clause-means : goal.returns-clause-means
 returns-clause-means c = rw (c.heading-number.ensures.name, c.heading-number.ensures.number, c.heading-number.ensures.arguments, means_itself c.args.self)

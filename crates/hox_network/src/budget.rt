@@ -1,0 +1,57 @@
+//! The budget of a description that says none.
+ghost use Rattle.std.specs.Prelude.{◌≡◌, ℕ, List, IsUtf8, IfOk, None};
+ghost use Rattle.toml.specs.Errors.{IsMemory};
+ghost use Rattle.toml.specs.Parse.{parse_document};
+ghost use Rattle.toml.specs.View.{table_view};
+ghost use Rattle.hox_network.specs.Budgets.{has_budget, says_budget, with_greatest_budget};
+
+use kpn_model::version::greatest_budget_in;
+use kpn_net::Sketch;
+use std::alloc::{AllocError, Global};
+use toml::Table;
+use toml::de::Error;
+
+/// The sketch of a text, with the greatest budget of its version if the text says none.
+pub(crate) fn with_greatest_budget(
+    alloc: Global,
+    text: &[u8],
+    sketch: Sketch,
+) -> Result<Sketch, AllocError>
+    requires { IsUtf8 text.now }
+    ensures { IfOk result (λ r. r ≡ with_greatest_budget text.now sketch) }
+{
+    if says_budget(alloc, text)? {
+        return Ok(sketch);
+    }
+    let budget = i64::from(greatest_budget_in(sketch.version));
+    Ok(Sketch { budget, ..sketch })
+}
+
+/// Whether a text says a budget.
+fn says_budget(alloc: Global, text: &[u8]) -> Result<bool, AllocError>
+    requires { IsUtf8 text.now }
+    ensures { IfOk result (λ says. says ≡ says_budget text.now) }
+{
+    match toml::table_from_slice(alloc, text) {
+        Ok(table) => Ok(has_budget(&table)),
+        Err(error) => none_of(&error),
+    }
+}
+
+/// A text that is no TOML says no budget; if memory was refused, nothing is known of it.
+fn none_of(error: &Error) -> Result<bool, AllocError>
+    ensures { (text : List ℕ) → ((IsMemory error.now → ⊥) → IsUtf8 text → parse_document text ≡ None) → IsUtf8 text → IfOk result (λ says. says ≡ says_budget text) }
+{
+    if error.is_memory() {
+        Err(AllocError)
+    } else {
+        Ok(false)
+    }
+}
+
+/// Whether a budget stands in a table.
+fn has_budget(table: &Table) -> bool
+    ensures { result ≡ has_budget (table_view table.now) }
+{
+    table.get("budget").is_some()
+}

@@ -1,0 +1,149 @@
+//! What a run left unused.
+ghost use Rattle.std.specs.Prelude.{◌≡◌, ◌<◌, ◌-◌, ◌∷◌, [], IfOk, Some, map, length};
+ghost use Rattle.std.specs.List.{count_by, flat_map, list_any, range_with_len};
+ghost use Rattle.kpn_model.specs.Network.{channel_of};
+ghost use Rattle.kpn_model.specs.declared.history.Place.TheVariants.{Stopped};
+ghost use Rattle.hox_run.specs.Cuts.{left_at};
+ghost use Rattle.hox_run.specs.Notes.{AreNotes, has_put, is_place_of_stopped, is_put_on, is_source, is_taken_from, source_of, sources_upto, spent, taken_count};
+
+use crate::cut::left_at;
+use kpn_model::{Deed, End, Entry, Kinds, Place, Text};
+use kpn_network::Net;
+use kpn_state::Standing;
+use std::alloc::{AllocError, Global};
+
+/// A channel whose writer has stopped and put nothing on it: how many tokens the channel held at first, and how
+/// many of these were not read.
+#[derive(Drop)]
+pub struct SourceNote {
+    pub channel: Text,
+    pub tokens: usize,
+    pub unread: usize,
+}
+
+/// What a run left unused: what is to be said of its sources, in the order of the channels, and its budget if that
+/// was spent.
+#[derive(Drop)]
+pub struct Notes {
+    pub sources: Vec<SourceNote>,
+    pub budget: Option<u64>,
+}
+
+/// Returns what a run with this history and this end left unused, which left its processes so.
+///
+/// Errors: memory was refused.
+pub(crate) fn notes_of<K: Kinds>(
+    alloc: Global,
+    net: &Net<K>,
+    history: &[Entry],
+    standings: &[Standing],
+    places: &[Place],
+    end: End,
+) -> Result<Notes, AllocError>
+    ensures { IfOk result (AreNotes net.now end history.now (left_at standings.now places.now)) }
+{
+    let mut sources = Vec::new(alloc);
+    for c in 0..net.channels() {
+        if is_source(net, history, standings, places, c) {
+            sources.push(source_of(alloc, net, history, c)?)?;
+        }
+    }
+    Ok(Notes {
+        sources,
+        budget: spent(net, end),
+    })
+}
+
+/// The budget, if it was spent.
+fn spent<K: Kinds>(net: &Net<K>, end: End) -> Option<u64>
+    ensures { result ≡ spent net.now end }
+{
+    match end {
+        End::Budget => Some(net.budget()),
+        End::Terminated | End::Deadlock | End::Ceiling | End::Memory => None,
+    }
+}
+
+/// Whether the writer of a channel has stopped, and put nothing on it.
+fn is_source<K: Kinds>(
+    net: &Net<K>,
+    history: &[Entry],
+    standings: &[Standing],
+    places: &[Place],
+    c: usize,
+) -> bool
+    requires { c < length net.now.channels }
+    ensures { result ≡ is_source net.now history.now (left_at standings.now places.now) c }
+{
+    let left = left_at(standings, places, net.ends(c).writer);
+    is_stopped(left) && !has_put(history, c)
+}
+
+/// Whether a process was left stopped.
+fn is_stopped(left: Option<Place>) -> bool
+    ensures { result ≡ is_place_of_stopped left }
+{
+    matches!(left, Some(Place::Stopped))
+}
+
+/// Whether a token was put on a channel.
+fn has_put(history: &[Entry], c: usize) -> bool
+    ensures { result ≡ has_put history.now c }
+{
+    history.iter().any(|entry| is_put_on(entry, c))
+}
+
+/// Whether an entry is a put on a channel.
+fn is_put_on(entry: &Entry, c: usize) -> bool
+    ensures { result ≡ is_put_on c entry.now }
+{
+    match entry {
+        Entry::Did {
+            deed: Deed::Put { channel, .. },
+            ..
+        } => *channel == c,
+        _ => false,
+    }
+}
+
+/// Whether an entry takes a token from a channel.
+fn is_taken_from(entry: &Entry, c: usize) -> bool
+    ensures { result ≡ is_taken_from c entry.now }
+{
+    match entry {
+        Entry::Did {
+            deed: Deed::Took { channel, .. },
+            ..
+        } => *channel == c,
+        _ => false,
+    }
+}
+
+/// How many tokens were taken from a channel.
+fn taken_count(history: &[Entry], c: usize) -> usize
+    ensures { result ≡ taken_count history.now c }
+{
+    history
+        .iter()
+        .filter(|entry| is_taken_from(*entry, c))
+        .count()
+}
+
+/// What is to be said of a source.
+fn source_of<K: Kinds>(
+    alloc: Global,
+    net: &Net<K>,
+    history: &[Entry],
+    c: usize,
+) -> Result<SourceNote, AllocError>
+    requires { c < length net.now.channels }
+    ensures { IfOk result (λ note. note ≡ source_of net.now history.now c) }
+{
+    let channel = Text::new(String::from_str(alloc, net.channel_name(c))?);
+    let tokens = net.tokens(c).len();
+    Ok(SourceNote {
+        channel,
+        tokens,
+        unread: tokens.saturating_sub(taken_count(history, c)),
+    })
+}

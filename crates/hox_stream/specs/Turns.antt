@@ -1,0 +1,36 @@
+-- Whose turn it is among the sources.
+use Rattle.std.specs.Prelude.{◌≡◌, ◌<◌, ◌≤◌, ◌+◌, ◌⊎◌, ℕ, true, false, List, length}
+use Rattle.kpn_flow.specs.Flows.{FlowView}
+use Rattle.hox_stream.specs.Ports.{IsNotRead, IsReadOnce, wants_more}
+use Rattle.hox_stream.specs.Streams.{AreWritten, inlet_at, is_waited_for}
+use Rattle.hox_stream.specs.Views.{InletView, OutletView}
+
+-- j comes before k if one goes round from n on
+abbrev pub ComesBefore : ℕ → ℕ → ℕ → Type 0
+ComesBefore n j k = ((n ≤ j) × (j < k)) ⊎ ((k < n) × ((n ≤ j) ⊎ (j < k)))
+
+-- it is the turn of source k: it is the first, if one goes round from n on, for whose tokens a process waits
+pub record IsTurnOf (s : FlowView) (ins : List InletView) (n k : ℕ) : Type 0 where
+  pub within : k < length ins
+  pub waited : is_waited_for s (inlet_at ins k) ≡ true
+  pub first : (j : ℕ) → j < length ins → ComesBefore n j k → is_waited_for s (inlet_at ins j) ≡ false
+
+-- the source whose turn it was was poured, and no other: if it wanted more it was read. The next turn begins behind it
+pub record TakesTurn (s : FlowView) (ins after : List InletView) (n next : ℕ) : Type 0 where
+  pub place : ℕ
+  pub turn : IsTurnOf s ins n place
+  pub read : wants_more (inlet_at ins place) ≡ true → IsReadOnce (inlet_at ins place) (inlet_at after place)
+  pub others : (j : ℕ) → (j ≡ place → ⊥) → inlet_at after j ≡ inlet_at ins j
+  pub behind : next ≡ place + 1
+
+-- some source took its turn, or none did
+abbrev pub PassesTurn : List InletView → List InletView → ℕ → ℕ → Type 0
+PassesTurn ins after n next = ((s : FlowView) × TakesTurn s ins after n next) ⊎ ((after ≡ ins) × (next ≡ n))
+
+-- a source that does not want more is not read
+abbrev pub AreReadIfWanted : List InletView → List InletView → Type 0
+AreReadIfWanted ins after = (k : ℕ) → k < length ins → wants_more (inlet_at ins k) ≡ false → IsNotRead (inlet_at ins k) (inlet_at after k)
+
+-- no source is read unless nothing waits to be written
+abbrev pub AreReadUnheld : List InletView → List InletView → List OutletView → Type 0
+AreReadUnheld ins after outs = AreWritten outs ⊎ ((k : ℕ) → k < length ins → IsNotRead (inlet_at ins k) (inlet_at after k))

@@ -1,0 +1,13 @@
+pub mod Places
+pub mod Digits
+pub mod Words
+pub mod Lines
+pub mod Fields
+pub mod RowFacts
+pub mod Cells
+pub mod Plain
+pub mod NumbersBack
+pub mod RecordsBack
+pub mod SamplesBack
+pub mod RowsBack
+pub mod Chunks

@@ -1,7 +1,0 @@
-use Rattle.std.proofs.Common.{◌≡◌, ◌++◌, string_bytes, take}
-use Rattle.std.specs.List.{flat_map}
-use Rattle.kpn_tokens.specs.TokenLines.{token_line}
-use Rattle.kpn_tokens.proofs.written.append_tokens.Given as goal
-
-abbrev pub invariant-loop-token : goal.invariant-loop-token
-invariant-loop-token l = string_bytes l.out ≡ string_bytes l.initial.out ++ flat_map token_line (take l.token-index l.tokens)

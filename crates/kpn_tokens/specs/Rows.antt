@@ -1,0 +1,89 @@
+-- Lines of fields, as `csv` reads them.
+use Rattle.std.specs.Prelude.{◌==◌, ◌++◌, ℕ, Bool, List, [], ◌∷◌, if◌then◌else◌, codes, replicate, Option, Some, None, Result, Ok, Err}
+use Rattle.std.specs.List.{flat_map, list_any}
+use Rattle.std.specs.Option.{option_map_or}
+use Rattle.std.specs.Str.{is_utf8, trim}
+use Rattle.csv.specs.Reading.{default_config, records, strip_bom}
+use Rattle.csv.specs.Records.{Row, field_at, fields_of}
+use Rattle.csv.specs.declared.parser.Config.{Config}
+use Rattle.kpn_model.specs.declared.token.Sort.{Sort}
+use Rattle.kpn_model.specs.declared.token.Token.{Token}
+use Rattle.kpn_tokens.specs.declared.layouts.Cell.{Cell}
+use Rattle.kpn_tokens.specs.declared.layouts.Column.{Column}
+use Rattle.kpn_tokens.specs.declared.layouts.Decimals.{Decimals}
+use Rattle.kpn_tokens.specs.declared.layouts.Separator.{Separator}
+use Rattle.kpn_tokens.specs.declared.layouts.Separator.TheVariants.{Comma, Semicolon, Tab}
+use Rattle.kpn_tokens.specs.declared.layouts.RecordFault.{RecordFault}
+use Rattle.kpn_tokens.specs.declared.layouts.RecordFault.TheVariants.{NoText, NoField, EmptyField, OpenQuote, TwoRows}
+use Rattle.kpn_tokens.specs.Numbers.{token_said, token_text}
+
+abbrev pub is_line_feed : ℕ → Bool
+is_line_feed b = b == 10
+
+abbrev pub separator_byte : Separator → ℕ
+separator_byte Comma = 44
+separator_byte Semicolon = 59
+separator_byte Tab = 9
+
+abbrev pub config_of : Separator → Config
+config_of separator = record default_config { delimiter = separator_byte separator }
+
+-- the rows of a line: none if it is blank, and else one, unless a carriage return within it ends a row
+abbrev pub rows_of : Separator → List ℕ → List (List (List ℕ))
+rows_of separator line = records (config_of separator) (strip_bom (line ++ 10 ∷ []))
+
+-- a field goes on over the end of the line
+abbrev pub is_open_field : List ℕ → Bool
+is_open_field field = list_any is_line_feed field
+
+abbrev pub is_open : List (List ℕ) → Bool
+is_open row = list_any is_open_field row
+
+-- what a text in a field says, without the blanks around it
+abbrev pub filled_said : Decimals → Sort → List ℕ → Result (Option Token) RecordFault
+filled_said decimals sort [] = Err EmptyField
+filled_said decimals sort (b ∷ bs) = token_said decimals sort (b ∷ bs)
+
+abbrev pub field_said : Decimals → Sort → Option (List ℕ) → Result (Option Token) RecordFault
+field_said decimals sort None = Err NoField
+field_said decimals sort (Some field) = if is_utf8 field then filled_said decimals sort (trim field) else Err NoText
+
+-- the row of a line, if it is not blank; or what is wrong with the line
+abbrev pub only_row : List (List (List ℕ)) → Result (Option (List (List ℕ))) RecordFault
+only_row [] = Ok None
+only_row (row ∷ []) = if is_open row then Err OpenQuote else Ok (Some row)
+only_row (row ∷ other ∷ rows) = Err TwoRows
+
+abbrev pub row_in : Separator → List ℕ → Result (Option (List (List ℕ))) RecordFault
+row_in separator line = only_row (rows_of separator line)
+
+-- what contracts see of it
+abbrev pub seen_row : Result (Option Row) RecordFault → Result (Option (List (List ℕ))) RecordFault
+seen_row (Ok None) = Ok None
+seen_row (Ok (Some row)) = Ok (Some (fields_of row))
+seen_row (Err fault) = Err fault
+
+-- what a row says: the field of the column
+abbrev pub row_said : Column → Sort → Result (Option (List (List ℕ))) RecordFault → Result (Option Token) RecordFault
+row_said column sort (Err fault) = Err fault
+row_said column sort (Ok None) = Ok None
+row_said column sort (Ok (Some row)) = field_said column.decimals sort (field_at row column.place)
+
+-- a token in the field of its column; those before it are empty
+abbrev pub field_text : Column → Token → List ℕ
+field_text column token = replicate column.place (separator_byte column.separator) ++ token_text column.decimals token
+
+-- a row of cells with a separator between them, an absent token as an empty field
+abbrev pub cell_text : Cell → List ℕ
+cell_text cell = option_map_or (token_text cell.decimals) cell.token []
+
+-- what stands before the cell at a place
+abbrev pub separator_before : Separator → ℕ → List ℕ
+separator_before separator place = if place == 0 then [] else separator_byte separator ∷ []
+
+abbrev pub cells_text : Separator → List Cell → List ℕ
+cells_text separator [] = []
+cells_text separator (cell ∷ cells) = cell_text cell ++ flat_map (λ other. separator_byte separator ∷ cell_text other) cells
+
+abbrev pub row_text : Separator → List Cell → List ℕ
+row_text separator cells = cells_text separator cells ++ codes "\n"

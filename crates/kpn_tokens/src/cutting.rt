@@ -1,0 +1,61 @@
+//! Where records end.
+ghost use Rattle.std.specs.Prelude.{◌≡◌, true, [], ◌==◌, ◌+◌, ◌<◌, ◌≤◌, IfNone, IfSome, MatchOption, length};
+ghost use Rattle.std.specs.List.{position, position_or_len};
+ghost use Rattle.kpn_tokens.specs.Records.{IsCut, IsEnded, first};
+ghost use Rattle.kpn_tokens.specs.Rows.{is_line_feed};
+
+use crate::layouts::{Cut, Layout};
+
+/// Returns where the first record of some bytes ends, if it is there to its end. The last one need not be,
+/// if no more bytes come: a line needs no line feed then, and a frame that ends early is a fault.
+pub fn record_in(layout: Layout, bytes: &[u8], is_last: bool) -> Option<Cut>
+    ensures cut { IfSome result (IsCut layout bytes.now is_last) }
+    ensures none { IfNone result ((first layout bytes.now ≡ bytes.now) × (is_last ≡ true → bytes.now ≡ [])) }
+    ensures unended { IfNone result (IsEnded layout bytes.now → ⊥) }
+{
+    let ended = match layout {
+        Layout::Lines(_) | Layout::Fields(_) => line_in(bytes),
+        Layout::Frames(frame) => frame_in(frame.size(), bytes),
+    };
+    if ended.is_some() || !is_last || bytes.is_empty() {
+        return ended;
+    }
+    let length = bytes.len();
+    Some(Cut {
+        length,
+        used: length,
+    })
+}
+
+/// Where the first line feed is.
+fn line_feed_in(bytes: &[u8]) -> Option<usize>
+    ensures { result ≡ position is_line_feed bytes.now }
+{
+    bytes.iter().position(|b| *b == b'\n')
+}
+
+/// Where the first line ends, if it has a line feed.
+fn line_in(bytes: &[u8]) -> Option<Cut>
+    ensures { MatchOption result (position_or_len is_line_feed bytes.now ≡ length bytes.now) (λ cut. (cut ≡ record { length = position_or_len is_line_feed bytes.now; used = position_or_len is_line_feed bytes.now + 1 }) × (position_or_len is_line_feed bytes.now < length bytes.now)) }
+{
+    match line_feed_in(bytes) {
+        Some(length) => Some(Cut {
+            length,
+            used: length + 1,
+        }),
+        None => None,
+    }
+}
+
+/// Where the first frame ends, if it is there to its end.
+fn frame_in(size: usize, bytes: &[u8]) -> Option<Cut>
+    ensures { MatchOption result (length bytes.now < size) (λ cut. (cut ≡ record { length = size; used = size }) × (size ≤ length bytes.now)) }
+{
+    if bytes.len() < size {
+        return None;
+    }
+    Some(Cut {
+        length: size,
+        used: size,
+    })
+}

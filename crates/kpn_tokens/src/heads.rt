@@ -1,0 +1,345 @@
+//! What stands before the records of a file: the head of a WAV file, or a row of names.
+ghost use Rattle.std.specs.Prelude.{◌≡◌, ◌<◌, ◌≤◌, ◌+◌, ◌*◌, ◌^◌, ◌++◌, ◌⊎◌, ℕ, true, false, None, Some, IfNone, IfSome, MatchOption, MatchResult, OnOk, length};
+ghost use Rattle.std.specs.List.{flat_map};
+ghost use Rattle.kpn_tokens.specs.Heads.{Finds, IsFrameOf, IsWavResult, after_chunk, body_size, chunk_size, has_letters, if_filled, is_pcm, is_wav, number_at, number_bytes, size_told, wav_sample, wav_text, width_of, width_told};
+ghost use Rattle.kpn_tokens.specs.Samples.{bytes_in};
+
+use crate::layouts::{Coding, Endian, Frame, Sample, Width};
+use byteorder::{ByteOrder, LittleEndian};
+use std::alloc::AllocError;
+
+/// How many bytes may stand before the samples of a WAV file.
+pub const LONGEST_HEAD: usize = 65536;
+
+/// The letters of a WAV file's head, as numbers of four bytes, the first letter the lowest.
+const RIFF: u32 = 0x46464952;
+
+const WAVE: u32 = 0x45564157;
+
+const FORMAT: u32 = 0x20746D66;
+
+const DATA: u32 = 0x61746164;
+
+/// A number of a WAV file's head: of two bytes, or of four.
+#[derive(Clone, Copy, Debug, PartialEq, Eq)]
+enum HeadNumber {
+    Short(u16),
+    Long(u32),
+}
+
+/// What a WAV file tells before its samples: how many channels it has, how many samples of each a second, and
+/// how each is written; how many bytes stand before the samples; and how many bytes the samples have, if that
+/// is told. If it is not, they go on to the end of the file.
+#[derive(Clone, Copy, Debug, PartialEq, Eq)]
+pub struct WavHead {
+    pub channels: u16,
+    pub rate: u32,
+    pub sample: Sample,
+    pub start: usize,
+    pub size: Option<u32>,
+}
+
+/// Why a file is not read as a WAV file.
+#[derive(Clone, Copy, Debug, PartialEq, Eq)]
+pub enum WavFault {
+    /// It does not begin as a WAV file does.
+    NotWav,
+    /// Its samples are not PCM of 8, 16, 24 or 32 bits.
+    NotPcm,
+    /// Nothing before its samples tells what they are.
+    NoFormat,
+    /// It ends before its samples begin.
+    CutShort,
+    /// Its samples begin after more than [`LONGEST_HEAD`] bytes.
+    TooLong,
+}
+
+/// Returns the head of a WAV file, if these first bytes of the file reach to the start of its samples. If no
+/// more bytes come, they have to.
+///
+/// Errors: see [`WavFault`].
+pub fn wav_head(bytes: &[u8], is_last: bool) -> Result<Option<WavHead>, WavFault>
+    ensures { IsWavResult bytes.now is_last result }
+{
+    if bytes.len() >= 12 && !is_wav(bytes) {
+        return Err(WavFault::NotWav);
+    }
+    let Some(samples) = chunk_in(bytes, b"data") else {
+        return wanting(bytes.len(), is_last);
+    };
+    let Some(format) = chunk_in(bytes, b"fmt ") else {
+        return Err(WavFault::NoFormat);
+    };
+    if format >= samples {
+        return Err(WavFault::NoFormat);
+    }
+    match width_told(bytes, format) {
+        Some(width) => Ok(Some(head_of(bytes, format, samples, width))),
+        None => Err(WavFault::NotPcm),
+    }
+}
+
+/// No head yet, as long as more bytes come and there are not too many.
+fn wanting(length: usize, is_last: bool) -> Result<Option<WavHead>, WavFault>
+    ensures { MatchResult result (λ head. (head ≡ None) × (is_last ≡ false) × (length ≤ 65536)) (λ fault. ((fault ≡ WavFault.CutShort) × (is_last ≡ true)) ⊎ ((fault ≡ WavFault.TooLong) × (65536 < length))) }
+{
+    if is_last {
+        Err(WavFault::CutShort)
+    } else if length > LONGEST_HEAD {
+        Err(WavFault::TooLong)
+    } else {
+        Ok(None)
+    }
+}
+
+/// Whether bytes begin as a WAV file does.
+fn is_wav(bytes: &[u8]) -> bool
+    requires { 12 ≤ length bytes.now }
+    ensures { result ≡ is_wav bytes.now }
+{
+    has_letters(bytes, 0, b"RIFF") && has_letters(bytes, 8, b"WAVE")
+}
+
+/// Where the first chunk with these letters stands, if it is there.
+fn chunk_in(bytes: &[u8], letters: &[u8]) -> Option<usize>
+    ensures { MatchOption result ((found : ℕ) → Finds bytes.now letters.now 12 found → ⊥) (λ found. Finds bytes.now letters.now 12 found × (found + 8 ≤ length bytes.now)) }
+{
+    let mut place = 12;
+    while bytes.len() >= 8 && place <= bytes.len() - 8 {
+        if has_letters(bytes, place, letters) {
+            return Some(place);
+        }
+        place = after_chunk(bytes, place);
+    }
+    None
+}
+
+/// Whether these four letters stand at a place.
+fn has_letters(bytes: &[u8], place: usize, letters: &[u8]) -> bool
+    requires { place + 4 ≤ length bytes.now }
+    ensures { result ≡ has_letters letters.now place bytes.now }
+{
+    &bytes[place..place + 4] == letters
+}
+
+/// How many bytes the chunk at a place has.
+fn chunk_size(bytes: &[u8], place: usize) -> usize
+    requires { place + 8 ≤ length bytes.now }
+    ensures size { result ≡ chunk_size place bytes.now }
+    ensures small { result < 2 ^ 32 }
+{
+    LittleEndian::read_u32(&bytes[place + 4..]) as usize
+}
+
+/// Where the chunk after that at a place stands.
+fn after_chunk(bytes: &[u8], place: usize) -> usize
+    requires { place + 8 ≤ length bytes.now }
+    ensures { result ≡ after_chunk place bytes.now }
+{
+    let size = chunk_size(bytes, place);
+    place + 8 + size + size % 2
+}
+
+/// The number of two bytes at a place.
+fn short_at(bytes: &[u8], place: usize) -> u16
+    requires { place + 2 ≤ length bytes.now }
+    ensures { result ≡ number_at 2 place bytes.now }
+{
+    LittleEndian::read_u16(&bytes[place..])
+}
+
+/// The width of samples that the format at a place tells of, if they are PCM.
+fn width_told(bytes: &[u8], format: usize) -> Option<Width>
+    requires { format + 8 + chunk_size format bytes.now ≤ length bytes.now }
+    ensures { result ≡ width_told format bytes.now }
+{
+    if chunk_size(bytes, format) < 16 || !is_pcm(bytes, format) {
+        return None;
+    }
+    match width_of(short_at(bytes, format + 22)) {
+        Some(width) => if_filled(bytes, format, width),
+        None => None,
+    }
+}
+
+/// Whether a format is PCM, or the extensible form of it.
+fn is_pcm(bytes: &[u8], format: usize) -> bool
+    requires whole { format + 8 + chunk_size format bytes.now ≤ length bytes.now }
+    requires long { 16 ≤ chunk_size format bytes.now }
+    ensures { result ≡ is_pcm format bytes.now }
+{
+    let tag = short_at(bytes, format + 8);
+    if tag == 1 {
+        return true;
+    }
+    tag == 0xFFFE && chunk_size(bytes, format) >= 26 && short_at(bytes, format + 32) == 1
+}
+
+/// The width, if a frame has just one sample of it for each channel.
+fn if_filled(bytes: &[u8], format: usize, width: Width) -> Option<Width>
+    requires { format + 24 ≤ length bytes.now }
+    ensures { result ≡ if_filled format bytes.now (Some width) }
+{
+    let channels = short_at(bytes, format + 10) as usize;
+    if channels * width.bytes() == short_at(bytes, format + 20) as usize {
+        Some(width)
+    } else {
+        None
+    }
+}
+
+/// The width of so many bits, if WAV files are read that have it.
+fn width_of(bits: u16) -> Option<Width>
+    ensures { result ≡ width_of bits }
+{
+    match bits {
+        8 => Some(Width::One),
+        16 => Some(Width::Two),
+        24 => Some(Width::Three),
+        32 => Some(Width::Four),
+        _ => None,
+    }
+}
+
+/// The head whose format and samples stand at these places.
+fn head_of(bytes: &[u8], format: usize, samples: usize, width: Width) -> WavHead
+    requires format { format + 24 ≤ length bytes.now }
+    requires samples { samples + 8 ≤ length bytes.now }
+    ensures channels { result.channels ≡ number_at 2 (format + 10) bytes.now }
+    ensures rate { result.rate ≡ number_at 4 (format + 12) bytes.now }
+    ensures sample { result.sample ≡ wav_sample width }
+    ensures start { result.start ≡ samples + 8 }
+    ensures size { result.size ≡ size_told (chunk_size samples bytes.now) }
+{
+    let size = LittleEndian::read_u32(&bytes[samples + 4..]);
+    WavHead {
+        channels: short_at(bytes, format + 10),
+        rate: LittleEndian::read_u32(&bytes[format + 12..]),
+        sample: wav_sample(width),
+        start: samples + 8,
+        size: size_told(size),
+    }
+}
+
+/// How many bytes the samples have, if it is told.
+fn size_told(size: u32) -> Option<u32>
+    ensures { result ≡ size_told size }
+{
+    if size == 0 || size == u32::MAX {
+        None
+    } else {
+        Some(size)
+    }
+}
+
+/// Returns how samples of this width are written in WAV files. One that does not fit is refused.
+pub fn wav_sample(width: Width) -> Sample
+    ensures { result ≡ wav_sample width }
+{
+    Sample {
+        width,
+        coding: match width {
+            Width::One => Coding::Offset,
+            _ => Coding::Signed,
+        },
+        endian: Endian::Little,
+        clips: false,
+    }
+}
+
+impl WavHead {
+    /// Returns the frames in which a channel of the file has its samples, if it has so many channels.
+    pub fn frame(&self, channel: u16) -> Option<Frame>
+        ensures some { IfSome result (IsFrameOf self.now channel) }
+        ensures none { IfNone result (channel < self.now.channels → 2 ^ 16 ≤ self.now.channels * bytes_in self.now.sample.width) }
+    {
+        if channel >= self.channels {
+            return None;
+        }
+        let width = self.sample.width.bytes();
+        let before = channel as usize * width;
+        let after = (self.channels as usize - 1 - channel as usize) * width;
+        if before + after > 65535 {
+            return None;
+        }
+        Some(Frame {
+            before: before as u16,
+            sample: self.sample,
+            after: after as u16,
+        })
+    }
+}
+
+/// Appends the head of a WAV file with so many channels, samples of this width, and so many frames a second.
+/// After it come so many frames, or as many as there are, and one byte more if their bytes are odd.
+///
+/// Errors: memory was refused. Some bytes may have been appended.
+pub fn append_wav_head(
+    out: &mut Vec<u8>,
+    channels: u16,
+    width: Width,
+    rate: u32,
+    frames: Option<u32>,
+) -> Result<(), AllocError>
+    ensures { OnOk result (out.new.items ≡ out.old.items ++ wav_text channels (bytes_in width) rate (body_size frames (channels * bytes_in width))) }
+{
+    let block = channels as u64 * width.bytes() as u64;
+    let size = body_size(frames, block);
+    append_numbers(
+        out,
+        &[
+            HeadNumber::Long(RIFF),
+            HeadNumber::Long((size + size % 2 + 36).min(0xFFFFFFFF) as u32),
+            HeadNumber::Long(WAVE),
+            HeadNumber::Long(FORMAT),
+            HeadNumber::Long(16),
+            HeadNumber::Short(1),
+            HeadNumber::Short(channels),
+            HeadNumber::Long(rate),
+            HeadNumber::Long((rate as u64 * block % (1 << 32)) as u32),
+            HeadNumber::Short((block % (1 << 16)) as u16),
+            HeadNumber::Short(8 * width.bytes() as u16),
+            HeadNumber::Long(DATA),
+            HeadNumber::Long(size as u32),
+        ],
+    )
+}
+
+/// How many bytes so many frames have; the greatest number if that is not known, or is more.
+fn body_size(frames: Option<u32>, block: u64) -> u64
+    requires { block < 2 ^ 20 }
+    ensures size { result ≡ body_size frames block }
+    ensures small { result < 2 ^ 32 }
+{
+    match frames {
+        Some(frames) => (frames as u64 * block).min(0xFFFFFFFF),
+        None => 0xFFFFFFFF,
+    }
+}
+
+/// Appends numbers, one after the other.
+fn append_numbers(out: &mut Vec<u8>, numbers: &[HeadNumber]) -> Result<(), AllocError>
+    ensures { OnOk result (out.new.items ≡ out.old.items ++ flat_map number_bytes numbers.now) }
+{
+    for number in numbers {
+        append_number(out, *number)?;
+    }
+    Ok(())
+}
+
+/// Appends a number, the lowest byte first.
+fn append_number(out: &mut Vec<u8>, number: HeadNumber) -> Result<(), AllocError>
+    ensures { OnOk result (out.new.items ≡ out.old.items ++ number_bytes number) }
+{
+    let mut bytes = [0; 4];
+    match number {
+        HeadNumber::Short(number) => {
+            LittleEndian::write_u16(&mut bytes, number);
+            out.extend_from_slice(&bytes[..2])
+        }
+        HeadNumber::Long(number) => {
+            LittleEndian::write_u32(&mut bytes, number);
+            out.extend_from_slice(&bytes[..4])
+        }
+    }
+}

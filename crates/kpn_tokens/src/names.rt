@@ -1,0 +1,90 @@
+//! Rows of names, which stand before the rows of a CSV file.
+ghost use Rattle.std.specs.Prelude.{◌≡◌, ◌++◌, false, IfOk, OnOk, map, position};
+ghost use Rattle.std.specs.Option.{option_map_or};
+ghost use Rattle.csv.specs.Records.{field_at, fields_of};
+ghost use Rattle.csv.specs.Writing.{row_text};
+ghost use Rattle.kpn_tokens.specs.Heads.{column_in, is_name, names_writer};
+ghost use Rattle.kpn_tokens.specs.Rows.{row_in};
+
+use crate::layouts::{RecordFault, Separator};
+use crate::rows::row_of;
+use csv::{ByteRecord, WriterBuilder};
+use std::alloc::{AllocError, Global};
+use std::str;
+
+/// Returns the place of the column of this name in a row of names, which is given without its line feed: the
+/// first one, if there are more; or what is wrong with the row.
+///
+/// Errors: memory was refused.
+pub fn column_named(
+    alloc: Global,
+    separator: Separator,
+    row: &[u8],
+    name: &str,
+) -> Result<Result<usize, RecordFault>, AllocError>
+    ensures { IfOk result (λ place. place ≡ column_in name.now (row_in separator row.now)) }
+{
+    match row_of(alloc, separator, row)? {
+        Ok(Some(names)) => match place_named(&names, name) {
+            Some(place) => Ok(Ok(place)),
+            None => Ok(Err(RecordFault::NoField)),
+        },
+        Ok(None) => Ok(Err(RecordFault::NoField)),
+        Err(fault) => Ok(Err(fault)),
+    }
+}
+
+/// The place of the first field of this name.
+fn place_named(names: &ByteRecord, name: &str) -> Option<usize>
+    ensures { result ≡ position (is_name name.now) (fields_of names.now) }
+{
+    for place in 0..names.len() {
+        if is_name_at(names, place, name) {
+            return Some(place);
+        }
+    }
+    None
+}
+
+/// Whether the field at a place has this name.
+fn is_name_at(names: &ByteRecord, place: usize, name: &str) -> bool
+    ensures { result ≡ option_map_or (is_name name.now) (field_at (fields_of names.now) place) false }
+{
+    match names.get(place) {
+        Some(field) => is_name(name, field),
+        None => false,
+    }
+}
+
+/// Whether a field has this name, but for blanks around it.
+fn is_name(name: &str, field: &[u8]) -> bool
+    ensures { result ≡ is_name name.now field.now }
+{
+    match str::from_utf8(field) {
+        Ok(text) => text.trim() == name,
+        Err(_) => false,
+    }
+}
+
+/// Appends a row of names, in quotes where need be, with a line feed.
+///
+/// Errors: memory was refused. Nothing is appended then.
+pub fn append_names(
+    alloc: Global,
+    out: &mut Vec<u8>,
+    separator: Separator,
+    names: &[&[u8]],
+) -> Result<(), AllocError>
+    ensures { OnOk result (out.new.items ≡ out.old.items ++ row_text (names_writer separator) (map (λ name. name.now) names.now)) }
+{
+    let mut writer = WriterBuilder::new()
+        .delimiter(separator.byte())
+        .from_writer(Vec::new(alloc));
+    if writer.write_fields(names).is_err() {
+        return Err(AllocError);
+    }
+    match writer.into_inner() {
+        Ok(text) => out.extend_from_slice(text.as_slice()),
+        Err(_) => Err(AllocError),
+    }
+}

@@ -1,0 +1,270 @@
+//! Words and flags as text.
+ghost use Rattle.std.specs.Prelude.{◌≡◌, ◌==◌, ◌+◌, ◌*◌, ◌^◌, ◌/◌, ◌<◌, ◌≤◌, ◌++◌, ◌||◌, [], ◌∷◌, nat_lt, SomeIff, OnOk, decimal, length, true, false, Ok};
+ghost use Rattle.std.specs.Char.{digit_value};
+ghost use Rattle.std.specs.List.{after_first, before_first, list_all, list_any, position};
+ghost use Rattle.std.specs.Str.Parse.{digits_value, digits_value_after};
+ghost use Rattle.kpn_tokens.specs.Records.{IsSaidOf};
+ghost use Rattle.kpn_tokens.specs.Numbers.{are_digits, digits_said, flag_said, is_digit, is_hexadecimal, is_point, is_underscore, last_digits, number_said, token_said, token_text, units_text, word_of, word_said, word_text};
+
+use crate::layouts::{Decimals, RecordFault};
+use itoa::Buffer;
+use kpn_model::{Sort, Token};
+use std::alloc::AllocError;
+
+/// The token of this sort that a text says.
+pub(crate) fn token_in(
+    decimals: Decimals,
+    sort: Sort,
+    text: &str,
+) -> Result<Option<Token>, RecordFault>
+    ensures said { result ≡ token_said decimals sort text.now }
+    ensures sorted { IsSaidOf sort result }
+{
+    match sort {
+        Sort::Words => match word_in(decimals.digits, text.as_bytes()) {
+            Ok(word) => Ok(Some(Token::Word(word))),
+            Err(fault) => Err(fault),
+        },
+        Sort::Flags => match flag_in(text) {
+            Ok(flag) => Ok(Some(Token::Flag(flag))),
+            Err(fault) => Err(fault),
+        },
+    }
+}
+
+/// The flag that a text says.
+fn flag_in(text: &str) -> Result<bool, RecordFault>
+    ensures { result ≡ flag_said text.now }
+{
+    match text {
+        "true" => Ok(true),
+        "false" => Ok(false),
+        _ => Err(RecordFault::NotAFlag),
+    }
+}
+
+/// The word that a text says, in units of 10^-places.
+fn word_in(places: u8, text: &[u8]) -> Result<u64, RecordFault>
+    ensures { result ≡ word_said places text.now }
+{
+    match text.first() {
+        Some(b'-') => match number_in(places, &text[1..]) {
+            Ok(number) => word_below_zero(number),
+            Err(fault) => Err(fault),
+        },
+        Some(b'+') => number_in(places, &text[1..]),
+        _ => number_in(places, text),
+    }
+}
+
+/// The word for a number below zero, of which this is the magnitude.
+fn word_below_zero(number: u64) -> Result<u64, RecordFault>
+    ensures { result ≡ word_of (Ok number) true }
+{
+    if number <= 1 << 63 {
+        Ok(0u64.wrapping_sub(number))
+    } else {
+        Err(RecordFault::OutOfRange)
+    }
+}
+
+/// The number that a text without a sign says, in units of 10^-places.
+fn number_in(places: u8, text: &[u8]) -> Result<u64, RecordFault>
+    ensures { result ≡ word_of (number_said places text.now) false }
+{
+    if text.len() > 1 && text[0] == b'0' && (text[1] == b'x' || text[1] == b'X') {
+        return number_of(0, 16, &text[2..], &[]);
+    }
+    let (whole, part) = at_point(text);
+    number_of(places, 10, whole, part)
+}
+
+/// Where the first point is.
+fn point_in(text: &[u8]) -> Option<usize>
+    ensures { result ≡ position is_point text.now }
+{
+    text.iter().position(|b| *b == b'.')
+}
+
+/// What stands before the first point, and after it.
+fn at_point(text: &[u8]) -> (&[u8], &[u8])
+    ensures before { result.0.now ≡ before_first is_point text.now }
+    ensures after { result.1.now ≡ after_first is_point text.now }
+{
+    match point_in(text) {
+        Some(place) => (&text[..place], &text[place + 1..]),
+        None => (text, &[]),
+    }
+}
+
+/// The number that digits say, of which some stand after a point, in units of 10^-places.
+fn number_of(places: u8, base: u8, whole: &[u8], part: &[u8]) -> Result<u64, RecordFault>
+    requires { 1 < base }
+    ensures { result ≡ word_of (digits_said places base (whole.now ++ part.now) (length part.now)) false }
+{
+    if !(has_digit(base, whole) || has_digit(base, part)) {
+        return Err(RecordFault::NotAWord);
+    }
+    if !(has_only_digits(base, whole) && has_only_digits(base, part)) {
+        return Err(RecordFault::NotAWord);
+    }
+    if whole.contains(&b'_') || part.contains(&b'_') {
+        return Err(RecordFault::Underscore);
+    }
+    if part.len() > places as usize {
+        return Err(RecordFault::TooPrecise);
+    }
+    match value_of(places - part.len() as u8, base, whole, part) {
+        Some(value) => Ok(value),
+        None => Err(RecordFault::OutOfRange),
+    }
+}
+
+/// Whether there is a digit.
+fn has_digit(base: u8, text: &[u8]) -> bool
+    ensures { result ≡ list_any (is_digit base) text.now }
+{
+    text.iter().any(|b| value_of_digit(*b) < base)
+}
+
+/// Whether there are only digits, and maybe `_` among them.
+fn has_only_digits(base: u8, text: &[u8]) -> bool
+    ensures { result ≡ list_all (λ b. is_digit base b || is_underscore b) text.now }
+{
+    text.iter().all(|b| value_of_digit(*b) < base || *b == b'_')
+}
+
+/// The number that a digit says, in any base; 36 if it is none.
+fn value_of_digit(byte: u8) -> u8
+    ensures { result ≡ digit_value byte }
+{
+    match byte {
+        b'0'..=b'9' => byte - b'0',
+        b'A'..=b'Z' => byte - b'A' + 10,
+        b'a'..=b'z' => byte - b'a' + 10,
+        _ => 36,
+    }
+}
+
+/// The number that digits say, and then so many zeros, if it has 64 bits.
+fn value_of(zeros: u8, base: u8, whole: &[u8], part: &[u8]) -> Option<u64>
+    requires { 1 < base }
+    ensures { SomeIff result (digits_value base (whole.now ++ part.now) * 10 ^ zeros < 2 ^ 64) (digits_value base (whole.now ++ part.now) * 10 ^ zeros) }
+{
+    let Some(start) = value_after(0, base, whole) else {
+        return None;
+    };
+    let Some(value) = value_after(start, base, part) else {
+        return None;
+    };
+    scaled(value, zeros)
+}
+
+/// The number that digits say after those of another number, if it has 64 bits.
+fn value_after(start: u64, base: u8, digits: &[u8]) -> Option<u64>
+    requires { 1 < base }
+    ensures { SomeIff result (digits_value_after base start digits.now < 2 ^ 64) (digits_value_after base start digits.now) }
+{
+    let mut value = start;
+    for digit in digits {
+        match with_digit(value, base, *digit) {
+            Some(next) => value = next,
+            None => return None,
+        }
+    }
+    Some(value)
+}
+
+/// A number with a digit after its others, if it has 64 bits.
+fn with_digit(value: u64, base: u8, digit: u8) -> Option<u64>
+    ensures { SomeIff result (value * base + digit_value digit < 2 ^ 64) (value * base + digit_value digit) }
+{
+    value
+        .checked_mul(base as u64)?
+        .checked_add(value_of_digit(digit) as u64)
+}
+
+/// So many times ten, if it has 64 bits.
+fn scaled(value: u64, zeros: u8) -> Option<u64>
+    ensures { SomeIff result (value * 10 ^ zeros < 2 ^ 64) (value * 10 ^ zeros) }
+{
+    if value == 0 {
+        return Some(0);
+    }
+    value.checked_mul(10u64.checked_pow(zeros as u32)?)
+}
+
+/// Appends the text of a token, as [`token_of_record`](crate::token_of_record) reads it in a line.
+///
+/// Errors: memory was refused. Some of the text may have been appended.
+pub fn append_token(out: &mut Vec<u8>, decimals: Decimals, token: Token) -> Result<(), AllocError>
+    ensures { OnOk result (out.new.items ≡ out.old.items ++ token_text decimals token) }
+{
+    match token {
+        Token::Word(word) => append_word(out, decimals, word),
+        Token::Flag(true) => out.extend_from_slice(b"true"),
+        Token::Flag(false) => out.extend_from_slice(b"false"),
+    }
+}
+
+/// Appends the text of a word.
+fn append_word(out: &mut Vec<u8>, decimals: Decimals, word: u64) -> Result<(), AllocError>
+    ensures { OnOk result (out.new.items ≡ out.old.items ++ word_text decimals word) }
+{
+    if decimals.is_unsigned || word < 1 << 63 {
+        return append_units(out, decimals.digits, word);
+    }
+    out.extend_from_slice(b"-")?;
+    append_units(out, decimals.digits, 0u64.wrapping_sub(word))
+}
+
+/// Appends the text of so many units of 10^-places.
+fn append_units(out: &mut Vec<u8>, places: u8, number: u64) -> Result<(), AllocError>
+    ensures { OnOk result (out.new.items ≡ out.old.items ++ units_text places number) }
+{
+    if places == 0 {
+        return append_decimal(out, number);
+    }
+    append_decimal(out, whole_of(number, places))?;
+    out.extend_from_slice(b".")?;
+    append_last_digits(out, places, number)
+}
+
+/// How many whole ones there are in so many units of 10^-places.
+fn whole_of(number: u64, places: u8) -> u64
+    ensures { result ≡ number / 10 ^ places }
+{
+    match 10u64.checked_pow(places as u32) {
+        Some(units) => number / units,
+        None => 0,
+    }
+}
+
+/// Appends the decimal digits of a number.
+fn append_decimal(out: &mut Vec<u8>, number: u64) -> Result<(), AllocError>
+    ensures { OnOk result (out.new.items ≡ out.old.items ++ decimal number) }
+{
+    let mut digits = Buffer::new();
+    out.extend_from_slice(digits.format(number).as_bytes())
+}
+
+/// Appends the last digits of a number, so many.
+fn append_last_digits(out: &mut Vec<u8>, count: u8, number: u64) -> Result<(), AllocError>
+    ensures { OnOk result (out.new.items ≡ out.old.items ++ last_digits count number) }
+{
+    if count == 0 {
+        return Ok(());
+    }
+    append_last_digits(out, count - 1, number / 10)?;
+    append_byte(out, b'0' + (number % 10) as u8)
+}
+
+/// Appends a byte.
+pub(crate) fn append_byte(out: &mut Vec<u8>, byte: u8) -> Result<(), AllocError>
+    ensures { OnOk result (out.new.items ≡ out.old.items ++ byte ∷ []) }
+{
+    match out.push(byte) {
+        Ok(()) => Ok(()),
+        Err(_) => Err(AllocError),
+    }
+}

@@ -1,0 +1,97 @@
+//! What a file says, record by record.
+ghost use Rattle.std.specs.Prelude.{◌≡◌, ◌≢◌, ◌<◌, ◌≤◌, ◌+◌, ℕ, List, Ok, Err, IfErr, IfOk, IfSome, length};
+ghost use Rattle.std.specs.List.{AllByRecursion};
+ghost use Rattle.kpn_model.specs.declared.token.Token.{Token as TokenV};
+ghost use Rattle.kpn_model.specs.Valid.{IsOfSort};
+ghost use Rattle.kpn_tokens.specs.declared.layouts.RecordFault.{RecordFault as RecordFaultV};
+ghost use Rattle.kpn_tokens.specs.Records.{Begin, Fails, Say, first, record_said, rest};
+
+use crate::cutting::record_in;
+use crate::layouts::{Layout, RecordFault};
+use crate::saying::token_of_record;
+use kpn_model::{Sort, Token};
+use std::alloc::Global;
+
+/// How many tokens a file may have.
+pub const MOST_TOKENS: usize = 1000000;
+
+/// Why a file has no tokens: what is wrong with a record, of which the number counts from 1; it has more than
+/// 1,000,000 tokens; or memory was refused.
+#[derive(Clone, Copy, Debug, PartialEq, Eq)]
+pub enum TokensFault {
+    Record { number: usize, fault: RecordFault },
+    TooMany,
+    Memory,
+}
+
+/// Returns the tokens of a file, as [`token_of_record`] reads each of its records. A last line need not end
+/// with a line feed.
+///
+/// Errors: see [`TokensFault`]. A fault of a record is that of the first record that has one.
+pub fn read_tokens(
+    alloc: Global,
+    layout: Layout,
+    sort: Sort,
+    bytes: &[u8],
+) -> Result<Vec<Token>, TokensFault>
+    ensures says { IfOk result (λ tokens. Say layout sort bytes.now tokens.items) }
+    ensures sorted { IfOk result (λ tokens. AllByRecursion (IsOfSort sort) tokens.items) }
+    ensures few { IfOk result (λ tokens. length tokens.items ≤ 1000000) }
+    ensures line { (number : ℕ) (fault : RecordFaultV) → result ≡ Err (TokensFault.Record number fault) → Fails layout sort bytes.now number fault }
+    ensures many { result ≡ Err TokensFault.TooMany → (tokens : List TokenV) × Begin layout sort bytes.now tokens × (length tokens ≡ 1000001) }
+{
+    let mut tokens = Vec::new(alloc);
+    let mut rest = bytes;
+    let mut number = 0;
+    while !rest.is_empty() {
+        number += 1;
+        let (first, after) = first_record(layout, rest);
+        match token_at(alloc, layout, sort, number, first) {
+            Ok(Some(token)) => {
+                if tokens.len() == MOST_TOKENS {
+                    return Err(TokensFault::TooMany);
+                }
+                if tokens.push(token).is_err() {
+                    return Err(TokensFault::Memory);
+                }
+            }
+            Ok(None) => {}
+            Err(fault) => return Err(fault),
+        }
+        rest = after;
+    }
+    Ok(tokens)
+}
+
+/// The token of the record of this number.
+fn token_at(
+    alloc: Global,
+    layout: Layout,
+    sort: Sort,
+    number: usize,
+    bytes: &[u8],
+) -> Result<Option<Token>, TokensFault>
+    ensures said { IfOk result (λ said. record_said layout sort bytes.now ≡ Ok said) }
+    ensures sorted { IfOk result (λ said. IfSome said (IsOfSort sort)) }
+    ensures fault { IfErr result (λ e. (n : ℕ) (fault : RecordFaultV) → e ≡ TokensFault.Record n fault → (number ≡ n) × (record_said layout sort bytes.now ≡ Err fault)) }
+    ensures few { IfErr result (λ e. e ≢ TokensFault.TooMany) }
+{
+    match token_of_record(alloc, layout, sort, bytes) {
+        Ok(Ok(said)) => Ok(said),
+        Ok(Err(fault)) => Err(TokensFault::Record { number, fault }),
+        Err(_) => Err(TokensFault::Memory),
+    }
+}
+
+/// The first record of a file, without its line feed, and what follows.
+fn first_record(layout: Layout, bytes: &[u8]) -> (&[u8], &[u8])
+    requires { 0 < length bytes.now }
+    ensures first { result.0.now ≡ first layout bytes.now }
+    ensures rest { result.1.now ≡ rest layout bytes.now }
+    ensures shorter { length result.1.now + 1 ≤ length bytes.now }
+{
+    match record_in(layout, bytes, true) {
+        Some(cut) => (&bytes[..cut.length], &bytes[cut.used..]),
+        None => (bytes, &[]),
+    }
+}

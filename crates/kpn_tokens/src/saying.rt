@@ -1,0 +1,85 @@
+//! What a record says.
+ghost use Rattle.std.specs.Prelude.{◌≡◌, ◌==◌, ◌<◌, IfOk, slice_index};
+ghost use Rattle.std.specs.List.{before_first};
+ghost use Rattle.csv.specs.Reading.{is_bom, strip_bom};
+ghost use Rattle.kpn_tokens.specs.Records.{IsSaidOf, cell, record_said, text_said};
+
+use crate::layouts::{Decimals, Layout, RecordFault};
+use crate::numbers::token_in;
+use crate::rows::said_by_row;
+use crate::samples::said_by_frame;
+use kpn_model::{Sort, Token};
+use std::alloc::{AllocError, Global};
+use std::str;
+
+/// Returns the token of a record, of this sort, which is given without its line feed; `None` if it says
+/// nothing, as a blank line, or what is wrong with it. Only a line of fields takes memory.
+///
+/// A line says what its first column does: what stands before `#`, which begins a comment, and before the
+/// first comma, without the blanks around it. A number is written in decimal digits, or in hexadecimal ones
+/// after `0x` or `0X`; it may have a sign, and is at least -2^63 and at most 2^64 - 1. A flag is `true` or
+/// `false`. A sample is as its frame says; a flag is 0 or 1. A byte order mark before a line is skipped.
+///
+/// Errors: memory was refused.
+pub fn token_of_record(
+    alloc: Global,
+    layout: Layout,
+    sort: Sort,
+    bytes: &[u8],
+) -> Result<Result<Option<Token>, RecordFault>, AllocError>
+    ensures said { IfOk result (λ said. said ≡ record_said layout sort bytes.now) }
+    ensures sorted { IfOk result (IsSaidOf sort) }
+{
+    match layout {
+        Layout::Lines(decimals) => Ok(said_by_line(decimals, sort, without_mark(bytes))),
+        Layout::Fields(column) => said_by_row(alloc, column, sort, bytes),
+        Layout::Frames(frame) => Ok(said_by_frame(frame, sort, bytes)),
+    }
+}
+
+/// A text without a byte order mark before it.
+fn without_mark(text: &[u8]) -> &[u8]
+    ensures { result.now ≡ strip_bom text.now }
+{
+    if is_marked(text) { &text[3..] } else { text }
+}
+
+/// Whether there is a byte order mark before a text.
+fn is_marked(text: &[u8]) -> bool
+    ensures { result ≡ is_bom (slice_index text.now 0) (slice_index text.now 1) (slice_index text.now 2) }
+{
+    text.len() > 2 && text[0] == 0xEF && text[1] == 0xBB && text[2] == 0xBF
+}
+
+/// The token of a line.
+fn said_by_line(decimals: Decimals, sort: Sort, line: &[u8]) -> Result<Option<Token>, RecordFault>
+    ensures said { result ≡ text_said decimals sort line.now }
+    ensures sorted { IsSaidOf sort result }
+{
+    let Ok(text) = str::from_utf8(line) else {
+        return Err(RecordFault::NoText);
+    };
+    let cell = cell_of(text);
+    if cell.is_empty() {
+        return Ok(None);
+    }
+    token_in(decimals, sort, cell)
+}
+
+/// The first column of a line, without the blanks around it.
+fn cell_of(line: &str) -> &str
+    ensures { result.now ≡ cell line.now }
+{
+    before(before(line, '#'), ',').trim()
+}
+
+/// What stands before a character of ASCII, or all.
+fn before(text: &str, mark: char) -> &str
+    requires { mark < 128 }
+    ensures { result.now ≡ before_first (λ b. b == mark) text.now }
+{
+    match text.split_once(mark) {
+        Some((before, _)) => before,
+        None => text,
+    }
+}

@@ -1,0 +1,100 @@
+//! Heads of WAV files.
+use super::minus;
+use crate::checks::same;
+use kpn_tokens::{
+    Layout, Sort, Token, WavFault, WavHead, Width, append_wav_head, read_tokens, wav_head,
+    wav_sample,
+};
+
+/// Two channels with 1, 100 and with -1, -100, as Python's wave module writes them in 8, 16, 24 and 32 bits.
+static FILES: [(Width, &[u8]); 4] = [
+    (
+        Width::One,
+        b"RIFF(\x00\x00\x00WAVEfmt \x10\x00\x00\x00\x01\x00\x02\x00@\x1f\x00\x00\x80>\x00\x00\x02\x00\x08\x00data\x04\x00\x00\x00\x81\x7f\xe4\x1c",
+    ),
+    (
+        Width::Two,
+        b"RIFF,\x00\x00\x00WAVEfmt \x10\x00\x00\x00\x01\x00\x02\x00@\x1f\x00\x00\x00}\x00\x00\x04\x00\x10\x00data\x08\x00\x00\x00\x01\x00\xff\xffd\x00\x9c\xff",
+    ),
+    (
+        Width::Three,
+        b"RIFF0\x00\x00\x00WAVEfmt \x10\x00\x00\x00\x01\x00\x02\x00@\x1f\x00\x00\x80\xbb\x00\x00\x06\x00\x18\x00data\x0c\x00\x00\x00\x01\x00\x00\xff\xff\xffd\x00\x00\x9c\xff\xff",
+    ),
+    (
+        Width::Four,
+        b"RIFF4\x00\x00\x00WAVEfmt \x10\x00\x00\x00\x01\x00\x02\x00@\x1f\x00\x00\x00\xfa\x00\x00\x08\x00 \x00data\x10\x00\x00\x00\x01\x00\x00\x00\xff\xff\xff\xffd\x00\x00\x00\x9c\xff\xff\xff",
+    ),
+];
+
+#[test]
+fn reads_heads_and_writes_them(rt: HostRuntime) {
+    let alloc = rt.alloc();
+    for (width, file) in &FILES {
+        let file: &[u8] = *file;
+        let size = 4 * width.bytes();
+        let head = wav_head(file, true)
+            .expect(&rt, "a head")
+            .expect(&rt, "whole");
+        let due = WavHead {
+            channels: 2,
+            rate: 8000,
+            sample: wav_sample(*width),
+            start: 44,
+            size: Some(size as u32),
+        };
+        same(&rt, "head", head, due);
+        assert!(rt; file.len() >= 44);
+        for (channel, words) in [(0, [1, 100]), (1, [minus(1), minus(100)])] {
+            let layout = Layout::Frames(head.frame(channel).expect(&rt, "a channel"));
+            let tokens = read_tokens(alloc, layout, Sort::Words, &file[44..]).expect(&rt, "words");
+            let due = words.map(Token::Word);
+            same(&rt, "channel", tokens.as_slice(), due.as_slice());
+        }
+        same(&rt, "no channel", head.frame(2), None);
+        let mut out = Vec::new(alloc);
+        append_wav_head(&mut out, 2, *width, 8000, Some(2)).expect(&rt, "no memory");
+        same(&rt, "bytes", out.as_slice(), &file[..44]);
+    }
+}
+
+/// The extensible form, of one channel in 24 bits, after a chunk of three bytes, and before another one.
+const EXTENSIBLE: &[u8] =
+    b"RIFFX\x00\x00\x00WAVELIST\x03\x00\x00\x00abc\x00fmt (\x00\x00\x00\xfe\xff\x01\x00\x80\xbb\x00\x00\x802\x02\x00\x03\x00\x18\x00\x16\x00\x18\x00\x04\x00\x00\x00\x01\x00\x00\x00\x00\x00\x10\x00\x80\x00\x00\xaa\x008\x9bqdata\x06\x00\x00\x00\x05\x00\x00\xfb\xff\xffid3 \x02\x00\x00\x00zz";
+
+#[test]
+fn reads_the_extensible_form_piece_by_piece(rt: HostRuntime) {
+    let due = WavHead {
+        channels: 1,
+        rate: 48000,
+        sample: wav_sample(Width::Three),
+        start: 80,
+        size: Some(6),
+    };
+    for length in 0..80 {
+        same(
+            &rt,
+            "wanting",
+            wav_head(&EXTENSIBLE[..length], false),
+            Ok(None),
+        );
+    }
+    same(
+        &rt,
+        "head",
+        wav_head(&EXTENSIBLE[..80], false),
+        Ok(Some(due)),
+    );
+    let fault = wav_head(&EXTENSIBLE[..79], true);
+    same(&rt, "cut short", fault, Err(WavFault::CutShort));
+}
+
+#[test]
+fn refuses_other_heads(rt: HostRuntime) {
+    let other = b"RIFX,\x00\x00\x00WAVE";
+    same(&rt, "big", wav_head(other, false), Err(WavFault::NotWav));
+    let float =
+        b"RIFF,\x00\x00\x00WAVEfmt \x10\x00\x00\x00\x03\x00\x01\x00@\x1f\x00\x00\x00}\x00\x00\x04\x00 \x00data\x08\x00\x00\x00";
+    same(&rt, "float", wav_head(float, false), Err(WavFault::NotPcm));
+    let bare = b"RIFF,\x00\x00\x00WAVEdata\x08\x00\x00\x00";
+    same(&rt, "bare", wav_head(bare, false), Err(WavFault::NoFormat));
+}
