@@ -6,7 +6,7 @@ use crate::drawing::{COUNTER, COUNTER_LINES, drawn};
 use crate::samples::COPY;
 use hox_args::StreamChoice;
 use hox_execute::{
-    FileSystem, Outcome, Stop, StreamStop, count_standard, execute, is_named_twice, pairs_of,
+    FileSystem, Outcome, Role, Stop, StreamStop, count_standard, execute, is_named_twice, pairs_of,
     stream,
 };
 use hox_network::AllKinds;
@@ -360,4 +360,18 @@ fn pairs_name_channels_and_files(rt: HostRuntime) {
     same(&rt, "standard", count_standard(pairs), 1);
     same(&rt, "twice", is_named_twice("-", pairs), true);
     same(&rt, "once", is_named_twice("d", pairs), false);
+}
+
+#[test]
+fn files_are_read_or_written(rt: HostRuntime) {
+    for (role, is_written, gives_tokens) in [
+        (Role::Description, false, false),
+        (Role::Tokens, false, true),
+        (Role::In, false, true),
+        (Role::Out, true, false),
+        (Role::Report, true, false),
+    ] {
+        same(&rt, "written", role.is_written(), is_written);
+        same(&rt, "gives tokens", role.gives_tokens(), gives_tokens);
+    }
 }

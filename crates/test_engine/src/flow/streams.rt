@@ -234,6 +234,17 @@ fn sums_come_of_lines(rt: HostRuntime) {
     same(&rt, "exhausted", is_exhausted, true);
 }
 
+/// What is left of a source and of a sink.
+#[test]
+fn nothing_waits_after_a_stream(rt: HostRuntime) {
+    let served = served_of(&rt, rt.alloc(), b"3\n4\n", Layout::PLAIN, Layout::PLAIN);
+    let inlet = served.inlets.as_slice().first().expect(&rt, "no source");
+    let outlet = served.outlets.as_slice().first().expect(&rt, "no sink");
+    same(&rt, "left of the source", inlet.source().len(), 0);
+    same(&rt, "written", outlet.sink().as_slice(), b"3\n7\n");
+    same(&rt, "waiting", outlet.waiting(), 0);
+}
+
 #[test]
 fn a_line_is_refused(rt: HostRuntime) {
     let fault = Refusal::Fault(RecordFault::NotAWord);

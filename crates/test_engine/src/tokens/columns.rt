@@ -96,3 +96,14 @@ fn writes_rows(rt: HostRuntime) {
     let due = b"a,\"b,c\",\"d\"\"e\"\n-0.05,,true\n-0.05\t\ttrue\n;;0.07\n;;-0.07\n";
     same(&rt, "rows", out.as_slice(), due.as_slice());
 }
+
+#[test]
+fn separators_are_bytes(rt: HostRuntime) {
+    for (separator, byte) in [
+        (Separator::Comma, b','),
+        (Separator::Semicolon, b';'),
+        (Separator::Tab, 9),
+    ] {
+        same(&rt, "separator", separator.byte(), byte);
+    }
+}

@@ -2,8 +2,8 @@
 use super::{minus, reads_and_writes};
 use crate::checks::same;
 use kpn_tokens::{
-    Decimals, Layout, RecordFault, Sort, Token, TokensFault, append_tokens, read_tokens,
-    token_of_record,
+    Decimals, Layout, RecordFault, Sort, Token, TokensFault, append_token, append_tokens,
+    read_tokens, token_of_record,
 };
 
 /// Words: in decimal and hexadecimal, with signs, comments, blanks, other columns, a byte order mark, and no line
@@ -107,4 +107,17 @@ fn names_the_line_that_is_wrong(rt: HostRuntime) {
         fault: RecordFault::NotAWord,
     };
     same(&rt, "line", fault, Some(due));
+}
+
+#[test]
+fn writes_a_token_after_what_is_there(rt: HostRuntime) {
+    let decimals = Decimals {
+        digits: 2,
+        is_unsigned: false,
+    };
+    let mut out = Vec::new(rt.alloc());
+    for token in [Token::Word(minus(2137)), Token::Flag(true)] {
+        append_token(&mut out, decimals, token).expect(&rt, "no memory");
+    }
+    same(&rt, "tokens", out.as_slice(), b"-21.37true");
 }

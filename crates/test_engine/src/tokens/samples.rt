@@ -169,3 +169,23 @@ fn reads_flags_and_frames_cut_short(rt: HostRuntime) {
         }),
     );
 }
+
+/// How many bytes a sample has, and a frame with two bytes before it and five after it.
+#[test]
+fn samples_and_frames_have_bytes(rt: HostRuntime) {
+    for (width, bytes, size) in [
+        (Width::One, 1, 8),
+        (Width::Two, 2, 9),
+        (Width::Three, 3, 10),
+        (Width::Four, 4, 11),
+        (Width::Eight, 8, 15),
+    ] {
+        let frame = Frame {
+            before: 2,
+            after: 5,
+            ..Frame::of(sample(width, Coding::Signed, Endian::Little))
+        };
+        same(&rt, "bytes", width.bytes(), bytes);
+        same(&rt, "size", frame.size(), size);
+    }
+}
