@@ -1,0 +1,4 @@
+pub mod Pieces
+pub mod Digits
+pub mod Widths
+pub mod Starts

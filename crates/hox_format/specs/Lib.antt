@@ -1,0 +1,4 @@
+pub mod Forms
+pub mod Saying
+pub mod Bodies
+pub mod Heads

@@ -1,0 +1,345 @@
+//! Where the records of a file stand.
+ghost use Rattle.std.specs.Prelude.{◌≡◌, ◌<◌, ◌≤◌, ◌*◌, ◌^◌, IfOk, IfSome, drop, length, nat_lt, position, take, true};
+ghost use Rattle.std.specs.List.{position_or_len};
+ghost use Rattle.kpn_tokens.specs.Rows.{is_line_feed};
+ghost use Rattle.kpn_tokens.specs.Samples.{bytes_in};
+ghost use Rattle.hox_format.specs.Bodies.{IsBodyResult, IsChannelResult, IsTold, IsWavBody, IsWithin, body_bytes, channel_frame, channel_of, csv_body, name_fault, named_body, names_row, placed_body, raw_body, rows_from, to_end};
+ghost use Rattle.hox_format.specs.Forms.{form, table_of};
+
+use crate::formats::{Csv, Format, Raw, Wav, Which};
+use kpn_tokens::{
+    Column, Cut, Frame, LONGEST_HEAD, Layout, RecordFault, Sample, WavFault, WavHead, Width,
+    column_named, wav_head,
+};
+use std::alloc::{AllocError, Global};
+
+/// What stands in a file for one channel: how its records are laid out, from which byte on they stand, how
+/// many bytes these have if that is told (and else they go on to the end), and how many samples there are a
+/// second if that is told.
+#[derive(Clone, Copy, Debug, PartialEq, Eq)]
+pub struct Body {
+    pub layout: Layout,
+    pub start: usize,
+    pub size: Option<u64>,
+    pub rate: Option<u32>,
+}
+
+/// Why a file has no records for a channel.
+#[derive(Clone, Copy, Debug, PartialEq, Eq)]
+pub enum HeadFault {
+    /// It is no WAV file that is read.
+    Wav(WavFault),
+    /// No column has the name that is asked for.
+    NoColumn,
+    /// Something is wrong with the row of names.
+    Names(RecordFault),
+    /// The file has so many channels, which are not as many as were named, and none was chosen.
+    Channels { has: u16 },
+    /// The file has so many channels, and not the one that is asked for.
+    NoChannel { has: u16 },
+    /// The row of names has more than 65,536 bytes.
+    TooLong,
+    /// A frame has more than 65,535 bytes.
+    TooWide,
+}
+
+/// Returns what stands in a file of this format for the channel at `place`, counted from 0, of `count` that the
+/// file is given for, if these first bytes of the file tell it; `None` if more bytes have to come for that. If
+/// no more come, it is told, or there is a fault.
+///
+/// A chosen column or channel stands for the one at `place`. Of samples with or without a head that one is
+/// taken only if the file has `count` channels, as each file of samples without a head has of which nothing
+/// else is said.
+///
+/// Errors: memory was refused.
+pub fn body_in(
+    alloc: Global,
+    format: &Format<'_>,
+    place: usize,
+    count: usize,
+    bytes: &[u8],
+    is_last: bool,
+) -> Result<Result<Option<Body>, HeadFault>, AllocError>
+    ensures body { IfOk result (IsBodyResult (form format.now) place count bytes.now is_last) }
+    ensures within { IfOk result (IsWithin bytes.now) }
+    ensures told { is_last ≡ true → IfOk result IsTold }
+{
+    match format {
+        Format::Text(decimals) => Ok(Ok(Some(to_end(Layout::Lines(*decimals))))),
+        Format::Csv(csv) => csv_body(alloc, csv, place, bytes, is_last),
+        Format::Wav(wav) => Ok(wav_body(wav, place, count, bytes, is_last)),
+        Format::Raw(raw) => Ok(raw_body(raw, place, count)),
+    }
+}
+
+/// A body that is the whole file.
+fn to_end(layout: Layout) -> Body
+    ensures { result ≡ to_end layout }
+{
+    Body {
+        layout,
+        start: 0,
+        size: None,
+        rate: None,
+    }
+}
+
+/// The body of a CSV file.
+fn csv_body(
+    alloc: Global,
+    csv: &Csv<'_>,
+    place: usize,
+    bytes: &[u8],
+    is_last: bool,
+) -> Result<Result<Option<Body>, HeadFault>, AllocError>
+    ensures { IfOk result (λ body. body ≡ csv_body (table_of csv.now) place bytes.now is_last) }
+{
+    match csv.column {
+        Some(Which::Name(name)) => named_body(alloc, csv, name, bytes, is_last),
+        Some(Which::Place(chosen)) => Ok(placed_body(csv, chosen, bytes, is_last)),
+        None => Ok(placed_body(csv, place, bytes, is_last)),
+    }
+}
+
+/// The body of a CSV file with the column at a place, after the row of names if there is one.
+fn placed_body(
+    csv: &Csv<'_>,
+    place: usize,
+    bytes: &[u8],
+    is_last: bool,
+) -> Result<Option<Body>, HeadFault>
+    ensures { result ≡ placed_body (table_of csv.now) place bytes.now is_last }
+{
+    if !csv.has_header {
+        return Ok(Some(rows_from(csv, place, 0)));
+    }
+    match names_row(bytes, is_last) {
+        Ok(Some(row)) => Ok(Some(rows_from(csv, place, row.used))),
+        Ok(None) => Ok(None),
+        Err(fault) => Err(fault),
+    }
+}
+
+/// The body of a CSV file with the column of a name.
+fn named_body(
+    alloc: Global,
+    csv: &Csv<'_>,
+    name: &str,
+    bytes: &[u8],
+    is_last: bool,
+) -> Result<Result<Option<Body>, HeadFault>, AllocError>
+    ensures { IfOk result (λ body. body ≡ named_body (table_of csv.now) name.now bytes.now is_last) }
+{
+    let row = match names_row(bytes, is_last) {
+        Ok(Some(row)) => row,
+        Ok(None) => return Ok(Ok(None)),
+        Err(fault) => return Ok(Err(fault)),
+    };
+    match column_named(alloc, csv.separator, &bytes[..row.length], name)? {
+        Ok(place) => Ok(Ok(Some(rows_from(csv, place, row.used)))),
+        Err(fault) => Ok(Err(name_fault(fault))),
+    }
+}
+
+/// The rows of a CSV file from a byte on.
+fn rows_from(csv: &Csv<'_>, place: usize, start: usize) -> Body
+    ensures { result ≡ rows_from (table_of csv.now) place start }
+{
+    let column = Column {
+        place,
+        separator: csv.separator,
+        decimals: csv.decimals,
+    };
+    Body {
+        start,
+        ..to_end(Layout::Fields(column))
+    }
+}
+
+/// Why there is no column of a name.
+fn name_fault(fault: RecordFault) -> HeadFault
+    ensures { result ≡ name_fault fault }
+{
+    match fault {
+        RecordFault::NoField => HeadFault::NoColumn,
+        other => HeadFault::Names(other),
+    }
+}
+
+/// Where the row of names ends, if it is there to its end.
+fn names_row(bytes: &[u8], is_last: bool) -> Result<Option<Cut>, HeadFault>
+    ensures row { result ≡ names_row bytes.now is_last }
+    ensures within { IfOk result (λ o. IfSome o (λ row. row.length ≤ length bytes.now)) }
+{
+    let length = line_length(bytes);
+    if length > LONGEST_HEAD {
+        return Err(HeadFault::TooLong);
+    }
+    if length < bytes.len() {
+        return Ok(Some(Cut {
+            length,
+            used: length + 1,
+        }));
+    }
+    if is_last {
+        Ok(Some(Cut {
+            length,
+            used: length,
+        }))
+    } else {
+        Ok(None)
+    }
+}
+
+/// How many bytes stand before the first line feed, or how many there are.
+fn line_length(bytes: &[u8]) -> usize
+    ensures is { result ≡ position_or_len is_line_feed bytes.now }
+    ensures within { result ≤ length bytes.now }
+{
+    match line_feed_in(bytes) {
+        Some(length) => length,
+        None => bytes.len(),
+    }
+}
+
+/// Where the first line feed is.
+fn line_feed_in(bytes: &[u8]) -> Option<usize>
+    ensures { result ≡ position is_line_feed bytes.now }
+{
+    bytes.iter().position(|b| *b == b'\n')
+}
+
+/// The body of a WAV file.
+fn wav_body(
+    wav: &Wav,
+    place: usize,
+    count: usize,
+    bytes: &[u8],
+    is_last: bool,
+) -> Result<Option<Body>, HeadFault>
+    ensures { IsWavBody wav.now place count bytes.now is_last result }
+{
+    match wav_head(bytes, is_last) {
+        Ok(Some(head)) => match channel_body(wav, place, count, &head) {
+            Ok(body) => Ok(Some(body)),
+            Err(fault) => Err(fault),
+        },
+        Ok(None) => Ok(None),
+        Err(fault) => Err(HeadFault::Wav(fault)),
+    }
+}
+
+/// The body of a WAV file with this head.
+fn channel_body(wav: &Wav, place: usize, count: usize, head: &WavHead) -> Result<Body, HeadFault>
+    ensures { IsChannelResult wav.now place count head.now result }
+{
+    let channel = match channel_of(wav.channel, place, count, head.channels) {
+        Ok(channel) => channel,
+        Err(fault) => return Err(fault),
+    };
+    let Some(frame) = head.frame(channel) else {
+        return Err(HeadFault::TooWide);
+    };
+    Ok(Body {
+        layout: Layout::Frames(frame),
+        start: head.start,
+        size: long(head.size),
+        rate: Some(head.rate),
+    })
+}
+
+/// A size as a long number.
+fn long(size: Option<u32>) -> Option<u64>
+    ensures { result ≡ size }
+{
+    match size {
+        Some(size) => Some(size as u64),
+        None => None,
+    }
+}
+
+/// The channel of a file that has so many, chosen or at a place.
+fn channel_of(chosen: Option<u16>, place: usize, count: usize, has: u16) -> Result<u16, HeadFault>
+    ensures is { result ≡ channel_of chosen place count has }
+    ensures below { IfOk result (λ channel. channel < has) }
+{
+    match chosen {
+        Some(channel) if channel < has => Ok(channel),
+        Some(_) => Err(HeadFault::NoChannel { has }),
+        None if count != has as usize => Err(HeadFault::Channels { has }),
+        None if place < count => Ok(place as u16),
+        None => Err(HeadFault::NoChannel { has }),
+    }
+}
+
+/// The body of samples without a head.
+fn raw_body(raw: &Raw, place: usize, count: usize) -> Result<Option<Body>, HeadFault>
+    ensures { result ≡ raw_body raw.now place count }
+{
+    let channels = match raw.channels {
+        Some(channels) => channels as usize,
+        None => count,
+    };
+    if is_wide(channels, raw.sample.width) {
+        return Err(HeadFault::TooWide);
+    }
+    let has = channels as u16;
+    match channel_of(raw.channel, place, count, has) {
+        Ok(channel) => Ok(Some(to_end(Layout::Frames(channel_frame(raw.sample, has, channel))))),
+        Err(fault) => Err(fault),
+    }
+}
+
+/// Whether frames of so many samples are too wide.
+fn is_wide(channels: usize, width: Width) -> bool
+    ensures is { result ≡ nat_lt 65535 (channels * bytes_in width) }
+{
+    channels > 65535 || channels * width.bytes() > 65535
+}
+
+/// The frame of a channel of so many.
+fn channel_frame(sample: Sample, channels: u16, channel: u16) -> Frame
+    requires channel { channel < channels }
+    requires narrow { channels * bytes_in sample.width < 2 ^ 16 }
+    ensures { result ≡ channel_frame sample channels channel }
+{
+    let width = sample.width.bytes();
+    Frame {
+        before: (channel as usize * width) as u16,
+        sample,
+        after: ((channels - 1 - channel) as usize * width) as u16,
+    }
+}
+
+/// Returns the bytes of a file in which these records stand: none if the file ends before them.
+pub fn body_of<'b>(bytes: &'b [u8], body: &Body) -> &'b [u8]
+    ensures { result.now ≡ body_bytes body.now bytes.now }
+{
+    let later = bytes_from(bytes, body.start);
+    match body.size {
+        Some(size) => first_bytes(later, size),
+        None => later,
+    }
+}
+
+/// The bytes from one on.
+fn bytes_from(bytes: &[u8], start: usize) -> &[u8]
+    ensures { result.now ≡ drop start bytes.now }
+{
+    if start < bytes.len() {
+        &bytes[start..]
+    } else {
+        &[]
+    }
+}
+
+/// The first bytes, so many or all.
+fn first_bytes(bytes: &[u8], size: u64) -> &[u8]
+    ensures { result.now ≡ take size bytes.now }
+{
+    if size < bytes.len() as u64 {
+        &bytes[..size as usize]
+    } else {
+        bytes
+    }
+}

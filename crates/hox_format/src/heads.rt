@@ -1,0 +1,80 @@
+//! What stands in a file before and after the tokens that are written.
+ghost use Rattle.std.specs.Prelude.{◌≡◌, ◌++◌, OnErr, OnOk, map};
+ghost use Rattle.hox_format.specs.Forms.{form};
+ghost use Rattle.hox_format.specs.Heads.{channels_told, head_text, layout_of, tail_text};
+
+use crate::formats::Format;
+use kpn_tokens::{Column, Frame, Layout, Sample, append_names, append_wav_head, wav_sample};
+use std::alloc::{AllocError, Global};
+
+/// Returns how one channel alone is written to a file of this format: on lines, in the first column, or as
+/// samples with nothing between them.
+pub fn layout_of(format: &Format<'_>) -> Layout
+    ensures { result ≡ layout_of (form format.now) }
+{
+    match format {
+        Format::Text(decimals) => Layout::Lines(*decimals),
+        Format::Csv(csv) => Layout::Fields(Column {
+            place: 0,
+            separator: csv.separator,
+            decimals: csv.decimals,
+        }),
+        Format::Wav(wav) => Layout::Frames(Frame::of(Sample {
+            clips: wav.clips,
+            ..wav_sample(wav.width)
+        })),
+        Format::Raw(raw) => Layout::Frames(Frame::of(raw.sample)),
+    }
+}
+
+/// Appends what stands in a file of this format before the tokens of the channels of these names: the row of
+/// names of a CSV file that has one; or the head of a WAV file with so many channels, of which it tells 65,535
+/// at most, with so many samples of each a second as the format says, or else as many as `rate`, and with so
+/// many frames, if that is known; otherwise nothing.
+///
+/// Errors: memory was refused. Some bytes may have been appended.
+pub fn append_head(
+    alloc: Global,
+    out: &mut Vec<u8>,
+    format: &Format<'_>,
+    names: &[&[u8]],
+    rate: u32,
+    frames: Option<u32>,
+) -> Result<(), AllocError>
+    ensures { OnOk result (out.new.items ≡ out.old.items ++ head_text (form format.now) (map (λ name. name.now) names.now) rate frames) }
+{
+    match format {
+        Format::Csv(csv) if csv.has_header => append_names(alloc, out, csv.separator, names),
+        Format::Wav(wav) => {
+            let channels = channels_told(names.len());
+            append_wav_head(out, channels, wav.width, wav.rate.unwrap_or(rate), frames)
+        }
+        Format::Text(_) | Format::Csv(_) | Format::Raw(_) => Ok(()),
+    }
+}
+
+/// How many channels a head tells.
+fn channels_told(count: usize) -> u16
+    ensures { result ≡ channels_told count }
+{
+    count.min(65535) as u16
+}
+
+/// Appends what stands in a file of this format after so many bytes of tokens: after an odd number of bytes in
+/// a WAV file whose head tells its frames, one byte 0; otherwise nothing.
+///
+/// Errors: memory was refused. Nothing is appended then.
+pub fn append_tail(
+    out: &mut Vec<u8>,
+    format: &Format<'_>,
+    size: u64,
+    frames: Option<u32>,
+) -> Result<(), AllocError>
+    ensures ok { OnOk result (out.new.items ≡ out.old.items ++ tail_text (form format.now) size frames) }
+    ensures err { OnErr result (out.new.items ≡ out.old.items) }
+{
+    match format {
+        Format::Wav(_) if frames.is_some() && size % 2 == 1 => out.extend_from_slice(&[0]),
+        Format::Wav(_) | Format::Text(_) | Format::Csv(_) | Format::Raw(_) => Ok(()),
+    }
+}

@@ -1,0 +1,126 @@
+//! Formats, as they are named.
+ghost use Rattle.std.specs.Prelude.{◌≡◌, ◌∷◌, ◌<◌, IfSome, length, option_map};
+ghost use Rattle.hox_format.specs.Forms.{form};
+ghost use Rattle.hox_format.specs.Saying.{form_named, format_said, later_pieces, pieces, plain_sample, sample_named, seen, setting_said};
+
+use crate::formats::{Csv, Format, Raw, Wav};
+use crate::settings::{with_flag, with_value};
+use kpn_tokens::{Coding, Endian, Sample, Width};
+
+/// Why a text names no format.
+#[derive(Clone, Copy, Debug, PartialEq, Eq)]
+pub enum FormatFault<'a> {
+    /// No format has this name.
+    Name(&'a str),
+    /// The format has no such key; or the key lacks a value, or takes none.
+    Key(&'a str),
+    /// The key does not take this value.
+    Value { key: &'a str, value: &'a str },
+}
+
+/// Returns the format that a text names, as `NAME[,KEY[=VALUE]..]`. Of keys of one name the last counts.
+///
+/// - `text`: a token a line, with the keys `digits=N` (digits after the point, 0 to 19) and `unsigned`.
+/// - `csv`: a column, with `column=N` (from 1) or `column=NAME` (which says that there is a row of names; a
+///   text of digits alone is a number), `delimiter=D` (`comma`, `semicolon`, `tab`, or `;` or a tab itself),
+///   `header`, `digits=N` and `unsigned`.
+/// - `wav`: a channel of a WAV file, with `channel=N` (from 1), `bits=N` (8, 16, 24 or 32; 16 if it is not
+///   said), `rate=N` (1 to 2^32 - 1) and `clip`.
+/// - `s8`, `u8`, and `s16`, `s24`, `s32`, `s64` and `u64`, each alone or with `le` or `be`: a channel of
+///   samples, little-endian if it is not said, with `channel=N` and `channels=N` (from 1 to 65,535; the channel
+///   is one of the channels, as far as both are said), and `clip`.
+///
+/// Errors: the first name, key or value that is none of these. See [`FormatFault`].
+pub fn format_of<'a>(text: &'a str) -> Result<Format<'a>, FormatFault<'a>>
+    ensures { seen result ≡ format_said text.now }
+{
+    let (name, mut rest) = first_piece(text);
+    let Some(named) = format_named(name) else {
+        return Err(FormatFault::Name(name));
+    };
+    let mut format = named;
+    while let Some(settings) = rest {
+        let (setting, later) = first_piece(settings);
+        format = with_setting(format, setting)?;
+        rest = later;
+    }
+    Ok(format)
+}
+
+/// What stands before the first comma, and what follows it, if there is one.
+fn first_piece(text: &str) -> (&str, Option<&str>)
+    ensures pieces { pieces text.now ≡ result.0.now ∷ later_pieces (option_map (λ t. t.now) result.1) }
+    ensures shorter { IfSome result.1 (λ later. length later.now < length text.now) }
+{
+    match text.split_once(',') {
+        Some((first, later)) => (first, Some(later)),
+        None => (text, None),
+    }
+}
+
+/// The format with a setting, which is a key, or a key and its value.
+fn with_setting<'a>(format: Format<'a>, setting: &'a str) -> Result<Format<'a>, FormatFault<'a>>
+    ensures { seen result ≡ setting_said (form format.entry) setting.now }
+{
+    match setting.split_once('=') {
+        Some((key, value)) => with_value(format, key, value),
+        None => with_flag(format, setting),
+    }
+}
+
+/// The format of a name, before any key.
+fn format_named(name: &str) -> Option<Format<'static>>
+    ensures { option_map form result ≡ form_named name.now }
+{
+    match name {
+        "text" => Some(Format::TEXT),
+        "csv" => Some(Format::Csv(Csv::PLAIN)),
+        "wav" => Some(Format::Wav(Wav::PLAIN)),
+        _ => match sample_named(name) {
+            Some(sample) => Some(Format::Raw(Raw {
+                sample,
+                channel: None,
+                channels: None,
+            })),
+            None => None,
+        },
+    }
+}
+
+/// The sample of a name.
+fn sample_named(name: &str) -> Option<Sample>
+    ensures { result ≡ sample_named name.now }
+{
+    match name {
+        "s8" => Some(plain_sample(Width::One, Coding::Signed, Endian::Little)),
+        "u8" => Some(plain_sample(Width::One, Coding::Unsigned, Endian::Little)),
+        "s16" => Some(plain_sample(Width::Two, Coding::Signed, Endian::Little)),
+        "s16le" => Some(plain_sample(Width::Two, Coding::Signed, Endian::Little)),
+        "s16be" => Some(plain_sample(Width::Two, Coding::Signed, Endian::Big)),
+        "s24" => Some(plain_sample(Width::Three, Coding::Signed, Endian::Little)),
+        "s24le" => Some(plain_sample(Width::Three, Coding::Signed, Endian::Little)),
+        "s24be" => Some(plain_sample(Width::Three, Coding::Signed, Endian::Big)),
+        "s32" => Some(plain_sample(Width::Four, Coding::Signed, Endian::Little)),
+        "s32le" => Some(plain_sample(Width::Four, Coding::Signed, Endian::Little)),
+        "s32be" => Some(plain_sample(Width::Four, Coding::Signed, Endian::Big)),
+        "s64" => Some(plain_sample(Width::Eight, Coding::Signed, Endian::Little)),
+        "s64le" => Some(plain_sample(Width::Eight, Coding::Signed, Endian::Little)),
+        "s64be" => Some(plain_sample(Width::Eight, Coding::Signed, Endian::Big)),
+        "u64" => Some(plain_sample(Width::Eight, Coding::Unsigned, Endian::Little)),
+        "u64le" => Some(plain_sample(Width::Eight, Coding::Unsigned, Endian::Little)),
+        "u64be" => Some(plain_sample(Width::Eight, Coding::Unsigned, Endian::Big)),
+        _ => None,
+    }
+}
+
+/// A sample that does not clip.
+fn plain_sample(width: Width, coding: Coding, endian: Endian) -> Sample
+    ensures { result ≡ plain_sample width coding endian }
+{
+    Sample {
+        width,
+        coding,
+        endian,
+        clips: false,
+    }
+}
