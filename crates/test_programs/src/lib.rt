@@ -1,7 +1,8 @@
 //! Tests of the programs and of the examples: in `front` of kpn_front and kpn_args, in `serving` of
 //! kpn_execute, in `counting` of how often bodies are called, in `drawing` of hox_draw and hox_args, in
-//! `samples` of hox_network, hox_run and hox_args, in `executing` of hox_execute, and in `examples` of example_own_kinds and example_least_room. They have
-//! a crate of their own so that these are proved once, and one crate so that what it uses is loaded once.
+//! `samples` of hox_network, hox_run and hox_args, in `executing` of hox_execute, in `formats` of hox_format,
+//! and in `examples` of example_own_kinds and example_least_room. They have a crate of their own so that these
+//! are proved once, and one crate so that what it uses is loaded once.
 #![tactic(auto)]
 
 #[cfg(test)]
@@ -14,6 +15,8 @@ mod drawing;
 mod examples;
 #[cfg(test)]
 mod executing;
+#[cfg(test)]
+mod formats;
 #[cfg(test)]
 mod front;
 #[cfg(test)]
