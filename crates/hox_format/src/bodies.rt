@@ -33,7 +33,7 @@ pub enum HeadFault {
     NoColumn,
     /// Something is wrong with the row of names.
     Names(RecordFault),
-    /// The file has so many channels, which are not as many as were named, and none was chosen.
+    /// The file has so many channels, not as many as it is given for, and none was chosen.
     Channels { has: u16 },
     /// The file has so many channels, and not the one that is asked for.
     NoChannel { has: u16 },
@@ -47,9 +47,9 @@ pub enum HeadFault {
 /// file is given for, if these first bytes of the file tell it; `None` if more bytes have to come for that. If
 /// no more come, it is told, or there is a fault.
 ///
-/// A chosen column or channel stands for the one at `place`. Of samples with or without a head that one is
-/// taken only if the file has `count` channels, as each file of samples without a head has of which nothing
-/// else is said.
+/// A column or a channel that the format chooses stands for the one at `place`. Where it chooses none, a file
+/// of samples has to have `count` channels. Samples without a head have as many channels as the format says, or
+/// else `count`. A column with a name is sought in the row of names, which is there in any case then.
 ///
 /// Errors: memory was refused.
 pub fn body_in(
