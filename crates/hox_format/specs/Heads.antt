@@ -1,5 +1,5 @@
 -- What is written to a file before, among and after the tokens.
-use Rattle.std.specs.Prelude.{◌*◌, ◌%◌, ◌==◌, ℕ, length, min, unwrap_or, if◌then◌else◌, List, [], ◌∷◌, Option, Some, None}
+use Rattle.std.specs.Prelude.{◌-◌, ◌*◌, ◌%◌, ◌^◌, ◌==◌, ◌&&◌, ℕ, length, min, nat_lt, unwrap_or, if◌then◌else◌, List, [], ◌∷◌, Option, Some, None}
 use Rattle.csv.specs.Writing.{row_text}
 use Rattle.kpn_tokens.specs.declared.layouts.Layout.{Layout}
 use Rattle.kpn_tokens.specs.declared.layouts.Layout.TheVariants.{Lines, Fields, Frames}
@@ -37,10 +37,11 @@ head_text (table t) names rate frames = names_text t names
 head_text (wave wav) names rate frames = wave_text wav (channels_told (length names)) rate frames
 head_text (samples raw) names rate frames = []
 
--- what stands after so many bytes of them: the samples that a head tells of have an even number of bytes, with one more if need be
+-- what stands after so many bytes of them: if a head tells how many they are, they are even, with one more if need be. It can't tell of
+-- 2 ^ 32 - 1 or more
 abbrev pub padding : ℕ → Option ℕ → List ℕ
 padding size None = []
-padding size (Some frames) = if size % 2 == 1 then 0 ∷ [] else []
+padding size (Some frames) = if (size % 2 == 1) && nat_lt size (2 ^ 32 - 1) then 0 ∷ [] else []
 
 abbrev pub tail_text : Form → ℕ → Option ℕ → List ℕ
 tail_text (lines decimals) size frames = []

@@ -61,7 +61,8 @@ fn channels_told(count: usize) -> u16
 }
 
 /// Appends what stands in a file of this format after so many bytes of tokens: after an odd number of bytes in
-/// a WAV file whose head tells its frames, one byte 0; otherwise nothing.
+/// a WAV file whose head tells how many they are, one byte 0; otherwise nothing. A head tells that if it was
+/// given the number of frames, and there are less than 2^32 - 1 bytes.
 ///
 /// Errors: memory was refused. Nothing is appended then.
 pub fn append_tail(
@@ -74,7 +75,9 @@ pub fn append_tail(
     ensures err { OnErr result (out.new.items ≡ out.old.items) }
 {
     match format {
-        Format::Wav(_) if frames.is_some() && size % 2 == 1 => out.extend_from_slice(&[0]),
+        Format::Wav(_) if frames.is_some() && size % 2 == 1 && size < 0xFFFFFFFF => {
+            out.extend_from_slice(&[0])
+        }
         Format::Wav(_) | Format::Text(_) | Format::Csv(_) | Format::Raw(_) => Ok(()),
     }
 }

@@ -421,6 +421,12 @@ fn heads_and_tails(rt: HostRuntime) {
         let out = around(&rt, *text, *frames);
         same(&rt, *text, out.as_slice(), *due);
     }
+    let mut untold = Vec::new(rt.alloc());
+    append_tail(&mut untold, &Format::Wav(Wav::PLAIN), 4294967295, Some(1)).expect(
+        &rt,
+        "no memory",
+    );
+    same(&rt, "untold", untold.as_slice(), &[]);
 }
 
 #[test]
