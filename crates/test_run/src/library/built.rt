@@ -144,16 +144,31 @@ fn what_was_built_is_a_network(rt: HostRuntime) {
     drop(made);
 }
 
+/// Adds a process of this kind, a sink, and a channel between them that holds the greatest word at first.
+fn add_held<R: Abort>(rt: &R, made: &mut Builder, kind: &str) {
+    made.process("src", kind, &[1, 3]).expect(rt, "memory");
+    made.process("snk", "sink", &[3]).expect(rt, "memory");
+    let greatest = [TokenSketch::Word(u64::MAX)];
+    let wire = NewChannel::new("c0", "src", "snk").tokens(&greatest);
+    made.channel(wire).expect(rt, "memory");
+}
+
+/// What is wrong beside a word that no text says is told by the caller's names.
+#[test]
+fn faults_beside_such_words_are_told(rt: HostRuntime) {
+    let mut made = Builder::new(rt.alloc());
+    add_held(&rt, &mut made, "cuont");
+    let message = made.message::<Standard>(NetFault::Kind, KINDS);
+    let due = "process \"src\": kind \"cuont\" is unknown; the kinds are count and sink";
+    same(&rt, "kind", message.as_deref(), Some(due));
+    drop(made);
+}
+
 /// A word that is given by its value is held at first, and no text says it.
 #[test]
 fn words_by_their_value_are_held(rt: HostRuntime) {
-    let alloc = rt.alloc();
-    let mut made = Builder::new(alloc);
-    made.process("src", "count", &[1, 3]).expect(&rt, "memory");
-    made.process("snk", "sink", &[3]).expect(&rt, "memory");
-    let greatest = [TokenSketch::Word(u64::MAX)];
-    let wire = NewChannel::new("c0", "src", "snk").tokens(&greatest);
-    made.channel(wire).expect(&rt, "memory");
+    let mut made = Builder::new(rt.alloc());
+    add_held(&rt, &mut made, "count");
     let net: Net<Standard> = made.check().expect(&rt, "a fault");
     if net.channels() == 1 {
         let due = [Token::Word(18446744073709551615)];
