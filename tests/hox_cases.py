@@ -151,11 +151,15 @@ def without_sorts(network):
 
 
 def with_negatives(choices, network):
-    """Gives processes of the kinds that take them numbers below 0, and nearly each bound its place."""
+    """Gives processes of the kinds that take them numbers below 0, and nearly each bound its place; and channels of words that
+    hold some."""
     for it in network["process"]:
         if it["kind"] in MAY_BE_NEGATIVE and choices.random() < 0.6:
             args = [-1 - arg if choices.random() < 0.6 else arg for arg in it["args"]]
             it["args"] = sorted(args) if choices.random() < 0.97 else args
+    for it in network["channel"]:
+        if "tokens" in it:
+            it["tokens"] = [-1 - token if type(token) is int and choices.random() < 0.4 else token for token in it["tokens"]]
 
 
 def request_of(choices, versions):

@@ -102,11 +102,14 @@ def port_sort(processes, name, direction, number):
 
 
 def as_words(sketch):
-    """The description, in which a word stands for each negative argument of the kinds that take such."""
+    """The description, in which a word stands for each negative argument of the kinds that take such, and for each negative
+    start token."""
     for it in sketch["process"]:
         args = [arg % WORD for arg in it["args"]]
         if it["kind"] in MAY_BE_NEGATIVE and len(args) == KINDS[it["kind"]][1] and args_fit(it["kind"], args):
             it["args"] = args
+    for it in sketch["channel"]:
+        it["tokens"] = [token % WORD if type(token) is int else token for token in it["tokens"]]
     return sketch
 
 

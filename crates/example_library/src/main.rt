@@ -107,7 +107,9 @@ fn show<R: Threads + Wait + Clock + Print + Eprint + Sync>(
     alloc: Global,
     made: &Builder,
 ) -> Result<(), AllocError> {
-    let text = made.to_toml()?;
+    let Ok(text) = made.to_toml() else {
+        return Err(AllocError);
+    };
     let _ = print!(rt; "{text}");
     match made.check() {
         Ok(net) => play(rt, alloc, net),

@@ -2,3 +2,4 @@ pub mod Pieces
 pub mod Digits
 pub mod Widths
 pub mod Starts
+pub mod Resumes

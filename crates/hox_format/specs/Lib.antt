@@ -2,3 +2,4 @@ pub mod Forms
 pub mod Saying
 pub mod Bodies
 pub mod Heads
+pub mod Resuming

@@ -9,9 +9,13 @@ mod bodies;
 mod formats;
 mod heads;
 mod parsing;
+mod resumed;
+mod resuming;
 mod settings;
 
 pub use bodies::{Body, HeadFault, body_in, body_of};
 pub use formats::{Csv, Format, Raw, Wav, Which};
 pub use heads::{append_head, append_tail, layout_of};
 pub use parsing::{FormatFault, format_of};
+pub use resumed::Resumed;
+pub use resuming::{BeginFault, Begun, begin};

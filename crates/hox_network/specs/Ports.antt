@@ -26,6 +26,6 @@ module _ (named : List ℕ → Option (ℕ × ℕ)) (signature : Card → Option
   by_ports sketch = record sketch { channels = map (channel_by_ports sketch) sketch.channels }
 
   -- the sketch of a text as it is meant: if the text says no budget, it has the greatest; processes with arguments below 0 are of the kinds
-  -- that take them; and then the ports say the sorts
+  -- that take them, and start tokens below 0 are words; and then the ports say the sorts
   abbrev pub as_meant : List ℕ → Sketch → Sketch
   as_meant text sketch = by_ports (with_signs named signature (with_greatest_budget text sketch))

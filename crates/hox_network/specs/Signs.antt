@@ -1,8 +1,12 @@
--- Arguments below 0: a process that has some is one of the kind that takes them.
+-- Arguments below 0: a process that has some is one of the kind that takes them. And start tokens below 0, which are words.
 use Rattle.std.specs.Prelude.{ℕ, ℤ, pos, negsuc, ◌-ℤ◌, int_lt, Bool, not, ◌&&◌, if◌then◌else◌, codes, List, [], ◌∷◌, ◌++◌, map, slice_index_or, Option}
 use Rattle.kpn_model.specs.declared.kinds.Card.{Card}
 use Rattle.kpn_model.specs.declared.kinds.Signature.{Signature}
+use Rattle.kpn_signals.specs.Words.{word_of}
+use Rattle.kpn_sketch.specs.declared.sketch.TokenSketch.{TokenSketch}
+use Rattle.kpn_sketch.specs.declared.sketch.TokenSketch.TheVariants.{Integer, Boolean, Word}
 use Rattle.kpn_sketch.specs.declared.sketch.ProcessSketch.{ProcessSketch}
+use Rattle.kpn_sketch.specs.declared.sketch.ChannelSketch.{ChannelSketch}
 use Rattle.kpn_sketch.specs.declared.sketch.Sketch.{Sketch}
 use Rattle.kpn_net.specs.Faults.{has_wrong_args}
 
@@ -26,6 +30,15 @@ count_below args = if is_below args 1 then pos 2 else pos 1
 abbrev pub signed_args : List ℤ → List ℤ
 signed_args args = map carried args ++ count_below args ∷ []
 
+-- a start token below 0 is the word that stands for it in two's complement
+abbrev pub signed_token : TokenSketch → TokenSketch
+signed_token (Integer z) = if int_lt z (pos 0) then Word (word_of z) else Integer z
+signed_token (Boolean b) = Boolean b
+signed_token (Word w) = Word w
+
+abbrev pub signed_channel : ChannelSketch → ChannelSketch
+signed_channel c = record c { tokens = map signed_token c.tokens }
+
 module _ (named : List ℕ → Option (ℕ × ℕ)) (signature : Card → Option Signature) where
   -- a kind of this name takes these arguments
   abbrev pub takes : List ℕ → List ℤ → Bool
@@ -35,6 +48,6 @@ module _ (named : List ℕ → Option (ℕ × ℕ)) (signature : Card → Option
   abbrev pub signed_process : ProcessSketch → ProcessSketch
   signed_process p = if is_below p.args 0 && takes (signed_kind p.kind) (signed_args p.args) then record p { kind = signed_kind p.kind; args = signed_args p.args } else p
 
-  -- the sketch with these processes
+  -- the sketch with these processes, and with such start tokens
   abbrev pub with_signs : Sketch → Sketch
-  with_signs sketch = record sketch { processes = map signed_process sketch.processes }
+  with_signs sketch = record sketch { processes = map signed_process sketch.processes; channels = map signed_channel sketch.channels }

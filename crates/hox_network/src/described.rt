@@ -1,5 +1,5 @@
 //! Descriptions that need not say of which sort a channel is or which budget a run has, and that may have
-//! arguments below 0.
+//! arguments and start tokens below 0.
 ghost use Rattle.std.specs.Prelude.{◌≡◌, ◌≤◌, ◌+◌, false, true, IfOk, IfErr, IfSome, IsUtf8, length, map};
 ghost use Rattle.kpn_sketch.specs.declared.sketch.Sketch.{Sketch as SketchV};
 ghost use Rattle.kpn_sketch.specs.Description.{Describes};
@@ -19,8 +19,9 @@ use std::alloc::{AllocError, Global};
 /// Reads a description to its end, and makes its network, in which each channel has the sort of its two
 /// ports, whatever the description says, if they have the same. A process whose arguments are below 0, the
 /// first alone or the first and others, is of the kind with its kind's name and `, signed`, if there is one and
-/// it takes them: for an argument -1 - n it is given n, and how many are below 0 as one argument more. If the
-/// description says no budget, the network has the greatest of its version. Reads at most 1,048,577 bytes.
+/// it takes them: for an argument -1 - n it is given n, and how many are below 0 as one argument more. A start
+/// token below 0 is the word that stands for it in two's complement. If the description says no budget, the
+/// network has the greatest of its version. Reads at most 1,048,577 bytes.
 ///
 /// Errors: as those of `kpn_front::load_or_refuse`, with the text.
 pub fn load_by_ports<K: Kinds, S: Source>(alloc: Global, source: &mut S) -> Result<Net<K>, Refused>
@@ -74,7 +75,8 @@ fn as_meant<K: Kinds>(alloc: Global, text: &[u8], sketch: Sketch) -> Result<Sket
     }
 }
 
-/// The sketch of a text with the budget that it is to have, and with the kinds that take arguments below 0.
+/// The sketch of a text with the budget that it is to have, with the kinds that take arguments below 0, and with
+/// words for start tokens below 0.
 fn signed_with_budget<K: Kinds>(
     alloc: Global,
     text: &[u8],

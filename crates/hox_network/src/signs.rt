@@ -1,13 +1,14 @@
-//! Arguments below 0.
+//! Arguments and start tokens below 0.
 ghost use Rattle.std.specs.Prelude.{◌≡◌, [], IfOk, map};
-ghost use Rattle.hox_network.specs.Signs.{carried, count_below, is_below, signed_args, signed_kind, signed_process, with_signs};
+ghost use Rattle.hox_network.specs.Signs.{carried, count_below, is_below, signed_args, signed_channel, signed_kind, signed_process, signed_token, with_signs};
 
 use kpn_model::{Kinds, Listed, Text};
 use kpn_net::faults::has_wrong_args;
-use kpn_net::{ProcessSketch, Sketch};
+use kpn_net::{ChannelSketch, ProcessSketch, Sketch, TokenSketch};
 use std::alloc::{AllocError, Global};
 
-/// The sketch, whose processes with arguments below 0 are of the kinds that take them.
+/// The sketch, whose processes with arguments below 0 are of the kinds that take them, and whose start tokens
+/// below 0 are words.
 pub(crate) fn with_signs<K: Kinds>(alloc: Global, sketch: Sketch) -> Result<Sketch, AllocError>
     ensures { IfOk result (λ r. r ≡ with_signs K.named K.signature sketch) }
 {
@@ -19,12 +20,13 @@ pub(crate) fn with_signs<K: Kinds>(alloc: Global, sketch: Sketch) -> Result<Sket
         channels,
     } = sketch;
     let processes = signed_processes::<K>(alloc, processes.into_vec())?;
+    let channels = signed_channels(alloc, channels.into_vec())?;
     Ok(Sketch {
         version,
         budget,
         step,
         processes: Listed::new(processes),
-        channels,
+        channels: Listed::new(channels),
     })
 }
 
@@ -125,4 +127,50 @@ fn carried_args(alloc: Global, args: &[i64]) -> Result<Vec<i64>, AllocError>
         all.push(carried(*argument))?;
     }
     Ok(all)
+}
+
+/// The channels, whose start tokens below 0 are words.
+fn signed_channels(
+    alloc: Global,
+    channels: Vec<ChannelSketch>,
+) -> Result<Vec<ChannelSketch>, AllocError>
+    ensures { IfOk result (λ v. v.items ≡ map signed_channel channels.items) }
+{
+    let mut all = Vec::new(alloc);
+    for channel in channels {
+        all.push(signed_channel(alloc, channel)?)?;
+    }
+    Ok(all)
+}
+
+/// A channel, whose start tokens below 0 are words.
+fn signed_channel(alloc: Global, channel: ChannelSketch) -> Result<ChannelSketch, AllocError>
+    ensures { IfOk result (λ r. r ≡ signed_channel channel) }
+{
+    let tokens = signed_tokens(alloc, channel.tokens.as_slice())?;
+    Ok(ChannelSketch {
+        tokens: Listed::new(tokens),
+        ..channel
+    })
+}
+
+/// The start tokens, of which those below 0 are words.
+fn signed_tokens(alloc: Global, tokens: &[TokenSketch]) -> Result<Vec<TokenSketch>, AllocError>
+    ensures { IfOk result (λ v. v.items ≡ map signed_token tokens.now) }
+{
+    let mut all = Vec::new(alloc);
+    for token in tokens {
+        all.push(signed_token(*token))?;
+    }
+    Ok(all)
+}
+
+/// A start token; one below 0 is the word that stands for it in two's complement.
+fn signed_token(token: TokenSketch) -> TokenSketch
+    ensures { result ≡ signed_token token }
+{
+    match token {
+        TokenSketch::Integer(integer) if integer < 0 => TokenSketch::Word(integer.cast_unsigned()),
+        _ => token,
+    }
 }

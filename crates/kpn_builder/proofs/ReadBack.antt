@@ -12,14 +12,14 @@ use Rattle.kpn_model.specs.declared.token.Sort.{Sort}
 use Rattle.kpn_model.specs.declared.token.Sort.TheVariants.{Words, Flags}
 use Rattle.kpn_model.specs.Version.{is_two}
 use Rattle.kpn_sketch.specs.declared.sketch.TokenSketch.{TokenSketch}
-use Rattle.kpn_sketch.specs.declared.sketch.TokenSketch.TheVariants.{Integer, Boolean}
+use Rattle.kpn_sketch.specs.declared.sketch.TokenSketch.TheVariants.{Integer, Boolean, Word}
 use Rattle.kpn_sketch.specs.declared.sketch.ProcessSketch.{ProcessSketch}
 use Rattle.kpn_sketch.specs.declared.sketch.ChannelSketch.{ChannelSketch}
 use Rattle.kpn_sketch.specs.declared.sketch.Sketch.{Sketch}
 use Rattle.kpn_sketch.specs.Form.{each, is_known}
 use Rattle.kpn_sketch.specs.Description.{Describes, sketch_of, top_keys, described_process, described_channel, described_sort, token_of}
 use Rattle.toml.specs.Data.{as_integer}
-use Rattle.kpn_builder.specs.Written.{token_value, sort_value, process_value, channel_value, has_no_tokens, is_describable, version_members, sketch_members}
+use Rattle.kpn_builder.specs.Written.{token_value, sort_value, process_value, channel_value, has_no_tokens, has_said_tokens, is_said, is_describable, version_members, sketch_members}
 
 -- ---- what is read
 
@@ -30,12 +30,21 @@ each_back form value one (x ∷ xs) = rw (one x, each_back form value one xs) re
 integers_back : (zs : List ℤ) → each as_integer (items_of (map integer zs)) ≡ Some zs
 integers_back = each_back as_integer integer (λ z. refl)
 
-token_back : (t : TokenSketch) → token_of (token_value t) ≡ Some t
-token_back (Integer z) = refl
-token_back (Boolean b) = refl
+-- the same of items that pass a test, where these are read back
+each_passed_back :
+    {A : Type 0} (form : Data → Option A) (value : A → Data) (test : A → Bool) → ((x : A) → test x ≡ true → form (value x) ≡ Some x) → (xs : List A) → list_all test xs ≡ true → each form (items_of (map value xs)) ≡ Some xs
+each_passed_back form value test one [] passed = refl
+each_passed_back form value test one (x ∷ xs) passed =
+    let (here, more) = and_parts (test x) (list_all test xs) passed in
+    rw (one x here, each_passed_back form value test one xs more) refl
 
-tokens_back : (ts : List TokenSketch) → each token_of (items_of (map token_value ts)) ≡ Some ts
-tokens_back = each_back token_of token_value token_back
+token_back : (t : TokenSketch) → is_said t ≡ true → token_of (token_value t) ≡ Some t
+token_back (Integer z) said = refl
+token_back (Boolean b) said = refl
+token_back (Word w) said = cc
+
+tokens_back : (ts : List TokenSketch) → list_all is_said ts ≡ true → each token_of (items_of (map token_value ts)) ≡ Some ts
+tokens_back = each_passed_back token_of token_value is_said token_back
 
 sort_back : (s : Sort) → described_sort (sort_value s) ≡ Some s
 sort_back Words = refl
@@ -44,8 +53,8 @@ sort_back Flags = refl
 process_back : (p : ProcessSketch) → described_process (process_value p) ≡ Some p
 process_back p = rw (integers_back p.args) refl
 
-channel_back_two : (version : ℤ) → is_two version ≡ true → (c : ChannelSketch) → described_channel version (channel_value true c) ≡ Some c
-channel_back_two version is c = rw (is, sort_back c.sort, tokens_back c.tokens) refl
+channel_back_two : (version : ℤ) → is_two version ≡ true → (c : ChannelSketch) → has_said_tokens c ≡ true → described_channel version (channel_value true c) ≡ Some c
+channel_back_two version is c said = rw (is, sort_back c.sort, tokens_back c.tokens said) refl
 
 no_items : {A : Type 0} (xs : List A) → (length xs == 0) ≡ true → [] ≡ xs
 no_items [] is = refl
@@ -55,10 +64,7 @@ channel_back_other : (version : ℤ) (c : ChannelSketch) → has_no_tokens c ≡
 channel_back_other version c none = rw (sort_back c.sort) (ap (λ ts. Some (record c { tokens = ts })) (no_items c.tokens none))
 
 channels_back_other : (version : ℤ) (cs : List ChannelSketch) → list_all has_no_tokens cs ≡ true → each (described_channel version) (items_of (map (channel_value false) cs)) ≡ Some cs
-channels_back_other version [] none = refl
-channels_back_other version (c ∷ cs) none =
-    let (here, more) = and_parts (has_no_tokens c) (list_all has_no_tokens cs) none in
-    rw (channel_back_other version c here, channels_back_other version cs more) refl
+channels_back_other version = each_passed_back (described_channel version) (channel_value false) has_no_tokens (channel_back_other version)
 
 one_step : (z : ℤ) → int_eq z (pos 1) ≡ true → pos 1 ≡ z
 one_step z is = sym ((Decides-int_eq z (pos 1)).0 is)
@@ -66,16 +72,17 @@ one_step z is = sym ((Decides-int_eq z (pos 1)).0 is)
 has_step : (version : ℤ) → is_two version ≡ true → is_known (top_keys version) (codes "step") ≡ true
 has_step version two = rw (two, is_known) refl
 
-reads_back_two : (s : Sketch) → is_two s.version ≡ true → sketch_of (sketch_members s) ≡ Some s
-reads_back_two s two =
-    rw (two, has_step s.version two, each_back described_process process_value process_back s.processes, each_back (described_channel s.version) (channel_value true) (channel_back_two s.version two) s.channels) refl
+reads_back_two : (s : Sketch) → is_two s.version ≡ true → list_all has_said_tokens s.channels ≡ true → sketch_of (sketch_members s) ≡ Some s
+reads_back_two s two said =
+    let channels = each_passed_back (described_channel s.version) (channel_value true) has_said_tokens (channel_back_two s.version two) s.channels said in
+    rw (two, has_step s.version two, each_back described_process process_value process_back s.processes, channels) refl
 
 reads_back_other : (s : Sketch) → is_two s.version ≡ false → list_all has_no_tokens s.channels ≡ true → pos 1 ≡ s.step → sketch_of (sketch_members s) ≡ Some s
 reads_back_other s other none step =
     rw (other, each_back described_process process_value process_back s.processes, channels_back_other s.version s.channels none) (ap (λ z. Some (record s { step = z })) step)
 
 reads_back_by : (s : Sketch) (two : Bool) → is_two s.version ≡ two → is_describable s ≡ true → sketch_of (sketch_members s) ≡ Some s
-reads_back_by s true two is = reads_back_two s two
+reads_back_by s true two is = reads_back_two s two (rw two at is)
 reads_back_by s false other is =
     let (step, none) = and_parts (int_eq s.step (pos 1)) (list_all has_no_tokens s.channels) (rw other at is) in
     reads_back_other s other none (one_step s.step step)
@@ -95,6 +102,7 @@ integers_flat = items_below integer 0 (λ z. omega arith)
 token_flat : (t : TokenSketch) → depth (token_value t) ≤ 0
 token_flat (Integer z) = omega arith
 token_flat (Boolean b) = omega arith
+token_flat (Word w) = omega arith
 
 tokens_flat : (ts : List TokenSketch) → items_depth (items_of (map token_value ts)) ≤ 0
 tokens_flat = items_below token_value 0 token_flat

@@ -1,6 +1,7 @@
 -- The document of TOML that says what a sketch says, with every key that its version has.
-use Rattle.std.specs.Prelude.{ℕ, pos, Bool, ◌&&◌, ◌||◌, ◌==◌, if◌then◌else◌, codes, List, length, map}
+use Rattle.std.specs.Prelude.{ℕ, pos, Bool, true, false, ◌&&◌, ◌==◌, if◌then◌else◌, codes, List, length, map}
 use Rattle.std.specs.List.{list_all}
+use Rattle.std.specs.Int.{w64, cast_signed}
 use Rattle.std.specs.Ordering.{int_eq, nat_cmp, match_ordering}
 use Rattle.std.specs.Cmp.Lexicographic.{slice_cmp}
 use Rattle.toml.specs.Data.{Data, string, integer, boolean, array, table, Members, no_members, member}
@@ -9,7 +10,7 @@ use Rattle.kpn_model.specs.Version.{is_two}
 use Rattle.kpn_model.specs.declared.token.Sort.{Sort}
 use Rattle.kpn_model.specs.declared.token.Sort.TheVariants.{Words, Flags}
 use Rattle.kpn_sketch.specs.declared.sketch.TokenSketch.{TokenSketch}
-use Rattle.kpn_sketch.specs.declared.sketch.TokenSketch.TheVariants.{Integer, Boolean}
+use Rattle.kpn_sketch.specs.declared.sketch.TokenSketch.TheVariants.{Integer, Boolean, Word}
 use Rattle.kpn_sketch.specs.declared.sketch.ProcessSketch.{ProcessSketch}
 use Rattle.kpn_sketch.specs.declared.sketch.ChannelSketch.{ChannelSketch}
 use Rattle.kpn_sketch.specs.declared.sketch.Sketch.{Sketch}
@@ -19,9 +20,11 @@ abbrev pub with_member : List ℕ → Data → Members → Members
 with_member k d no_members = member k d no_members
 with_member k d (member l e ms) = match_ordering (slice_cmp nat_cmp k l) (member k d (member l e ms)) (member l d ms) (member l e (with_member k d ms))
 
+-- a word by its value is written as the number that it stands for in two's complement
 abbrev pub token_value : TokenSketch → Data
 token_value (Integer z) = integer z
 token_value (Boolean b) = boolean b
+token_value (Word w) = integer (cast_signed w64 w)
 
 abbrev pub sort_value : Sort → Data
 sort_value Words = string (codes "words")
@@ -59,9 +62,19 @@ sketch_members s =
     )
     )
 
--- a description can say all that the sketch says: in version 2, or with a step of 1 and without start tokens
 abbrev pub has_no_tokens : ChannelSketch → Bool
 has_no_tokens c = length c.tokens == 0
 
+-- the token is one that a text says
+abbrev pub is_said : TokenSketch → Bool
+is_said (Integer z) = true
+is_said (Boolean b) = true
+is_said (Word w) = false
+
+abbrev pub has_said_tokens : ChannelSketch → Bool
+has_said_tokens c = list_all is_said c.tokens
+
+-- a description can say all that the sketch says: in version 2 if no start token is a word by its value, in others with a step of 1 and
+-- without start tokens
 abbrev pub is_describable : Sketch → Bool
-is_describable s = is_two s.version || (int_eq s.step (pos 1) && list_all has_no_tokens s.channels)
+is_describable s = if is_two s.version then list_all has_said_tokens s.channels else int_eq s.step (pos 1) && list_all has_no_tokens s.channels

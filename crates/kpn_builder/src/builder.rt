@@ -1,11 +1,13 @@
 //! A description that is built.
-ghost use Rattle.std.specs.Prelude.{◌≡◌, ◌≢◌, ◌⊎◌, ◌++◌, ◌∷◌, [], pos, Some, None, IfOk, IfErr, IfSome, OnOk, OnErr, string_bytes};
+ghost use Rattle.std.specs.Prelude.{◌≡◌, ◌≢◌, ◌⊎◌, ◌↔◌, ◌++◌, ◌∷◌, [], false, pos, Some, None, Err, IfOk, IfErr, IfSome, OnOk, OnErr, string_bytes};
+ghost use Rattle.std.specs.List.{list_all};
 ghost use Rattle.kpn_model.specs.Valid.{IsValid};
 ghost use Rattle.kpn_model.specs.declared.limits.TheConstants.{DEFAULT_BUDGET};
 ghost use Rattle.kpn_sketch.specs.Description.{Describes};
 ghost use Rattle.kpn_net.specs.Faults.{first_fault};
 ghost use Rattle.kpn_net.specs.Sketched.{net_of};
 ghost use Rattle.kpn_builder.specs.Built.{channel_of, process_of};
+ghost use Rattle.kpn_builder.specs.Written.{has_said_tokens};
 
 use crate::message::sketch_message;
 use crate::text::{TextFault, to_toml};
@@ -276,20 +278,20 @@ impl Builder {
 
     /// Writes what was built as a description: reading it gives the same sketch.
     ///
-    /// Errors: memory was refused.
+    /// Errors: `Version` exactly if some start token is a word by its value, which no description says; `Memory`
+    /// if memory was refused.
     ///
     /// ```text
-    /// let text = made.to_toml()?;
+    /// let Ok(text) = made.to_toml() else {
+    ///     return Err(AllocError);
+    /// };
     /// let _ = print!(rt; "{text}");
     /// ```
-    pub fn to_toml(&self) -> Result<String, AllocError>
-        ensures { IfOk result (λ text. Describes (string_bytes text) self.now) }
+    pub fn to_toml(&self) -> Result<String, TextFault>
+        ensures text { IfOk result (λ text. Describes (string_bytes text) self.now) }
+        ensures version { (result ≡ Err TextFault.Version) ↔ (list_all has_said_tokens self.now.channels ≡ false) }
     {
-        match to_toml(self.alloc, &self.sketch) {
-            Ok(text) => Ok(text),
-            Err(TextFault::Memory) => Err(AllocError),
-            Err(TextFault::Version) => unreachable!(),
-        }
+        to_toml(self.alloc, &self.sketch)
     }
 }
 

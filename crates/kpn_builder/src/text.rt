@@ -4,11 +4,11 @@ ghost use Rattle.std.specs.List.{list_all};
 ghost use Rattle.toml.specs.Data.{no_members};
 ghost use Rattle.toml.specs.View.{table_view};
 ghost use Rattle.kpn_sketch.specs.Description.{Describes};
-ghost use Rattle.kpn_builder.specs.Written.{has_no_tokens, is_describable, sketch_members, version_members};
+ghost use Rattle.kpn_builder.specs.Written.{has_no_tokens, has_said_tokens, is_describable, is_said, sketch_members, version_members};
 
 use crate::value::put_held;
 use kpn_model::version::is_two;
-use kpn_sketch::{ChannelSketch, Sketch};
+use kpn_sketch::{ChannelSketch, Sketch, TokenSketch};
 use std::alloc::{AllocError, Global};
 use thiserror::Error;
 use toml::Table;
@@ -16,8 +16,9 @@ use toml::Table;
 /// Why a sketch was not written.
 #[derive(Clone, Copy, Debug, PartialEq, Eq, Error)]
 pub enum TextFault {
-    /// No description says it: its version is not 2, and it has a step other than 1, or start tokens.
-    #[error("only descriptions of version 2 have a step and start tokens")]
+    /// No description says it: its version is not 2, and it has a step other than 1, or start tokens; or a
+    /// start token is a word by its value.
+    #[error("only descriptions of version 2 have a step and start tokens, which are integers or booleans")]
     Version,
     /// Memory was refused.
     #[error("memory was refused")]
@@ -63,11 +64,35 @@ fn none_has_tokens(channels: &[ChannelSketch]) -> bool
     channels.iter().all(|c| has_no_tokens(c))
 }
 
+/// Whether a start token is one that a text says.
+fn is_said(token: TokenSketch) -> bool
+    ensures { result ≡ is_said token }
+{
+    !matches!(token, TokenSketch::Word(_))
+}
+
+fn has_said_tokens(channel: &ChannelSketch) -> bool
+    ensures { result ≡ has_said_tokens channel.now }
+{
+    channel.tokens.as_slice().iter().all(|t| is_said(*t))
+}
+
+fn all_have_said_tokens(channels: &[ChannelSketch]) -> bool
+    ensures { result ≡ list_all has_said_tokens channels.now }
+{
+    channels.iter().all(|c| has_said_tokens(c))
+}
+
 /// Whether a description can say all that a sketch says.
 fn is_describable(sketch: &Sketch) -> bool
     ensures { result ≡ is_describable sketch.now }
 {
-    is_two(sketch.version) || (sketch.step == 1 && none_has_tokens(sketch.channels.as_slice()))
+    let channels = sketch.channels.as_slice();
+    if is_two(sketch.version) {
+        all_have_said_tokens(channels)
+    } else {
+        sketch.step == 1 && none_has_tokens(channels)
+    }
 }
 
 /// Puts the members at the top whose keys come last into a table.

@@ -94,6 +94,7 @@ impl ToValue for TokenSketch {
         match self {
             TokenSketch::Integer(integer) => Ok(Value::from(*integer)),
             TokenSketch::Boolean(boolean) => Ok(Value::from(*boolean)),
+            TokenSketch::Word(word) => Ok(Value::from(word.cast_signed())),
         }
     }
 }

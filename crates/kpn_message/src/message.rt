@@ -38,8 +38,33 @@ pub fn message_of<K: Kinds>(
         NetFault::NotToml | NetFault::Keys => message_of_text(alloc, text),
         _ => {
             let sketch = read_sketch(alloc, text).ok()?;
-            message_at::<K>(alloc, &sketch, fault, locate::<K>(&sketch, fault), kinds)
+            message_of_sketch::<K>(alloc, &sketch, fault, kinds)
         }
+    }
+}
+
+/// What is wrong with a sketch, and where, as `message_of` says it of a text that is read as this sketch.
+///
+/// `fault` is the fault that the sketch was refused for, and `kinds` names the kinds that there are. There
+/// is no message where the fault says all (`Memory` and `Input`), where it is that of a text that is read as
+/// no sketch (`NotToml` and `Keys`), or where memory is refused. Of a sketch that does not have the fault
+/// the message may say what isn't so, and there may be none.
+///
+/// ```text
+/// message_of_sketch::<K>(alloc, sketch, fault, kinds)
+/// ```
+pub fn message_of_sketch<K: Kinds>(
+    alloc: Global,
+    sketch: &Sketch,
+    fault: NetFault,
+    kinds: &str,
+) -> Option<String>
+    ensures plain { (fault ≡ NetFault.Memory) ⊎ (fault ≡ NetFault.Input) → result ≡ None }
+    ensures said { IfSome result (λ message. string_bytes message ≢ []) }
+{
+    match fault {
+        NetFault::NotToml | NetFault::Keys | NetFault::Memory | NetFault::Input => None,
+        _ => message_at::<K>(alloc, sketch, fault, locate::<K>(sketch, fault), kinds),
     }
 }
 

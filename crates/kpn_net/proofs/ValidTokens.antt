@@ -7,7 +7,7 @@ use Rattle.std.specs.Prelude.{unsigned_abs, int_lt}
 use Rattle.kpn_model.specs.declared.token.Sort.{Sort}
 use Rattle.kpn_model.specs.declared.token.Sort.TheVariants.{Words, Flags}
 use Rattle.kpn_sketch.specs.declared.sketch.TokenSketch.{TokenSketch}
-use Rattle.kpn_sketch.specs.declared.sketch.TokenSketch.TheVariants.{Integer, Boolean}
+use Rattle.kpn_sketch.specs.declared.sketch.TokenSketch.TheVariants.{Integer, Boolean, Word}
 use Rattle.kpn_model.specs.Lawful.{sort_of, Fits}
 use Rattle.kpn_net.specs.Faults.{is_token}
 use Rattle.kpn_net.specs.Sketched.{token_in}
@@ -15,8 +15,10 @@ use Rattle.kpn_model.specs.Valid.{IsOfSort}
 
 sort_is : (w : Sort) (t : TokenSketch) → not (is_token w t) ≡ false → sort_of (token_in t) ≡ w
 sort_is Words (Integer z) h = refl
+sort_is Words (Word w) h = refl
 sort_is Words (Boolean b) h = cc
 sort_is Flags (Integer z) h = cc
+sort_is Flags (Word w) h = cc
 sort_is Flags (Boolean b) h = refl
 
 -- each is of the sort

@@ -9,7 +9,7 @@ use Rattle.kpn_sketch.specs.declared.fault.NetFault.TheVariants.{Version, Counts
 use Rattle.kpn_model.specs.declared.token.Sort.{Sort}
 use Rattle.kpn_model.specs.declared.token.Sort.TheVariants.{Words, Flags}
 use Rattle.kpn_sketch.specs.declared.sketch.TokenSketch.{TokenSketch}
-use Rattle.kpn_sketch.specs.declared.sketch.TokenSketch.TheVariants.{Integer, Boolean}
+use Rattle.kpn_sketch.specs.declared.sketch.TokenSketch.TheVariants.{Integer, Boolean, Word}
 use Rattle.kpn_sketch.specs.declared.sketch.ProcessSketch.{ProcessSketch}
 use Rattle.kpn_sketch.specs.declared.sketch.ChannelSketch.{ChannelSketch}
 use Rattle.kpn_sketch.specs.declared.sketch.Sketch.{Sketch}
@@ -52,12 +52,14 @@ is_sort Words (Some Words) = true
 is_sort Flags (Some Flags) = true
 is_sort _ (Some _) = false
 
--- an integer is a word, and a boolean a flag
+-- an integer from 0 on is a word, and so is what is given as one; a boolean is a flag
 abbrev pub is_token : Sort → TokenSketch → Bool
 is_token Words (Integer z) = not (int_lt z (pos 0))
 is_token Flags (Boolean b) = true
+is_token Words (Word w) = true
 is_token Words (Boolean b) = false
 is_token Flags (Integer z) = false
+is_token Flags (Word w) = false
 
 -- some start token is not of the channel's sort, or there are more than the channel may hold
 abbrev pub has_wrong_tokens : ChannelSketch → Bool

@@ -4,7 +4,7 @@ use Rattle.std.specs.Str.{bytes_eq}
 use Rattle.kpn_model.specs.declared.token.Token.{Token}
 use Rattle.kpn_model.specs.declared.token.Token.TheVariants.{Word, Flag}
 use Rattle.kpn_sketch.specs.declared.sketch.TokenSketch.{TokenSketch}
-use Rattle.kpn_sketch.specs.declared.sketch.TokenSketch.TheVariants.{Integer, Boolean}
+use Rattle.kpn_sketch.specs.declared.sketch.TokenSketch.TheVariants.{Integer, Boolean, Word as GivenWord}
 use Rattle.kpn_sketch.specs.declared.sketch.ProcessSketch.{ProcessSketch}
 use Rattle.kpn_sketch.specs.declared.sketch.ChannelSketch.{ChannelSketch}
 use Rattle.kpn_sketch.specs.declared.sketch.Sketch.{Sketch}
@@ -24,6 +24,7 @@ process_in named p = record { name = p.name; card = card_with (unwrap_or (named 
 abbrev pub token_in : TokenSketch → Token
 token_in (Integer z) = Word (unsigned_abs z)
 token_in (Boolean b) = Flag b
+token_in (GivenWord w) = Word w
 
 abbrev pub channel_in : List ProcessSketch → ChannelSketch → Channel
 channel_in processes c = record {

@@ -102,6 +102,7 @@ fn token_in(sketch: TokenSketch) -> Token
     match sketch {
         TokenSketch::Integer(integer) => Token::Word(integer.unsigned_abs()),
         TokenSketch::Boolean(boolean) => Token::Flag(boolean),
+        TokenSketch::Word(word) => Token::Word(word),
     }
 }
 

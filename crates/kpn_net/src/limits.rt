@@ -59,12 +59,14 @@ pub(crate) fn has_wrong_budget<K: Kinds>(sketch: &Sketch) -> bool
     is_outside(1, greatest, sketch.budget)
 }
 
-/// Whether a start token is of this sort: words are integers from 0 on, flags are booleans.
+/// Whether a start token is of this sort: words are integers from 0 on and words by their value, flags are
+/// booleans.
 pub fn is_token(sort: Sort, token: TokenSketch) -> bool
     ensures { result ≡ is_token sort token }
 {
     match (sort, token) {
         (Sort::Words, TokenSketch::Integer(integer)) => integer >= 0,
+        (Sort::Words, TokenSketch::Word(_)) => true,
         (Sort::Flags, TokenSketch::Boolean(_)) => true,
         _ => false,
     }

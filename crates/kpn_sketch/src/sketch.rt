@@ -39,9 +39,11 @@ pub struct ChannelSketch {
 }
 
 /// A token that a channel of a description holds at first: an integer, which is a word if it is not
-/// negative, or a boolean, which is a flag.
+/// negative, or a boolean, which is a flag; or a word by its value, from 0 to 2^64 - 1, which no text
+/// says but a program may give.
 #[derive(Clone, Copy, Debug, PartialEq, Eq)]
 pub enum TokenSketch {
     Integer(i64),
     Boolean(bool),
+    Word(u64),
 }

@@ -1,6 +1,8 @@
 //! Edits of a description, each with the number of its fault and its message.
 use crate::checks::same;
-use kpn_message::{Location, Messages, line_of_table, locate, message_of, messages_of_sketch};
+use kpn_message::{
+    Location, Messages, line_of_table, locate, message_of, message_of_sketch, messages_of_sketch,
+};
 use kpn_net::faults::has_fault;
 use kpn_net::{Check, Net, NetFault, read_sketch};
 use kpn_standard::Standard;
@@ -393,6 +395,10 @@ fn tells<R: Abort>(rt: &R, alloc: Global, text: &[u8], number: u8, message: &str
         (fault.number(), told.as_str()),
         (number, message),
     );
+    if let Ok(sketch) = read_sketch(alloc, text) {
+        let said = message_of_sketch::<Standard>(alloc, &sketch, fault, KINDS);
+        same(rt, "said of the sketch", said.as_deref(), Some(message));
+    }
 }
 
 /// An edit of the text, with the number of its fault and its message.

@@ -9,7 +9,7 @@ use hox_network::{
 };
 use hox_run::{Notes, Progress, Silent, SoFar, Told, execute, serve};
 use kpn_message::messages_of_sketch;
-use kpn_net::{Listed, Net, Sort, Text};
+use kpn_net::{Listed, Net, Sort, Text, Token, TokenSketch};
 use kpn_tokens::{Decimals, Layout, RecordFault};
 use std::alloc::Global;
 use std::process::Abort;
@@ -436,6 +436,46 @@ fn an_argument_may_be_negative(rt: HostRuntime) {
     let told = told_of(&rt, WITHIN, &request, &Silent);
     let due = "-100\n-100\n7\n100\n";
     compare_output(&rt, &told, due);
+}
+
+/// Start tokens of which some are below 0.
+const HELD: &str = r#"version = 2
+process = [{ name = "src", kind = "input" }, { name = "snk", kind = "drain" }]
+channel = [{ name = "x", from = "src", to = "snk", capacity = 3, tokens = [-1, 5, -9223372036854775808] }]
+"#;
+
+#[test]
+fn a_start_token_may_be_negative(rt: HostRuntime) {
+    let sketch = sketch_by_ports::<AllKinds>(rt.alloc(), HELD.as_bytes());
+    let sketch = sketch.expect(&rt, "no sketch");
+    let channels = sketch.channels.as_slice();
+    let channel = channels.first().expect(&rt, "no channel");
+    let due = [
+        TokenSketch::Word(18446744073709551615),
+        TokenSketch::Integer(5),
+        TokenSketch::Word(9223372036854775808),
+    ];
+    same(&rt, "tokens", channel.tokens.as_slice(), due.as_slice());
+    let mut source = HELD.as_bytes();
+    let loaded: Result<Net<AllKinds>, _> = load_by_ports(rt.alloc(), &mut source);
+    let Ok(net) = loaded else {
+        panic!(rt; "refused");
+    };
+    let held = [
+        Token::Word(18446744073709551615),
+        Token::Word(5),
+        Token::Word(9223372036854775808),
+    ];
+    same(&rt, "held", first_tokens(&net), held.as_slice());
+}
+
+/// What the first channel holds at first.
+fn first_tokens(net: &Net<AllKinds>) -> &[Token] {
+    if net.channels() > 0 {
+        net.tokens(0)
+    } else {
+        &[]
+    }
 }
 
 /// Two faults, at a process and at a channel.

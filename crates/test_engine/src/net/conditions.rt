@@ -189,8 +189,11 @@ fn judges_names_ports_and_tokens(rt: HostRuntime) {
         is_token(Sort::Words, TokenSketch::Boolean(true)),
         is_token(Sort::Flags, TokenSketch::Boolean(false)),
         is_token(Sort::Flags, TokenSketch::Integer(1)),
+        is_token(Sort::Words, TokenSketch::Word(u64::MAX)),
+        is_token(Sort::Flags, TokenSketch::Word(1)),
     ];
-    same(&rt, "tokens", tokens, [true, false, false, true, false]);
+    let due = [true, false, false, true, false, true, false];
+    same(&rt, "tokens", tokens, due);
 }
 
 /// Whether two channels have one name, begin at one port, and end at one.

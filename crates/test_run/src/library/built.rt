@@ -1,7 +1,7 @@
 //! Networks that are built, and sketches as texts.
 use crate::checks::same;
 use kpn_builder::{Builder, NewChannel, TextFault, sketch_message, to_toml};
-use kpn_net::{Check, Net, NetFault, Sort, TokenSketch, read_sketch};
+use kpn_net::{Check, Net, NetFault, Sort, Token, TokenSketch, read_sketch};
 use kpn_standard::Standard;
 use std::alloc::Global;
 use std::process::Abort;
@@ -140,6 +140,42 @@ fn what_was_built_is_a_network(rt: HostRuntime) {
     add_counter(&rt, &mut made);
     let net: Net<Standard> = made.check().expect(&rt, "a fault");
     compare_network(&rt, &net);
+    drop(net);
+    drop(made);
+}
+
+/// Adds a process of this kind, a sink, and a channel between them that holds the greatest word at first.
+fn add_held<R: Abort>(rt: &R, made: &mut Builder, kind: &str) {
+    made.process("src", kind, &[1, 3]).expect(rt, "memory");
+    made.process("snk", "sink", &[3]).expect(rt, "memory");
+    let greatest = [TokenSketch::Word(u64::MAX)];
+    let wire = NewChannel::new("c0", "src", "snk").tokens(&greatest);
+    made.channel(wire).expect(rt, "memory");
+}
+
+/// What is wrong beside a word that no text says is told by the caller's names.
+#[test]
+fn faults_beside_such_words_are_told(rt: HostRuntime) {
+    let mut made = Builder::new(rt.alloc());
+    add_held(&rt, &mut made, "cuont");
+    let message = made.message::<Standard>(NetFault::Kind, KINDS);
+    let due = "process \"src\": kind \"cuont\" is unknown; the kinds are count and sink";
+    same(&rt, "kind", message.as_deref(), Some(due));
+    drop(made);
+}
+
+/// A word that is given by its value is held at first, and no text says it.
+#[test]
+fn words_by_their_value_are_held(rt: HostRuntime) {
+    let mut made = Builder::new(rt.alloc());
+    add_held(&rt, &mut made, "count");
+    let net: Net<Standard> = made.check().expect(&rt, "a fault");
+    if net.channels() == 1 {
+        let due = [Token::Word(18446744073709551615)];
+        same(&rt, "tokens", net.tokens(0), due.as_slice());
+    }
+    let none = made.to_toml().err();
+    same(&rt, "text", none, Some(TextFault::Version));
     drop(net);
     drop(made);
 }

@@ -1,0 +1,126 @@
+//! Files that are read on from where their records begin.
+ghost use Rattle.std.specs.Prelude.{◌≡◌, ◌≤◌, ◌++◌, ℕ, List, false, drop, vec_len, Option, IfOk, OnOk};
+ghost use Rattle.hox_format.specs.Forms.{form};
+ghost use Rattle.hox_format.specs.Resuming.{IsBegun, IsFrontOf, left_in, left_of, resumed_has_failed};
+
+use crate::bodies::{Body, HeadFault, body_in};
+use crate::formats::Format;
+use crate::resumed::Resumed;
+use kpn_front::Source;
+use kpn_tokens::Layout;
+use std::alloc::Global;
+use std::io;
+
+/// How many bytes one read takes at most while a file is begun.
+const PIECE: usize = 4096;
+
+/// A file that was read to where its records begin: what is left of it, how they are laid out, and how many samples a
+/// second there are if that is told.
+#[derive(Drop)]
+pub struct Begun<S> {
+    pub source: S,
+    pub layout: Layout,
+    pub rate: Option<u32>,
+}
+
+/// Why a file was not begun: what stands before its records is refused; or it can't be read; or memory was refused.
+#[derive(Clone, Copy, Debug)]
+pub enum BeginFault {
+    Head(HeadFault),
+    Unread(io::Error),
+    Memory,
+}
+
+/// Reads a file of this format to where the records of the channel at `place` of `count` begin.
+///
+/// Errors: see [`BeginFault`].
+pub fn begin<S: Source + Drop>(
+    alloc: Global,
+    source: S,
+    format: &Format<'_>,
+    place: usize,
+    count: usize,
+) -> Result<Begun<Resumed<S>>, BeginFault>
+    ensures begun { IfOk result (λ b. IsBegun (form format.now) place count (S.remaining source) b.layout b.rate (left_of S.remaining b.source)) }
+    ensures unfailed { S.has_failed source ≡ false → IfOk result (λ b. resumed_has_failed S.has_failed b.source ≡ false) }
+{
+    let mut front = Front {
+        held: Vec::new(alloc),
+        source,
+        is_last: false,
+    };
+    'pieces: for _ in 0..u64::MAX {
+        match body_in(
+            alloc,
+            format,
+            place,
+            count,
+            front.held.as_slice(),
+            front.is_last,
+        ) {
+            Ok(Ok(Some(body))) => return Ok(resumed_at(front, body)),
+            Ok(Ok(None)) => read_on(&mut front)?,
+            Ok(Err(fault)) => return Err(BeginFault::Head(fault)),
+            Err(_) => return Err(BeginFault::Memory),
+        }
+    }
+    Err(BeginFault::Memory)
+}
+
+/// A file that is being begun: what was read of it, the rest of it, and whether there is none.
+#[derive(Drop)]
+struct Front<S> {
+    held: Vec<u8>,
+    source: S,
+    is_last: bool,
+}
+
+/// A file whose first bytes tell of this body.
+fn resumed_at<S: Source>(front: Front<S>, body: Body) -> Begun<Resumed<S>>
+    requires { body.start ≤ vec_len front.held }
+    ensures left { left_of S.remaining result.source ≡ left_in body.size (drop body.start front.held.items) (S.remaining front.source) }
+    ensures failed { resumed_has_failed S.has_failed result.source ≡ S.has_failed front.source }
+    ensures layout { result.layout ≡ body.layout }
+    ensures rate { result.rate ≡ body.rate }
+{
+    let Front {
+        held,
+        source,
+        is_last: _,
+    } = front;
+    Begun {
+        source: Resumed {
+            held,
+            next: body.start,
+            source,
+            left: body.size,
+        },
+        layout: body.layout,
+        rate: body.rate,
+    }
+}
+
+/// Reads a piece more.
+fn read_on<S: Source>(front: &mut Front<S>) -> Result<(), BeginFault>
+    ensures reads { OnOk result ((known : Option (List ℕ)) → IsFrontOf known front.old.held.items front.old.is_last (S.remaining front.old.source) → IsFrontOf known front.new.held.items front.new.is_last (S.remaining front.new.source)) }
+    ensures unfailed { S.has_failed front.old.source ≡ false → OnOk result (S.has_failed front.new.source ≡ false) }
+{
+    let mut piece = [0; PIECE];
+    match front.source.read(&mut piece) {
+        Ok(n) => {
+            front.is_last = n == 0;
+            append(&mut front.held, &piece[..n])
+        }
+        Err(error) => Err(BeginFault::Unread(error)),
+    }
+}
+
+/// Appends bytes.
+fn append(held: &mut Vec<u8>, bytes: &[u8]) -> Result<(), BeginFault>
+    ensures { OnOk result (held.new.items ≡ held.old.items ++ bytes.now) }
+{
+    match held.extend_from_slice(bytes) {
+        Ok(()) => Ok(()),
+        Err(_) => Err(BeginFault::Memory),
+    }
+}
