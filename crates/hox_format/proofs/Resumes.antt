@@ -81,12 +81,11 @@ module _ (left : Option ℕ) (held : List ℕ) (next : ℕ) (rem : Option (List 
       let size : length (take n (buf ++ more)) ≡ n = ap (λ (l : List ℕ). length l) (take-append-le n buf more fits) ∙ length-take-le n buf fits in
       let split : drop next held ≡ take n (buf ++ more) ++ drop (next + n) held = sym (take-append-drop n (drop next held)) ∙ ap (λ l. l ++ drop n (drop next held)) (sym bs_are) ∙ ap (λ l. take n (buf ++ more) ++ l) (drop-drop n next held) in
       let room : IfSome left (λ k. length (take n (buf ++ more)) ≤ k) = subst (λ m. IfSome left (λ k. m ≤ k)) (sym size) (within left len n (omega (arith, count))) in
-      let taken = consumes_sized left (prepend_known (drop next held) rem) (prepend_known (drop (next + n) held) rem) bs room (prepend_consumes (drop next held) bs (drop (next + n) held) rem split) in
-      (
+      let taken = consumes_sized left (prepend_known (drop next held) rem) (prepend_known (drop (next + n) held) rem) bs room (prepend_consumes (drop next held) bs (drop (next + n) held) rem split) in (
         subst (λ m. Consumes (left_in left (drop next held) rem) (left_in (less left m) (drop (next + n) held) rem) (take n (buf ++ more))) size taken,
         λ nothing room_there.
-        let left_some : 0 < length bytes = ap_length bytes bytes_are some in
-        ended_by_size left len n (prepend_known (drop (next + n) held) rem) (omega (arith, count, nothing, left_some)) nothing room_there,
+            let left_some : 0 < length bytes = ap_length bytes bytes_are some in
+            ended_by_size left len n (prepend_known (drop (next + n) held) rem) (omega (arith, count, nothing, left_some)) nothing room_there,
       )
     where
       ap_length : (bytes : List ℕ) → bytes ≡ drop next held → next < length held → 0 < length bytes
@@ -103,8 +102,7 @@ module _ (left : Option ℕ) (held : List ℕ) (next : ℕ) (rem : Option (List 
       let room : IfSome left (λ k. length (take n (buf ++ more)) ≤ k) = subst (λ m. IfSome left (λ k. m ≤ k)) (sym size) (within left len n (omega (arith, few, long))) in
       let read : Consumes rem new (take n (buf ++ more)) = subst (λ l. Consumes rem new l) (sym same) taken in
       let whole = subst (λ d. Consumes (prepend_known d rem) (prepend_known d new) (take n (buf ++ more))) (sym none) (prepend_none rem new bs read) in
-      let all = consumes_sized left (prepend_known (drop next held) rem) (prepend_known (drop next held) new) bs room whole in
-      (
+      let all = consumes_sized left (prepend_known (drop next held) rem) (prepend_known (drop next held) new) bs room whole in (
         subst (λ m. Consumes (left_in left (drop next held) rem) (left_in (less left m) (drop next held) new) (take n (buf ++ more))) size all,
         λ nothing some. elim (cases_lt 0 (length buf)) [
           | inl h ↦ at_end_sized (less left n) (prepend_known (drop next held) new) (subst (λ d. IsAtEnd (prepend_known d new)) (sym none) (at_end_prepend new (ended nothing h)))

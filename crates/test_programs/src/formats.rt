@@ -1,9 +1,10 @@
 //! How files have tokens, as it is named; and what stands in them before the tokens.
 use crate::checks::same;
 use hox_format::{
-    Body, Csv, Format, FormatFault, HeadFault, Raw, Wav, Which, append_head, append_tail, body_in,
-    body_of, format_of, layout_of,
+    BeginFault, Body, Csv, Format, FormatFault, HeadFault, Raw, Wav, Which, append_head,
+    append_tail, begin, body_in, body_of, format_of, layout_of,
 };
+use kpn_front::Source;
 use kpn_tokens::{
     Coding, Column, Decimals, Endian, Frame, Layout, RecordFault, Sample, Separator, WavFault,
     Width, wav_sample,
@@ -455,4 +456,31 @@ fn a_channel_alone_has_a_layout(rt: HostRuntime) {
         let format = format_of(text).expect(&rt, "a format");
         same(&rt, text, layout_of(&format), due);
     }
+}
+
+#[test]
+fn a_file_is_read_on_from_its_records(rt: HostRuntime) {
+    let format = format_of("wav,channel=2").expect(&rt, "a format");
+    let Ok(mut begun) = begin(rt.alloc(), STEREO, &format, 0, 1) else {
+        panic!(rt; "a file that can be read");
+    };
+    same(&rt, "layout", begun.layout, stereo(2, 0).layout);
+    same(&rt, "rate", begun.rate, Some(48000));
+    let (mut first, mut second) = ([0; 5], [0; 5]);
+    let read = begun.source.read(&mut first).expect(&rt, "a read");
+    same(&rt, "first", (read, first), (5, *b"\x01\x00\xff\xffd"));
+    let read = begun.source.read(&mut second).expect(&rt, "a read");
+    same(&rt, "second", (read, second), (3, *b"\x00\x9c\xff\x00\x00"));
+    let read = begun.source.read(&mut second).expect(&rt, "a read");
+    same(&rt, "end", read, 0);
+}
+
+#[test]
+fn a_file_that_is_no_wav_file_is_not_begun(rt: HostRuntime) {
+    let format = format_of("wav").expect(&rt, "a format");
+    let fault = match begin(rt.alloc(), TABLE, &format, 0, 1) {
+        Err(BeginFault::Head(fault)) => Some(fault),
+        _ => None,
+    };
+    same(&rt, "fault", fault, Some(HeadFault::Wav(WavFault::NotWav)));
 }
