@@ -2,7 +2,7 @@ use Rattle.std.proofs.Common.{◌≡◌, ◌<◌, ◌++◌, ◌∙◌, false, No
 use Rattle.kpn_tokens.specs.declared.layouts.Cell.{Cell}
 use Rattle.kpn_tokens.specs.Rows.{cell_text, cells_text, separator_before}
 use Rattle.kpn_tokens.proofs.Cells.{cells_more}
-use Rattle.kpn_tokens.proofs.appending.append_row.Goals as goal
+use Rattle.kpn_tokens.proofs.tables.append_line.Goals as goal
 
 no_cell : Cell
 no_cell = record { decimals = record { digits = 0; is_unsigned = false }; token = None }
