@@ -3,8 +3,8 @@ use Rattle.std.proofs.Common.{◌≡◌, ◌<◌, ◌+◌, ℕ, Option, true, le
 use Rattle.std.proofs.lemmas.List.{get_or_default}
 use Rattle.hox_stream.specs.Views.{no_outlet}
 use Rattle.hox_stream.proofs.Flushed.{Flushes, err_means, flushes_failed, flushes_next, flushes_none}
-use Rattle.hox_stream.proofs.telling.flush_all.Goals as goal
-use Rattle.hox_stream.proofs.telling.flush_all.Goals.{then-is_err, else-is_err}
+use Rattle.hox_stream.proofs.telling.flush_sinks.Goals as goal
+use Rattle.hox_stream.proofs.telling.flush_sinks.Goals.{then-is_err, else-is_err}
 
 pub loop-k-init : goal.loop-k-init
 loop-k-init g c = flushes_none c.args.outlets.now

@@ -2,7 +2,7 @@
 use Rattle.std.proofs.Common.{refl, sym, ◌∙◌}
 use Rattle.hox_stream.specs.Serves.{new_outlet}
 use Rattle.hox_stream.proofs.Paired.{empty, made_more, made_none, made_over, zip_more, zip_over}
-use Rattle.hox_stream.proofs.serving.outlets_of.Goals as goal
+use Rattle.hox_stream.proofs.placing.outlets_of.Goals as goal
 
 pub loop-sink-init : goal.loop-sink-init
 loop-sink-init g c = record { made = made_none (λ p. new_outlet p.0 p.1.layout (g.S.Sink.seen p.1.stream).contents) c.args.channels.now c.new-outlets.result.items c.new-outlets.ensures.items; rest = refl }

@@ -1,7 +1,7 @@
 use Rattle.std.proofs.Common.{◌≡◌}
 use Rattle.hox_stream.specs.Serves.{new_outlets}
 use Rattle.hox_stream.proofs.Paired.{left_of}
-use Rattle.hox_stream.proofs.serving.outlets_of.Given as goal
+use Rattle.hox_stream.proofs.placing.outlets_of.Given as goal
 
 abbrev pub invariant-loop-sink : goal.invariant-loop-sink
 invariant-loop-sink g l = record {
