@@ -95,10 +95,10 @@ fn lanes_of(
     let mut lanes = Vec::new(alloc);
     let mut rest = channels;
     for decimals in columns {
-        let Some((channel, later)) = rest.split_first() else {
+        let Some((channel, others)) = rest.split_first() else {
             continue;
         };
-        rest = later;
+        rest = others;
         let lane = Lane::new(alloc, table, *channel, decimals);
         lanes.push(lane)?;
     }

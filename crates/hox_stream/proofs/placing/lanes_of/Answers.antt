@@ -21,6 +21,6 @@ loop-decimals-preserved c =
     let before = c.loop-decimals.invariant in
     let some = c.in-Some-split_first.ensures.cases.0 in
     record {
-      made = made_more _ c.args.channels.now c.loop-decimals.yielded c.in-Some.decimals c.in-Some-split_first.channel.now c.loop-decimals.rest.now c.in-Some-split_first.later.now c.loop-decimals.lanes.items c.push.new.self.items c.new-lane.result before.rest some before.made c.in_ok-push.ensures.items c.new-lane.ensures;
-      rest = sym (zip_more c.args.channels.now c.loop-decimals.yielded c.in-Some.decimals c.in-Some-split_first.channel.now c.in-Some-split_first.later.now (sym before.rest ∙ some)).1;
+      made = made_more _ c.args.channels.now c.loop-decimals.yielded c.in-Some.decimals c.in-Some-split_first.channel.now c.loop-decimals.rest.now c.in-Some-split_first.others.now c.loop-decimals.lanes.items c.push.new.self.items c.new-lane.result before.rest some before.made c.in_ok-push.ensures.items c.new-lane.ensures;
+      rest = sym (zip_more c.args.channels.now c.loop-decimals.yielded c.in-Some.decimals c.in-Some-split_first.channel.now c.in-Some-split_first.others.now (sym before.rest ∙ some)).1;
     }
