@@ -17,9 +17,9 @@ use Rattle.hox_stream.specs.declared.finish.Finish.{Finish}
 use Rattle.hox_stream.specs.declared.serving.LaidOut.{LaidOut}
 use Rattle.hox_stream.specs.declared.starting.StreamFault.{StreamFault}
 use Rattle.hox_stream.specs.Exits.{exit_named, exit_ports, exits, with_exits}
-use Rattle.hox_stream.specs.Serves.{Serves, new_inlets, new_outlets}
+use Rattle.hox_stream.specs.Serves.{Serves, new_inlets, new_outs}
 use Rattle.hox_stream.specs.Starts.{IsNoNetwork, IsStarted, IsStreamFault}
-use Rattle.hox_stream.specs.Views.{InletView, OutletView}
+use Rattle.hox_stream.specs.Views.{InletView, OutsView}
 use Rattle.kpn_tokens.specs.declared.layouts.Layout.{Layout}
 use Rattle.kpn_tokens.specs.declared.layouts.Layout.TheVariants.{Lines}
 use Rattle.hox_args.specs.declared.arguments.StreamChoice.{StreamChoice}
@@ -134,10 +134,10 @@ abbrev pub sources_at : (List ℕ → Option (List ℕ)) → FlowView → List P
 sources_at contents start pairs = new_inlets (λ (o : Option (List ℕ)). o) (λ _. false) start.network start.inputs (map (held_in contents) pairs)
 
 -- a stream runs from its start between files to its end; the words of these channels are written unsigned
-pub record RunsBetween (kinds : Family) (contents : List ℕ → Option (List ℕ)) (unsigned : List (List ℕ)) (ends : Ends) (start t : FlowView) (ins : List InletView) (outs : List OutletView) (finish : Finish) : Type 0 where
+pub record RunsBetween (kinds : Family) (contents : List ℕ → Option (List ℕ)) (unsigned : List (List ℕ)) (ends : Ends) (start t : FlowView) (ins : List InletView) (outs : OutsView) (finish : Finish) : Type 0 where
   pub sinks : List (LaidOut SinkView)
   pub created : AllZip (IsCreated (λ (v : SinkView). v) unsigned) ends.outputs.items sinks
-  pub serves : Serves kinds start t (sources_at contents start ends.inputs.items) ins (new_outlets (λ (v : SinkView). v) start.outputs sinks) outs finish
+  pub serves : Serves kinds start t (sources_at contents start ends.inputs.items) ins (new_outs (λ (v : SinkView). v) start.outputs sinks []) outs finish
 
 -- a text is refused as a description
 abbrev pub IsRefusedText : (List ℕ → Option (ℕ × ℕ)) → (Card → Option Signature) → List ℕ → Unopened → Type 0
@@ -209,7 +209,7 @@ module _ (kinds : Family) (named : List ℕ → Option (ℕ × ℕ)) where
       -- which files can't be used beside each other, if that is known
       module _ (clash : List ℕ → Bool → List ℕ → Bool → Option Bool) (choice : StreamChoice) where
         -- what is chosen is streamed: between the ends that are chosen, from the start of the network of the description, to its end
-        pub record StreamsBetween (ends : Ends) (t : FlowView) (ins : List InletView) (outs : List OutletView) (finish : Finish) : Type 0 where
+        pub record StreamsBetween (ends : Ends) (t : FlowView) (ins : List InletView) (outs : OutsView) (finish : Finish) : Type 0 where
           pub chosen : AreEnds clash choice ends
           pub start : FlowView
           pub opens : Opens (file_of choice) ends start

@@ -1,8 +1,9 @@
 //! Running a network on tokens that come from files, as they come.
-ghost use Rattle.std.specs.Prelude.{◌≡◌, IfOk, IfErr, IfSome, map};
+ghost use Rattle.std.specs.Prelude.{◌≡◌, IfOk, IfErr, IfSome, [], map};
 ghost use Rattle.std.specs.List.{AllZip};
 ghost use Rattle.kpn_model.specs.Network.{family_of};
-ghost use Rattle.hox_stream.specs.Serves.{Serves, new_inlets, new_outlets};
+ghost use Rattle.hox_stream.specs.Serves.{Serves, new_inlets, new_outs};
+ghost use Rattle.hox_stream.specs.Views.{outs};
 ghost use Rattle.hox_execute.specs.Pairs.{channels_of};
 ghost use Rattle.hox_execute.specs.Streaming.{AreEnds, IsCreated, IsFaultyBetween, IsNoEnds, IsOpened, IsRefusedIn, IsRefusedText, IsSketchIn, IsSketchOf, IsStreamStop, IsUnfit, IsUnopened, IsUnread, IsUnreadText, IsUnwritten, Opens, RunsBetween, StartsBetween, StreamsBetween};
 
@@ -79,7 +80,7 @@ pub fn stream<'a, K: Computes, S: FileSystem>(
     files: &S,
     choice: &StreamChoice<'a>,
 ) -> Result<Streamed<'a, Both<K, Exits>, S::Input, S::Output>, StreamStop<'a>>
-    ensures done { IfOk result (λ s. StreamsBetween (family_of K.start K.answer_of) K.named K.signature (S.contents files.now) (S.clash files.now) choice.now s.ends s.served.flow s.served.inlets.items s.served.outlets.items s.served.finish) }
+    ensures done { IfOk result (λ s. StreamsBetween (family_of K.start K.answer_of) K.named K.signature (S.contents files.now) (S.clash files.now) choice.now s.ends s.served.flow s.served.inlets.items (outs s.served.outlets.items s.served.tables.items) s.served.finish) }
     ensures stop { IfErr result (IsStreamStop (family_of K.start K.answer_of) K.named K.signature (S.contents files.now) (S.clash files.now) choice.now) }
 {
     let ends = ends_of(alloc, files, choice)?;
@@ -266,7 +267,7 @@ fn run_between<'a, F: Computes, S: FileSystem>(
     ends: Ends<'a>,
     start: OpenStream<F>,
 ) -> Result<Streamed<'a, F, S::Input, S::Output>, StreamStop<'a>>
-    ensures done { IfOk result (λ s. (s.ends ≡ ends.entry) × RunsBetween (family_of F.start F.answer_of) (S.contents files.now) (map (λ s. s.now) unsigned.now) ends.entry start s.served.flow s.served.inlets.items s.served.outlets.items s.served.finish) }
+    ensures done { IfOk result (λ s. (s.ends ≡ ends.entry) × RunsBetween (family_of F.start F.answer_of) (S.contents files.now) (map (λ s. s.now) unsigned.now) ends.entry start s.served.flow s.served.inlets.items (outs s.served.outlets.items s.served.tables.items) s.served.finish) }
     ensures stop { IfErr result (IsUnfit ends.entry) }
 {
     match opened_between(alloc, files, unsigned, &ends) {
@@ -289,10 +290,10 @@ fn run_opened<'a, F: Computes, I: Source + Drop, O: Sink + Drop>(
     start: OpenStream<F>,
     opened: OpenFiles<I, O>,
 ) -> Result<Streamed<'a, F, I, O>, StreamStop<'a>>
-    ensures done { IfOk result (λ s. (s.ends ≡ ends.entry) × Serves (family_of F.start F.answer_of) start s.served.flow (new_inlets I.remaining I.has_failed start.network start.inputs opened.sources.items) s.served.inlets.items (new_outlets O.seen start.outputs opened.sinks.items) s.served.outlets.items s.served.finish) }
+    ensures done { IfOk result (λ s. (s.ends ≡ ends.entry) × Serves (family_of F.start F.answer_of) start s.served.flow (new_inlets I.remaining I.has_failed start.network start.inputs opened.sources.items) s.served.inlets.items (new_outs O.seen start.outputs opened.sinks.items []) (outs s.served.outlets.items s.served.tables.items) s.served.finish) }
     ensures stop { IfErr result (IsUnfit ends.entry) }
 {
-    match serve(alloc, start, opened.sources, opened.sinks) {
+    match serve(alloc, start, opened.sources, opened.sinks, Vec::new(alloc)) {
         Ok(served) => Ok(Streamed { ends, served }),
         Err(_) => Err(StreamStop::Asked(Stop::Memory)),
     }

@@ -8,6 +8,10 @@ pub mod Streamed
 pub mod Reading
 pub mod Flushed
 pub mod LawfulExits
+pub mod Lanes
+pub mod Tabled
+pub mod Ended
+pub mod Behind
 pub mod Paired
 pub mod Started
 pub mod Wholes

@@ -1,5 +1,5 @@
 -- Records of a text that comes in pieces.
-use Rattle.std.proofs.Common.{◌≡◌, ◌<◌, ◌≤◌, ◌+◌, ◌++◌, ◌==◌, ◌||◌, inl, inr, ℕ, suc, Bool, true, false, cond, nat_lt, nat_le, not, List, [], ◌∷◌, Option, Some, None, Result, Ok, Err, length, take, drop, refl, sym, ap, ◌∙◌, subst, arith, append_assoc, append-nil, length-append}
+use Rattle.std.proofs.Common.{◌≡◌, ◌<◌, ◌+◌, ◌++◌, ◌||◌, inl, inr, ℕ, suc, Bool, true, false, cond, not, List, [], ◌∷◌, Option, Some, None, Ok, length, take, drop, refl, sym, ap, ◌∙◌, subst, arith, append_assoc, append-nil, length-append}
 use Rattle.std.proofs.lemmas.Bool.{ne_eqb, leb-true, le-leb}
 use Rattle.std.proofs.lemmas.List.{take-append-le, drop-append-le}
 use Rattle.std.proofs.lemmas.List.Folds.{prefix_len-append}
@@ -9,7 +9,6 @@ use Rattle.kpn_model.specs.declared.token.Token.{Token}
 use Rattle.kpn_model.specs.declared.token.Sort.{Sort}
 use Rattle.kpn_tokens.specs.declared.layouts.Layout.{Layout}
 use Rattle.kpn_tokens.specs.declared.layouts.Layout.TheVariants.{Lines, Fields, Frames}
-use Rattle.kpn_tokens.specs.declared.layouts.RecordFault.{RecordFault}
 use Rattle.kpn_tokens.specs.Records.{Begin, Fails, IsEnded, IsWhole, Say, first, later, listed, more, next, record_said, rest}
 use Rattle.kpn_tokens.specs.Rows.{is_line_feed}
 use Rattle.kpn_tokens.specs.Samples.{frame_size}

@@ -1,5 +1,5 @@
 -- When a source is read.
-use Rattle.std.proofs.Common.{◌≡◌, ◌<◌, ◌≤◌, ◌&&◌, ◌⊎◌, inl, inr, ⊎_elim, ℕ, Bool, true, false, not, List, Option, Some, None, IfSome, IfNone, is_some, length, get_or, set, length-set, refl, sym, ap, ◌∙◌, subst, arith}
+use Rattle.std.proofs.Common.{◌≡◌, ◌<◌, ◌≤◌, ◌&&◌, ◌⊎◌, inl, inr, ⊎_elim, ℕ, Bool, true, false, not, List, Option, Some, None, IfSome, IfNone, is_some, length, set, refl, sym, ap, ◌∙◌, subst, arith}
 use Rattle.std.specs.List.{list_any}
 use Rattle.std.proofs.lemmas.Bool.{cases_eq}
 use Rattle.std.proofs.lemmas.List.{get_or-set_same, get_or-set_other}
@@ -9,10 +9,10 @@ use Rattle.kpn_tokens.specs.declared.layouts.Cut.{Cut}
 use Rattle.kpn_tokens.specs.declared.layouts.Layout.{Layout}
 use Rattle.kpn_tokens.specs.Records.{IsCut, IsEnded, IsWhole}
 use Rattle.hox_stream.specs.Cutting.{has_record}
-use Rattle.hox_stream.specs.Ports.{IsNotRead, IsRead, IsReadOnce, wants_more}
-use Rattle.hox_stream.specs.Streams.{AreWritten, inlet_at, is_waited_for}
+use Rattle.hox_stream.specs.Ports.{IsNotRead, IsReadOnce, wants_more}
+use Rattle.hox_stream.specs.Streams.{inlet_at, is_waited_for}
 use Rattle.hox_stream.specs.Turns.{AreReadIfWanted, AreReadUnheld, ComesBefore, IsTurnOf}
-use Rattle.hox_stream.specs.Views.{InletView, OutletView, no_inlet}
+use Rattle.hox_stream.specs.Views.{InletView, OutsView, no_inlet}
 use Rattle.hox_stream.proofs.Pieces.{ended_has, unended_has}
 
 wants_by : (over whole : Bool) → over ≡ false → whole ≡ false → (not over && not whole) ≡ true
@@ -98,7 +98,7 @@ none_wants ins none k within = by (wants_more (inlet_at ins k)) refl
     by false e = refl
 
 -- no source is read where none wants more
-pub unheld : (ins after : List InletView) (outs : List OutletView) → AreReadIfWanted ins after → list_any wants_more ins ≡ false → AreReadUnheld ins after outs
+pub unheld : (ins after : List InletView) (outs : OutsView) → AreReadIfWanted ins after → list_any wants_more ins ≡ false → AreReadUnheld ins after outs
 unheld ins after outs only none = inr (λ k within. only k within (none_wants ins none k within))
 
 -- the first one from n on

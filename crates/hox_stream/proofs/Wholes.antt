@@ -1,5 +1,5 @@
 -- What comes of a stream from its start.
-use Rattle.std.proofs.Common.{◌≡◌, ◌≢◌, ◌<◌, ◌≤◌, ℕ, Bool, false, List, length, Option, refl, sym, ap, ◌∙◌, subst, arith}
+use Rattle.std.proofs.Common.{◌≡◌, ◌≢◌, ◌<◌, ◌≤◌, ◌+◌, ◌⊎◌, inl, inr, ℕ, Bool, false, List, length, Option, refl, sym, ap, ◌∙◌, subst, arith}
 use Rattle.std.specs.List.{zip}
 use Rattle.kpn_front.specs.Written.{SinkView}
 use Rattle.kpn_model.specs.Network.{Family, Network, channel_of}
@@ -7,14 +7,15 @@ use Rattle.kpn_model.specs.Semantics.{State}
 use Rattle.kpn_flow.specs.Events.{Flows}
 use Rattle.kpn_flow.specs.Flows.{FlowView}
 use Rattle.kpn_flow.specs.Ends.{has_twice}
-use Rattle.kpn_flow.specs.Pieces.{IsOneRunInPieces}
 use Rattle.hox_stream.specs.declared.finish.Finish.{Finish}
 use Rattle.hox_stream.specs.declared.serving.LaidOut.{LaidOut}
+use Rattle.hox_stream.specs.declared.serving.LaidTable.{LaidTable}
 use Rattle.hox_stream.specs.declared.finish.Finish.TheVariants.{OtherSort}
-use Rattle.hox_stream.specs.Serves.{Serves, new_inlet, new_inlets, new_outlet, new_outlets}
+use Rattle.hox_stream.specs.Serves.{Serves, new_inlet, new_inlets, new_outlet, new_outlets, new_outs}
 use Rattle.hox_stream.specs.Starts.{IsStart}
-use Rattle.hox_stream.specs.Streams.{AreInletsApart, AreOutletsApart, AreWritten, IsFinish, Streams, inlet_at, outlet_at}
-use Rattle.hox_stream.specs.Views.{InletView, OutletView, no_inlet, no_outlet}
+use Rattle.hox_stream.specs.Streams.{AreInletsApart, AreOutletsApart, AreOutsApart, IsFinish, Streams, StreamsOut, inlet_at, outlet_at}
+use Rattle.hox_stream.specs.Views.{InletView, OutletView, OutsView, no_inlet, no_outlet, outs}
+use Rattle.hox_stream.proofs.Behind.{before, column_behind, columns_apart, made_within}
 use Rattle.hox_stream.proofs.Paired.{apart, each_made, made_at}
 
 module _ {X : Type 0} (remaining : X → Option (List ℕ)) (has_failed : X → Bool) (net : Network) (channels : List ℕ) (once : has_twice channels ≡ false) (sources : List (LaidOut X)) where
@@ -43,8 +44,27 @@ outlets_apart {X} seen channels once sinks j k h i e =
     let b = made_at (λ (p : OutletView). p.channel) no_outlet (λ (p : ℕ × LaidOut X). new_outlet p.0 p.1.layout (seen p.1.stream).contents) (λ p. refl) channels sinks k i in
     apart channels once j k a.0 b.0 (sym a.1 ∙ e ∙ b.1)
 
+-- no two sinks are for one channel, nor two columns, nor a sink and a column
+outs_apart : {X : Type 0} (seen : X → SinkView) (channels : List ℕ) → has_twice channels ≡ false → (sinks : List (LaidOut X)) (tables : List (LaidTable X)) → AreOutsApart (new_outs seen channels sinks tables)
+outs_apart {X} seen channels once sinks tables = record {
+  sinks = outlets_apart seen channels once sinks;
+  both = λ j k i hj hk hi e.
+      let make : ℕ × LaidOut X → OutletView = λ p. new_outlet p.0 p.1.layout (seen p.1.stream).contents in
+      let a = made_at (λ (p : OutletView). p.channel) no_outlet make (λ p. refl) channels sinks j hj in
+      let b = column_behind seen (length sinks) channels tables k i hk hi in
+      let within = made_within make channels sinks j hj in
+      let same : j ≡ length sinks + (before tables k + i) = apart channels once j (length sinks + (before tables k + i)) a.0 b.1 (sym a.1 ∙ e ∙ b.0) in
+      absurd (omega (arith, same, within));
+  tables = λ j k h i hj hk hh hi e.
+      let a = column_behind seen (length sinks) channels tables j h hj hh in
+      let b = column_behind seen (length sinks) channels tables k i hk hi in
+      let same : length sinks + (before tables j + h) ≡ length sinks + (before tables k + i) =
+      apart channels once (length sinks + (before tables j + h)) (length sinks + (before tables k + i)) a.1 b.1 (sym a.0 ∙ e ∙ b.0) in
+      columns_apart seen tables j k h i a.2 b.2 (omega (arith, same));
+}
+
 -- if the tokens of all sources had the sorts of their channels, they still have them
-never_other : (kinds : Family) (s t : FlowView) (ins after : List InletView) (outs left : List OutletView) → Streams kinds s t ins after outs left → AreInletsApart ins
+never_other : (kinds : Family) (s t : FlowView) (ins after : List InletView) (outs left : OutsView) → Streams kinds s t ins after outs left → AreInletsApart ins
     → ((k : ℕ) → k < length ins → (inlet_at ins k).sort ≡ (channel_of s.network (inlet_at ins k).channel).sort) → (finish : Finish) → IsFinish kinds t after left finish → (k : ℕ) → finish ≢ OtherSort k
 never_other kinds s t ins after outs left x single fit finish h k e =
     let bad = subst (λ (f : Finish). IsFinish kinds t after left f) e h in
@@ -52,16 +72,25 @@ never_other kinds s t ins after outs left x single fit finish h k e =
     let takes = x.taken single k within in
     bad.1 (takes.sort ∙ fit k within ∙ ap (λ c. (channel_of s.network c).sort) (sym takes.channel) ∙ ap (λ (net : Network). (channel_of net (inlet_at after k).channel).sort) (sym x.same.network))
 
-pub serves : {X Y : Type 0} (remaining : X → Option (List ℕ)) (has_failed : X → Bool) (seen : Y → SinkView) (sources : List (LaidOut X)) (sinks : List (LaidOut Y))
-    (kinds : Family) (s t : FlowView) (inputs outputs : List ℕ) (after : List InletView) (left : List OutletView) (finish : Finish)
+-- whether the rest of the tables was written or not
+never_other_ended : (kinds : Family) (s t : FlowView) (ins after : List InletView) (before between left : OutsView) → Streams kinds s t ins after before between → AreInletsApart ins
+    → ((k : ℕ) → k < length ins → (inlet_at ins k).sort ≡ (channel_of s.network (inlet_at ins k).channel).sort) → (finish : Finish) → IsFinish kinds t after between finish ⊎ IsFinish kinds t after left finish
+    → (k : ℕ) → finish ≢ OtherSort k
+never_other_ended kinds s t ins after before between left x single fit finish (inl h) k e = never_other kinds s t ins after before between x single fit finish h k e
+never_other_ended kinds s t ins after before between left x single fit finish (inr h) k e =
+    let bad = subst (λ (f : Finish). IsFinish kinds t after left f) e h in
+    never_other kinds s t ins after before between x single fit (OtherSort k) bad k refl
+
+pub serves : {X Y : Type 0} (remaining : X → Option (List ℕ)) (has_failed : X → Bool) (seen : Y → SinkView) (sources : List (LaidOut X)) (sinks : List (LaidOut Y)) (tables : List (LaidTable Y))
+    (kinds : Family) (s t : FlowView) (inputs outputs : List ℕ) (after : List InletView) (left : OutsView) (finish : Finish)
     → IsStart kinds s inputs outputs
-    → Streams kinds s t (new_inlets remaining has_failed s.network inputs sources) after (new_outlets seen outputs sinks) left
-    → AreWritten left → IsFinish kinds t after left finish → IsOneRunInPieces kinds t
-    → Serves kinds s t (new_inlets remaining has_failed s.network s.inputs sources) after (new_outlets seen s.outputs sinks) left finish
-serves remaining has_failed seen sources sinks kinds s t inputs outputs after left finish at_start x told ended one_run =
+    → StreamsOut kinds s t (new_inlets remaining has_failed s.network inputs sources) after (new_outs seen outputs sinks tables) left finish
+    → Serves kinds s t (new_inlets remaining has_failed s.network s.inputs sources) after (new_outs seen s.outputs sinks tables) left finish
+serves remaining has_failed seen sources sinks tables kinds s t inputs outputs after left finish at_start out =
+    let x = out.streams in
     let single = inlets_apart remaining has_failed s.network inputs at_start.apart.inputs_once sources in
-    let single_out = outlets_apart seen outputs at_start.apart.outputs_once sinks in
-    let made : Serves kinds s t (new_inlets remaining has_failed s.network inputs sources) after (new_outlets seen outputs sinks) left finish = record {
+    let single_out = outs_apart seen outputs at_start.apart.outputs_once sinks tables in
+    let made : Serves kinds s t (new_inlets remaining has_failed s.network inputs sources) after (new_outs seen outputs sinks tables) left finish = record {
       same = x.same;
       events = x.events;
       flows = subst (λ (M : State). Flows kinds s.network M x.events t.state) at_start.state x.flows;
@@ -72,10 +101,15 @@ serves remaining has_failed seen sources sinks kinds s t inputs outputs after le
       written = λ k h. x.written single_out k h;
       kept = λ k h. (x.taken single k h).held (none_kept remaining has_failed s.network inputs sources k h);
       waiting = λ k h. (x.written single_out k h).held (none_waiting seen outputs sinks k h);
-      told = told;
-      ended = ended;
-      sorts_fit = never_other kinds s t _ after _ left x single (sorts_fit remaining has_failed s.network inputs at_start.apart.inputs_once sources) finish ended;
-      one_run = one_run;
+      full = out.between;
+      as_many_full = x.as_many_tables;
+      as_many_tables = out.rest.0 ∙ x.as_many_tables;
+      tabled = λ k h. x.tabled single_out k h;
+      rest = λ k h. out.rest.1 k (subst (λ n. k < n) (sym x.as_many_tables) h);
+      told = out.written;
+      ended = out.ended;
+      sorts_fit = never_other_ended kinds s t _ after _ (outs left.sinks out.between) left x single (sorts_fit remaining has_failed s.network inputs at_start.apart.inputs_once sources) finish out.ended;
+      one_run = out.one_run;
     } in
-    subst (λ l. Serves kinds s t (new_inlets remaining has_failed s.network l sources) after (new_outlets seen s.outputs sinks) left finish) at_start.inputs_are
-    (subst (λ l. Serves kinds s t (new_inlets remaining has_failed s.network inputs sources) after (new_outlets seen l sinks) left finish) at_start.outputs_are made)
+    subst (λ l. Serves kinds s t (new_inlets remaining has_failed s.network l sources) after (new_outs seen s.outputs sinks tables) left finish) at_start.inputs_are
+    (subst (λ l. Serves kinds s t (new_inlets remaining has_failed s.network inputs sources) after (new_outs seen l sinks tables) left finish) at_start.outputs_are made)

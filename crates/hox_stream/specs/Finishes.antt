@@ -4,7 +4,7 @@ use Rattle.kpn_model.specs.declared.verdict.Verdict.TheVariants.{Finished, RanDr
 use Rattle.kpn_front.specs.declared.status.Status.{Status}
 use Rattle.kpn_front.specs.declared.status.Status.TheVariants.{Success, Refused, BudgetSpent, MemoryRefused, Deadlocked, AtCeiling, WriteFailed}
 use Rattle.hox_stream.specs.declared.finish.Finish.{Finish}
-use Rattle.hox_stream.specs.declared.finish.Finish.TheVariants.{Over, Refused as RefusedRecord, Unread, OtherSort, Unwritten, Misfit, Idle, Memory, Cut}
+use Rattle.hox_stream.specs.declared.finish.Finish.TheVariants.{Over, Refused as RefusedRecord, Unread, OtherSort, Unwritten, Misfit, Apart, Idle, Memory, Cut}
 
 -- where nothing goes on the verdict on the network decides
 abbrev pub status_of_verdict : Verdict → Status
@@ -22,6 +22,7 @@ status_of (RefusedRecord k refusal) verdict = Refused
 status_of (Unread k) verdict = Refused
 status_of (OtherSort k) verdict = Refused
 status_of (Misfit k) verdict = Refused
+status_of (Apart k) verdict = Refused
 status_of (Unwritten k) verdict = WriteFailed
 status_of Memory verdict = MemoryRefused
 status_of Cut verdict = BudgetSpent

@@ -1,6 +1,8 @@
 pub mod Views
 pub mod Cutting
 pub mod Ports
+pub mod Lanes
+pub mod Tables
 pub mod Streams
 pub mod Turns
 pub mod Exits

@@ -1,20 +1,25 @@
 -- A stream from its start to its end.
-use Rattle.std.specs.Prelude.{◌≡◌, ◌≢◌, ◌<◌, ◌≤◌, ℕ, Bool, false, List, [], length, map, Option}
+use Rattle.std.specs.Prelude.{◌≡◌, ◌≢◌, ◌<◌, ◌≤◌, ◌⊎◌, ℕ, Bool, false, List, [], ◌∷◌, drop, length, map, Option}
 use Rattle.std.specs.List.{zip}
 use Rattle.kpn_model.specs.Network.{Family, Network, channel_of}
 use Rattle.kpn_model.specs.Semantics.{start}
 use Rattle.kpn_front.specs.Written.{SinkView}
+use Rattle.kpn_tokens.specs.declared.layouts.Decimals.{Decimals}
 use Rattle.kpn_tokens.specs.declared.layouts.Layout.{Layout}
+use Rattle.kpn_tokens.specs.declared.tables.Table.{Table}
 use Rattle.kpn_flow.specs.Events.{Event, Flows, fed, drained}
 use Rattle.kpn_flow.specs.Flows.{FlowView, is_among}
 use Rattle.kpn_flow.specs.Pieces.{IsOneRunInPieces}
 use Rattle.kpn_flow.specs.Preloaded.{IsAtEnds}
 use Rattle.hox_stream.specs.declared.finish.Finish.{Finish}
 use Rattle.hox_stream.specs.declared.serving.LaidOut.{LaidOut}
+use Rattle.hox_stream.specs.declared.serving.LaidTable.{LaidTable}
 use Rattle.hox_stream.specs.declared.finish.Finish.TheVariants.{OtherSort}
+use Rattle.hox_stream.specs.Lanes.{new_lane}
 use Rattle.hox_stream.specs.Ports.{IsSameNet, Takes, Writes}
-use Rattle.hox_stream.specs.Streams.{AreWritten, IsFinish, inlet_at, outlet_at}
-use Rattle.hox_stream.specs.Views.{InletView, OutletView}
+use Rattle.hox_stream.specs.Streams.{AreWritten, IsFinish, channel_at, inlet_at, outlet_at, table_at}
+use Rattle.hox_stream.specs.Tables.{EndsTable, WritesTable}
+use Rattle.hox_stream.specs.Views.{InletView, LaneView, OutletView, OutsView, TableView, outs}
 
 -- a source for a channel, of which nothing was read
 abbrev pub new_inlet : Network → ℕ → Layout → Option (List ℕ) → Bool → InletView
@@ -32,22 +37,44 @@ new_inlets remaining has_failed net channels sources = map (λ p. new_inlet net 
 abbrev pub new_outlets : {X : Type 0} → (X → SinkView) → List ℕ → List (LaidOut X) → List OutletView
 new_outlets seen channels sinks = map (λ p. new_outlet p.0 p.1.layout (seen p.1.stream).contents) (zip channels sinks)
 
+-- the columns of a table are for the channels at their places
+abbrev pub new_lanes : Table → List ℕ → List Decimals → List LaneView
+new_lanes table channels columns = map (λ p. new_lane table p.0 p.1) (zip channels columns)
+
+-- a table with these columns, to which nothing was written; and those of several, one after the other
+abbrev pub new_table : {X : Type 0} → (X → SinkView) → List ℕ → LaidTable X → TableView
+new_table seen channels laid = record { table = laid.table; lanes = new_lanes laid.table channels laid.columns.items; contents = (seen laid.stream).contents; waiting = []; has_failed = false }
+
+abbrev pub new_tables : {X : Type 0} → (X → SinkView) → List ℕ → List (LaidTable X) → List TableView
+new_tables seen channels [] = []
+new_tables seen channels (laid ∷ more) = new_table seen channels laid ∷ new_tables seen (drop (length laid.columns.items) channels) more
+
+-- and they stand behind the sinks
+abbrev pub new_outs : {X : Type 0} → (X → SinkView) → List ℕ → List (LaidOut X) → List (LaidTable X) → OutsView
+new_outs seen channels sinks tables = outs (new_outlets seen channels sinks) (new_tables seen (drop (length sinks) channels) tables)
+
 -- from the start of its network s was led on by events at its ends, and it ended for this cause. What was fed into the channel of each
--- source is what the records say that were read of it, and what was drained of the channel of each sink is what was written to it; and
+-- source is what the records say that were read of it, and what was drained of the channel of each sink is what was written to it; what was
+-- drained of those of a table is what stands in its full rows, which were written first, and in the rest; and
 -- what was done is a run of the network that held all that was fed from the start. At most 8,192 bytes are kept of each source, and at most
 -- 4,096 wait at each sink
-pub record Serves (kinds : Family) (s t : FlowView) (ins ins_after : List InletView) (outs outs_after : List OutletView) (finish : Finish) : Type 0 where
+pub record Serves (kinds : Family) (s t : FlowView) (ins ins_after : List InletView) (before after : OutsView) (finish : Finish) : Type 0 where
   pub same : IsSameNet s t
   pub events : List Event
   pub flows : Flows kinds s.network (start kinds s.network) events t.state
   pub at_ends : IsAtEnds (is_among s.inputs) (is_among s.outputs) events
   pub as_many_inlets : length ins_after ≡ length ins
-  pub as_many_outlets : length outs_after ≡ length outs
+  pub as_many_outlets : length after.sinks ≡ length before.sinks
   pub taken : (k : ℕ) → k < length ins → Takes (inlet_at ins k) (inlet_at ins_after k) (fed events (inlet_at ins k).channel)
-  pub written : (k : ℕ) → k < length outs → Writes (outlet_at outs k) (outlet_at outs_after k) (drained events (outlet_at outs k).channel)
+  pub written : (k : ℕ) → k < length before.sinks → Writes (outlet_at before.sinks k) (outlet_at after.sinks k) (drained events (outlet_at before.sinks k).channel)
   pub kept : (k : ℕ) → k < length ins → length (inlet_at ins_after k).kept ≤ 8192
-  pub waiting : (k : ℕ) → k < length outs → length (outlet_at outs_after k).waiting ≤ 4096
-  pub told : AreWritten outs_after
-  pub ended : IsFinish kinds t ins_after outs_after finish
+  pub waiting : (k : ℕ) → k < length before.sinks → length (outlet_at after.sinks k).waiting ≤ 4096
+  pub full : List TableView
+  pub as_many_full : length full ≡ length before.tables
+  pub as_many_tables : length after.tables ≡ length before.tables
+  pub tabled : (k : ℕ) → k < length before.tables → WritesTable (table_at before.tables k) (table_at full k) (λ i. drained events (channel_at (table_at before.tables k) i))
+  pub rest : (k : ℕ) → k < length before.tables → EndsTable (table_at full k) (table_at after.tables k)
+  pub told : AreWritten after
+  pub ended : IsFinish kinds t ins_after (outs after.sinks full) finish ⊎ IsFinish kinds t ins_after after finish
   pub sorts_fit : (k : ℕ) → finish ≢ OtherSort k
   pub one_run : IsOneRunInPieces kinds t

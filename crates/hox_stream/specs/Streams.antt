@@ -1,23 +1,33 @@
 -- A flow between sources and sinks.
-use Rattle.std.specs.Prelude.{◌≡◌, ◌≢◌, ◌<◌, ◌&&◌, ℕ, Bool, true, false, List, [], length, get_or}
+use Rattle.std.specs.Prelude.{◌≡◌, ◌≢◌, ◌<◌, ◌+◌, ◌&&◌, ◌⊎◌, ℕ, Bool, true, false, List, [], length, get_or}
 use Rattle.kpn_model.specs.Network.{Family, channel_of}
 use Rattle.kpn_model.specs.Endings.{NothingGoesOn}
 use Rattle.kpn_flow.specs.Events.{Event, Flows, fed, drained}
 use Rattle.kpn_flow.specs.Flows.{FlowView, is_among}
 use Rattle.kpn_flow.specs.Pauses.{NoneCanHelp}
+use Rattle.kpn_flow.specs.Pieces.{IsOneRunInPieces}
 use Rattle.kpn_flow.specs.Preloaded.{IsAtEnds}
 use Rattle.kpn_flow.specs.Waits.{starves}
 use Rattle.hox_stream.specs.declared.finish.Finish.{Finish}
-use Rattle.hox_stream.specs.declared.finish.Finish.TheVariants.{Over, Refused, Unread, OtherSort, Unwritten, Misfit, Idle, Memory, Cut}
+use Rattle.hox_stream.specs.declared.finish.Finish.TheVariants.{Over, Refused, Unread, OtherSort, Unwritten, Misfit, Apart, Idle, Memory, Cut}
+use Rattle.hox_stream.specs.declared.table.TableFault.TheVariants.{Misfit as MisfitInTable, Apart as ApartInTable}
 use Rattle.hox_stream.specs.Cutting.{IsRefused}
 use Rattle.hox_stream.specs.Ports.{IsSameNet, Takes, Writes}
-use Rattle.hox_stream.specs.Views.{InletView, OutletView, no_inlet, no_outlet}
+use Rattle.hox_stream.specs.Tables.{EndsTable, IsTableFault, WritesTable, lane_at}
+use Rattle.hox_stream.specs.Views.{InletView, OutletView, OutsView, TableView, no_inlet, no_outlet, no_table, outs}
 
 abbrev pub inlet_at : List InletView → ℕ → InletView
 inlet_at ins k = get_or ins k no_inlet
 
 abbrev pub outlet_at : List OutletView → ℕ → OutletView
 outlet_at outs k = get_or outs k no_outlet
+
+abbrev pub table_at : List TableView → ℕ → TableView
+table_at tables k = get_or tables k no_table
+
+-- the channel of a column
+abbrev pub channel_at : TableView → ℕ → ℕ
+channel_at p i = (lane_at p i).head.channel
 
 -- no two sources are for one channel, and no two sinks
 abbrev pub AreInletsApart : List InletView → Type 0
@@ -26,30 +36,52 @@ AreInletsApart ins = (j k : ℕ) → j < length ins → k < length ins → (inle
 abbrev pub AreOutletsApart : List OutletView → Type 0
 AreOutletsApart outs = (j k : ℕ) → j < length outs → k < length outs → (outlet_at outs j).channel ≡ (outlet_at outs k).channel → j ≡ k
 
+-- nor two columns, nor a sink and a column
+pub record AreOutsApart (outs : OutsView) : Type 0 where
+  pub sinks : AreOutletsApart outs.sinks
+  pub both : (j k i : ℕ) → j < length outs.sinks → k < length outs.tables → i < length (table_at outs.tables k).lanes → (outlet_at outs.sinks j).channel ≢ channel_at (table_at outs.tables k) i
+  pub tables : (j k h i : ℕ) → j < length outs.tables → k < length outs.tables → h < length (table_at outs.tables j).lanes → i < length (table_at outs.tables k).lanes
+      → channel_at (table_at outs.tables j) h ≡ channel_at (table_at outs.tables k) i → (j ≡ k) × (h ≡ i)
+
 -- events at its ends lead the flow on. What was fed into the channel of each source is what the records say that were read of it, and
--- what was drained of the channel of each sink is what was written to it
-pub record Streams (kinds : Family) (s t : FlowView) (ins ins_after : List InletView) (outs outs_after : List OutletView) : Type 0 where
+-- what was drained of the channel of each sink is what was written to it; what was drained of those of the columns of a file is what stands in
+-- the rows that were written to it, and what waits for its rows
+pub record Streams (kinds : Family) (s t : FlowView) (ins ins_after : List InletView) (outs outs_after : OutsView) : Type 0 where
   pub same : IsSameNet s t
   pub events : List Event
   pub flows : Flows kinds s.network s.state events t.state
   pub at_ends : IsAtEnds (is_among s.inputs) (is_among s.outputs) events
   pub as_many_inlets : length ins_after ≡ length ins
-  pub as_many_outlets : length outs_after ≡ length outs
+  pub as_many_outlets : length outs_after.sinks ≡ length outs.sinks
+  pub as_many_tables : length outs_after.tables ≡ length outs.tables
   pub taken : AreInletsApart ins → (k : ℕ) → k < length ins → Takes (inlet_at ins k) (inlet_at ins_after k) (fed events (inlet_at ins k).channel)
-  pub written : AreOutletsApart outs → (k : ℕ) → k < length outs → Writes (outlet_at outs k) (outlet_at outs_after k) (drained events (outlet_at outs k).channel)
+  pub written : AreOutsApart outs → (k : ℕ) → k < length outs.sinks → Writes (outlet_at outs.sinks k) (outlet_at outs_after.sinks k) (drained events (outlet_at outs.sinks k).channel)
+  pub tabled : AreOutsApart outs → (k : ℕ) → k < length outs.tables → WritesTable (table_at outs.tables k) (table_at outs_after.tables k) (λ i. drained events (channel_at (table_at outs.tables k) i))
 
--- nothing waits to be written to a sink, unless a write to it has failed
-abbrev pub AreWritten : List OutletView → Type 0
-AreWritten outs = (k : ℕ) → k < length outs → (outlet_at outs k).has_failed ≡ false → (outlet_at outs k).waiting ≡ []
+-- nothing waits to be written to a sink, unless a write to it has failed. Tokens may wait for their rows
+pub record AreWritten (outs : OutsView) : Type 0 where
+  pub sinks : (k : ℕ) → k < length outs.sinks → (outlet_at outs.sinks k).has_failed ≡ false → (outlet_at outs.sinks k).waiting ≡ []
+  pub tables : (k : ℕ) → k < length outs.tables → (table_at outs.tables k).has_failed ≡ false → (table_at outs.tables k).waiting ≡ []
 
 -- a sink that can't be written stays so, and so does one for which a token did not fit
 pub record FaultsStay (p q : OutletView) : Type 0 where
   pub failed : p.has_failed ≡ true → q.has_failed ≡ true
   pub misfit : q.is_misfit ≡ p.is_misfit
 
+-- and so does a file of several channels; what waits in its columns stays
+pub record TableStays (p q : TableView) : Type 0 where
+  pub failed : p.has_failed ≡ true → q.has_failed ≡ true
+  pub lanes : q.lanes ≡ p.lanes
+
 -- there are as many sinks, and their faults stay
 abbrev pub AllFaultsStay : List OutletView → List OutletView → Type 0
-AllFaultsStay outs after = (length after ≡ length outs) × ((k : ℕ) → FaultsStay (outlet_at outs k) (outlet_at after k))
+AllFaultsStay sinks after = (length after ≡ length sinks) × ((k : ℕ) → FaultsStay (outlet_at sinks k) (outlet_at after k))
+
+abbrev pub AllTablesStay : List TableView → List TableView → Type 0
+AllTablesStay tables after = (length after ≡ length tables) × ((k : ℕ) → TableStays (table_at tables k) (table_at after k))
+
+abbrev pub AllStay : OutsView → OutsView → Type 0
+AllStay outs after = AllFaultsStay outs.sinks after.sinks × AllTablesStay outs.tables after.tables
 
 -- a process waits for a token of this source
 abbrev pub is_waited_for : FlowView → InletView → Bool
@@ -58,16 +90,35 @@ is_waited_for s p = is_among s.unended p.channel && starves s.network s.standing
 abbrev pub NoneIsWaitedFor : FlowView → List InletView → Type 0
 NoneIsWaitedFor s ins = (k : ℕ) → k < length ins → is_waited_for s (inlet_at ins k) ≡ false
 
+-- what waits in each file of several channels was written, also where rows are not full
+abbrev pub AllEnd : List TableView → List TableView → Type 0
+AllEnd tables after = (length after ≡ length tables) × ((k : ℕ) → k < length tables → EndsTable (table_at tables k) (table_at after k))
+
+-- this is the place of a sink, or that of a file of several channels, which stand behind the sinks, of which this holds
+abbrev pub IsOutAt : OutsView → ℕ → (OutletView → Type 0) → (TableView → Type 0) → Type 0
+IsOutAt outs k P Q = ((k < length outs.sinks) × P (outlet_at outs.sinks k)) ⊎ ((j : ℕ) × (k ≡ length outs.sinks + j) × (j < length outs.tables) × Q (table_at outs.tables j))
+
 -- when a stream ends for each cause: nothing goes on, and neither feeding nor draining would help; the next record of a source
 -- is refused; a read of a source has failed; the tokens of its channel are of another sort; a sink can't be written; a token for a sink
--- does not fit; no process waits for a token of a source
-abbrev pub IsFinish : Family → FlowView → List InletView → List OutletView → Finish → Type 0
+-- does not fit; more than 1,000,000 tokens of a channel wait for those of another one of their file; no process waits for a token of a source
+abbrev pub IsFinish : Family → FlowView → List InletView → OutsView → Finish → Type 0
 IsFinish kinds s ins outs (Over end) = NothingGoesOn kinds s.network s.state end × NoneCanHelp kinds s.network s.unended s.outputs s.state
 IsFinish kinds s ins outs (Refused k refusal) = (k < length ins) × IsRefused (inlet_at ins k).layout (inlet_at ins k).sort (inlet_at ins k).kept (inlet_at ins k).is_over refusal
 IsFinish kinds s ins outs (Unread k) = (k < length ins) × ((inlet_at ins k).has_failed ≡ true)
 IsFinish kinds s ins outs (OtherSort k) = (k < length ins) × ((inlet_at ins k).sort ≢ (channel_of s.network (inlet_at ins k).channel).sort)
-IsFinish kinds s ins outs (Unwritten k) = (k < length outs) × ((outlet_at outs k).has_failed ≡ true)
-IsFinish kinds s ins outs (Misfit k) = (k < length outs) × ((outlet_at outs k).is_misfit ≡ true)
+IsFinish kinds s ins outs (Unwritten k) = IsOutAt outs k (λ p. p.has_failed ≡ true) (λ p. p.has_failed ≡ true)
+IsFinish kinds s ins outs (Misfit k) = IsOutAt outs k (λ p. p.is_misfit ≡ true) (λ p. IsTableFault p MisfitInTable)
+IsFinish kinds s ins outs (Apart k) = IsOutAt outs k (λ p. ⊥) (λ p. IsTableFault p ApartInTable)
 IsFinish kinds s ins outs Idle = NoneIsWaitedFor s ins
 IsFinish kinds s ins outs Memory = Unit {0}
 IsFinish kinds s ins outs Cut = Unit {0}
+
+-- events led the flow on until it ended for this cause, or the rest could not be written, which had waited for its rows between; and what was
+-- done is a run of the network that held all that was fed from the start
+pub record StreamsOut (kinds : Family) (s t : FlowView) (ins ins_after : List InletView) (before after : OutsView) (finish : Finish) : Type 0 where
+  pub between : List TableView
+  pub streams : Streams kinds s t ins ins_after before (outs after.sinks between)
+  pub rest : AllEnd between after.tables
+  pub written : AreWritten after
+  pub ended : IsFinish kinds t ins_after (outs after.sinks between) finish ⊎ IsFinish kinds t ins_after after finish
+  pub one_run : IsOneRunInPieces kinds t

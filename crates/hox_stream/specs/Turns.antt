@@ -3,7 +3,7 @@ use Rattle.std.specs.Prelude.{◌≡◌, ◌<◌, ◌≤◌, ◌+◌, ◌⊎◌,
 use Rattle.kpn_flow.specs.Flows.{FlowView}
 use Rattle.hox_stream.specs.Ports.{IsNotRead, IsReadOnce, wants_more}
 use Rattle.hox_stream.specs.Streams.{AreWritten, inlet_at, is_waited_for}
-use Rattle.hox_stream.specs.Views.{InletView, OutletView}
+use Rattle.hox_stream.specs.Views.{InletView, OutsView}
 
 -- j comes before k if one goes round from n on
 abbrev pub ComesBefore : ℕ → ℕ → ℕ → Type 0
@@ -32,5 +32,5 @@ abbrev pub AreReadIfWanted : List InletView → List InletView → Type 0
 AreReadIfWanted ins after = (k : ℕ) → k < length ins → wants_more (inlet_at ins k) ≡ false → IsNotRead (inlet_at ins k) (inlet_at after k)
 
 -- no source is read unless nothing waits to be written
-abbrev pub AreReadUnheld : List InletView → List InletView → List OutletView → Type 0
+abbrev pub AreReadUnheld : List InletView → List InletView → OutsView → Type 0
 AreReadUnheld ins after outs = AreWritten outs ⊎ ((k : ℕ) → k < length ins → IsNotRead (inlet_at ins k) (inlet_at after k))

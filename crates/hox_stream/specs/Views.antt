@@ -3,8 +3,13 @@ use Rattle.std.specs.Prelude.{ℕ, Bool, false, List, [], Option, None}
 use Rattle.std.specs.Io.KnownBytes.{prepend_known}
 use Rattle.kpn_model.specs.declared.token.Sort.{Sort}
 use Rattle.kpn_model.specs.declared.token.Sort.TheVariants.{Words}
+use Rattle.kpn_model.specs.declared.token.Token.{Token}
+use Rattle.kpn_tokens.specs.declared.layouts.Decimals.{Decimals}
 use Rattle.kpn_tokens.specs.declared.layouts.Layout.{Layout}
 use Rattle.kpn_tokens.specs.declared.layouts.Layout.TheVariants.{Lines}
+use Rattle.kpn_tokens.specs.declared.layouts.Separator.TheVariants.{Comma}
+use Rattle.kpn_tokens.specs.declared.tables.Table.{Table}
+use Rattle.kpn_tokens.specs.declared.tables.Table.TheVariants.{Rows}
 
 -- a source of tokens for a channel, and how they are laid out in it: what was read and is not yet said, what is left to read, if that
 -- is known, whether a read has failed, and whether the source has come to its end; and how many records and how many tokens were taken
@@ -36,6 +41,34 @@ pub record OutletView : Type 0 where
   pub tokens : ℕ
   pub clipped : ℕ
 
+-- the head of a column of a file of several channels: its channel, how a word of it is written, and how a file of it alone is laid out
+pub record HeadView : Type 0 where
+  pub channel : ℕ
+  pub decimals : Decimals
+  pub layout : Layout
+
+-- such a column: its tokens that wait for their rows; whether one did not fit; and how many were taken, and how many of them were clipped
+pub record LaneView : Type 0 where
+  pub head : HeadView
+  pub waiting : List Token
+  pub is_misfit : Bool
+  pub tokens : ℕ
+  pub clipped : ℕ
+
+-- a file of several channels, and how they stand in it: its columns; what was written, if that is known, with what waits to be written;
+-- what of it waits; and whether a write has failed
+pub record TableView : Type 0 where
+  pub table : Table
+  pub lanes : List LaneView
+  pub contents : Option (List ℕ)
+  pub waiting : List ℕ
+  pub has_failed : Bool
+
+-- all to which tokens go out: files of one channel, and then files of several
+pub record OutsView : Type 0 where
+  pub sinks : List OutletView
+  pub tables : List TableView
+
 abbrev pub no_layout : Layout
 no_layout = Lines (record { digits = 0; is_unsigned = false })
 
@@ -44,3 +77,15 @@ no_inlet = record { channel = 0; layout = no_layout; sort = Words; kept = []; re
 
 abbrev pub no_outlet : OutletView
 no_outlet = record { channel = 0; layout = no_layout; contents = None; waiting = []; has_failed = false; is_misfit = false; tokens = 0; clipped = 0 }
+
+abbrev pub no_head : HeadView
+no_head = record { channel = 0; decimals = record { digits = 0; is_unsigned = false }; layout = no_layout }
+
+abbrev pub no_lane : LaneView
+no_lane = record { head = no_head; waiting = []; is_misfit = false; tokens = 0; clipped = 0 }
+
+abbrev pub no_table : TableView
+no_table = record { table = Rows Comma; lanes = []; contents = None; waiting = []; has_failed = false }
+
+abbrev pub outs : List OutletView → List TableView → OutsView
+outs sinks tables = record { sinks = sinks; tables = tables }

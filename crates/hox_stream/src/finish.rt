@@ -6,7 +6,8 @@ use crate::cutting::Refusal;
 use kpn_front::Status;
 use kpn_model::{End, Verdict};
 
-/// Why a stream ended. Sources and sinks are named by their places, counted from 0.
+/// Why a stream ended. Sources and sinks are named by their places, counted from 0; the sinks of several channels stand
+/// behind those of one.
 #[derive(Clone, Copy, Debug, PartialEq, Eq)]
 pub enum Finish {
     /// No process can go on, and neither a token more nor room would help; for this cause, as a run ends. It is
@@ -23,6 +24,8 @@ pub enum Finish {
     Unwritten(usize),
     /// The next token for this sink does not fit its layout, and is not clipped. What came before it was written.
     Misfit(usize),
+    /// More than 1,000,000 tokens of a channel of this sink wait for those of another one. What it had was written.
+    Apart(usize),
     /// A process waits for a token in an input for which there is no source.
     Idle,
     /// Memory was refused for what is read or written.
@@ -44,9 +47,11 @@ impl Finish {
                 Verdict::Full => Status::AtCeiling,
                 Verdict::Memory => Status::MemoryRefused,
             },
-            Finish::Refused(..) | Finish::Unread(_) | Finish::OtherSort(_) | Finish::Misfit(_) => {
-                Status::Refused
-            }
+            Finish::Refused(..)
+            | Finish::Unread(_)
+            | Finish::OtherSort(_)
+            | Finish::Misfit(_)
+            | Finish::Apart(_) => Status::Refused,
             Finish::Unwritten(_) => Status::WriteFailed,
             Finish::Memory => Status::MemoryRefused,
             Finish::Cut => Status::BudgetSpent,

@@ -243,7 +243,7 @@ fn append_to(
 }
 
 /// Writes what waits. Nothing waits any more then, even if the write fails.
-fn write_out<S: Sink>(sink: &mut S, waiting: &mut Vec<u8>) -> Result<(), WriteFault>
+pub(crate) fn write_out<S: Sink>(sink: &mut S, waiting: &mut Vec<u8>) -> Result<(), WriteFault>
     ensures written { OnOk result (Appends (S.seen sink.old).contents (S.seen sink.new).contents waiting.old.items) }
     ensures none { waiting.new.items ≡ [] }
 {

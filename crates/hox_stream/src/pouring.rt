@@ -11,7 +11,7 @@ ghost use Rattle.hox_stream.specs.Cutting.{IsNext, IsRefused};
 ghost use Rattle.hox_stream.specs.Ports.{IsNotRead, IsRead, IsReadOnce, Pours, ReadsOn, wants_more};
 ghost use Rattle.hox_stream.specs.Streams.{Streams, IsFinish, NoneIsWaitedFor, inlet_at, is_waited_for};
 ghost use Rattle.hox_stream.specs.Turns.{AreReadIfWanted, IsTurnOf, TakesTurn};
-ghost use Rattle.hox_stream.specs.Views.{OutletView};
+ghost use Rattle.hox_stream.specs.Views.{OutsView};
 
 use crate::cutting::{Next, Refusal};
 use crate::finish::Finish;
@@ -179,8 +179,8 @@ fn pour_at<B: Body, S: Source>(
 ) -> Option<Finish>
     requires within { k < length inlets.old }
     requires input { is_among flow.old.unended (inlet_at inlets.old k).channel ≡ true }
-    ensures streams { (outs : List OutletView) → Streams (family_of B.Kinds.start B.Kinds.answer_of) flow.old flow.new inlets.old inlets.new outs outs }
-    ensures finish { IfSome result (λ f. (outs : List OutletView) → IsFinish (family_of B.Kinds.start B.Kinds.answer_of) flow.new inlets.new outs f) }
+    ensures streams { (outs : OutsView) → Streams (family_of B.Kinds.start B.Kinds.answer_of) flow.old flow.new inlets.old inlets.new outs outs }
+    ensures finish { IfSome result (λ f. (outs : OutsView) → IsFinish (family_of B.Kinds.start B.Kinds.answer_of) flow.new inlets.new outs f) }
     ensures read { IfNone result (wants_more (inlet_at inlets.old k) ≡ true → IsReadOnce (inlet_at inlets.old k) (inlet_at inlets.new k)) }
     ensures only_if_wanted { AreReadIfWanted inlets.old inlets.new }
     ensures others { (j : ℕ) → (j ≡ k → ⊥) → inlet_at inlets.new j ≡ inlet_at inlets.old j }
@@ -245,8 +245,8 @@ pub(crate) fn pour_next<B: Body, S: Source>(
     inlets: &mut [Inlet<S>],
     turn: &mut usize,
 ) -> Option<Finish>
-    ensures streams { (outs : List OutletView) → Streams (family_of B.Kinds.start B.Kinds.answer_of) flow.old flow.new inlets.old inlets.new outs outs }
-    ensures finish { IfSome result (λ f. (outs : List OutletView) → IsFinish (family_of B.Kinds.start B.Kinds.answer_of) flow.new inlets.new outs f) }
+    ensures streams { (outs : OutsView) → Streams (family_of B.Kinds.start B.Kinds.answer_of) flow.old flow.new inlets.old inlets.new outs outs }
+    ensures finish { IfSome result (λ f. (outs : OutsView) → IsFinish (family_of B.Kinds.start B.Kinds.answer_of) flow.new inlets.new outs f) }
     ensures takes_turn { IfNone result (TakesTurn flow.old inlets.old inlets.new turn.old turn.new) }
     ensures only_if_wanted { AreReadIfWanted inlets.old inlets.new }
 {

@@ -1,19 +1,23 @@
 //! A stream from its start to its end.
 ghost use Rattle.std.specs.Prelude.{◌≡◌, IfOk};
 ghost use Rattle.kpn_model.specs.Network.{channel_of, family_of};
-ghost use Rattle.hox_stream.specs.Serves.{Serves, new_inlet, new_inlets, new_outlets};
+ghost use Rattle.hox_stream.specs.Serves.{Serves, new_inlet, new_inlets, new_outs};
+ghost use Rattle.hox_stream.specs.Views.{outs};
 
 use crate::finish::Finish;
 use crate::inlet::Inlet;
 use crate::outlet::Outlet;
+use crate::placing::outs_of;
 use crate::starting::OpenStream;
-use crate::streaming::stream;
+use crate::streaming::stream_out;
+use crate::table::TableOutlet;
+use crate::telling::Outs;
 use kpn_compute::{CardBody, Computes};
 use kpn_flow::Flow;
 use kpn_front::{Sink, Source};
 use kpn_model::{Kinds, Sort};
 use kpn_net::Net;
-use kpn_tokens::Layout;
+use kpn_tokens::{Decimals, Layout, Table};
 use std::alloc::{AllocError, Global};
 
 /// A source or a sink, and how tokens are laid out in it.
@@ -23,6 +27,15 @@ pub struct LaidOut<S> {
     pub layout: Layout,
 }
 
+/// A sink for several channels, how they stand side by side in it, and for each how a word of it is written (where
+/// rows are samples that says nothing).
+#[derive(Drop)]
+pub struct LaidTable<S> {
+    pub stream: S,
+    pub table: Table,
+    pub columns: Vec<Decimals>,
+}
+
 /// What is left of a stream that ended: its flow, what is left of its sources and its sinks, in order, and why it
 /// ended.
 #[derive(Drop)]
@@ -30,22 +43,26 @@ pub struct Served<F: Computes, I: Source, O: Sink> {
     pub flow: Flow<CardBody<F>>,
     pub inlets: Vec<Inlet<I>>,
     pub outlets: Vec<Outlet<O>>,
+    pub tables: Vec<TableOutlet<O>>,
     pub finish: Finish,
 }
 
 /// Runs a stream from its start until it has come to its end. The first source is for the first of the channels
-/// that are fed, and so on, and the first sink for the first of those that are drained; those beyond are let go.
-/// What came out is written before a source is read on, and at the end; and a source is read only where a process
-/// waits for its tokens.
+/// that are fed, and so on, and the first sink for the first of those that are drained, behind those of all sinks the
+/// first column of the first table, and so on; those beyond are let go. What came out is written before a source is
+/// read on, and at the end; and a source is read only where a process waits for its tokens. In a table a token waits
+/// until its row has one of each column. At the end the rest is written, with no token where a column is shorter.
 ///
 /// What was fed into the channel of each source is what the records say that were read of it, and what was drained
 /// of the channel of each sink is what was written to it, each token as a record, up to one that does not fit the
-/// layout. So what is written begins the stream of
+/// layout; of the channels of a table it is what stands in the columns of the rows that were written. So what is
+/// written begins the stream of
 /// every run of the network into whose inputs the same comes (Kahn 1974), and the pieces in which it was read don't
 /// matter (docs/endless.md).
 ///
 /// Memory is taken for what is held of a source, at most 8,192 bytes, for what waits to be written to a sink, at most
-/// 4,096 bytes and the records of 64 tokens, and for growths.
+/// 4,096 bytes and the records of 64 tokens or a row, for the tokens of a table that wait for their rows, at most
+/// 1,000,064 of each channel, and for growths.
 ///
 /// Errors: memory was refused before anything was read or written.
 pub fn serve<F: Computes, I: Source + Drop, O: Sink + Drop>(
@@ -53,28 +70,26 @@ pub fn serve<F: Computes, I: Source + Drop, O: Sink + Drop>(
     opened: OpenStream<F>,
     sources: Vec<LaidOut<I>>,
     sinks: Vec<LaidOut<O>>,
+    tables: Vec<LaidTable<O>>,
 ) -> Result<Served<F, I, O>, AllocError>
-    ensures { IfOk result (λ r. Serves (family_of F.start F.answer_of) opened r.flow (new_inlets I.remaining I.has_failed opened.network opened.inputs sources.items) r.inlets.items (new_outlets O.seen opened.outputs sinks.items) r.outlets.items r.finish) }
+    ensures { IfOk result (λ r. Serves (family_of F.start F.answer_of) opened r.flow (new_inlets I.remaining I.has_failed opened.network opened.inputs sources.items) r.inlets.items (new_outs O.seen opened.outputs sinks.items tables.items) (outs r.outlets.items r.tables.items) r.finish) }
 {
     let Ports {
         mut inlets,
-        mut outlets,
-    } = ports_of(alloc, &opened, sources, sinks)?;
+        mut outs,
+    } = ports_of(alloc, &opened, sources, sinks, tables)?;
     let OpenStream {
         mut flow,
         inputs: _,
         outputs: _,
     } = opened;
-    let finish = stream(
-        alloc,
-        &mut flow,
-        inlets.as_mut_slice(),
-        outlets.as_mut_slice(),
-    );
+    let finish = stream_out(alloc, &mut flow, inlets.as_mut_slice(), &mut outs);
+    let Outs { sinks, tables } = outs;
     Ok(Served {
         flow,
         inlets,
-        outlets,
+        outlets: sinks,
+        tables,
         finish,
     })
 }
@@ -83,7 +98,7 @@ pub fn serve<F: Computes, I: Source + Drop, O: Sink + Drop>(
 #[derive(Drop)]
 struct Ports<I: Source, O: Sink> {
     inlets: Vec<Inlet<I>>,
-    outlets: Vec<Outlet<O>>,
+    outs: Outs<O>,
 }
 
 /// The sources and the sinks of a stream at its start.
@@ -92,14 +107,15 @@ fn ports_of<F: Computes, I: Source + Drop, O: Sink + Drop>(
     opened: &OpenStream<F>,
     sources: Vec<LaidOut<I>>,
     sinks: Vec<LaidOut<O>>,
+    tables: Vec<LaidTable<O>>,
 ) -> Result<Ports<I, O>, AllocError>
     ensures inlets { IfOk result (λ r. r.inlets.items ≡ new_inlets I.remaining I.has_failed opened.now.network opened.now.inputs sources.items) }
-    ensures outlets { IfOk result (λ r. r.outlets.items ≡ new_outlets O.seen opened.now.outputs sinks.items) }
+    ensures outs { IfOk result (λ r. r.outs ≡ new_outs O.seen opened.now.outputs sinks.items tables.items) }
 {
     let net = opened.flow.net();
     Ok(Ports {
         inlets: inlets_of(alloc, net, opened.inputs.as_slice(), sources)?,
-        outlets: outlets_of(alloc, opened.outputs.as_slice(), sinks)?,
+        outs: outs_of(alloc, opened.outputs.as_slice(), sinks, tables)?,
     })
 }
 
@@ -146,25 +162,4 @@ pub(crate) fn sort_of<K: Kinds>(net: &Net<K>, channel: usize) -> Sort
     } else {
         Sort::Words
     }
-}
-
-/// The sinks, each for the channel at its place.
-fn outlets_of<S: Sink + Drop>(
-    alloc: Global,
-    channels: &[usize],
-    sinks: Vec<LaidOut<S>>,
-) -> Result<Vec<Outlet<S>>, AllocError>
-    ensures { IfOk result (λ v. v.items ≡ new_outlets S.seen channels.now sinks.items) }
-{
-    let mut outlets = Vec::new(alloc);
-    let mut rest = channels;
-    for sink in sinks {
-        let Some((channel, later)) = rest.split_first() else {
-            continue;
-        };
-        rest = later;
-        let outlet = Outlet::new(alloc, *channel, sink.layout, sink.stream)?;
-        outlets.push(outlet)?;
-    }
-    Ok(outlets)
 }

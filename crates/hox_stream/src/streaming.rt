@@ -2,15 +2,14 @@
 ghost use Rattle.std.specs.Prelude.{IfNone, IfSome, List};
 ghost use Rattle.kpn_model.specs.Network.{family_of};
 ghost use Rattle.kpn_flow.specs.Pieces.{IsOneRunInPieces};
-ghost use Rattle.hox_stream.specs.Streams.{AreWritten, IsFinish, Streams};
+ghost use Rattle.hox_stream.specs.Streams.{AreWritten, IsFinish, Streams, StreamsOut};
 ghost use Rattle.hox_stream.specs.Turns.{AreReadUnheld, PassesTurn, TakesTurn};
-ghost use Rattle.hox_stream.specs.Views.{InletView, OutletView};
+ghost use Rattle.hox_stream.specs.Views.{InletView, OutsView};
 
 use crate::finish::Finish;
 use crate::inlet::{Inlet, wants_more};
-use crate::outlet::Outlet;
 use crate::pouring::pour_next;
-use crate::telling::{flush_all, tell_all};
+use crate::telling::Outs;
 use kpn_body::Body;
 use kpn_flow::{Flow, Pause};
 use kpn_front::{Sink, Source};
@@ -19,22 +18,38 @@ use std::alloc::Global;
 /// How many entries are made at most before what came out is written.
 const STRETCH: u64 = 1000000;
 
-/// Runs a flow between sources and sinks, until it has come to its end, and returns why it ended, as
-/// [`crate::serve`] does from the start of a network.
-pub(crate) fn stream<B: Body, I: Source, O: Sink>(
+/// Runs a flow between sources and sinks, until it has come to its end, writes what is left, and returns why it
+/// ended, as [`crate::serve`] does from the start of a network.
+pub(crate) fn stream_out<B: Body, I: Source, O: Sink>(
     alloc: Global,
     flow: &mut Flow<B>,
     inlets: &mut [Inlet<I>],
-    outlets: &mut [Outlet<O>],
+    outs: &mut Outs<O>,
 ) -> Finish
-    ensures streams { Streams (family_of B.Kinds.start B.Kinds.answer_of) flow.old flow.new inlets.old inlets.new outlets.old outlets.new }
-    ensures finish { IsFinish (family_of B.Kinds.start B.Kinds.answer_of) flow.new inlets.new outlets.new result }
-    ensures written { AreWritten outlets.new }
+    ensures { StreamsOut (family_of B.Kinds.start B.Kinds.answer_of) flow.old flow.new inlets.old inlets.new outs.old outs.new result }
+{
+    let finish = stream(alloc, flow, inlets, outs);
+    match outs.end() {
+        Ok(()) => finish,
+        Err(unwritten) => unwritten,
+    }
+}
+
+/// The same, without the rows that are not full.
+fn stream<B: Body, I: Source, O: Sink>(
+    alloc: Global,
+    flow: &mut Flow<B>,
+    inlets: &mut [Inlet<I>],
+    outs: &mut Outs<O>,
+) -> Finish
+    ensures streams { Streams (family_of B.Kinds.start B.Kinds.answer_of) flow.old flow.new inlets.old inlets.new outs.old outs.new }
+    ensures finish { IsFinish (family_of B.Kinds.start B.Kinds.answer_of) flow.new inlets.new outs.new result }
+    ensures written { AreWritten outs.new }
     ensures one_run { IsOneRunInPieces (family_of B.Kinds.start B.Kinds.answer_of) flow.new }
 {
-    let finish = turn_on(alloc, flow, inlets, outlets);
+    let finish = turn_on(alloc, flow, inlets, outs);
     flow.assure_one_run();
-    match flush_all(outlets) {
+    match outs.flush_all() {
         Ok(()) => finish,
         Err(unwritten) => unwritten,
     }
@@ -45,14 +60,14 @@ fn turn_on<B: Body, I: Source, O: Sink>(
     alloc: Global,
     flow: &mut Flow<B>,
     inlets: &mut [Inlet<I>],
-    outlets: &mut [Outlet<O>],
+    outs: &mut Outs<O>,
 ) -> Finish
-    ensures streams { Streams (family_of B.Kinds.start B.Kinds.answer_of) flow.old flow.new inlets.old inlets.new outlets.old outlets.new }
-    ensures finish { IsFinish (family_of B.Kinds.start B.Kinds.answer_of) flow.new inlets.new outlets.new result }
+    ensures streams { Streams (family_of B.Kinds.start B.Kinds.answer_of) flow.old flow.new inlets.old inlets.new outs.old outs.new }
+    ensures finish { IsFinish (family_of B.Kinds.start B.Kinds.answer_of) flow.new inlets.new outs.new result }
 {
     let mut next = 0;
     'turns: for _ in 0..u64::MAX {
-        if let Some(finish) = turn(alloc, flow, inlets, outlets, &mut next) {
+        if let Some(finish) = turn(alloc, flow, inlets, outs, &mut next) {
             return finish;
         }
     }
@@ -65,16 +80,16 @@ fn turn<B: Body, I: Source, O: Sink>(
     alloc: Global,
     flow: &mut Flow<B>,
     inlets: &mut [Inlet<I>],
-    outlets: &mut [Outlet<O>],
+    outs: &mut Outs<O>,
     next: &mut usize,
 ) -> Option<Finish>
-    ensures streams { Streams (family_of B.Kinds.start B.Kinds.answer_of) flow.old flow.new inlets.old inlets.new outlets.old outlets.new }
-    ensures finish { IfSome result (IsFinish (family_of B.Kinds.start B.Kinds.answer_of) flow.new inlets.new outlets.new) }
+    ensures streams { Streams (family_of B.Kinds.start B.Kinds.answer_of) flow.old flow.new inlets.old inlets.new outs.old outs.new }
+    ensures finish { IfSome result (IsFinish (family_of B.Kinds.start B.Kinds.answer_of) flow.new inlets.new outs.new) }
     ensures turn { IfNone result (PassesTurn inlets.old inlets.new next.old next.new) }
-    ensures unheld { AreReadUnheld inlets.old inlets.new outlets.new }
+    ensures unheld { AreReadUnheld inlets.old inlets.new outs.new }
 {
     let pause = flow.advance(STRETCH);
-    match tell_all(flow, outlets) {
+    match outs.tell_all(flow) {
         Err(finish) => return Some(finish),
         Ok(true) => return None,
         Ok(false) => {}
@@ -82,7 +97,7 @@ fn turn<B: Body, I: Source, O: Sink>(
     match pause {
         Pause::Cut | Pause::Blocked => None,
         Pause::Over(end) => Some(Finish::Over(end)),
-        Pause::Starved => pour(alloc, flow, inlets, outlets, next),
+        Pause::Starved => pour(alloc, flow, inlets, outs, next),
     }
 }
 
@@ -92,16 +107,16 @@ fn pour<B: Body, I: Source, O: Sink>(
     alloc: Global,
     flow: &mut Flow<B>,
     inlets: &mut [Inlet<I>],
-    outlets: &mut [Outlet<O>],
+    outs: &mut Outs<O>,
     next: &mut usize,
 ) -> Option<Finish>
-    ensures streams { Streams (family_of B.Kinds.start B.Kinds.answer_of) flow.old flow.new inlets.old inlets.new outlets.old outlets.new }
-    ensures finish { IfSome result (IsFinish (family_of B.Kinds.start B.Kinds.answer_of) flow.new inlets.new outlets.new) }
+    ensures streams { Streams (family_of B.Kinds.start B.Kinds.answer_of) flow.old flow.new inlets.old inlets.new outs.old outs.new }
+    ensures finish { IfSome result (IsFinish (family_of B.Kinds.start B.Kinds.answer_of) flow.new inlets.new outs.new) }
     ensures turn { IfNone result (TakesTurn flow.old inlets.old inlets.new next.old next.new) }
-    ensures unheld { AreReadUnheld inlets.old inlets.new outlets.new }
+    ensures unheld { AreReadUnheld inlets.old inlets.new outs.new }
 {
     if wants_more(inlets) {
-        if let Err(finish) = flush_all(outlets) {
+        if let Err(finish) = outs.flush_all() {
             return Some(finish);
         }
     }

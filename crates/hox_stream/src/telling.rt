@@ -1,20 +1,23 @@
 //! From the channels into their sinks.
-ghost use Rattle.std.specs.Prelude.{◌≡◌, ◌<◌, true, false, Ok, IfErr, List, length};
+ghost use Rattle.std.specs.Prelude.{◌≡◌, ◌<◌, ℕ, true, false, Ok, IfErr, List, [], length};
 ghost use Rattle.kpn_model.specs.Network.{Family, family_of};
 ghost use Rattle.kpn_flow.specs.Flows.{FlowView, IsSameFlow};
 ghost use Rattle.hox_stream.specs.Ports.{IsWriteFault, Tells};
-ghost use Rattle.hox_stream.specs.Streams.{AllFaultsStay, AreWritten, IsFinish, Streams};
-ghost use Rattle.hox_stream.specs.Views.{InletView};
+ghost use Rattle.hox_stream.specs.Streams.{AllEnd, AllFaultsStay, AllStay, AreWritten, IsFinish, Streams, outlet_at};
+ghost use Rattle.hox_stream.specs.Views.{InletView, TableView, outs};
 
 use crate::finish::Finish;
 use crate::outlet::{Outlet, WriteFault};
+use crate::table::TableOutlet;
+use crate::tabling::{end_tables, flush_tables, tell_tables};
 use kpn_body::Body;
 use kpn_flow::Flow;
 use kpn_front::Sink;
 use kpn_model::Token;
+use std::marker::Model;
 
 /// How many tokens are drained at once at most.
-const BATCH: usize = 64;
+pub(crate) const BATCH: usize = 64;
 
 /// Moves the first tokens of a channel to its sink. Returns whether there were any.
 fn tell<B: Body, S: Sink>(flow: &mut Flow<B>, outlet: &mut Outlet<S>) -> Result<bool, WriteFault>
@@ -45,10 +48,10 @@ fn tell_at<B: Body, S: Sink>(
     k: usize,
 ) -> Result<bool, Finish>
     requires { k < length outlets.old }
-    ensures streams { (ins : List InletView) → Streams (family_of B.Kinds.start B.Kinds.answer_of) flow.old flow.new ins ins outlets.old outlets.new }
+    ensures streams { (ins : List InletView) (tables : List TableView) → Streams (family_of B.Kinds.start B.Kinds.answer_of) flow.old flow.new ins ins (outs outlets.old tables) (outs outlets.new tables) }
     ensures same { IsSameFlow flow.old flow.new }
     ensures none { result ≡ Ok false → flow.new.state ≡ flow.old.state }
-    ensures finish { IfErr result (λ f. (ins : List InletView) → IsFinish (family_of B.Kinds.start B.Kinds.answer_of) flow.new ins outlets.new f) }
+    ensures finish { IfErr result (λ f. (ins : List InletView) (tables : List TableView) → IsFinish (family_of B.Kinds.start B.Kinds.answer_of) flow.new ins (outs outlets.new tables) f) }
 {
     match tell(flow, &mut outlets[k]) {
         Ok(has_moved) => Ok(has_moved),
@@ -59,14 +62,14 @@ fn tell_at<B: Body, S: Sink>(
 }
 
 /// The same, for all sinks. Returns whether any token was moved.
-pub(crate) fn tell_all<B: Body, S: Sink>(
+fn tell_sinks<B: Body, S: Sink>(
     flow: &mut Flow<B>,
     outlets: &mut [Outlet<S>],
 ) -> Result<bool, Finish>
-    ensures streams { (ins : List InletView) → Streams (family_of B.Kinds.start B.Kinds.answer_of) flow.old flow.new ins ins outlets.old outlets.new }
+    ensures streams { (ins : List InletView) (tables : List TableView) → Streams (family_of B.Kinds.start B.Kinds.answer_of) flow.old flow.new ins ins (outs outlets.old tables) (outs outlets.new tables) }
     ensures same { IsSameFlow flow.old flow.new }
     ensures none { result ≡ Ok false → flow.new.state ≡ flow.old.state }
-    ensures finish { IfErr result (λ f. (ins : List InletView) → IsFinish (family_of B.Kinds.start B.Kinds.answer_of) flow.new ins outlets.new f) }
+    ensures finish { IfErr result (λ f. (ins : List InletView) (tables : List TableView) → IsFinish (family_of B.Kinds.start B.Kinds.answer_of) flow.new ins (outs outlets.new tables) f) }
 {
     let mut has_moved = false;
     for k in 0..outlets.len() {
@@ -79,11 +82,11 @@ pub(crate) fn tell_all<B: Body, S: Sink>(
 }
 
 /// Writes what waits to each sink, also where another one fails. If one does, returns why the stream ends.
-pub(crate) fn flush_all<S: Sink>(outlets: &mut [Outlet<S>]) -> Result<(), Finish>
-    ensures streams { (kinds : Family) (s : FlowView) (ins : List InletView) → Streams kinds s s ins ins outlets.old outlets.new }
-    ensures written { AreWritten outlets.new }
+fn flush_sinks<S: Sink>(outlets: &mut [Outlet<S>]) -> Result<(), Finish>
+    ensures streams { (kinds : Family) (s : FlowView) (ins : List InletView) (tables : List TableView) → Streams kinds s s ins ins (outs outlets.old tables) (outs outlets.new tables) }
+    ensures written { (k : ℕ) → k < length outlets.new → (outlet_at outlets.new k).has_failed ≡ false → (outlet_at outlets.new k).waiting ≡ [] }
     ensures still { AllFaultsStay outlets.old outlets.new }
-    ensures finish { IfErr result (λ f. (kinds : Family) (s : FlowView) (ins : List InletView) → IsFinish kinds s ins outlets.new f) }
+    ensures finish { IfErr result (λ f. (kinds : Family) (s : FlowView) (ins : List InletView) (tables : List TableView) → IsFinish kinds s ins (outs outlets.new tables) f) }
 {
     let mut failed = None;
     for k in 0..outlets.len() {
@@ -94,5 +97,69 @@ pub(crate) fn flush_all<S: Sink>(outlets: &mut [Outlet<S>]) -> Result<(), Finish
     match failed {
         Some(k) => Err(Finish::Unwritten(k)),
         None => Ok(()),
+    }
+}
+
+/// All to which tokens go out: sinks for one channel, and behind them those for several.
+#[derive(Drop)]
+pub(crate) struct Outs<S: Sink> {
+    pub(crate) sinks: Vec<Outlet<S>>,
+    pub(crate) tables: Vec<TableOutlet<S>>,
+}
+
+impl<S: Sink> Model for Outs<S> {
+    ghost use Rattle.hox_stream.specs.Views.{OutsView};
+
+    ghost Value = { OutsView };
+
+    ghost view = { λ m. record { sinks = m.sinks.items; tables = m.tables.items } };
+}
+
+impl<S: Sink> Outs<S> {
+    /// Moves the first tokens of each channel to its sink. Returns whether any token was moved. If it fails, returns
+    /// why the stream ends.
+    pub(crate) fn tell_all<B: Body>(&mut self, flow: &mut Flow<B>) -> Result<bool, Finish>
+        ensures streams { (ins : List InletView) → Streams (family_of B.Kinds.start B.Kinds.answer_of) flow.old flow.new ins ins self.old self.new }
+        ensures same { IsSameFlow flow.old flow.new }
+        ensures none { result ≡ Ok false → flow.new.state ≡ flow.old.state }
+        ensures finish { IfErr result (λ f. (ins : List InletView) → IsFinish (family_of B.Kinds.start B.Kinds.answer_of) flow.new ins self.new f) }
+    {
+        let first = self.sinks.len();
+        let moved = match tell_sinks(flow, self.sinks.as_mut_slice()) {
+            Ok(moved) => moved,
+            Err(finish) => return Err(finish),
+        };
+        let moved_more = match tell_tables(flow, self.tables.as_mut_slice(), first) {
+            Ok(moved_more) => moved_more,
+            Err(finish) => return Err(finish),
+        };
+        Ok(moved || moved_more)
+    }
+
+    /// Writes what waits to each sink, also where another one fails; not what waits for its row. If one does, returns
+    /// why the stream ends.
+    pub(crate) fn flush_all(&mut self) -> Result<(), Finish>
+        ensures streams { (kinds : Family) (s : FlowView) (ins : List InletView) → Streams kinds s s ins ins self.old self.new }
+        ensures written { AreWritten self.new }
+        ensures still { AllStay self.old self.new }
+        ensures finish { IfErr result (λ f. (kinds : Family) (s : FlowView) (ins : List InletView) → IsFinish kinds s ins self.new f) }
+    {
+        let first = self.sinks.len();
+        let sinks = flush_sinks(self.sinks.as_mut_slice());
+        let tables = flush_tables(self.tables.as_mut_slice(), first);
+        if let Err(finish) = sinks {
+            return Err(finish);
+        }
+        tables
+    }
+    /// Writes all that waits, with no token where a column of a table is shorter; not what waits at a sink for one
+    /// channel. If a write fails, returns why the stream ends.
+    pub(crate) fn end(&mut self) -> Result<(), Finish>
+        ensures sinks { self.new.sinks ≡ self.old.sinks }
+        ensures ends { AllEnd self.old.tables self.new.tables }
+        ensures finish { IfErr result (λ f. (kinds : Family) (s : FlowView) (ins : List InletView) → IsFinish kinds s ins self.new f) }
+    {
+        let first = self.sinks.len();
+        end_tables(self.tables.as_mut_slice(), first)
     }
 }

@@ -10,4 +10,6 @@ pub mod NumbersBack
 pub mod RecordsBack
 pub mod SamplesBack
 pub mod RowsBack
+pub mod LinesBack
+pub mod TablesBack
 pub mod Chunks

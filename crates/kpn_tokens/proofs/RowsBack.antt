@@ -23,12 +23,12 @@ use Rattle.kpn_tokens.proofs.RecordsBack.{IsBack, plain_text}
 use Rattle.kpn_tokens.proofs.RowFacts.{one_row_of}
 
 -- no plain byte is a separator, and no separator ends a line or begins quotes
-not_separator : (separator : Separator) (b : ℕ) → is_plain b ≡ true → (b == separator_byte separator) ≡ false
+pub not_separator : (separator : Separator) (b : ℕ) → is_plain b ≡ true → (b == separator_byte separator) ≡ false
 not_separator Comma b h = never (λ b. b == 44) refl b h
 not_separator Semicolon b h = never (λ b. b == 59) refl b h
 not_separator Tab b h = never (λ b. b == 9) refl b h
 
-separator_no_line_feed : (separator : Separator) → is_line_feed (separator_byte separator) ≡ false
+pub separator_no_line_feed : (separator : Separator) → is_line_feed (separator_byte separator) ≡ false
 separator_no_line_feed Comma = refl
 separator_no_line_feed Semicolon = refl
 separator_no_line_feed Tab = refl
@@ -40,7 +40,7 @@ separator_no_mark Tab = refl
 
 module _ (separator : Separator) where
   -- plain bytes join the field
-  joins : (fields : List (List ℕ)) (field text tail : List ℕ) → are_plain text ≡ true
+  pub joins : (fields : List (List ℕ)) (field text tail : List ℕ) → are_plain text ≡ true
       → next_record (config_of separator) st.InField fields field (text ++ tail) ≡ next_record (config_of separator) st.InField fields (field ++ text) tail
   unfolding next_record
   joins fields field [] tail h = rw (append-nil field) refl
@@ -50,20 +50,20 @@ module _ (separator : Separator) where
       (joins fields (field ++ b ∷ []) bs tail more ∙ ap (λ f. next_record (config_of separator) st.InField fields f tail) (append_assoc field (b ∷ []) bs))
 
   -- the first of them begins a field
-  begins : (fields : List (List ℕ)) (b : ℕ) (tail : List ℕ) → is_plain b ≡ true
+  pub begins : (fields : List (List ℕ)) (b : ℕ) (tail : List ℕ) → is_plain b ≡ true
       → next_record (config_of separator) st.StartField fields [] (b ∷ tail) ≡ next_record (config_of separator) st.InField fields (b ∷ []) tail
   unfolding next_record
   begins fields b tail plain =
       rw (never (λ b. b == 34) refl b plain, not_separator separator b plain, never (λ b. b == 13) refl b plain, never (λ b. b == 10) refl b plain) refl
 
-  begins_row : (b : ℕ) (tail : List ℕ) → is_plain b ≡ true
+  pub begins_row : (b : ℕ) (tail : List ℕ) → is_plain b ≡ true
       → next_record (config_of separator) st.StartRecord [] [] (b ∷ tail) ≡ next_record (config_of separator) st.StartField [] [] (b ∷ tail)
   unfolding next_record
   begins_row b tail plain =
       rw (never (λ b. b == 34) refl b plain, not_separator separator b plain, never (λ b. b == 13) refl b plain, never (λ b. b == 10) refl b plain) refl
 
 -- the line feed ends the row
-ends : (separator : Separator) (fields : List (List ℕ)) (field : List ℕ) → next_record (config_of separator) st.InField fields field (10 ∷ []) ≡ Some (fields ++ field ∷ [], st.StartRecord, [])
+pub ends : (separator : Separator) (fields : List (List ℕ)) (field : List ℕ) → next_record (config_of separator) st.InField fields field (10 ∷ []) ≡ Some (fields ++ field ∷ [], st.StartRecord, [])
 unfolding next_record
 ends Comma fields field = refl
 ends Semicolon fields field = refl

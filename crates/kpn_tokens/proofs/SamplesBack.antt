@@ -76,40 +76,40 @@ fits_back Offset width word small fit = elim (signed_cases width word fit) [
 ]
 
 -- the first bytes of a sample say its number
-number_read : (endian : Endian) (width : Width) (n : ℕ) (more : List ℕ) → n < numbers_of width → number_in endian (bytes_in width) (bytes_of endian (bytes_in width) n ++ more) ≡ n
+pub number_read : (endian : Endian) (width : Width) (n : ℕ) (more : List ℕ) → n < numbers_of width → number_in endian (bytes_in width) (bytes_of endian (bytes_in width) n ++ more) ≡ n
 number_read Little width n more h = little_number-reads_back (bytes_in width) n more h
 number_read Big width n more h = big_number-reads_back (bytes_in width) n more h
 
-bytes_length : (endian : Endian) (width : Width) (n : ℕ) → length (bytes_of endian (bytes_in width) n) ≡ bytes_in width
+pub bytes_length : (endian : Endian) (width : Width) (n : ℕ) → length (bytes_of endian (bytes_in width) n) ≡ bytes_in width
 bytes_length Little width n = length-bytes_low_first 0 (bytes_in width) n
 bytes_length Big width n = length-bytes_high_first (bytes_in width) n
 
-some_bytes : (width : Width) → 0 < bytes_in width
+pub some_bytes : (width : Width) → 0 < bytes_in width
 some_bytes One = omega arith
 some_bytes Two = omega arith
 some_bytes Three = omega arith
 some_bytes Four = omega arith
 some_bytes Eight = omega arith
 
-small_word : (sort : Sort) (token : Token) → IsOf sort token → word_for token < 2 ^ 64
+pub small_word : (sort : Sort) (token : Token) → IsOf sort token → word_for token < 2 ^ 64
 small_word Words (Word n) h = h
 small_word Words (Flag b) h = absurd h
 small_word Flags (Word n) h = absurd h
 small_word Flags (Flag true) h = omega arith
 small_word Flags (Flag false) h = omega arith
 
-token_is : (sort : Sort) (token : Token) → IsOf sort token → token_for sort (word_for token) ≡ Ok (Some token)
+pub token_is : (sort : Sort) (token : Token) → IsOf sort token → token_for sort (word_for token) ≡ Ok (Some token)
 token_is Words (Word n) h = refl
 token_is Words (Flag b) h = absurd h
 token_is Flags (Word n) h = absurd h
 token_is Flags (Flag true) h = refl
 token_is Flags (Flag false) h = refl
 
-take_first : (xs ys : List ℕ) → take (length xs) (xs ++ ys) ≡ xs
+pub take_first : (xs ys : List ℕ) → take (length xs) (xs ++ ys) ≡ xs
 take_first [] ys = refl
 take_first (x ∷ xs) ys = ap (λ l. x ∷ l) (take_first xs ys)
 
-drop_first : (xs ys : List ℕ) → drop (length xs) (xs ++ ys) ≡ ys
+pub drop_first : (xs ys : List ℕ) → drop (length xs) (xs ++ ys) ≡ ys
 drop_first [] ys = refl
 drop_first (x ∷ xs) ys = drop_first xs ys
 
@@ -117,10 +117,10 @@ module _ (frame : Frame) (sort : Sort) (token : Token) (of : IsOf sort token) (f
   abbrev sample : List ℕ
   sample = word_sample frame.sample (word_for token)
 
-  sample_length : length (word_sample frame.sample (word_for token)) ≡ bytes_in frame.sample.width
+  pub sample_length : length (word_sample frame.sample (word_for token)) ≡ bytes_in frame.sample.width
   sample_length = bytes_length frame.sample.endian frame.sample.width (number_for frame.sample.coding frame.sample.width (nearest frame.sample.coding frame.sample.width (word_for token)))
 
-  sample_back : (more : List ℕ) → sample_said frame.sample sort (word_sample frame.sample (word_for token) ++ more) ≡ Ok (Some token)
+  pub sample_back : (more : List ℕ) → sample_said frame.sample sort (word_sample frame.sample (word_for token) ++ more) ≡ Ok (Some token)
   sample_back more =
       let same : nearest frame.sample.coding frame.sample.width (word_for token) ≡ word_for token = rw fit refl in
       let back = fits_back frame.sample.coding frame.sample.width (word_for token) (small_word sort token of) fit in

@@ -2,4 +2,5 @@ pub mod Numbers
 pub mod Rows
 pub mod Samples
 pub mod Records
+pub mod Tables
 pub mod Heads

@@ -1,5 +1,5 @@
 -- Lines of fields, as `csv` reads them.
-use Rattle.std.specs.Prelude.{◌==◌, ◌++◌, ℕ, Bool, List, [], ◌∷◌, if◌then◌else◌, codes, replicate, Option, Some, None, Result, Ok, Err}
+use Rattle.std.specs.Prelude.{◌==◌, ◌++◌, ℕ, Bool, List, [], ◌∷◌, if◌then◌else◌, replicate, Option, Some, None, Result, Ok, Err}
 use Rattle.std.specs.List.{flat_map, list_any}
 use Rattle.std.specs.Option.{option_map_or}
 use Rattle.std.specs.Str.{is_utf8, trim}
@@ -73,7 +73,7 @@ row_said column sort (Ok (Some row)) = field_said column.decimals sort (field_at
 abbrev pub field_text : Column → Token → List ℕ
 field_text column token = replicate column.place (separator_byte column.separator) ++ token_text column.decimals token
 
--- a row of cells with a separator between them, an absent token as an empty field
+-- cells with a separator between them, an absent token as an empty field
 abbrev pub cell_text : Cell → List ℕ
 cell_text cell = option_map_or (token_text cell.decimals) cell.token []
 
@@ -84,6 +84,3 @@ separator_before separator place = if place == 0 then [] else separator_byte sep
 abbrev pub cells_text : Separator → List Cell → List ℕ
 cells_text separator [] = []
 cells_text separator (cell ∷ cells) = cell_text cell ++ flat_map (λ other. separator_byte separator ∷ cell_text other) cells
-
-abbrev pub row_text : Separator → List Cell → List ℕ
-row_text separator cells = cells_text separator cells ++ codes "\n"

@@ -112,6 +112,3 @@ channel_word (Some token) = word_for token
 
 abbrev pub channel_text : Sample → Option Token → List ℕ
 channel_text sample token = word_sample sample (channel_word token)
-
-abbrev pub has_channel_sample : Sample → Option Token → Bool
-has_channel_sample sample token = is_fit sample.coding sample.width (channel_word token)

@@ -1,11 +1,11 @@
 //! Tokens written as records.
-ghost use Rattle.std.specs.Prelude.{◌≡◌, ◌<◌, ◌++◌, ℕ, true, false, not, Err, IfOk, OnOk, length, replicate, take, Some};
-ghost use Rattle.std.specs.List.{count_by, flat_map, position};
+ghost use Rattle.std.specs.Prelude.{◌≡◌, ◌++◌, ℕ, false, not, Err, IfErr, IfOk, OnOk, replicate, Some};
+ghost use Rattle.std.specs.List.{flat_map, position};
 ghost use Rattle.kpn_tokens.specs.Records.{IsRefused, clips, fits, misfits, record_text};
-ghost use Rattle.kpn_tokens.specs.Rows.{cell_text, field_text, row_text, separator_before};
-ghost use Rattle.kpn_tokens.specs.Samples.{channel_text, channel_word, frame_text, has_channel_sample};
+ghost use Rattle.kpn_tokens.specs.Rows.{field_text};
+ghost use Rattle.kpn_tokens.specs.Samples.{frame_text};
 
-use crate::layouts::{Cell, Column, Frame, Layout, Sample, Separator};
+use crate::layouts::{Column, Frame, Layout};
 use crate::numbers::{append_byte, append_token};
 use crate::samples::{append_sample, is_word_fit, word_of_token};
 use kpn_model::Token;
@@ -57,83 +57,35 @@ pub fn append_tokens(
     Ok(clipped)
 }
 
-/// Appends a row with a line feed: cells with a separator between them, an absent token as an empty field.
+/// Counts the tokens that do not fit a layout, where the nearest that does may be written.
 ///
-/// Errors: memory was refused. Some cells may have been appended.
-pub fn append_row(out: &mut Vec<u8>, separator: Separator, cells: &[Cell]) -> Result<(), AllocError>
-    ensures { OnOk result (out.new.items ≡ out.old.items ++ row_text separator cells.now) }
+/// Errors: the nearest may not be written. The error is the place of the first token that does not fit, counted
+/// from 0.
+pub fn count_misfits(layout: Layout, tokens: &[Token]) -> Result<usize, usize>
+    ensures clipped { IfOk result (λ n. n ≡ misfits layout tokens.now) }
+    ensures unclipped { clips layout ≡ false → IfOk result (λ n. n ≡ 0) }
+    ensures refused { IfErr result (λ place. (clips layout ≡ false) × (position (λ token. not (fits layout token)) tokens.now ≡ Some place)) }
 {
-    for (place, cell) in cells.iter().enumerate() {
-        append_cell(out, separator, place, cell)?;
-    }
-    append_byte(out, b'\n')
-}
-
-/// Appends the text of the cell at a place, after a separator unless it is the first.
-fn append_cell(
-    out: &mut Vec<u8>,
-    separator: Separator,
-    place: usize,
-    cell: &Cell,
-) -> Result<(), AllocError>
-    ensures { OnOk result (out.new.items ≡ out.old.items ++ (separator_before separator place ++ cell_text cell.now)) }
-{
-    if place > 0 {
-        append_byte(out, separator.byte())?;
-    }
-    match cell.token {
-        Some(token) => append_token(out, cell.decimals, token),
-        None => Ok(()),
-    }
-}
-
-/// Appends a frame of samples, one for each channel, an absent token as 0. Returns how many did not fit and
-/// were written as the nearest that does.
-///
-/// Errors: see [`AppendFault`]; the place is that of the channel. Nothing is appended if a token does not fit.
-pub fn append_frame(
-    out: &mut Vec<u8>,
-    sample: Sample,
-    tokens: &[Option<Token>],
-) -> Result<usize, AppendFault>
-    ensures appends { OnOk result (out.new.items ≡ out.old.items ++ flat_map (channel_text sample) tokens.now) }
-    ensures clipped { IfOk result (λ n. n ≡ count_by (λ token. not (has_channel_sample sample token)) tokens.now) }
-    ensures unclipped { sample.clips ≡ false → OnOk result (count_by (λ token. not (has_channel_sample sample token)) tokens.now ≡ 0) }
-    ensures refused { (place : ℕ) → result ≡ Err (AppendFault.DoesNotFit place) → (out.new.items ≡ out.old.items) × (sample.clips ≡ false) × (position (λ token. not (has_channel_sample sample token)) tokens.now ≡ Some place) }
-{
-    if !sample.clips {
-        if let Some(place) = first_misfit(&sample, tokens) {
-            return Err(AppendFault::DoesNotFit { place });
-        }
+    if !may_clip(&layout) {
+        return match first_misfit(&layout, tokens) {
+            Some(place) => Err(place),
+            None => Ok(0),
+        };
     }
     let mut misfits = 0;
     for token in tokens {
-        let word = word_of_channel(*token);
-        if !is_word_fit(&sample, word) {
+        if !is_fit(&layout, *token) {
             misfits += 1;
         }
-        append_sample(out, &sample, word)?;
     }
     Ok(misfits)
 }
 
-/// The place of the first token for which there is no sample.
-fn first_misfit(sample: &Sample, tokens: &[Option<Token>]) -> Option<usize>
-    ensures { result ≡ position (λ token. not (has_channel_sample sample.now token)) tokens.now }
+/// The place of the first token that does not fit.
+fn first_misfit(layout: &Layout, tokens: &[Token]) -> Option<usize>
+    ensures { result ≡ position (λ token. not (fits layout.now token)) tokens.now }
 {
-    tokens
-        .iter()
-        .position(|token| !is_word_fit(sample, word_of_channel(*token)))
-}
-
-/// The word for a token of a channel; 0 if there is none.
-fn word_of_channel(token: Option<Token>) -> u64
-    ensures { result ≡ channel_word token }
-{
-    match token {
-        Some(token) => word_of_token(token),
-        None => 0,
-    }
+    tokens.iter().position(|token| !is_fit(layout, *token))
 }
 
 /// Whether the record of a token says it.

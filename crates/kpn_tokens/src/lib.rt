@@ -15,12 +15,13 @@ mod reading;
 mod rows;
 mod samples;
 mod saying;
+mod tables;
 
-pub use appending::{AppendFault, append_frame, append_row, append_tokens};
+pub use appending::{AppendFault, append_tokens, count_misfits};
 pub use cutting::record_in;
 pub use heads::{LONGEST_HEAD, WavFault, WavHead, append_wav_head, wav_head, wav_sample};
 pub use kpn_model::{Sort, Token};
-pub use laws::reads_back;
+pub use laws::{reads_back, reads_columns_back};
 pub use layouts::{
     Cell, Coding, Column, Cut, Decimals, Endian, Frame, Layout, RecordFault, Sample, Separator,
     Width,
@@ -29,3 +30,4 @@ pub use names::{append_names, column_named};
 pub use numbers::append_token;
 pub use reading::{MOST_TOKENS, TokensFault, read_tokens};
 pub use saying::token_of_record;
+pub use tables::{Table, append_row};

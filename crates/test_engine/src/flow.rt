@@ -5,3 +5,4 @@ mod openings;
 mod pauses;
 mod refusals;
 mod streams;
+mod tables;

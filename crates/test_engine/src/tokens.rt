@@ -9,6 +9,7 @@ mod columns;
 mod heads;
 mod lines;
 mod samples;
+mod tables;
 
 /// The word for a number below zero, of which this is the magnitude.
 pub(crate) fn minus(number: u64) -> u64 {

@@ -90,7 +90,7 @@ fn served_of<'a, R: Abort>(
     let (fed, drained) = (name(rt, alloc, "x"), name(rt, alloc, "y"));
     let stream = opened(rt, alloc, &[fed], &[drained]);
     let stream = stream.ok().expect(rt, "no stream");
-    serve(alloc, stream, sources, sinks).expect(rt, "no memory")
+    serve(alloc, stream, sources, sinks, Vec::new(alloc)).expect(rt, "no memory")
 }
 
 /// How many records were read and how many tokens were written, and how many of these were clipped.

@@ -2,8 +2,8 @@
 use super::minus;
 use crate::checks::same;
 use kpn_tokens::{
-    Cell, Column, Decimals, Layout, RecordFault, Separator, Sort, Token, append_names, append_row,
-    append_tokens, column_named, record_in, token_of_record,
+    Cell, Column, Decimals, Layout, RecordFault, Separator, Sort, Table, Token, append_names,
+    append_row, append_tokens, column_named, record_in, token_of_record,
 };
 
 /// What Python's csv.writer writes, with `;` between fields.
@@ -89,8 +89,8 @@ fn writes_rows(rt: HostRuntime) {
             token: Some(Token::Flag(true)),
         },
     ];
-    append_row(&mut out, Separator::Comma, &cells).expect(&rt, "no memory");
-    append_row(&mut out, Separator::Tab, &cells).expect(&rt, "no memory");
+    append_row(&mut out, Table::Rows(Separator::Comma), &cells).expect(&rt, "no memory");
+    append_row(&mut out, Table::Rows(Separator::Tab), &cells).expect(&rt, "no memory");
     let words = [7, minus(7)].map(Token::Word);
     append_tokens(&mut out, column(2), &words).expect(&rt, "no memory");
     let due = b"a,\"b,c\",\"d\"\"e\"\n-0.05,,true\n-0.05\t\ttrue\n;;0.07\n;;-0.07\n";

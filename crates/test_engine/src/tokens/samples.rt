@@ -3,7 +3,7 @@ use super::{minus, reads_and_writes};
 use crate::checks::same;
 use kpn_tokens::{
     AppendFault, Coding, Endian, Frame, Layout, RecordFault, Sample, Sort, Token, TokensFault,
-    Width, append_frame, append_tokens, read_tokens,
+    Width, append_tokens, read_tokens,
 };
 
 fn sample(width: Width, coding: Coding, endian: Endian) -> Sample {
@@ -114,29 +114,6 @@ fn refuses_what_does_not_fit_or_clips_it(rt: HostRuntime) {
     let clipped = append_tokens(&mut out, Layout::Frames(Frame::of(byte)), &tokens);
     same(&rt, "clipped bytes", clipped, Ok(2));
     same(&rt, "bytes of one", out.as_slice(), b"\xff\x00".as_slice());
-}
-
-#[test]
-fn writes_frames_of_several_channels(rt: HostRuntime) {
-    let short = sample(Width::Two, Coding::Signed, Endian::Big);
-    let mut out = Vec::new(rt.alloc());
-    let tokens = [Some(Token::Word(minus(2))), None, Some(Token::Flag(true))];
-    same(&rt, "fit", append_frame(&mut out, short, &tokens), Ok(0));
-    same(
-        &rt,
-        "bytes",
-        out.as_slice(),
-        b"\xff\xfe\x00\x00\x00\x01".as_slice(),
-    );
-    let great = [Some(Token::Word(1)), Some(Token::Word(32768))];
-    let fault = append_frame(&mut out, short, &great);
-    same(
-        &rt,
-        "fault",
-        fault,
-        Err(AppendFault::DoesNotFit { place: 1 }),
-    );
-    same(&rt, "no more", out.len(), 6);
 }
 
 #[test]

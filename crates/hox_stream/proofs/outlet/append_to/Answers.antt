@@ -1,5 +1,5 @@
 -- All tokens have their records, or those up to one that does not fit.
-use Rattle.std.proofs.Common.{◌++◌, Bool, List, Err, not, length, sym, ap, ◌∙◌}
+use Rattle.std.proofs.Common.{◌++◌, List, Err, not, length, sym, ap, ◌∙◌}
 use Rattle.std.specs.List.{flat_map}
 use Rattle.kpn_model.specs.declared.token.Token.{Token}
 use Rattle.kpn_tokens.specs.Records.{record_text}

@@ -9,7 +9,7 @@ returns-in-Ok-clause-streams g c =
 
 pub returns-in-Ok-clause-finish : goal.returns-in-Ok-clause-finish
 returns-in-Ok-clause-finish g c =
-    finish_stays (family_of g.B.Kinds.Kinds.start g.B.Kinds.Kinds.answer_of) c.turn_on-finish.new.flow c.turn_on-finish.new.inlets c.turn_on-finish.new.outlets c.flush_all.new.outlets c.turn_on-finish.result c.flush_all.ensures.still c.turn_on-finish.ensures.finish
+    finish_stays (family_of g.B.Kinds.Kinds.start g.B.Kinds.Kinds.answer_of) c.turn_on-finish.new.flow c.turn_on-finish.new.inlets c.turn_on-finish.new.outs c.flush_all.new.self c.turn_on-finish.result c.flush_all.ensures.still c.turn_on-finish.ensures.finish
 
 pub returns-in-Err-clause-streams : goal.returns-in-Err-clause-streams
 returns-in-Err-clause-streams g c =

@@ -6,17 +6,17 @@ use Rattle.hox_stream.proofs.Streamed.{streams_told}
 use Rattle.hox_stream.proofs.telling.tell_at.Goals as goal
 
 pub returns-in-Ok-clause-streams : goal.returns-in-Ok-clause-streams
-returns-in-Ok-clause-streams g c = λ ins.
-    streams_told (family_of g.B.Kinds.Kinds.start g.B.Kinds.Kinds.answer_of) _ _ ins c.args.outlets.now c.args.k _ c.tell.new.outlet c.requires (get_or_default c.args.outlets.now c.args.k c.index-outlets-k.result no_outlet c.requires) c.tell.ensures.tells
+returns-in-Ok-clause-streams g c = λ ins tables.
+    streams_told (family_of g.B.Kinds.Kinds.start g.B.Kinds.Kinds.answer_of) _ _ ins c.args.outlets.now tables c.args.k _ c.tell.new.outlet c.requires (get_or_default c.args.outlets.now c.args.k c.index-outlets-k.result no_outlet c.requires) c.tell.ensures.tells
 
 pub returns-in-Err-Failed-clause-streams : goal.returns-in-Err-Failed-clause-streams
-returns-in-Err-Failed-clause-streams g c = λ ins.
-    streams_told (family_of g.B.Kinds.Kinds.start g.B.Kinds.Kinds.answer_of) _ _ ins c.args.outlets.now c.args.k _ c.tell.new.outlet c.requires (get_or_default c.args.outlets.now c.args.k c.index-outlets-k.result no_outlet c.requires) c.tell.ensures.tells
+returns-in-Err-Failed-clause-streams g c = λ ins tables.
+    streams_told (family_of g.B.Kinds.Kinds.start g.B.Kinds.Kinds.answer_of) _ _ ins c.args.outlets.now tables c.args.k _ c.tell.new.outlet c.requires (get_or_default c.args.outlets.now c.args.k c.index-outlets-k.result no_outlet c.requires) c.tell.ensures.tells
 
 pub returns-in-Err-Memory-clause-streams : goal.returns-in-Err-Memory-clause-streams
-returns-in-Err-Memory-clause-streams g c = λ ins.
-    streams_told (family_of g.B.Kinds.Kinds.start g.B.Kinds.Kinds.answer_of) _ _ ins c.args.outlets.now c.args.k _ c.tell.new.outlet c.requires (get_or_default c.args.outlets.now c.args.k c.index-outlets-k.result no_outlet c.requires) c.tell.ensures.tells
+returns-in-Err-Memory-clause-streams g c = λ ins tables.
+    streams_told (family_of g.B.Kinds.Kinds.start g.B.Kinds.Kinds.answer_of) _ _ ins c.args.outlets.now tables c.args.k _ c.tell.new.outlet c.requires (get_or_default c.args.outlets.now c.args.k c.index-outlets-k.result no_outlet c.requires) c.tell.ensures.tells
 
 pub returns-in-Err-Misfit-clause-streams : goal.returns-in-Err-Misfit-clause-streams
-returns-in-Err-Misfit-clause-streams g c = λ ins.
-    streams_told (family_of g.B.Kinds.Kinds.start g.B.Kinds.Kinds.answer_of) _ _ ins c.args.outlets.now c.args.k _ c.tell.new.outlet c.requires (get_or_default c.args.outlets.now c.args.k c.index-outlets-k.result no_outlet c.requires) c.tell.ensures.tells
+returns-in-Err-Misfit-clause-streams g c = λ ins tables.
+    streams_told (family_of g.B.Kinds.Kinds.start g.B.Kinds.Kinds.answer_of) _ _ ins c.args.outlets.now tables c.args.k _ c.tell.new.outlet c.requires (get_or_default c.args.outlets.now c.args.k c.index-outlets-k.result no_outlet c.requires) c.tell.ensures.tells

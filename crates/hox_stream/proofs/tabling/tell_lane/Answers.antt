@@ -1,0 +1,50 @@
+-- What is drained is taken into a column.
+use Rattle.std.proofs.Common.{◌≡◌, ℕ, [], true, map, take, refl, sym, ◌∙◌, subst}
+use Rattle.kpn_model.specs.Network.{family_of}
+use Rattle.kpn_flow.specs.Events.{Drained, Flows}
+use Rattle.kpn_flow.specs.Flows.{is_among}
+use Rattle.hox_stream.specs.Streams.{channel_at}
+use Rattle.hox_stream.specs.Tables.{only_at}
+use Rattle.hox_stream.proofs.Flowed.{drained_at_ends, same_net_none, same_net_of}
+use Rattle.hox_stream.proofs.Tabled.{only_none, writes_table_none}
+use Rattle.hox_stream.proofs.tabling.tell_lane.Goals as goal
+
+pub returns-in-Ok-clause-tells : goal.returns-in-Ok-clause-tells
+returns-in-Ok-clause-tells g c =
+    let channel = channel_at c.args.table.now c.args.place in
+    let output : is_among c.args.flow.now.outputs channel ≡ true = subst (λ n. is_among c.args.flow.now.outputs n ≡ true) c.channel-channel.ensures (sym c.is_output.ensures ∙ c.if-not-is_output.false) in
+    record {
+      same = same_net_of _ _ c.drain_into-count.ensures.same;
+      tokens = take c.drain_into-count.result c.drain_into-count.new.buffer;
+      writes = c.write.ensures.writes;
+      flows = rw c.channel-channel.ensures at c.drain_into-count.ensures.drained;
+      at_ends = drained_at_ends (is_among c.args.flow.now.inputs) (is_among c.args.flow.now.outputs) channel (take c.drain_into-count.result c.drain_into-count.new.buffer) output;
+    }
+
+pub returns-in-Err-clause-tells : goal.returns-in-Err-clause-tells
+returns-in-Err-clause-tells g c =
+    let channel = channel_at c.args.table.now c.args.place in
+    let output : is_among c.args.flow.now.outputs channel ≡ true = subst (λ n. is_among c.args.flow.now.outputs n ≡ true) c.channel-channel.ensures (sym c.is_output.ensures ∙ c.if-not-is_output.false) in
+    record {
+      same = same_net_of _ _ c.drain_into-count.ensures.same;
+      tokens = take c.drain_into-count.result c.drain_into-count.new.buffer;
+      writes = c.write.ensures.writes;
+      flows = rw c.channel-channel.ensures at c.drain_into-count.ensures.drained;
+      at_ends = drained_at_ends (is_among c.args.flow.now.inputs) (is_among c.args.flow.now.outputs) channel (take c.drain_into-count.result c.drain_into-count.new.buffer) output;
+    }
+
+pub returns-then-not-is_output-clause-tells : goal.returns-then-not-is_output-clause-tells
+returns-then-not-is_output-clause-tells g c =
+    record { same = same_net_none c.args.flow.now; tokens = []; writes = writes_table_none c.args.table.now (only_at c.args.place []) (λ i h. only_none c.args.place i); flows = refl; at_ends = tt }
+
+pub returns-then-count-eq0-clause-tells : goal.returns-then-count-eq0-clause-tells
+returns-then-count-eq0-clause-tells g c =
+    let kinds = family_of g.B.Kinds.Kinds.start g.B.Kinds.Kinds.answer_of in
+    let Led : ℕ → Type 0 = λ n. Flows kinds c.args.flow.now.network c.args.flow.now.state (map (λ token. Drained c.channel-channel.result token) (take n c.drain_into-count.new.buffer)) c.drain_into-count.new.self.state in
+    record {
+      same = same_net_of _ _ c.drain_into-count.ensures.same;
+      tokens = [];
+      writes = writes_table_none c.args.table.now (only_at c.args.place []) (λ i h. only_none c.args.place i);
+      flows = subst Led c.if-count-eq0.true c.drain_into-count.ensures.drained;
+      at_ends = tt;
+    }

@@ -1,0 +1,74 @@
+//! The rows of a file of several channels.
+ghost use Rattle.std.specs.Prelude.{◌≡◌, ◌∷◌, ◌++◌, OnOk, map};
+ghost use Rattle.kpn_tokens.specs.Tables.{first_cell, longest, row_text};
+ghost use Rattle.hox_stream.specs.Tables.{columns_of, heads_of, shortest, under};
+
+use crate::lane::Lane;
+use kpn_tokens::{Cell, Table, append_row};
+use std::alloc::AllocError;
+
+/// How many rows have a token of each column.
+pub(crate) fn shortest(lanes: &[Lane]) -> usize
+    ensures { result ≡ shortest lanes.now }
+{
+    match lanes.split_first() {
+        Some((first, others)) => shortest_of(first, others),
+        None => 0,
+    }
+}
+
+/// The same, of a first column and others.
+fn shortest_of(first: &Lane, others: &[Lane]) -> usize
+    ensures { result ≡ shortest (first.now ∷ others.now) }
+{
+    let mut count = first.waiting();
+    for lane in others {
+        count = count.min(lane.waiting());
+    }
+    count
+}
+
+/// How many rows have a token of any column.
+pub(crate) fn longest(lanes: &[Lane]) -> usize
+    ensures { result ≡ longest (columns_of lanes.now) }
+{
+    let mut count = 0;
+    for lane in lanes {
+        let waiting = lane.waiting();
+        if waiting > count {
+            count = waiting;
+        }
+    }
+    count
+}
+
+/// Appends the next row: the first token that waits in each column.
+///
+/// Errors: memory was refused. Some of its tokens may wait no more.
+pub(crate) fn append_next(
+    lanes: &mut [Lane],
+    row: &mut Vec<Cell>,
+    waiting: &mut Vec<u8>,
+    table: Table,
+) -> Result<(), AllocError>
+    ensures row { OnOk result (waiting.new.items ≡ waiting.old.items ++ row_text table (map first_cell (columns_of lanes.old))) }
+    ensures lanes { OnOk result (lanes.new ≡ map under lanes.old) }
+    ensures heads { heads_of lanes.new ≡ heads_of lanes.old }
+{
+    next_row(lanes, row)?;
+    append_row(waiting, table, row.as_slice())
+}
+
+/// Takes the first token that waits in each column, as the cells of a row.
+fn next_row(lanes: &mut [Lane], row: &mut Vec<Cell>) -> Result<(), AllocError>
+    ensures row { OnOk result (row.new.items ≡ map first_cell (columns_of lanes.old)) }
+    ensures lanes { OnOk result (lanes.new ≡ map under lanes.old) }
+    ensures heads { heads_of lanes.new ≡ heads_of lanes.old }
+{
+    row.clear();
+    for k in 0..lanes.len() {
+        let cell = lanes[k].pop();
+        row.push(cell)?;
+    }
+    Ok(())
+}

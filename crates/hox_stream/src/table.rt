@@ -1,0 +1,285 @@
+//! Sinks for several channels.
+ghost use Rattle.std.specs.Prelude.{◌≡◌, ◌<◌, ◌≤◌, [], true, false, Err, IfErr, IfOk, OnOk, length, set};
+ghost use Rattle.std.specs.Io.KnownBytes.{append_known};
+ghost use Rattle.hox_stream.specs.Lanes.{TakesIn};
+ghost use Rattle.hox_stream.specs.Tables.{EndsTable, FlushesTable, IsTableFault, RowsGo, WritesTable, lane_at, only_at};
+
+use crate::lane::Lane;
+use crate::outlet::write_out;
+use crate::rows::{append_next, longest, shortest};
+use kpn_front::Sink;
+use kpn_tokens::{Cell, Table, Token};
+use std::alloc::{AllocError, Global};
+use std::marker::Model;
+
+/// How many bytes wait at most.
+const PIECE: usize = 4096;
+
+/// How many bytes there is room for at first: those that wait, and a row.
+const ROOM: usize = 8192;
+
+/// How many tokens of a channel may wait for those of another one.
+pub const MOST_AHEAD: usize = 1000000;
+
+/// Why tokens were not written to a file of several channels: a write failed, of which some bytes may have been
+/// written; a token does not fit; more than [`MOST_AHEAD`] tokens of a channel wait for those of another one; or
+/// memory was refused.
+#[derive(Clone, Copy, Debug, PartialEq, Eq)]
+pub(crate) enum TableFault {
+    Failed,
+    Misfit,
+    Apart,
+    Memory,
+}
+
+/// A sink for the tokens of several channels, side by side in rows. A token waits until its row has one of each
+/// channel. Rows wait until there are more than 4,096 bytes of them, or until they are flushed.
+///
+/// Contracts see the columns, and what was written with what waits.
+#[derive(Drop)]
+pub struct TableOutlet<S: Sink> {
+    table: Table,
+    lanes: Vec<Lane>,
+    /// The cells of the row that is written.
+    row: Vec<Cell>,
+    sink: S,
+    waiting: Vec<u8>,
+    has_failed: bool,
+}
+
+impl<S: Sink> Model for TableOutlet<S> {
+    ghost use Rattle.hox_stream.specs.Views.{TableView};
+
+    ghost Value = { TableView };
+
+    ghost use Rattle.std.specs.Prelude.{◌≤◌, length};
+    ghost use Rattle.std.specs.Io.KnownBytes.{append_known};
+
+    ghost view = { λ m. record { table = m.table; lanes = m.lanes.items; contents = append_known (S.seen m.sink).contents m.waiting.items; waiting = m.waiting.items; has_failed = m.has_failed } };
+
+    ghost invariant = { λ m. length m.waiting.items ≤ 4096 };
+}
+
+impl<S: Sink + Drop> TableOutlet<S> {
+    /// Makes a sink with these columns, and room for the rows that wait. Nothing is written yet.
+    ///
+    /// Errors: memory was refused.
+    pub(crate) fn new(
+        alloc: Global,
+        table: Table,
+        lanes: Vec<Lane>,
+        sink: S,
+    ) -> Result<TableOutlet<S>, AllocError>
+        ensures { IfOk result (λ o. o ≡ record { table = table; lanes = lanes.items; contents = (S.seen sink).contents; waiting = []; has_failed = false }) }
+    {
+        let row = Vec::with_capacity(alloc, lanes.len())?;
+        let waiting = Vec::with_capacity(alloc, ROOM)?;
+        Ok(TableOutlet {
+            table,
+            lanes,
+            row,
+            sink,
+            waiting,
+            has_failed: false,
+        })
+    }
+}
+
+impl<S: Sink> TableOutlet<S> {
+    /// Returns how many columns there are.
+    pub fn width(&self) -> usize
+        ensures { result ≡ length self.now.lanes }
+    {
+        self.lanes.len()
+    }
+
+    /// Returns the number of the channel of a column.
+    pub fn channel(&self, place: usize) -> usize
+        requires { place < length self.now.lanes }
+        ensures { result ≡ (lane_at self.now place).head.channel }
+    {
+        self.lanes[place].channel()
+    }
+
+    /// Returns how many tokens were taken into a column: they are written, or wait. `u64::MAX` if they are as many
+    /// or more. After a write that has failed, some of them may not be written.
+    pub fn tokens(&self, place: usize) -> u64
+        requires { place < length self.now.lanes }
+        ensures { result ≡ (lane_at self.now place).tokens }
+    {
+        self.lanes[place].tokens()
+    }
+
+    /// Returns for how many tokens of a column the nearest is written that fits; `u64::MAX` if they are as many or
+    /// more.
+    pub fn clipped(&self, place: usize) -> u64
+        requires { place < length self.now.lanes }
+        ensures { result ≡ (lane_at self.now place).clipped }
+    {
+        self.lanes[place].clipped()
+    }
+
+    /// Returns how many tokens of a column wait for their rows.
+    pub fn tokens_waiting(&self, place: usize) -> usize
+        requires { place < length self.now.lanes }
+        ensures { result ≡ length (lane_at self.now place).waiting }
+    {
+        self.lanes[place].waiting()
+    }
+
+    /// Returns how many bytes wait to be written: 4,096 at most.
+    pub fn waiting(&self) -> usize
+        ensures is { result ≡ length self.now.waiting }
+        ensures few { result ≤ 4096 }
+    {
+        self.waiting.len()
+    }
+
+    /// Returns whether a write has failed, or memory was refused for one.
+    pub fn has_failed(&self) -> bool
+        ensures { result ≡ self.now.has_failed }
+    {
+        self.has_failed
+    }
+
+    /// Lends the sink, to which what waits is not yet written.
+    pub fn sink(&self) -> &S
+        ensures { append_known (S.seen result.now).contents self.now.waiting ≡ self.now.contents }
+    {
+        &self.sink
+    }
+
+    /// Returns the sink. What waits is not written to it.
+    pub fn into_sink(self) -> S
+        ensures { append_known (S.seen result).contents self.waiting ≡ self.contents }
+    {
+        let TableOutlet { sink, .. } = self;
+        sink
+    }
+
+    /// Takes tokens into a column, and has the rows wait that now have a token of each column; writes what waits where
+    /// that is more than 4,096 bytes. Once it has failed, no more tokens are taken.
+    pub(crate) fn write(&mut self, place: usize, tokens: &[Token]) -> Result<(), TableFault>
+        requires { place < length self.old.lanes }
+        ensures writes { WritesTable self.old self.new (only_at place tokens.now) }
+        ensures fault { IfErr result (IsTableFault self.new) }
+    {
+        if self.has_failed {
+            return Err(TableFault::Failed);
+        }
+        if self.take(place, tokens).is_err() {
+            return self.fail(TableFault::Memory);
+        }
+        let count = shortest(self.lanes.as_slice());
+        self.write_rows(count)?;
+        self.end_of_write(place)
+    }
+
+    /// What a write to a column comes to that has not failed.
+    fn end_of_write(&self, place: usize) -> Result<(), TableFault>
+        requires { place < length self.now.lanes }
+        ensures { IfErr result (IsTableFault self.now) }
+    {
+        if self.is_misfit(place) {
+            Err(TableFault::Misfit)
+        } else if self.tokens_waiting(place) > MOST_AHEAD {
+            Err(TableFault::Apart)
+        } else {
+            Ok(())
+        }
+    }
+
+    /// Whether a token of a column did not fit.
+    fn is_misfit(&self, place: usize) -> bool
+        requires { place < length self.now.lanes }
+        ensures { result ≡ (lane_at self.now place).is_misfit }
+    {
+        self.lanes[place].is_misfit()
+    }
+
+    /// Takes tokens into a column.
+    fn take(&mut self, place: usize, tokens: &[Token]) -> Result<(), AllocError>
+        requires { place < length self.old.lanes }
+        ensures others { self.new ≡ record self.old { lanes = set self.old.lanes place (lane_at self.new place) } }
+        ensures head { (lane_at self.new place).head ≡ (lane_at self.old place).head }
+        ensures takes { OnOk result (TakesIn (lane_at self.old place) (lane_at self.new place) tokens.now) }
+    {
+        self.lanes[place].take(tokens)
+    }
+
+    /// Has so many rows wait, with no token where a column has none any more; writes what waits where that is more
+    /// than 4,096 bytes.
+    fn write_rows(&mut self, count: usize) -> Result<(), TableFault>
+        ensures rows { RowsGo self.old self.new count }
+        ensures failed { IfErr result (λ _. self.new.has_failed ≡ true) }
+        ensures fault { IfErr result (IsTableFault self.new) }
+    {
+        for _ in 0..count {
+            self.write_row()?;
+        }
+        Ok(())
+    }
+
+    /// The same, for one row.
+    fn write_row(&mut self) -> Result<(), TableFault>
+        ensures rows { RowsGo self.old self.new 1 }
+        ensures failed { IfErr result (λ _. self.new.has_failed ≡ true) }
+        ensures fault { IfErr result (IsTableFault self.new) }
+    {
+        if self.has_failed {
+            return Err(TableFault::Failed);
+        }
+        if append_next(
+            self.lanes.as_mut_slice(),
+            &mut self.row,
+            &mut self.waiting,
+            self.table,
+        )
+        .is_err()
+        {
+            self.waiting.clear();
+            return self.fail(TableFault::Memory);
+        }
+        if self.waiting.len() <= PIECE {
+            return Ok(());
+        }
+        if write_out(&mut self.sink, &mut self.waiting).is_err() {
+            return self.fail(TableFault::Failed);
+        }
+        Ok(())
+    }
+
+    /// Writes what waits, unless a write has failed. If it fails, some of it may have been written.
+    pub(crate) fn flush(&mut self) -> Result<(), TableFault>
+        ensures flushes { FlushesTable self.old self.new }
+        ensures failed { IfErr result (λ _. self.new.has_failed ≡ true) }
+    {
+        if self.has_failed || self.waiting.is_empty() {
+            return Ok(());
+        }
+        if write_out(&mut self.sink, &mut self.waiting).is_err() {
+            return self.fail(TableFault::Failed);
+        }
+        Ok(())
+    }
+
+    /// Writes all that waits, with no token where a column is shorter than another one. If it fails, some of it may
+    /// have been written.
+    pub(crate) fn end(&mut self) -> Result<(), TableFault>
+        ensures ends { EndsTable self.old self.new }
+        ensures failed { IfErr result (λ _. self.new.has_failed ≡ true) }
+    {
+        let count = longest(self.lanes.as_slice());
+        self.write_rows(count)?;
+        self.flush()
+    }
+
+    /// Remembers that a write has failed, and returns why.
+    fn fail(&mut self, fault: TableFault) -> Result<(), TableFault>
+        ensures failed { self.new ≡ record self.old { has_failed = true } }
+        ensures fault { result ≡ Err fault }
+    {
+        self.has_failed = true;
+        Err(fault)
+    }
+}

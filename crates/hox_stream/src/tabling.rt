@@ -1,0 +1,165 @@
+//! From the channels into files of several.
+ghost use Rattle.std.specs.Prelude.{◌≡◌, ◌<◌, ℕ, false, Ok, IfErr, List, [], length};
+ghost use Rattle.kpn_model.specs.Network.{Family, family_of};
+ghost use Rattle.kpn_flow.specs.Flows.{FlowView, IsSameFlow};
+ghost use Rattle.hox_stream.specs.Streams.{AllEnd, AllTablesStay, IsFinish, IsOutAt, Streams, table_at};
+ghost use Rattle.hox_stream.specs.Tables.{IsTableFault, TellsLane};
+ghost use Rattle.hox_stream.specs.Views.{InletView, OutletView, TableView, outs};
+
+use crate::finish::Finish;
+use crate::table::{TableFault, TableOutlet};
+use crate::telling::BATCH;
+use kpn_body::Body;
+use kpn_flow::Flow;
+use kpn_front::Sink;
+use kpn_model::Token;
+
+/// Moves the first tokens of the channel of a column to it. Returns whether there were any.
+fn tell_lane<B: Body, S: Sink>(
+    flow: &mut Flow<B>,
+    table: &mut TableOutlet<S>,
+    place: usize,
+) -> Result<bool, TableFault>
+    requires { place < length table.old.lanes }
+    ensures tells { TellsLane (family_of B.Kinds.start B.Kinds.answer_of) flow.old flow.new table.old table.new place }
+    ensures same { IsSameFlow flow.old flow.new }
+    ensures none { result ≡ Ok false → flow.new.state ≡ flow.old.state }
+    ensures fault { IfErr result (IsTableFault table.new) }
+{
+    let channel = table.channel(place);
+    if !flow.is_output(channel) {
+        return Ok(false);
+    }
+    let mut batch = [Token::Word(0); BATCH];
+    let count = flow.drain_into(channel, &mut batch);
+    if count == 0 {
+        return Ok(false);
+    }
+    match table.write(place, &batch[..count]) {
+        Ok(()) => Ok(true),
+        Err(fault) => Err(fault),
+    }
+}
+
+/// The same, for a column of the table at place `k`, if it has it; there are so many sinks before the tables. If it
+/// fails, returns why the stream ends.
+fn tell_lane_at<B: Body, S: Sink>(
+    flow: &mut Flow<B>,
+    tables: &mut [TableOutlet<S>],
+    first: usize,
+    k: usize,
+    place: usize,
+) -> Result<bool, Finish>
+    requires { k < length tables.old }
+    ensures streams { (ins : List InletView) (sinks : List OutletView) → Streams (family_of B.Kinds.start B.Kinds.answer_of) flow.old flow.new ins ins (outs sinks tables.old) (outs sinks tables.new) }
+    ensures same { IsSameFlow flow.old flow.new }
+    ensures none { result ≡ Ok false → flow.new.state ≡ flow.old.state }
+    ensures finish { IfErr result (λ f. (ins : List InletView) (sinks : List OutletView) → length sinks ≡ first → IsFinish (family_of B.Kinds.start B.Kinds.answer_of) flow.new ins (outs sinks tables.new) f) }
+{
+    if place >= tables[k].width() {
+        return Ok(false);
+    }
+    match tell_lane(flow, &mut tables[k], place) {
+        Ok(has_moved) => Ok(has_moved),
+        Err(fault) => Err(finish_of(fault, first, k)),
+    }
+}
+
+/// Why a stream ends whose table at place `k` has this fault; there are so many sinks before the tables.
+fn finish_of(fault: TableFault, first: usize, k: usize) -> Finish
+    ensures { (kinds : Family) (s : FlowView) (ins : List InletView) (sinks : List OutletView) (tables : List TableView) → length sinks ≡ first → k < length tables → IsTableFault (table_at tables k) fault → IsFinish kinds s ins (outs sinks tables) result }
+{
+    let Some(place) = first.checked_add(k) else {
+        return Finish::Memory;
+    };
+    match fault {
+        TableFault::Failed => Finish::Unwritten(place),
+        TableFault::Misfit => Finish::Misfit(place),
+        TableFault::Apart => Finish::Apart(place),
+        TableFault::Memory => Finish::Memory,
+    }
+}
+
+/// The same, for all columns of the table at place `k`.
+fn tell_table<B: Body, S: Sink>(
+    flow: &mut Flow<B>,
+    tables: &mut [TableOutlet<S>],
+    first: usize,
+    k: usize,
+) -> Result<bool, Finish>
+    requires { k < length tables.old }
+    ensures streams { (ins : List InletView) (sinks : List OutletView) → Streams (family_of B.Kinds.start B.Kinds.answer_of) flow.old flow.new ins ins (outs sinks tables.old) (outs sinks tables.new) }
+    ensures same { IsSameFlow flow.old flow.new }
+    ensures none { result ≡ Ok false → flow.new.state ≡ flow.old.state }
+    ensures finish { IfErr result (λ f. (ins : List InletView) (sinks : List OutletView) → length sinks ≡ first → IsFinish (family_of B.Kinds.start B.Kinds.answer_of) flow.new ins (outs sinks tables.new) f) }
+{
+    let mut has_moved = false;
+    for place in 0..tables[k].width() {
+        match tell_lane_at(flow, tables, first, k, place) {
+            Ok(moved) => has_moved = has_moved || moved,
+            Err(finish) => return Err(finish),
+        }
+    }
+    Ok(has_moved)
+}
+
+/// The same, for all tables. Returns whether any token was moved.
+pub(crate) fn tell_tables<B: Body, S: Sink>(
+    flow: &mut Flow<B>,
+    tables: &mut [TableOutlet<S>],
+    first: usize,
+) -> Result<bool, Finish>
+    ensures streams { (ins : List InletView) (sinks : List OutletView) → Streams (family_of B.Kinds.start B.Kinds.answer_of) flow.old flow.new ins ins (outs sinks tables.old) (outs sinks tables.new) }
+    ensures same { IsSameFlow flow.old flow.new }
+    ensures none { result ≡ Ok false → flow.new.state ≡ flow.old.state }
+    ensures finish { IfErr result (λ f. (ins : List InletView) (sinks : List OutletView) → length sinks ≡ first → IsFinish (family_of B.Kinds.start B.Kinds.answer_of) flow.new ins (outs sinks tables.new) f) }
+{
+    let mut has_moved = false;
+    for k in 0..tables.len() {
+        match tell_table(flow, tables, first, k) {
+            Ok(moved) => has_moved = has_moved || moved,
+            Err(finish) => return Err(finish),
+        }
+    }
+    Ok(has_moved)
+}
+
+/// Writes what waits to each table, also where another one fails; not what waits for its row. If one does, returns
+/// why the stream ends.
+pub(crate) fn flush_tables<S: Sink>(
+    tables: &mut [TableOutlet<S>],
+    first: usize,
+) -> Result<(), Finish>
+    ensures streams { (kinds : Family) (s : FlowView) (ins : List InletView) (sinks : List OutletView) → Streams kinds s s ins ins (outs sinks tables.old) (outs sinks tables.new) }
+    ensures written { (k : ℕ) → k < length tables.new → (table_at tables.new k).has_failed ≡ false → (table_at tables.new k).waiting ≡ [] }
+    ensures still { AllTablesStay tables.old tables.new }
+    ensures finish { IfErr result (λ f. (kinds : Family) (s : FlowView) (ins : List InletView) (sinks : List OutletView) → length sinks ≡ first → IsFinish kinds s ins (outs sinks tables.new) f) }
+{
+    let mut failed = None;
+    for k in 0..tables.len() {
+        if tables[k].flush().is_err() {
+            failed = Some(k);
+        }
+    }
+    match failed {
+        Some(k) => Err(finish_of(TableFault::Failed, first, k)),
+        None => Ok(()),
+    }
+}
+
+/// Writes all that waits to each table, also where another one fails. If one does, returns why the stream ends.
+pub(crate) fn end_tables<S: Sink>(tables: &mut [TableOutlet<S>], first: usize) -> Result<(), Finish>
+    ensures ends { AllEnd tables.old tables.new }
+    ensures finish { IfErr result (λ f. (kinds : Family) (s : FlowView) (ins : List InletView) (sinks : List OutletView) → length sinks ≡ first → IsFinish kinds s ins (outs sinks tables.new) f) }
+{
+    let mut failed = None;
+    for k in 0..tables.len() {
+        if tables[k].end().is_err() {
+            failed = Some(k);
+        }
+    }
+    match failed {
+        Some(k) => Err(finish_of(TableFault::Failed, first, k)),
+        None => Ok(()),
+    }
+}

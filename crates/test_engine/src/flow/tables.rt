@@ -1,0 +1,210 @@
+//! Streams into files of several channels.
+use crate::checks::same;
+use hox_stream::{
+    Exits, Finish, LaidOut, LaidTable, MOST_AHEAD, Served, TableOutlet, open_stream, serve,
+};
+use kpn_body::Standard;
+use kpn_compute::Both;
+use kpn_model::{End, Text, Verdict};
+use kpn_net::read_sketch;
+use kpn_tokens::{Coding, Decimals, Endian, Layout, Sample, Separator, Table, Width};
+use std::alloc::Global;
+use std::process::Abort;
+
+type Kinds = Both<Standard, Exits>;
+
+/// Each word goes to y and to z; the first that goes to z is 9, and then come the words.
+const PAIRS: &str = r#"version = 1
+process = [
+  { name = "src", kind = "count", args = [0, 0] },
+  { name = "both", kind = "copy" },
+  { name = "before", kind = "prefix", args = [9] },
+  { name = "left", kind = "sink", args = [1] },
+  { name = "right", kind = "sink", args = [1] },
+]
+channel = [
+  { name = "x", from = "src", to = "both" },
+  { name = "y", from = "both", to = "left" },
+  { name = "next", from = "both", out = 1, to = "before" },
+  { name = "z", from = "before", to = "right" },
+]
+"#;
+
+/// The name of a channel.
+fn name<R: Abort>(rt: &R, alloc: Global, name: &str) -> Text {
+    Text::new(String::from_str(alloc, name).expect(rt, "no memory"))
+}
+
+/// A table with as many columns of whole numbers.
+fn table_of<R: Abort>(rt: &R, alloc: Global, table: Table, width: usize) -> LaidTable<Vec<u8>> {
+    let mut columns = Vec::new(alloc);
+    for _ in 0..width {
+        columns.push(Decimals::WHOLE).expect(rt, "no memory");
+    }
+    LaidTable {
+        stream: Vec::new(alloc),
+        table,
+        columns,
+    }
+}
+
+/// What is left of the stream of pairs of these words, into a sink for each of the first channels that are drained, so
+/// many, and one table for the others.
+fn paired<'a, R: Abort>(
+    rt: &R,
+    alloc: Global,
+    bytes: &'a [u8],
+    drained: &[Text],
+    sinks: usize,
+    table: Table,
+) -> Served<Kinds, &'a [u8], Vec<u8>> {
+    let mut sources = Vec::new(alloc);
+    let source = LaidOut {
+        stream: bytes,
+        layout: Layout::PLAIN,
+    };
+    sources.push(source).expect(rt, "no memory");
+    let mut outlets = Vec::new(alloc);
+    for _ in 0..sinks {
+        let sink = LaidOut {
+            stream: Vec::new(alloc),
+            layout: Layout::PLAIN,
+        };
+        outlets.push(sink).expect(rt, "no memory");
+    }
+    let mut tables = Vec::new(alloc);
+    let width = drained.len().saturating_sub(sinks);
+    tables
+        .push(table_of(rt, alloc, table, width))
+        .expect(rt, "no memory");
+    let sketch = read_sketch(alloc, PAIRS.as_bytes()).expect(rt, "no sketch");
+    let stream = open_stream::<Standard>(alloc, sketch, &[name(rt, alloc, "x")], drained);
+    let stream = stream.ok().expect(rt, "no stream");
+    serve(alloc, stream, sources, outlets, tables).expect(rt, "no memory")
+}
+
+/// What was written to the one table.
+fn written<R: Abort>(rt: &R, tables: &mut Vec<TableOutlet<Vec<u8>>>) -> Vec<u8> {
+    tables.pop().expect(rt, "no table").into_sink()
+}
+
+#[test]
+fn rows_hold_a_word_of_each_channel(rt: HostRuntime) {
+    let alloc = rt.alloc();
+    let drained = [name(&rt, alloc, "y"), name(&rt, alloc, "z")];
+    let comma = Table::Rows(Separator::Comma);
+    let mut served = paired(&rt, alloc, b"3\n4\n5\n", &drained, 0, comma);
+    same(&rt, "finish", served.finish, Finish::Over(End::Deadlock));
+    let table = served.tables.as_slice().first().expect(&rt, "no table");
+    same(&rt, "width", table.width(), 2);
+    same(&rt, "waiting", table.waiting(), 0);
+    let text = written(&rt, &mut served.tables);
+    same(
+        &rt,
+        "rows",
+        text.as_slice(),
+        b"3,9\n4,3\n5,4\n,5\n".as_slice(),
+    );
+    drop(served);
+}
+
+#[test]
+fn columns_stand_in_the_order_of_their_names(rt: HostRuntime) {
+    let alloc = rt.alloc();
+    let drained = [name(&rt, alloc, "z"), name(&rt, alloc, "y")];
+    let tab = Table::Rows(Separator::Tab);
+    let mut served = paired(&rt, alloc, b"3\n4\n", &drained, 0, tab);
+    let text = written(&rt, &mut served.tables);
+    same(
+        &rt,
+        "rows",
+        text.as_slice(),
+        b"9\t3\n3\t4\n4\t\n".as_slice(),
+    );
+    drop(served);
+}
+
+#[test]
+fn a_table_stands_behind_the_sinks(rt: HostRuntime) {
+    let alloc = rt.alloc();
+    let drained = [name(&rt, alloc, "y"), name(&rt, alloc, "z")];
+    let comma = Table::Rows(Separator::Comma);
+    let mut served = paired(&rt, alloc, b"3\n4\n", &drained, 1, comma);
+    let text = written(&rt, &mut served.tables);
+    same(&rt, "one column", text.as_slice(), b"9\n3\n4\n".as_slice());
+    let sink = served.outlets.pop().expect(&rt, "no sink").into_sink();
+    same(&rt, "sink", sink.as_slice(), b"3\n4\n".as_slice());
+    drop(served);
+}
+
+/// Samples of so many bytes, signed.
+fn samples(width: Width, clips: bool) -> Table {
+    Table::Samples(Sample {
+        width,
+        coding: Coding::Signed,
+        endian: Endian::Little,
+        clips,
+    })
+}
+
+#[test]
+fn frames_hold_a_sample_of_each_channel(rt: HostRuntime) {
+    let alloc = rt.alloc();
+    let drained = [name(&rt, alloc, "y"), name(&rt, alloc, "z")];
+    let mut served = paired(
+        &rt,
+        alloc,
+        b"3\n-2\n",
+        &drained,
+        0,
+        samples(Width::Two, false),
+    );
+    let text = written(&rt, &mut served.tables);
+    let due: &[u8] = &[3, 0, 9, 0, 0xFE, 0xFF, 3, 0, 0, 0, 0xFE, 0xFF];
+    same(&rt, "frames", text.as_slice(), due);
+    drop(served);
+    let mut served = paired(
+        &rt,
+        alloc,
+        b"3\n300\n",
+        &drained,
+        0,
+        samples(Width::One, true),
+    );
+    let table = served.tables.as_slice().first().expect(&rt, "no table");
+    same(&rt, "tokens", (table.tokens(0), table.tokens(1)), (2, 3));
+    same(&rt, "clipped", (table.clipped(0), table.clipped(1)), (1, 1));
+    let text = written(&rt, &mut served.tables);
+    same(
+        &rt,
+        "clipped frames",
+        text.as_slice(),
+        [3, 9, 127, 3, 0, 127].as_slice(),
+    );
+    drop(served);
+}
+
+#[test]
+fn a_word_does_not_fit_a_column(rt: HostRuntime) {
+    let alloc = rt.alloc();
+    let drained = [name(&rt, alloc, "y"), name(&rt, alloc, "z")];
+    let mut served = paired(
+        &rt,
+        alloc,
+        b"3\n300\n4\n",
+        &drained,
+        0,
+        samples(Width::One, false),
+    );
+    same(&rt, "finish", served.finish, Finish::Misfit(0));
+    let text = written(&rt, &mut served.tables);
+    same(&rt, "before it", text.as_slice(), [3, 9, 0, 3].as_slice());
+    drop(served);
+}
+
+#[test]
+fn a_channel_may_be_far_ahead(rt: HostRuntime) {
+    same(&rt, "most", MOST_AHEAD, 1000000);
+    let apart = Finish::Apart(0);
+    same(&rt, "status", apart.status(Verdict::RanDry).code(), 2);
+}
