@@ -12,6 +12,7 @@ pub mod Lanes
 pub mod Tabled
 pub mod Ended
 pub mod Behind
+pub mod Stacked
 pub mod Paired
 pub mod Started
 pub mod Wholes

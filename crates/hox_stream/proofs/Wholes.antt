@@ -1,20 +1,23 @@
 -- What comes of a stream from its start.
-use Rattle.std.proofs.Common.{◌≡◌, ◌≢◌, ◌<◌, ◌≤◌, ◌+◌, ◌⊎◌, inl, inr, ℕ, Bool, false, List, length, Option, refl, sym, ap, ◌∙◌, subst, arith}
+use Rattle.std.proofs.Common.{◌≡◌, ◌≢◌, ◌<◌, ◌≤◌, ◌+◌, ◌⊎◌, inl, inr, ℕ, zero, suc, Bool, false, List, [], ◌∷◌, drop, length, Option, refl, sym, ap, ◌∙◌, subst, arith}
 use Rattle.std.specs.List.{zip}
 use Rattle.kpn_front.specs.Written.{SinkView}
 use Rattle.kpn_model.specs.Network.{Family, Network, channel_of}
 use Rattle.kpn_model.specs.Semantics.{State}
-use Rattle.kpn_flow.specs.Events.{Flows}
+use Rattle.kpn_flow.specs.Events.{Flows, drained}
 use Rattle.kpn_flow.specs.Flows.{FlowView}
 use Rattle.kpn_flow.specs.Ends.{has_twice}
 use Rattle.hox_stream.specs.declared.finish.Finish.{Finish}
 use Rattle.hox_stream.specs.declared.serving.LaidOut.{LaidOut}
 use Rattle.hox_stream.specs.declared.serving.LaidTable.{LaidTable}
 use Rattle.hox_stream.specs.declared.finish.Finish.TheVariants.{OtherSort}
-use Rattle.hox_stream.specs.Serves.{Serves, new_inlet, new_inlets, new_outlet, new_outlets, new_outs}
+use Rattle.hox_stream.specs.Serves.{Serves, new_inlet, new_inlets, new_outlet, new_outlets, new_outs, new_tables}
 use Rattle.hox_stream.specs.Starts.{IsStart}
-use Rattle.hox_stream.specs.Streams.{AreInletsApart, AreOutletsApart, AreOutsApart, IsFinish, Streams, StreamsOut, inlet_at, outlet_at}
-use Rattle.hox_stream.specs.Views.{InletView, OutletView, OutsView, no_inlet, no_outlet, outs}
+use Rattle.hox_stream.specs.Streams.{AreInletsApart, AreOutletsApart, AreOutsApart, IsFinish, Streams, StreamsOut, inlet_at, outlet_at, table_at}
+use Rattle.hox_stream.specs.Lanes.{new_lane}
+use Rattle.hox_stream.specs.Tables.{lane_at}
+use Rattle.hox_stream.specs.Views.{InletView, LaneView, OutletView, OutsView, no_inlet, no_lane, no_outlet, outs}
+use Rattle.hox_stream.proofs.Stacked.{columns_written}
 use Rattle.hox_stream.proofs.Behind.{before, column_behind, columns_apart, made_within}
 use Rattle.hox_stream.proofs.Paired.{apart, each_made, made_at}
 
@@ -63,6 +66,13 @@ outs_apart {X} seen channels once sinks tables = record {
       columns_apart seen tables j k h i a.2 b.2 (omega (arith, same));
 }
 
+-- no token waits in the columns of a table to which nothing was written
+none_waits : {X : Type 0} (seen : X → SinkView) (channels : List ℕ) (tables : List (LaidTable X)) (k i : ℕ) → k < length (new_tables seen channels tables) → i < length (table_at (new_tables seen channels tables) k).lanes
+    → (lane_at (table_at (new_tables seen channels tables) k) i).waiting ≡ []
+none_waits seen channels [] k i h hi = absurd (omega (arith, h))
+none_waits seen channels (t ∷ ts) zero i h hi = each_made (λ (l : LaneView). l.waiting ≡ []) no_lane (λ p. new_lane t.table p.0 p.1) (λ p. refl) (zip channels t.columns.items) i hi
+none_waits seen channels (t ∷ ts) (suc k) i h hi = none_waits seen (drop (length t.columns.items) channels) ts k i (omega (arith, h)) hi
+
 -- if the tokens of all sources had the sorts of their channels, they still have them
 never_other : (kinds : Family) (s t : FlowView) (ins after : List InletView) (outs left : OutsView) → Streams kinds s t ins after outs left → AreInletsApart ins
     → ((k : ℕ) → k < length ins → (inlet_at ins k).sort ≡ (channel_of s.network (inlet_at ins k).channel).sort) → (finish : Finish) → IsFinish kinds t after left finish → (k : ℕ) → finish ≢ OtherSort k
@@ -106,6 +116,9 @@ serves remaining has_failed seen sources sinks tables kinds s t inputs outputs a
       as_many_tables = out.rest.0 ∙ x.as_many_tables;
       tabled = λ k h. x.tabled single_out k h;
       rest = λ k h. out.rest.1 k (subst (λ n. k < n) (sym x.as_many_tables) h);
+      columns = λ k h some unfailed.
+          columns_written (table_at (new_outs seen outputs sinks tables).tables k) (table_at out.between k) (table_at left.tables k) (drained x.events)
+          (λ i hi. none_waits seen (drop (length sinks) outputs) tables k i h hi) some (x.tabled single_out k h) (out.rest.1 k (subst (λ n. k < n) (sym x.as_many_tables) h)) unfailed;
       told = out.written;
       ended = out.ended;
       sorts_fit = never_other_ended kinds s t _ after _ (outs left.sinks out.between) left x single (sorts_fit remaining has_failed s.network inputs at_start.apart.inputs_once sources) finish out.ended;

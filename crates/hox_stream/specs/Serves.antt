@@ -1,5 +1,6 @@
 -- A stream from its start to its end.
 use Rattle.std.specs.Prelude.{◌≡◌, ◌≢◌, ◌<◌, ◌≤◌, ◌⊎◌, ℕ, Bool, false, List, [], ◌∷◌, drop, length, map, Option}
+use Rattle.std.specs.Io.KnownBytes.{Appends}
 use Rattle.std.specs.List.{zip}
 use Rattle.kpn_model.specs.Network.{Family, Network, channel_of}
 use Rattle.kpn_model.specs.Semantics.{start}
@@ -7,6 +8,7 @@ use Rattle.kpn_front.specs.Written.{SinkView}
 use Rattle.kpn_tokens.specs.declared.layouts.Decimals.{Decimals}
 use Rattle.kpn_tokens.specs.declared.layouts.Layout.{Layout}
 use Rattle.kpn_tokens.specs.declared.tables.Table.{Table}
+use Rattle.kpn_tokens.specs.Tables.{table_text}
 use Rattle.kpn_flow.specs.Events.{Event, Flows, fed, drained}
 use Rattle.kpn_flow.specs.Flows.{FlowView, is_among}
 use Rattle.kpn_flow.specs.Pieces.{IsOneRunInPieces}
@@ -18,7 +20,7 @@ use Rattle.hox_stream.specs.declared.finish.Finish.TheVariants.{OtherSort}
 use Rattle.hox_stream.specs.Lanes.{new_lane}
 use Rattle.hox_stream.specs.Ports.{IsSameNet, Takes, Writes}
 use Rattle.hox_stream.specs.Streams.{AreWritten, IsFinish, channel_at, inlet_at, outlet_at, table_at}
-use Rattle.hox_stream.specs.Tables.{EndsTable, WritesTable}
+use Rattle.hox_stream.specs.Tables.{EndsTable, WritesTable, taken_columns}
 use Rattle.hox_stream.specs.Views.{InletView, LaneView, OutletView, OutsView, TableView, outs}
 
 -- a source for a channel, of which nothing was read
@@ -55,7 +57,7 @@ new_outs seen channels sinks tables = outs (new_outlets seen channels sinks) (ne
 
 -- from the start of its network s was led on by events at its ends, and it ended for this cause. What was fed into the channel of each
 -- source is what the records say that were read of it, and what was drained of the channel of each sink is what was written to it; what was
--- drained of those of a table is what stands in its full rows, which were written first, and in the rest; and
+-- drained of those of a table is what stands in its full rows, which were written first, and in the rest, and so its columns are; and
 -- what was done is a run of the network that held all that was fed from the start. At most 8,192 bytes are kept of each source, and at most
 -- 4,096 wait at each sink
 pub record Serves (kinds : Family) (s t : FlowView) (ins ins_after : List InletView) (before after : OutsView) (finish : Finish) : Type 0 where
@@ -74,6 +76,8 @@ pub record Serves (kinds : Family) (s t : FlowView) (ins ins_after : List InletV
   pub as_many_tables : length after.tables ≡ length before.tables
   pub tabled : (k : ℕ) → k < length before.tables → WritesTable (table_at before.tables k) (table_at full k) (λ i. drained events (channel_at (table_at before.tables k) i))
   pub rest : (k : ℕ) → k < length before.tables → EndsTable (table_at full k) (table_at after.tables k)
+  pub columns : (k : ℕ) → k < length before.tables → 0 < length (table_at before.tables k).lanes → (table_at after.tables k).has_failed ≡ false
+      → Appends (table_at before.tables k).contents (table_at after.tables k).contents (table_text (table_at before.tables k).table (taken_columns (table_at before.tables k).lanes (drained events)))
   pub told : AreWritten after
   pub ended : IsFinish kinds t ins_after (outs after.sinks full) finish ⊎ IsFinish kinds t ins_after after finish
   pub sorts_fit : (k : ℕ) → finish ≢ OtherSort k

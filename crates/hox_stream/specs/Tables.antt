@@ -28,6 +28,11 @@ column_of lane = record { decimals = lane.head.decimals; tokens = lane.waiting }
 abbrev pub columns_of : List LaneView → List ColumnView
 columns_of lanes = map column_of lanes
 
+-- what was taken into columns of what was drained of their channels, up to what does not fit
+abbrev pub taken_columns : List LaneView → (ℕ → List Token) → List ColumnView
+taken_columns lanes drained_of =
+    map (λ lane. record { decimals = lane.head.decimals; tokens = written_of lane.head.layout lane.is_misfit (drained_of lane.head.channel) }) lanes
+
 -- what waits after the first rows, so many
 abbrev pub under : LaneView → LaneView
 under lane = record lane { waiting = drop 1 lane.waiting }

@@ -202,8 +202,60 @@ fn a_word_does_not_fit_a_column(rt: HostRuntime) {
     drop(served);
 }
 
+/// y has the words of x, and v has 9 alone, since nothing comes into u.
+const APART: &str = r#"version = 1
+process = [
+  { name = "src", kind = "count", args = [0, 0] },
+  { name = "other", kind = "count", args = [0, 0] },
+  { name = "first", kind = "prefix", args = [8] },
+  { name = "second", kind = "prefix", args = [9] },
+  { name = "left", kind = "sink", args = [1] },
+  { name = "right", kind = "sink", args = [1] },
+]
+channel = [
+  { name = "x", from = "src", to = "first" },
+  { name = "y", from = "first", to = "left" },
+  { name = "u", from = "other", to = "second" },
+  { name = "v", from = "second", to = "right" },
+]
+"#;
+
+/// How a stream of so many words into a table ends of which the other channel has one token, and how many bytes were
+/// written.
+fn apart<R: Abort>(rt: &R, alloc: Global, words: usize) -> (Finish, usize) {
+    let mut text = Vec::new(alloc);
+    for _ in 0..words {
+        text.extend_from_slice(b"7\n").expect(rt, "no memory");
+    }
+    let mut sources = Vec::new(alloc);
+    let source = LaidOut {
+        stream: text.as_slice(),
+        layout: Layout::PLAIN,
+    };
+    sources.push(source).expect(rt, "no memory");
+    let mut tables = Vec::new(alloc);
+    let comma = Table::Rows(Separator::Comma);
+    tables
+        .push(table_of(rt, alloc, comma, 2))
+        .expect(rt, "no memory");
+    let sketch = read_sketch(alloc, APART.as_bytes()).expect(rt, "no sketch");
+    let fed = [name(rt, alloc, "x"), name(rt, alloc, "u")];
+    let drained = [name(rt, alloc, "y"), name(rt, alloc, "v")];
+    let stream = open_stream::<Standard>(alloc, sketch, &fed, &drained);
+    let stream = stream.ok().expect(rt, "no stream");
+    let sinks: Vec<LaidOut<Vec<u8>>> = Vec::new(alloc);
+    let mut served = serve(alloc, stream, sources, sinks, tables).expect(rt, "no memory");
+    let written = written(rt, &mut served.tables);
+    let end = (served.finish, written.len());
+    drop(served);
+    end
+}
+
+/// The first row is `8,9`, and then come rows of 7 alone.
 #[test]
-fn a_channel_may_be_far_ahead(rt: HostRuntime) {
+fn a_channel_may_be_ahead(rt: HostRuntime) {
+    let few = apart(&rt, rt.alloc(), 3);
+    same(&rt, "few", few, (Finish::Idle, 13));
     same(&rt, "most", MOST_AHEAD, 1000000);
     let apart = Finish::Apart(0);
     same(&rt, "status", apart.status(Verdict::RanDry).code(), 2);
