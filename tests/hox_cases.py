@@ -6,7 +6,7 @@ import re
 
 import hox_rules
 import networks
-from hox_rules import MAY_BE_NEGATIVE, Request, Written, check_of, outcomes, prepared
+from hox_rules import FORMATS, MAY_BE_NEGATIVE, Request, Written, check_of, outcomes, prepared
 from interpreter import CEILING, GREATEST_BUDGET, SIGNALS, WORD, Network, brought, token_text
 from networks import pick, tables
 from program import Program
@@ -79,16 +79,29 @@ def is_name(name):
     return type(name) is str and re.fullmatch("[a-z][a-z0-9_]*", name)
 
 
-def with_tokens(choices, request, network):
-    """Gives channels of the network tokens from files: nearly each that a process begins for which they are meant."""
+def formatted(choices, form, tokens):
+    """A file of this format that says these tokens, with a column more if there are columns."""
+    if not form.delimiter or choices.random() < 0.5:
+        return form.text(tokens)
+    return form.head + b"".join(form.record(it, form.delimiter + b'"a ""column"""') for it in tokens)
+
+
+def with_tokens(choices, request, network, has_formats):
+    """Gives channels of the network tokens from files, of some format if there may be formats: nearly each that a process
+    begins for which they are meant."""
     kinds = {it.get("name"): it.get("kind") for it in tables(network, "process") if is_name(it.get("name"))}
     often = choices.choice([0, 0.2, 0.6])
     for it in tables(network, "channel"):
         is_input = is_name(it.get("from")) and kinds.get(it["from"]) in ("input", "input_flags")
         if is_name(it.get("name")) and choices.random() < (0.9 if is_input else often):
             file = f"in{len(request.tokens)}" + choices.choice(["", ".txt", ".csv"])
-            text = file_of(choices, tokens_for(choices, it.get("sort")))
-            request.files[file] = spoiled(choices, text, it.get("sort")) if choices.random() < 0.01 else text
+            tokens = tokens_for(choices, it.get("sort"))
+            if has_formats and choices.random() < 0.2:
+                request.formats[it["name"]], request.meant[it["name"]] = choices.choice(FORMATS), tokens
+                text = formatted(choices, request.format_of(it["name"]), tokens)
+            else:
+                text = file_of(choices, tokens)
+            request.files[file] = text if it["name"] in request.meant else spoiled(choices, text, it.get("sort")) if choices.random() < 0.01 else text
             request.tokens.append((it["name"], file))
     if choices.random() < 0.01:
         request.files["in"] = b"1\n"
@@ -111,6 +124,9 @@ def with_outputs(choices, request, network):
         request.outputs[n] = request.outputs[n][0], "-"
     if choices.random() < 0.01:
         request.outputs.append(("nowhere", "out"))
+    for name, _ in request.outputs:
+        if name != "nowhere" and name not in dict(request.tokens) and choices.random() < 0.15:
+            request.formats[name] = choices.choice(FORMATS)
     if names:
         request.show = choices.choices(names, k=choices.choice([0, 0, 1, 1, 2, 3]))
     if request.show and choices.random() < 0.02:
@@ -179,7 +195,7 @@ def request_of(choices, versions):
     if how == "bytes":
         text = networks.edited_text(choices, text)
     request = Request(text, description=choices.choice(["-", DESCRIPTION]))
-    with_tokens(choices, request, network)
+    with_tokens(choices, request, network, how == "valid")
     with_outputs(choices, request, network)
     with_budget(choices, request, versions)
     return request, how

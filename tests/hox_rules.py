@@ -22,6 +22,8 @@ class Request:
     tokens: list = field(default_factory=list)  # a channel and a file, for each file of tokens
     outputs: list = field(default_factory=list)  # a channel and a file, for each stream that is written
     files: dict = field(default_factory=dict)  # the texts of the files of tokens
+    formats: dict = field(default_factory=dict)  # the formats that are named for the files of channels
+    meant: dict = field(default_factory=dict)  # the tokens of such files that are read
     show: list = field(default_factory=list)  # the channels whose streams the report has
     budget: int = None
     quiet: bool = False
@@ -29,12 +31,17 @@ class Request:
     def words(self, command, workers):
         words = [command, self.description]
         words += [it for channel, file in self.tokens for it in ("--tokens", f"{channel}={file}")]
+        used = dict(self.tokens) if command == "check" else dict([*self.tokens, *self.outputs])
+        words += [it for channel, said in self.formats.items() if channel in used for it in ("--format", f"{channel}={said}")]
         if command == "check":
             return words
         words += [it for channel, file in self.outputs for it in ("--out", f"{channel}={file}")]
         words += [it for name in self.show for it in ("--show", name)]
         words += ["--budget", str(self.budget)] if self.budget is not None else []
         return [*words, "--workers", str(workers), *["--quiet"] * self.quiet]
+
+    def format_of(self, channel):
+        return Format(self.formats.get(channel, "text"), channel)
 
     def input(self):
         return self.text if self.description == "-" else self.files.get("-", b"")
@@ -54,6 +61,48 @@ class Stopped(Exception):
         if written.status != self.status or written.output or written.files or not written.errors.startswith(self.said):
             return f"expected status {self.status}, {self.said} on standard error, and no file"
         return None
+
+
+# Formats, in which each word can be written.
+
+FORMATS = ("text,digits=3", "text,digits=19,unsigned", "csv", "csv,delimiter=tab,header", "csv,delimiter=semicolon,digits=2,header", "csv,unsigned", "s64", "s64be", "u64le", "u64be")
+DELIMITERS = {"tab": b"\t", "semicolon": b";"}
+
+
+class Format:
+    """A format that is named for the file of a channel."""
+
+    def __init__(self, said, channel):
+        name, *settings = said.split(",")
+        keys = dict(it.partition("=")[::2] for it in settings)
+        self.order = None if name in ("text", "csv") else "big" if name.endswith("be") else "little"
+        self.digits, self.is_unsigned = int(keys.get("digits", 0)), "unsigned" in keys
+        self.delimiter = DELIMITERS.get(keys.get("delimiter"), b",") if name == "csv" else None
+        self.head = f"{channel}\n".encode() if "header" in keys else b""
+
+    def record(self, token, after=b""):
+        """What says a token."""
+        if self.order:
+            return int(token).to_bytes(8, self.order)
+        text = token_text(token) if type(token) is bool else self.word_text(token)
+        return text.encode() + after + b"\n"
+
+    def word_text(self, word):
+        number = word - WORD if word >= WORD // 2 and not self.is_unsigned else word
+        digits = f"{abs(number):0{self.digits + 1}}"
+        whole, part = digits[: len(digits) - self.digits], digits[len(digits) - self.digits :]
+        return "-" * (number < 0) + whole + "." * (self.digits > 0) + part
+
+    def text(self, tokens):
+        """A file of these tokens."""
+        return self.head + b"".join(map(self.record, tokens))
+
+    def records(self, text):
+        """The records of a file, if it begins as it should."""
+        if not text.startswith(self.head):
+            return [text]
+        body = text[len(self.head) :]
+        return [body[at : at + 8] for at in range(0, len(body), 8)] if self.order else body.splitlines(keepends=True)
 
 
 # Files of tokens.
@@ -130,7 +179,8 @@ def prepared(request, versions):
         raise Stopped(2, "" if request.description == "-" else f"{request.description}: ") from None
     for name, file in request.tokens:
         channel = channel_named(sketch, name)
-        channel["tokens"] = tokens_of(file, request.files[file], channel["sort"], min(CEILING[sketch["version"]], MOST_TOKENS))
+        most = min(CEILING[sketch["version"]], MOST_TOKENS)
+        channel["tokens"] = request.meant[name] if name in request.meant else tokens_of(file, request.files[file], channel["sort"], most)
         channel["capacity"] = max(channel["capacity"], len(channel["tokens"]))
     if "budget" not in document(request.text):
         sketch["budget"] = GREATEST_BUDGET[sketch["version"]]
@@ -215,7 +265,7 @@ class Ended:
         self.status = 0 if self.verdict == "ran dry" else STATUS[cause]
         shown = text_of(tokens_line("stream", name, stream_of(net, name)) for name in request.show)
         report = net.report(cause, None) + shown + f"verdict {self.verdict}\n".encode()
-        streams = {name: text_of(map(signed_text, stream_of(net, name))) for name, _ in request.outputs}
+        streams = {name: request.format_of(name).text(stream_of(net, name)) for name, _ in request.outputs}
         output, errors, files = due(request, report, streams)
         self.due = output, errors + unused(net), files
 
@@ -261,8 +311,10 @@ class Cut:
         shown = [] if request.quiet else self.shown_in(request, report.decode())
         if shown is None:
             return f"expected a report of a run that was cut, and not {report}"
-        streams = [*((name, text.decode().splitlines(keepends=True)) for name, text in texts.items()), *shown]
-        return next(filter(None, (self.fault_of(name, lines) for name, lines in streams)), self.fault_of_count(texts))
+        formats = {name: request.format_of(name) for name in texts}
+        records = {name: formats[name].records(text) for name, text in texts.items()}
+        faults = [*(self.fault_of(name, it, formats[name]) for name, it in records.items()), *(self.fault_of(name, it, Format("text", name)) for name, it in shown)]
+        return next(filter(None, faults), self.fault_of_count(records))
 
     def shown_in(self, request, report):
         """The streams that a report shows, each beside the name of its channel; none if it is no report of a run that was
@@ -270,19 +322,19 @@ class Cut:
         lines = "".join(f"process {it.name} (?:{'|'.join(places_of(it))})\n" for it in self.net.processes)
         prefixes = "".join(f"prefix {name}((?: .+)?)\n" for name in request.show)
         found = re.fullmatch(f"end budget\nverdict cut\n{lines}{prefixes}", report)
-        return found and [(name, [f"{it}\n" for it in text.split()]) for name, text in zip(request.show, found.groups())]
+        return found and [(name, [f"{it}\n".encode() for it in text.split()]) for name, text in zip(request.show, found.groups())]
 
-    def fault_of(self, name, lines):
-        whole = [f"{signed_text(it)}\n" for it in stream_of(self.net, name)]
+    def fault_of(self, name, lines, form):
+        whole = list(map(form.record, stream_of(self.net, name)))
         common = min(len(whole), len(lines))
         return None if lines[:common] == whole[:common] else f"expected that one of {name} and {whole} begins with the other"
 
-    def fault_of_count(self, texts):
+    def fault_of_count(self, records):
         """Each entry is a put, or a take, of which there are no more than tokens, or a growth, of which there are no more than
         puts, or a process's stop."""
         held = {it.name: len(it.begins_with) for it in self.net.channels}
-        put = sum(text.count(b"\n") - held[name] for name, text in texts.items())
-        least = self.budget if len(texts) == len(held) else 0
+        put = sum(len(lines) - held[name] for name, lines in records.items())
+        least = self.budget if len(records) == len(held) else 0
         if put > self.budget + 2 or 3 * put + sum(held.values()) + len(self.net.processes) < least:
             return f"{put} tokens put in {self.budget} to {self.budget + 2} entries"
         return None

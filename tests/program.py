@@ -1,8 +1,12 @@
 """Runs the program with arguments and a text, with little overhead."""
+import fcntl
 import os
 import select
+import shutil
 import signal
+import subprocess
 import sys
+import tempfile
 
 TOP = os.path.dirname(os.path.dirname(os.path.abspath(__file__)))
 PROGRAM = f"{TOP}/crates/kpn/out/kpn"
@@ -15,6 +19,19 @@ def need(path, first):
     """Ends, and says what to run first, if a program isn't there."""
     if not os.access(path, os.X_OK):
         sys.exit(f"{os.path.basename(sys.argv[0])}: {os.path.relpath(path)} isn't there: first run {first}")
+
+
+def need_sox():
+    """Installs sox where it is missing, for one test at a time, and ends where that fails."""
+    with open(os.path.join(tempfile.gettempdir(), f"hoxburen-sox-{os.getuid()}"), "w") as lock:
+        fcntl.flock(lock, fcntl.LOCK_EX)
+        if shutil.which("sox"):
+            return
+        name = os.path.basename(sys.argv[0])
+        print(f"{name}: installing the package sox", flush=True)
+        for words in (["apt-get", "update"], ["apt-get", "install", "-y", "sox"]):
+            if subprocess.run(words, stdout=subprocess.DEVNULL).returncode:
+                sys.exit(f"{name}: the package sox could not be installed, and without it this test fails")
 
 
 class Program:

@@ -3,10 +3,12 @@
 
     examples/signals/made.py FOLDER
 """
+import io
 import math
 import pathlib
 import random
 import sys
+import wave
 
 
 def noisy_sine(count=10000, period=2000):
@@ -62,6 +64,24 @@ def places(forces, place=1000, speed=0):
     return words
 
 
+def log(count=200):
+    """A winter's day and a morning, a row each ten minutes: when, and hundredths of a degree inside and outside."""
+    noise = random.Random("log")
+    rows = []
+    for n in range(count):
+        outside = round(-325 + 400 * math.sin(2 * math.pi * (n - 54) / 144) + noise.uniform(-40, 40))
+        inside = round(2050 + 60 * math.sin(2 * math.pi * (n - 70) / 144) + noise.uniform(-10, 10))
+        rows.append((f"2026-01-{8 + n // 144:02} {n // 6 % 24:02}:{n % 6 * 10:02}", inside, outside))
+    return rows
+
+
+def tone(count=8000, rate=8000):
+    """A second of a tone of 220 Hz and, three times as high and half as loud, another one, with noise."""
+    noise = random.Random("tone")
+    turn = 2 * math.pi * 220 / rate
+    return [round(12000 * math.sin(turn * n) + 6000 * math.sin(3 * turn * n) + noise.uniform(-2000, 2000)) for n in range(count)]
+
+
 def text_of(tokens):
     """One token a line."""
     return "".join(f"{str(it).lower() if isinstance(it, bool) else it}\n" for it in tokens)
@@ -73,9 +93,29 @@ def csv_of(readings):
     return "\n".join(lines)  # the last line has no line feed
 
 
+def hundredths(number):
+    """A number of hundredths, with two digits after the point."""
+    return f"{'-' * (number < 0)}{abs(number) // 100}.{abs(number) % 100:02}"
+
+
+def log_of(rows):
+    return "".join(["date,inside,outside\n", *(f"{at},{hundredths(inside)},{hundredths(outside)}\n" for at, inside, outside in rows)])
+
+
+def wav_of(samples, rate=8000):
+    """A WAV file of one channel, of 16 bits."""
+    file = io.BytesIO()
+    with wave.open(file, "wb") as out:
+        out.setnchannels(1)
+        out.setsampwidth(2)
+        out.setframerate(rate)
+        out.writeframes(b"".join(it.to_bytes(2, "little", signed=True) for it in samples))
+    return file.getvalue()
+
+
 def files():
-    """Each file, and its text."""
-    samples, readings, forces = noisy_sine(), temperatures(), pushes()
+    """Each file, and its text or its bytes."""
+    samples, readings, forces, rows, heard = noisy_sine(), temperatures(), pushes(), log(), tone()
     words = smooth(samples)
     return {
         "noisy.txt": text_of(samples),
@@ -85,9 +125,13 @@ def files():
         "average.txt": text_of(averages(readings)),
         "pushes.txt": text_of(forces),
         "place.txt": text_of(places(forces)),
+        "log.csv": log_of(rows),
+        "outside.csv": text_of(["average", *map(hundredths, averages([outside for _, _, outside in rows]))]),
+        "tone.wav": wav_of(heard),
+        "soft.wav": wav_of(smooth(heard)),
     }
 
 
 if __name__ == "__main__":
     for name, text in files().items():
-        (pathlib.Path(sys.argv[1]) / name).write_text(text)
+        (pathlib.Path(sys.argv[1]) / name).write_bytes(text if isinstance(text, bytes) else text.encode())

@@ -2,6 +2,7 @@
 //! what went through their channels, and draws them.
 #![tactic(auto)]
 
+mod formats;
 mod hints;
 mod host;
 mod messages;
@@ -14,6 +15,7 @@ mod told;
 mod unused;
 mod whole;
 
+use crate::formats::say_files;
 use crate::host::Host;
 use crate::messages::{say_no_memory, say_stop};
 use crate::progress::ProgressLine;
@@ -78,9 +80,10 @@ fn status_after<R: Files + Input + Print + Eprint + AllocGlobal>(
 ) -> u8 {
     match outcome {
         Ok(Outcome::Exits(status)) => status.code(),
-        Ok(Outcome::Ran(status, notes)) => {
-            say_unused_by_run(rt, notes);
-            status.code()
+        Ok(Outcome::Ran(ran)) => {
+            say_files(rt, ran.outputs.as_slice(), ran.files.as_slice());
+            say_unused_by_run(rt, &ran.notes);
+            ran.status.code()
         }
         Ok(Outcome::Streams(stream)) => stream_asked(rt, host, stream),
         Err(stop) => say_stop(rt, stop),

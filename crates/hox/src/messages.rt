@@ -1,4 +1,5 @@
 //! What is said on standard error.
+use crate::formats::{lines_before, record_name, say_format};
 use crate::hints::{say_message, say_no_channel, wants_version_2};
 use crate::reasons::{say_clash, say_undescribed, say_unread};
 use hox_args::WordsFault;
@@ -18,6 +19,7 @@ pub(crate) fn say_stop<R: Print + Eprint + AllocGlobal>(rt: &R, stop: &Stop<'_>)
         Stop::NoPair { option, text } => say_no_pair(rt, *option, *text),
         Stop::InputTwice => say_input_named_twice(rt),
         Stop::Clash { one, other } => say_clash(rt, one, other),
+        Stop::Format(stop) => say_format(rt, *stop),
         Stop::Unread { file, error } => say_unread(rt, *file, *error),
         Stop::Refused(refusal) => say_refusal(rt, refusal),
         Stop::Memory => {
@@ -166,7 +168,8 @@ fn say_plain<R: Eprint>(rt: &R, file: &str, fault: NetFault) {
 
 /// Says that a text of an option names no file.
 fn say_no_pair<R: Eprint>(rt: &R, option: &str, text: &str) {
-    let _ = eprintln!(rt; "hox: --{option} {text}: it takes CHANNEL=FILE");
+    let takes = if option == "format" { "FORMAT" } else { "FILE" };
+    let _ = eprintln!(rt; "hox: --{option} {text}: it takes CHANNEL={takes}");
 }
 
 /// Says that standard input is named more than once.
@@ -184,7 +187,11 @@ fn say_file_fault<R: Eprint>(rt: &R, asked: &Asked<'_>, stop: PresetFault) {
         FileFault::TooMany { most } => say_too_many(rt, file, most),
         FileFault::Record { number, fault } => {
             let text = line_in(&asked.request, stop.file, number);
-            say_line(rt, file, number, text, fault);
+            let number = lines_before(pair.format).saturating_add(number as u64);
+            match record_name(pair.format) {
+                "line" => say_line(rt, file, number, text, fault),
+                name => say_record(rt, file, name, number, needed(fault)),
+            }
         }
         FileFault::NoChannel | FileFault::Memory => {
             say_no_memory(rt);
@@ -210,7 +217,7 @@ fn say_too_many<R: Eprint>(rt: &R, file: &str, most: usize) {
 
 /// Says what is wrong with a line of a file of tokens: it repeats the line, or of a long one how it begins, where it is
 /// a text.
-fn say_line<R: Eprint>(rt: &R, file: &str, number: usize, line: &str, fault: RecordFault) {
+fn say_line<R: Eprint>(rt: &R, file: &str, number: u64, line: &str, fault: RecordFault) {
     let what = needed(fault);
     if fault == RecordFault::NoText {
         let _ = eprintln!(rt; "hox: line {number} of {file} {what}");
@@ -219,6 +226,11 @@ fn say_line<R: Eprint>(rt: &R, file: &str, number: usize, line: &str, fault: Rec
     let begin = beginning(line);
     let dots = if begin.len() < line.len() { " .." } else { "" };
     let _ = eprintln!(rt; "hox: line {number} of {file}: {begin:?}{dots} {what}");
+}
+
+/// Says what is wrong with a record of a file.
+pub(crate) fn say_record<R: Eprint>(rt: &R, file: &str, name: &str, number: u64, what: &str) {
+    let _ = eprintln!(rt; "hox: {name} {number} of {file} {what}");
 }
 
 /// How many bytes of a line are said at most.
@@ -253,7 +265,7 @@ pub(crate) fn needed(fault: RecordFault) -> &'static str {
         RecordFault::EmptyField => "has nothing in the field of the column",
         RecordFault::OpenQuote => "has a quoted field that goes on over its end",
         RecordFault::TwoRows => "has a carriage return within; end lines with line feeds",
-        RecordFault::CutShort => "ends within a sample",
+        RecordFault::CutShort => "ends before its last byte",
     }
 }
 

@@ -6,7 +6,7 @@ use kpn_model::limits::LONGEST_TEXT;
 use std::io;
 
 /// How a file that is written is named: `-` is standard output.
-fn output_name(file: &str) -> &str {
+pub(crate) fn output_name(file: &str) -> &str {
     if file == "-" { "standard output" } else { file }
 }
 

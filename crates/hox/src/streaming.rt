@@ -1,4 +1,5 @@
 //! Running a network on tokens that come, as they come.
+use crate::formats::say_head;
 use crate::hints::say_no_channel;
 use crate::host::Host;
 use crate::messages::{say_no_memory, say_refused, say_stop};
@@ -45,6 +46,10 @@ fn say_stream_stop<R: Print + Eprint + AllocGlobal>(rt: &R, stop: StreamStop<'_>
         } => say_fault(rt, &ends, channels.as_slice(), &fault),
         StreamStop::Unread { file, error } => {
             say_unreadable(rt, file, error);
+            Status::Refused.code()
+        }
+        StreamStop::Headless { file, fault } => {
+            say_head(rt, file, fault);
             Status::Refused.code()
         }
         StreamStop::Unwritten { file, error } => {

@@ -2,6 +2,7 @@
 ghost use Rattle.std.specs.Prelude.{◌≡◌, false, None, is_some};
 ghost use Rattle.std.specs.Io.{ReadsAtMost};
 
+use hox_format::Resumed;
 use kpn_front::{Sink, Source};
 use std::io;
 use std::io::{Read, Write};
@@ -40,6 +41,12 @@ impl<I, F> Tap<I, F> {
 impl<I, F> Failing for Tap<I, F> {
     fn error(&self) -> Option<io::Error> {
         self.error
+    }
+}
+
+impl<S: Failing> Failing for Resumed<S> {
+    fn error(&self) -> Option<io::Error> {
+        self.source().error()
     }
 }
 

@@ -1,5 +1,6 @@
 //! What is told of a stream that ended.
-use crate::messages::{input_name, needed, say_no_memory};
+use crate::formats::{lines_before, record_name, say_clipped, say_misfit};
+use crate::messages::{input_name, needed, say_no_memory, say_record};
 use crate::reasons::{say_unreadable, say_unwritten};
 use crate::taps::Failing;
 use crate::unused::say_unused_by_stream;
@@ -30,6 +31,7 @@ pub(crate) fn say_told<
     if !is_quiet {
         say_counts(rt, ends, served);
     }
+    say_all_clipped(rt, ends.outputs.as_slice(), served.outlets.as_slice());
     say_fault(rt, ends, served);
     let status = say_verdict(rt, served, is_quiet);
     say_unused_by_stream(rt, streamed);
@@ -127,10 +129,16 @@ fn say_fault<R: Eprint + AllocGlobal, F: Computes, I: Source + Failing, O: Sink 
 ) {
     let (inlets, outlets) = (served.inlets.as_slice(), served.outlets.as_slice());
     match served.finish {
-        Finish::Refused(k, refusal) => say_record(rt, ends.inputs.as_slice(), inlets, k, refusal),
+        Finish::Refused(k, refusal) => say_refused_record(
+            rt,
+            ends.inputs.as_slice(),
+            inlets,
+            k,
+            refusal,
+        ),
         Finish::Unread(k) => say_input_unread(rt, ends.inputs.as_slice(), inlets, k),
         Finish::Unwritten(k) => say_output_unwritten(rt, ends.outputs.as_slice(), outlets, k),
-        Finish::Misfit(k) => say_misfit(rt, ends.outputs.as_slice(), outlets, k),
+        Finish::Misfit(k) => say_token(rt, ends.outputs.as_slice(), outlets, k),
         Finish::Memory => {
             let _ = say_no_memory(rt);
         }
@@ -173,19 +181,21 @@ fn say_output_unwritten<R: Eprint + AllocGlobal, O: Sink + Failing>(
 }
 
 /// Says which token of a channel does not fit the file to which it goes.
-fn say_misfit<R: Eprint, O: Sink>(rt: &R, outputs: &[Pair<'_>], outlets: &[Outlet<O>], k: usize) {
-    let (Some(pair), Some(outlet)) = (outputs.get(k), outlets.get(k)) else {
-        return;
-    };
-    let (channel, token) = (pair.channel, outlet.tokens().saturating_add(1));
-    let file = pair.file;
-    let _ = eprintln!(rt;
-        "hox: token {token} of channel '{channel}' does not fit the file '{file}'"
-    );
+fn say_token<R: Eprint, O: Sink>(rt: &R, outputs: &[Pair<'_>], outlets: &[Outlet<O>], k: usize) {
+    if let (Some(pair), Some(outlet)) = (outputs.get(k), outlets.get(k)) {
+        say_misfit(rt, pair, outlet.tokens().saturating_add(1));
+    }
 }
 
-/// Says which line of a source is refused, and what would do.
-fn say_record<R: Eprint, I: Source>(
+/// Says how many tokens were written as the nearest that fits.
+fn say_all_clipped<R: Eprint, O: Sink>(rt: &R, outputs: &[Pair<'_>], outlets: &[Outlet<O>]) {
+    for (pair, outlet) in outputs.iter().zip(outlets) {
+        say_clipped(rt, pair, outlet.clipped());
+    }
+}
+
+/// Says which record of a source is refused, and what would do.
+fn say_refused_record<R: Eprint, I: Source>(
     rt: &R,
     inputs: &[Pair<'_>],
     inlets: &[Inlet<I>],
@@ -195,19 +205,17 @@ fn say_record<R: Eprint, I: Source>(
     let (Some(pair), Some(inlet)) = (inputs.get(k), inlets.get(k)) else {
         return;
     };
-    let (file, line) = (input_name(pair.file), inlet.records().saturating_add(1));
+    let file = input_name(pair.file);
+    let before = lines_before(pair.format);
+    let number = before.saturating_add(inlet.records()).saturating_add(1);
+    let name = record_name(pair.format);
     match refusal {
-        Refusal::Fault(fault) => say_what_line_is(rt, file, line, needed(fault)),
-        Refusal::TooLong => say_line_is_long(rt, file, line),
+        Refusal::Fault(fault) => say_record(rt, file, name, number, needed(fault)),
+        Refusal::TooLong => say_record_is_long(rt, file, name, number),
     }
 }
 
-/// Says what a line of a file is.
-fn say_what_line_is<R: Eprint>(rt: &R, file: &str, line: u64, what: &str) {
-    let _ = eprintln!(rt; "hox: line {line} of {file} {what}");
-}
-
-/// Says that a line of a file is longer than a line may be.
-fn say_line_is_long<R: Eprint>(rt: &R, file: &str, line: u64) {
-    let _ = eprintln!(rt; "hox: line {line} of {file} has more than {LONGEST_RECORD} bytes");
+/// Says that a record of a file is longer than one may be.
+fn say_record_is_long<R: Eprint>(rt: &R, file: &str, name: &str, number: u64) {
+    let _ = eprintln!(rt; "hox: {name} {number} of {file} has more than {LONGEST_RECORD} bytes");
 }

@@ -94,13 +94,18 @@ fn is_given(inputs: &[Pair<'_>], name: &str) -> bool {
     inputs.iter().any(|pair| pair.channel == name)
 }
 
-/// Says which files were not read to their ends.
+/// Says which files were not read to their ends, as far as it is known without another read, which might wait.
 fn say_not_at_end<R: Eprint, I: Source>(rt: &R, inputs: &[Pair<'_>], inlets: &[Inlet<I>]) {
     for (pair, inlet) in inputs.iter().zip(inlets) {
-        if !inlet.is_over() {
+        if inlet.held() > 0 || is_untouched(inlet) {
             say_rest(rt, pair.channel, pair.file);
         }
     }
+}
+
+/// Whether nothing was read of a source.
+fn is_untouched<I: Source>(inlet: &Inlet<I>) -> bool {
+    !inlet.is_over() && inlet.records() == 0
 }
 
 /// Says that the rest of a file was not read.

@@ -7,6 +7,7 @@ use Rattle.clap.specs.Words.{HasKind, Row, Text, all_of, fault_of, first_of, kin
 use Rattle.kpn_args.specs.Choices.{IsRefusedWorkers, WorkersFrom, is_text_asked_for}
 use Rattle.kpn_picture.specs.declared.looks.Direction.TheVariants.{Right, Down}
 use Rattle.hox_args.specs.declared.arguments.RunChoice.{RunChoice}
+use Rattle.hox_args.specs.declared.arguments.CheckChoice.{CheckChoice}
 use Rattle.hox_args.specs.declared.arguments.DrawChoice.{DrawChoice}
 use Rattle.hox_args.specs.declared.arguments.StreamChoice.{StreamChoice}
 use Rattle.hox_args.specs.declared.arguments.Choice.{Choice}
@@ -42,11 +43,18 @@ texts_of id rows = unwrap_or (all_of id rows) []
 abbrev pub is_given : Text → List Row → Bool
 is_given id rows = option_map_or (λ t. bytes_eq t (codes "true")) (first_of id rows) false
 
+-- what the entries of `check` ask for
+pub record IsCheckOf (rows : List Row) (check : CheckChoice) : Type 0 where
+  pub file : option_map (λ s. s.now) check.file ≡ first_of (codes "file") rows
+  pub tokens : map (λ s. s.now) check.tokens.items ≡ texts_of (codes "tokens") rows
+  pub formats : map (λ s. s.now) check.formats.items ≡ texts_of (codes "format") rows
+
 -- what the entries of `run` ask for
 pub record IsRunOf (rows : List Row) (run : RunChoice) : Type 0 where
   pub file : option_map (λ s. s.now) run.file ≡ first_of (codes "file") rows
   pub tokens : map (λ s. s.now) run.tokens.items ≡ texts_of (codes "tokens") rows
   pub outputs : map (λ s. s.now) run.outputs.items ≡ texts_of (codes "out") rows
+  pub formats : map (λ s. s.now) run.formats.items ≡ texts_of (codes "format") rows
   pub show : map (λ s. s.now) run.show.items ≡ texts_of (codes "show") rows
   pub unsigned : map (λ s. s.now) run.unsigned.items ≡ texts_of (codes "unsigned") rows
   pub budget : BudgetFrom (first_of (codes "budget") rows) run.budget
@@ -58,6 +66,7 @@ pub record IsRunOf (rows : List Row) (run : RunChoice) : Type 0 where
 pub record IsDrawOf (rows : List Row) (draw : DrawChoice) : Type 0 where
   pub file : option_map (λ s. s.now) draw.file ≡ first_of (codes "file") rows
   pub tokens : map (λ s. s.now) draw.tokens.items ≡ texts_of (codes "tokens") rows
+  pub formats : map (λ s. s.now) draw.formats.items ≡ texts_of (codes "format") rows
   pub direction : draw.direction ≡ (if is_given (codes "down") rows then Down else Right)
   pub count : ℕ
   pub read : WorkersFrom (first_of (codes "workers") rows) count
@@ -68,21 +77,21 @@ pub record IsStreamOf (rows : List Row) (stream : StreamChoice) : Type 0 where
   pub file : option_map (λ s. s.now) stream.file ≡ first_of (codes "file") rows
   pub inputs : map (λ s. s.now) stream.inputs.items ≡ texts_of (codes "in") rows
   pub outputs : map (λ s. s.now) stream.outputs.items ≡ texts_of (codes "out") rows
+  pub formats : map (λ s. s.now) stream.formats.items ≡ texts_of (codes "format") rows
   pub unsigned : map (λ s. s.now) stream.unsigned.items ≡ texts_of (codes "unsigned") rows
   pub quiet : stream.quiet ≡ is_given (codes "quiet") rows
 
 -- the choice is what a command and its entries ask for
 abbrev pub IsHoxChoiceOf : Option (Text × List Row) → Choice → Type 0
 IsHoxChoiceOf None choice = ⊥
-IsHoxChoiceOf (Some p) (Check file tokens) =
-    (p.0 ≡ codes "check") × (option_map (λ s. s.now) file ≡ first_of (codes "file") p.1) × (map (λ s. s.now) tokens.items ≡ texts_of (codes "tokens") p.1)
+IsHoxChoiceOf (Some p) (Check check) = (p.0 ≡ codes "check") × IsCheckOf p.1 check
 IsHoxChoiceOf (Some p) (Run run) = (p.0 ≡ codes "run") × IsRunOf p.1 run
 IsHoxChoiceOf (Some p) (Draw draw) = (p.0 ≡ codes "draw") × IsDrawOf p.1 draw
 IsHoxChoiceOf (Some p) (Stream stream) = (p.0 ≡ codes "stream") × IsStreamOf p.1 stream
 
 -- the workers of a run are 1 to 16
 abbrev pub HasFewHoxWorkers : Choice → Type 0
-HasFewHoxWorkers (Check file tokens) = Unit {0}
+HasFewHoxWorkers (Check check) = Unit {0}
 HasFewHoxWorkers (Run run) = (1 ≤ run.workers) × (run.workers ≤ 16)
 HasFewHoxWorkers (Draw draw) = IfSome draw.workers (λ n. (1 ≤ n) × (n ≤ 16))
 HasFewHoxWorkers (Stream stream) = Unit {0}

@@ -18,13 +18,13 @@ abbrev pub hox_file_rule : Rule
 hox_file_rule = record (new_rule (codes "file")) { value_names = 1 }
 
 abbrev pub hox_check_command : App
-hox_check_command = with_rule (with_rule (new_app (codes "check")) (list_rule (codes "tokens"))) hox_file_rule
+hox_check_command = with_rule (with_rule (with_rule (new_app (codes "check")) (list_rule (codes "tokens"))) (list_rule (codes "format"))) hox_file_rule
 
 -- `run` with its options on files and streams; with those on the budget and on workers too; and with all
 abbrev pub hox_run_streams : App
 hox_run_streams =
     let files = with_rule (with_rule (new_app (codes "run")) (list_rule (codes "tokens"))) (list_rule (codes "out")) in
-    with_rule (with_rule files (list_rule (codes "show"))) (list_rule (codes "unsigned"))
+    with_rule (with_rule (with_rule files (list_rule (codes "format"))) (list_rule (codes "show"))) (list_rule (codes "unsigned"))
 
 abbrev pub hox_run_bounds : App
 hox_run_bounds = with_rule (with_rule hox_run_streams (option_rule (codes "budget"))) (option_rule (codes "workers"))
@@ -37,12 +37,12 @@ abbrev pub hox_draw_flags : App
 hox_draw_flags = with_rule (with_rule (new_app (codes "draw")) (flag_rule (codes "run"))) (flag_rule (codes "down"))
 
 abbrev pub hox_draw_command : App
-hox_draw_command = with_rule (with_rule (with_rule hox_draw_flags (option_rule (codes "workers"))) (list_rule (codes "tokens"))) hox_file_rule
+hox_draw_command = with_rule (with_rule (with_rule (with_rule hox_draw_flags (option_rule (codes "workers"))) (list_rule (codes "tokens"))) (list_rule (codes "format"))) hox_file_rule
 
 abbrev pub hox_stream_command : App
 hox_stream_command =
     let files = with_rule (with_rule (new_app (codes "stream")) (list_rule (codes "in"))) (list_rule (codes "out")) in
-    with_rule (with_rule (with_rule files (list_rule (codes "unsigned"))) (flag_rule (codes "quiet"))) hox_file_rule
+    with_rule (with_rule (with_rule (with_rule files (list_rule (codes "format"))) (list_rule (codes "unsigned"))) (flag_rule (codes "quiet"))) hox_file_rule
 
 -- it has a version, wants a subcommand, and has none called `help`
 abbrev pub bare_hox : App

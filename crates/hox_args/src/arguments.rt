@@ -22,14 +22,16 @@ pub const MAX_WORKERS: usize = 16;
 
 /// A run that the arguments ask for: the file of the description, or standard input if it is absent or `-`;
 /// which files have the first tokens of which channels, and to which files which channels are written, each
-/// as `CHANNEL=FILE`; the channels whose streams the report has; the channels whose words are written unsigned,
-/// or `all`; the budget in place of that of the description; the number of workers, 1 to [`MAX_WORKERS`]; whether it is shown how far the run is, also where
+/// as `CHANNEL=FILE`; how the files of which channels have tokens, each as `CHANNEL=FORMAT`; the channels whose
+/// streams the report has; the channels whose words are written unsigned, or `all`; the budget in place of that of
+/// the description; the number of workers, 1 to [`MAX_WORKERS`]; whether it is shown how far the run is, also where
 /// standard error is no terminal; and whether no report is wanted.
 #[derive(Debug, Drop)]
 pub struct RunChoice<'a> {
     pub file: Option<&'a str>,
     pub tokens: Vec<&'a str>,
     pub outputs: Vec<&'a str>,
+    pub formats: Vec<&'a str>,
     pub show: Vec<&'a str>,
     pub unsigned: Vec<&'a str>,
     pub budget: Option<u64>,
@@ -39,25 +41,37 @@ pub struct RunChoice<'a> {
 }
 
 /// A picture that the arguments ask for: the file of the description, or standard input if it is absent or
-/// `-`; which files have the first tokens of which channels, each as `CHANNEL=FILE`; where the channels lead;
-/// and if the network is drawn as a run left it, by how many workers, 1 to [`MAX_WORKERS`].
+/// `-`; which files have the first tokens of which channels, each as `CHANNEL=FILE`, and how, each as
+/// `CHANNEL=FORMAT`; where the channels lead; and if the network is drawn as a run left it, by how many workers, 1 to
+/// [`MAX_WORKERS`].
 #[derive(Debug, Drop)]
 pub struct DrawChoice<'a> {
     pub file: Option<&'a str>,
     pub tokens: Vec<&'a str>,
+    pub formats: Vec<&'a str>,
     pub direction: Direction,
     pub workers: Option<usize>,
 }
 
+/// A check that the arguments ask for: the file of the description, or standard input if it is absent or `-`; and
+/// which files have the first tokens of which channels, each as `CHANNEL=FILE`, and how, each as `CHANNEL=FORMAT`.
+#[derive(Debug, Drop)]
+pub struct CheckChoice<'a> {
+    pub file: Option<&'a str>,
+    pub tokens: Vec<&'a str>,
+    pub formats: Vec<&'a str>,
+}
+
 /// A run on tokens that come, which the arguments ask for: the file of the description, or standard input if
 /// it is absent or `-`; from which files tokens come into which channels, and to which files which channels
-/// are written, each as `CHANNEL=FILE`; the channels whose words are written unsigned, or `all`; and whether no
-/// report is wanted.
+/// are written, each as `CHANNEL=FILE`; how these files have tokens, each as `CHANNEL=FORMAT`; the channels whose
+/// words are written unsigned, or `all`; and whether no report is wanted.
 #[derive(Debug, Drop)]
 pub struct StreamChoice<'a> {
     pub file: Option<&'a str>,
     pub inputs: Vec<&'a str>,
     pub outputs: Vec<&'a str>,
+    pub formats: Vec<&'a str>,
     pub unsigned: Vec<&'a str>,
     pub quiet: bool,
 }
@@ -66,10 +80,7 @@ pub struct StreamChoice<'a> {
 #[derive(Debug, Drop)]
 pub enum Choice<'a> {
     /// `hox check`: whether the description in this file, with the tokens of these files, is a network.
-    Check {
-        file: Option<&'a str>,
-        tokens: Vec<&'a str>,
-    },
+    Check(CheckChoice<'a>),
     /// `hox run`: the run of the network.
     Run(RunChoice<'a>),
     /// `hox draw`: the picture of the network.
@@ -190,8 +201,13 @@ fn check_choice<'a>(alloc: Global, entries: &ArgMatches<'a>) -> Result<Choice<'a
     ensures fault { IfErr result (λ e. e ≡ WordsFault.Memory) }
 {
     let tokens = texts_in(alloc, entries, "tokens")?;
+    let formats = texts_in(alloc, entries, "format")?;
     let file = text_in(entries, "file");
-    Ok(Choice::Check { file, tokens })
+    Ok(Choice::Check(CheckChoice {
+        file,
+        tokens,
+        formats,
+    }))
 }
 
 /// The choice that the entries of `run` ask for.
@@ -204,6 +220,7 @@ fn run_choice<'a>(alloc: Global, entries: &ArgMatches<'a>) -> Result<Choice<'a>,
     let budget = budget_in(text_in(entries, "budget"))?;
     let tokens = texts_in(alloc, entries, "tokens")?;
     let outputs = texts_in(alloc, entries, "out")?;
+    let formats = texts_in(alloc, entries, "format")?;
     let show = texts_in(alloc, entries, "show")?;
     let unsigned = texts_in(alloc, entries, "unsigned")?;
     let file = text_in(entries, "file");
@@ -213,6 +230,7 @@ fn run_choice<'a>(alloc: Global, entries: &ArgMatches<'a>) -> Result<Choice<'a>,
         file,
         tokens,
         outputs,
+        formats,
         show,
         unsigned,
         budget,
@@ -230,12 +248,14 @@ fn draw_choice<'a>(alloc: Global, entries: &ArgMatches<'a>) -> Result<Choice<'a>
 {
     let count = workers_in(text_in(entries, "workers"))?;
     let tokens = texts_in(alloc, entries, "tokens")?;
+    let formats = texts_in(alloc, entries, "format")?;
     let file = text_in(entries, "file");
     let direction = direction_of(has_flag(entries, "down"));
     let workers = asked_for(has_flag(entries, "run"), count);
     Ok(Choice::Draw(DrawChoice {
         file,
         tokens,
+        formats,
         direction,
         workers,
     }))
@@ -250,10 +270,12 @@ fn stream_choice<'a>(alloc: Global, entries: &ArgMatches<'a>) -> Result<Choice<'
     let file = text_in(entries, "file");
     let inputs = texts_in(alloc, entries, "in")?;
     let written = texts_in(alloc, entries, "out")?;
+    let formats = texts_in(alloc, entries, "format")?;
     Ok(Choice::Stream(StreamChoice {
         file,
         inputs,
         outputs: written,
+        formats,
         unsigned: texts_in(alloc, entries, "unsigned")?,
         quiet: has_flag(entries, "quiet"),
     }))

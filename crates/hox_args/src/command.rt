@@ -47,6 +47,7 @@ fn check<'a>(alloc: Global) -> Result<Command<'a>, AllocError>
         KINDS_AND_FILES,
     ));
     let check = with_arg(check, tokens(alloc));
+    let check = with_arg(check, format(alloc));
     with_arg(check, file(alloc))
 }
 
@@ -82,6 +83,7 @@ fn run_streams<'a>(alloc: Global) -> Result<Command<'a>, AllocError>
     let show = "The report has the stream of this channel; may be given again";
     let run = with_arg(run, tokens(alloc));
     let run = with_arg(run, out(alloc));
+    let run = with_arg(run, format(alloc));
     let run = with_arg(run, list(alloc, "show", "CHANNEL", show));
     with_arg(run, unsigned(alloc))
 }
@@ -91,6 +93,7 @@ fn draw<'a>(alloc: Global) -> Result<Command<'a>, AllocError>
 {
     let draw = with_arg(draw_flags(alloc), workers(alloc));
     let draw = with_arg(draw, tokens(alloc));
+    let draw = with_arg(draw, format(alloc));
     with_arg(draw, file(alloc))
 }
 
@@ -123,6 +126,7 @@ fn stream<'a>(alloc: Global) -> Result<Command<'a>, AllocError>
         "The channel gets the tokens of the file as they come, one a line, - is standard input; may be given again";
     let stream = with_arg(stream, list(alloc, "in", "CHANNEL=FILE", input));
     let stream = with_arg(stream, out(alloc));
+    let stream = with_arg(stream, format(alloc));
     let stream = with_arg(stream, unsigned(alloc));
     let stream = with_arg(stream, quiet(alloc));
     with_arg(stream, file(alloc))
@@ -152,6 +156,15 @@ fn out<'a>(alloc: Global) -> Arg<'a>
     let help =
         "Writes the stream of the channel to the file, one token a line, - is standard output; may be given again";
     list(alloc, "out", "CHANNEL=FILE", help)
+}
+
+fn format<'a>(alloc: Global) -> Arg<'a>
+    ensures rule { rule_of result ≡ list_rule (codes "format") }
+    ensures local { result.global ≡ false }
+{
+    let help =
+        "How the file of the channel has tokens: text, csv, wav, or samples as s16le (below); all stands for all files; repeatable";
+    list(alloc, "format", "CHANNEL=FORMAT", help)
 }
 
 fn unsigned<'a>(alloc: Global) -> Arg<'a>

@@ -25,6 +25,15 @@ word, which is written -1 (--unsigned CHANNEL writes the other). What stands aft
 and so is a line without a token. There may be 1,000,000 tokens, and in version 1 of the description 65,535: files
 without end are for hox stream. The channel's capacity is at least their number.
 
+--format CHANNEL=FORMAT[,KEY[=VALUE]..] says how the file of a channel has tokens otherwise. The formats, and keys:
+  text            digits=N (after the point: with 2, 21.37 is the word 2137), unsigned
+  csv             column=N (from 1) or column=NAME, header (a row of names), delimiter=comma, semicolon or tab,
+                  digits=N, unsigned
+  wav             channel=N (from 1), bits=8, 16, 24 or 32, rate=N (samples a second), clip
+  s16le           channel=N, channels=N, clip; also s8, u8, and s16, s24, s32, s64 and u64, with le or be
+A file whose name ends in .wav is WAV if nothing is said. A word that has no sample is refused, or with clip the
+nearest is written.
+
 The description is TOML. Its keys, and in brackets what holds if one is absent:
   version         1 or 2
   budget          how many entries a run may have [1000000, in version 2 2000000]
@@ -90,5 +99,7 @@ however the run ended. How a description and a file of tokens are written, hox r
 pub(crate) const STREAMS: &str = "\
 Example, in a pipe:
   generator | hox stream low_pass.toml --in x=- --out y=- | plot
-How a description and a file of tokens are written, hox run --help says.
+Samples of 16 bits in a pipe:
+  sox in.wav -t raw -e signed -b 16 -c 1 - | hox stream low_pass.toml --in x=- --out y=- --format all=s16le | ..
+How a description, a file of tokens and its format are written, hox run --help says.
 ";

@@ -9,12 +9,12 @@ use Rattle.hox_args.specs.declared.arguments.WordsFault.{WordsFault}
 use Rattle.hox_args.specs.HoxChoices.{IsHoxChoice}
 use Rattle.hox_execute.specs.declared.serving.Outcome.{Outcome}
 use Rattle.hox_execute.specs.declared.stops.Stop.{Stop}
-use Rattle.hox_execute.specs.declared.stops.Stop.TheVariants.{Clash, InputTwice, Memory, NoPair, Refused, Unread, Words}
+use Rattle.hox_execute.specs.declared.stops.Stop.TheVariants.{Clash, Format, InputTwice, Memory, NoPair, Refused, Unread, Words}
 use Rattle.hox_execute.specs.Files.{Effect}
 use Rattle.hox_execute.specs.Program.{Does, IsProgramStop, IsStopIn, Serves}
 
 no_words : (named : List ℕ → Option (ℕ × ℕ)) (signature : Card → Option Signature) (contents : List ℕ → Option (List ℕ)) (clash : List ℕ → Bool → List ℕ → Bool → Option Bool) (choice : Choice) (fault : WordsFault) → IsStopIn named signature contents clash choice (Words fault) → ⊥
-no_words named signature contents clash (Check file tokens) fault h = h
+no_words named signature contents clash (Check check) fault h = h
 no_words named signature contents clash (Run run) fault h = h
 no_words named signature contents clash (Draw draw) fault h = h
 no_words named signature contents clash (Stream stream) fault h = h
@@ -31,6 +31,7 @@ module _ (words : List (List ℕ)) (choice : Choice) (chosen : IsHoxChoice words
   stopped (Refused refusal) h = (choice, chosen, h)
   stopped (NoPair option text) h = (choice, chosen, h)
   stopped InputTwice h = (choice, chosen, h)
+  stopped (Format stop) h = (choice, chosen, h)
   stopped (Clash one other) h = (choice, chosen, h)
   stopped (Unread file error) h = (choice, chosen, h)
   stopped Memory h = (choice, chosen, h)

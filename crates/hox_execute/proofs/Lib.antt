@@ -10,3 +10,5 @@ pub mod Stopped
 pub mod Drawn
 pub mod Chosen
 pub mod Named
+pub mod Both
+pub mod Firsts

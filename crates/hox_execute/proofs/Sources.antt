@@ -3,24 +3,38 @@ use Rattle.std.proofs.Common.{◌≡◌, ℕ, Bool, false, List, [], ◌∷◌, 
 use Rattle.std.specs.List.{AllZip}
 use Rattle.kpn_model.specs.Network.{Network}
 use Rattle.kpn_front.specs.Written.{SinkView}
+use Rattle.hox_format.specs.declared.resuming.Begun.{Begun}
 use Rattle.hox_stream.specs.declared.serving.LaidOut.{LaidOut}
 use Rattle.hox_stream.specs.Serves.{new_inlet, new_inlets, new_outlet, new_outlets}
 use Rattle.hox_stream.specs.Views.{InletView, OutletView}
 use Rattle.hox_execute.specs.declared.pairs.Pair.{Pair}
-use Rattle.hox_execute.specs.Streaming.{IsCreated, IsOpened, held_in, lines_of}
+use Rattle.hox_execute.specs.Reports.{first_rate}
+use Rattle.hox_execute.specs.Streaming.{IsCreated, IsOpened, IsOpening, Opening, laid_source, opening_of, rate_in, source_at}
 
-module _ {X : Type 0} (remaining : X → Option (List ℕ)) (has_failed : X → Bool) (contents : List ℕ → Option (List ℕ)) (net : Network) where
-  pub same_sources : (channels : List ℕ) (pairs : List Pair) (sources : List (LaidOut X)) → AllZip (IsOpened remaining has_failed contents) pairs sources
-      → new_inlets remaining has_failed net channels sources ≡ new_inlets (λ (o : Option (List ℕ)). o) (λ _. false) net channels (map (held_in contents) pairs)
-  same_sources [] pairs sources all = refl
-  same_sources (c ∷ cs) [] [] all = refl
-  same_sources (c ∷ cs) [] (x ∷ xs) all = absurd all
-  same_sources (c ∷ cs) (p ∷ ps) [] all = absurd all
-  same_sources (c ∷ cs) (p ∷ ps) (x ∷ xs) (here, rest) =
-      let later = same_sources cs ps xs rest in
-      let plain = lines_of false in
-      let first : new_inlet net c x.layout (remaining x.stream) (has_failed x.stream) ≡ new_inlet net c plain (contents p.file.now) false = rw (here.layout, here.bytes, here.unfailed) refl in
-      ap (λ (v : InletView). v ∷ new_inlets remaining has_failed net cs xs) first ∙ ap (λ l. new_inlet net c plain (contents p.file.now) false ∷ l) later
+module _ {X : Type 0} (left : X → Option (List ℕ)) (has_failed : X → Bool) (contents : List ℕ → Option (List ℕ)) where
+  pub same_sources : (net : Network) (channels : List ℕ) (pairs : List Pair) (files : List (Begun X)) → AllZip (IsOpened left has_failed contents) pairs files
+      → new_inlets left has_failed net channels (map laid_source files) ≡ new_inlets (λ (o : Option (List ℕ)). o) (λ _. false) net channels (map source_at (map (opening_of left) files))
+  same_sources net [] pairs files all = refl
+  same_sources net (c ∷ cs) [] [] all = refl
+  same_sources net (c ∷ cs) [] (x ∷ xs) all = absurd all
+  same_sources net (c ∷ cs) (p ∷ ps) [] all = absurd all
+  same_sources net (c ∷ cs) (p ∷ ps) (x ∷ xs) (here, rest) =
+      let later = same_sources net cs ps xs rest in
+      let first : new_inlet net c x.layout (left x.source) (has_failed x.source) ≡ new_inlet net c x.layout (left x.source) false = ap (new_inlet net c x.layout (left x.source)) here.unfailed in
+      ap (λ (v : InletView). v ∷ new_inlets left has_failed net cs (map laid_source xs)) first ∙ ap (λ l. new_inlet net c x.layout (left x.source) false ∷ l) later
+
+  pub all_opened : (pairs : List Pair) (files : List (Begun X)) → AllZip (IsOpened left has_failed contents) pairs files → AllZip (IsOpening contents) pairs (map (opening_of left) files)
+  all_opened [] [] all = tt
+  all_opened [] (x ∷ xs) all = absurd all
+  all_opened (p ∷ ps) [] all = absurd all
+  all_opened (p ∷ ps) (x ∷ xs) (here, rest) = (here.opening, all_opened ps xs rest)
+
+  rates : (files : List (Begun X)) → map (λ (b : Begun X). b.rate) files ≡ map (λ (o : Opening). o.rate) (map (opening_of left) files)
+  rates [] = refl
+  rates (x ∷ xs) = ap (λ l. x.rate ∷ l) (rates xs)
+
+  pub same_rate : (files : List (Begun X)) → first_rate (map (λ (b : Begun X). b.rate) files) ≡ rate_in (map (opening_of left) files)
+  same_rate files = ap first_rate (rates files)
 
 module _ {X : Type 0} (seen : X → SinkView) where
   -- what contracts see of a sink that was opened
@@ -32,9 +46,9 @@ module _ {X : Type 0} (seen : X → SinkView) where
   same_sinks (c ∷ cs) [] = refl
   same_sinks (c ∷ cs) (x ∷ xs) = ap (λ (l : List OutletView). new_outlet c x.layout (seen x.stream).contents ∷ l) (same_sinks cs xs)
 
-  pub all_created : (unsigned : List (List ℕ)) (pairs : List Pair) (sinks : List (LaidOut X)) → AllZip (IsCreated seen unsigned) pairs sinks
-      → AllZip (IsCreated (λ (v : SinkView). v) unsigned) pairs (map seen_in sinks)
-  all_created unsigned [] [] all = tt
-  all_created unsigned [] (x ∷ xs) all = absurd all
-  all_created unsigned (p ∷ ps) [] all = absurd all
-  all_created unsigned (p ∷ ps) (x ∷ xs) (here, rest) = (record { layout = here.layout; empty = here.empty }, all_created unsigned ps xs rest)
+  pub all_created : (rate : ℕ) (pairs : List Pair) (sinks : List (LaidOut X)) → AllZip (IsCreated seen rate) pairs sinks
+      → AllZip (IsCreated (λ (v : SinkView). v) rate) pairs (map seen_in sinks)
+  all_created rate [] [] all = tt
+  all_created rate [] (x ∷ xs) all = absurd all
+  all_created rate (p ∷ ps) [] all = absurd all
+  all_created rate (p ∷ ps) (x ∷ xs) (here, rest) = (record { layout = here.layout; created = here.created; empty = here.empty; headed = here.headed }, all_created rate ps xs rest)

@@ -6,12 +6,13 @@ use Rattle.kpn_sketch.specs.declared.sketch.Sketch.{Sketch}
 use Rattle.kpn_model.specs.Network.{Family}
 use Rattle.hox_args.specs.declared.arguments.StreamChoice.{StreamChoice}
 use Rattle.hox_execute.specs.declared.stops.Stop.{Stop}
+use Rattle.hox_execute.specs.declared.stops.Stop.TheVariants.{Clash, Format, InputTwice, Memory, NoPair, Refused as WasRefused, Unread as NotRead, Words}
 use Rattle.hox_execute.specs.declared.streaming.Ends.{Ends}
 use Rattle.hox_execute.specs.declared.streaming.StreamStop.{StreamStop}
-use Rattle.hox_execute.specs.declared.streaming.StreamStop.TheVariants.{Asked, OutputTwice, Refused, Unopened as NotOpened, Unread, Unwritten}
+use Rattle.hox_execute.specs.declared.streaming.StreamStop.TheVariants.{Asked, Headless, OutputTwice, Refused, Unopened as NotOpened, Unread, Unwritten}
 use Rattle.hox_execute.specs.declared.streaming.Unopened.{Unopened}
 use Rattle.hox_execute.specs.declared.streaming.Unopened.TheVariants.{Refused as IsRefused, Faulty, Memory as NoMemory}
-use Rattle.hox_execute.specs.Streaming.{AreEnds, IsFaultyBetween, IsNoEnds, IsRefusedIn, IsSketchIn, IsStreamStop, IsUnfit, IsUnopened}
+use Rattle.hox_execute.specs.Streaming.{AreEnds, AreUnpaired, IsFaultyBetween, IsNoEnds, IsRefusedIn, IsSketchIn, IsStreamStop, IsUnfit, IsUnopened}
 
 module _ (kinds : Family) (named : List ℕ → Option (ℕ × ℕ)) (signature : Card → Option Signature) (contents : List ℕ → Option (List ℕ)) where
   pub refused_unopened : (name : List ℕ) (ends : Ends) (unopened : Unopened) → IsRefusedIn named signature contents name unopened → IsUnopened kinds named signature contents name ends unopened
@@ -37,9 +38,32 @@ module _ (kinds : Family) (named : List ℕ → Option (ℕ × ℕ)) (signature 
     unfit OutputTwice h = absurd h
     unfit (Refused file refused error) h = absurd h
     unfit (NotOpened others channels fault) h = absurd h
+    unfit (Headless file fault) h = (ends, chosen, h)
     unfit (Unread file error) h = (ends, chosen, h)
     unfit (Unwritten file error) h = (ends, chosen, h)
 
     pub unfit_stops : {X : Type 0} (r : Result X StreamStop) → IfErr r (IsUnfit ends) → IfErr r (IsStreamStop kinds named signature contents clash choice)
     unfit_stops {X} (Ok x) h = tt
     unfit_stops {X} (Err stop) h = unfit stop h
+
+-- why there are no ends, where a text names no file, or no format, or one of no use
+module _ (clash : List ℕ → Bool → List ℕ → Bool → Option Bool) (choice : StreamChoice) where
+  pub unpaired_ends : (stop : Stop) → AreUnpaired choice stop → IsNoEnds clash choice (Asked stop)
+  unpaired_ends (NoPair option text) h = h
+  unpaired_ends (Format stop) h = h
+  unpaired_ends Memory h = tt
+  unpaired_ends InputTwice (inl h) = absurd h
+  unpaired_ends InputTwice (inr (inl h)) = absurd h
+  unpaired_ends InputTwice (inr (inr h)) = absurd h.4
+  unpaired_ends (Clash one other) (inl h) = absurd h
+  unpaired_ends (Clash one other) (inr (inl h)) = absurd h
+  unpaired_ends (Clash one other) (inr (inr h)) = absurd h.4
+  unpaired_ends (NotRead file error) (inl h) = absurd h
+  unpaired_ends (NotRead file error) (inr (inl h)) = absurd h
+  unpaired_ends (NotRead file error) (inr (inr h)) = absurd h.4
+  unpaired_ends (WasRefused refusal) (inl h) = absurd h
+  unpaired_ends (WasRefused refusal) (inr (inl h)) = absurd h
+  unpaired_ends (WasRefused refusal) (inr (inr h)) = absurd h.4
+  unpaired_ends (Words fault) (inl h) = absurd h
+  unpaired_ends (Words fault) (inr (inl h)) = absurd h
+  unpaired_ends (Words fault) (inr (inr h)) = absurd h.4

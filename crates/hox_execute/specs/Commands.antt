@@ -9,16 +9,16 @@ use Rattle.kpn_front.specs.declared.status.Status.TheVariants.{Success}
 use Rattle.kpn_front.specs.Lines.{checked_line}
 use Rattle.hox_network.specs.declared.request.Fault.{Fault}
 use Rattle.hox_network.specs.declared.request.Request.{Request}
-use Rattle.hox_run.specs.declared.notes.Notes.{Notes}
 use Rattle.hox_run.specs.declared.telling.Told.{Told}
 use Rattle.hox_network.specs.Preparing.{GivesNet, IsFault}
 use Rattle.hox_run.specs.Serving.{GivesRun}
 use Rattle.hox_draw.specs.Drawing.{DrawsPrepared}
 use Rattle.hox_execute.specs.declared.reading.Asked.{Asked}
+use Rattle.hox_execute.specs.declared.running.Ran.{Ran}
 use Rattle.hox_execute.specs.declared.stops.Stop.{Stop}
-use Rattle.hox_execute.specs.declared.stops.Stop.TheVariants.{Clash, InputTwice, Memory, NoPair, Refused, Unread, Words}
+use Rattle.hox_execute.specs.declared.stops.Stop.TheVariants.{Clash, Format, InputTwice, Memory, NoPair, Refused, Unread, Words}
 use Rattle.hox_execute.specs.Files.{Effect, standard, wrote}
-use Rattle.hox_execute.specs.Reports.{Writes, written_of}
+use Rattle.hox_execute.specs.Reports.{IsNoted, Writes, rate_of, written_of}
 use Rattle.hox_execute.specs.Requests.{IsAsked, IsUnasked, ServesFile, Want}
 
 -- what comes of a network that was loaded: the text of its picture, or why there is none
@@ -37,32 +37,35 @@ module _ (named : List ℕ → Option (ℕ × ℕ)) (signature : Card → Option
   abbrev pub IsStop : Stop → Type 0
   IsStop (Refused refusal) = (refusal.file.now ≡ want.file) × Comes GivesNet refusal.asked (Err refusal.fault)
   IsStop (NoPair option text) = IsUnasked contents clash want tokens outputs (NoPair option text)
+  IsStop (Format stop) = IsUnasked contents clash want tokens outputs (Format stop)
   IsStop InputTwice = IsUnasked contents clash want tokens outputs InputTwice
   IsStop (Clash one other) = IsUnasked contents clash want tokens outputs (Clash one other)
   IsStop (Unread file error) = IsUnasked contents clash want tokens outputs (Unread file error)
   IsStop Memory = Unit {0}
   IsStop (Words fault) = ⊥
 
-  -- from what was done before to what was done after, with this status; whether it is known that no write fails
-  module _ (steady : Bool) (before after : Option (List Effect)) (status : Status) where
-    -- the description is a network, which is said
-    pub record HasChecked : Type 0 where
-      pub asked : Asked
-      pub net : Network
-      pub comes : Comes GivesNet asked (Ok net)
-      pub writes : Writes Success (wrote standard (checked_line net) ∷ []) steady before after status
-
-    -- the network is run, and what is told of it is written; what it left unused is noted
-    pub record HasRun (kinds : Family) (notes : Notes) : Type 0 where
+  -- from what was done before to what was done after; whether it is known that no write fails
+  module _ (steady : Bool) (before after : Option (List Effect)) where
+    -- the network is run, and what is told of it is written; what it left unused and what each file has is noted
+    pub record HasRun (kinds : Family) (ran : Ran) : Type 0 where
       pub asked : Asked
       pub told : Told
-      pub noted : notes ≡ told.notes
+      pub noted : IsNoted asked.outputs.items told ran
       pub comes : Comes (GivesRun kinds) asked (Ok told)
-      pub writes : Writes told.status (written_of want.is_quiet asked.outputs.items told) steady before after status
+      pub writes : Writes told.status (written_of want.is_quiet (rate_of asked.request.tokens) asked.outputs.items told) steady before after ran.status
 
-    -- the network is drawn, as it is or as a run left it, and the picture is written
-    pub record HasDrawn (kinds : Family) (title : ℕ → List ℕ × ℕ) (direction : Direction) (is_run : Bool) : Type 0 where
-      pub asked : Asked
-      pub picture : List ℕ
-      pub comes : Comes (GivesDrawing kinds title direction is_run) asked (Ok picture)
-      pub writes : Writes Success (wrote standard picture ∷ []) steady before after status
+    -- with this status
+    module _ (status : Status) where
+      -- the description is a network, which is said
+      pub record HasChecked : Type 0 where
+        pub asked : Asked
+        pub net : Network
+        pub comes : Comes GivesNet asked (Ok net)
+        pub writes : Writes Success (wrote standard (checked_line net) ∷ []) steady before after status
+
+      -- the network is drawn, as it is or as a run left it, and the picture is written
+      pub record HasDrawn (kinds : Family) (title : ℕ → List ℕ × ℕ) (direction : Direction) (is_run : Bool) : Type 0 where
+        pub asked : Asked
+        pub picture : List ℕ
+        pub comes : Comes (GivesDrawing kinds title direction is_run) asked (Ok picture)
+        pub writes : Writes Success (wrote standard picture ∷ []) steady before after status

@@ -6,36 +6,40 @@ use Rattle.kpn_model.specs.Network.{Family}
 use Rattle.kpn_front.specs.declared.status.Status.{Status}
 use Rattle.hox_args.specs.declared.arguments.Choice.{Choice}
 use Rattle.hox_args.specs.declared.arguments.Choice.TheVariants.{Check, Run, Draw, Stream}
+use Rattle.hox_args.specs.declared.arguments.CheckChoice.{CheckChoice}
 use Rattle.hox_args.specs.declared.arguments.DrawChoice.{DrawChoice}
 use Rattle.hox_args.specs.declared.arguments.RunChoice.{RunChoice}
 use Rattle.hox_args.specs.HoxChoices.{IsHoxChoice, IsHoxFault}
-use Rattle.hox_run.specs.declared.notes.Notes.{Notes}
+use Rattle.hox_execute.specs.declared.running.Ran.{Ran as RanV}
 use Rattle.hox_execute.specs.declared.serving.Outcome.{Outcome}
 use Rattle.hox_execute.specs.declared.serving.Outcome.TheVariants.{Exits, Ran, Streams}
 use Rattle.hox_execute.specs.declared.stops.Stop.{Stop}
-use Rattle.hox_execute.specs.declared.stops.Stop.TheVariants.{Clash, InputTwice, Memory, NoPair, Refused, Unread, Words}
+use Rattle.hox_execute.specs.declared.stops.Stop.TheVariants.{Clash, Format, InputTwice, Memory, NoPair, Refused, Unread, Words}
 use Rattle.hox_execute.specs.Commands.{HasChecked, HasDrawn, HasRun, IsStop}
 use Rattle.hox_execute.specs.Files.{Effect, standard}
 use Rattle.hox_execute.specs.Requests.{Want}
 
 -- the network of the description in this file, or on standard input
-abbrev pub want_in : Option (List ℕ) → ℕ → Want
-want_in file workers = record { file = unwrap_or file standard; workers = workers; budget = None; show = []; unsigned = []; is_quiet = false }
+abbrev pub want_in : Option (List ℕ) → List (List ℕ) → ℕ → Want
+want_in file formats workers = record { file = unwrap_or file standard; workers = workers; budget = None; show = []; formats = formats; unsigned = []; is_quiet = false }
 
 abbrev pub want_of_run : RunChoice → Want
 want_of_run run =
-    record (want_in (option_map (λ s. s.now) run.file) run.workers) { budget = run.budget; show = map (λ s. s.now) run.show.items; unsigned = map (λ s. s.now) run.unsigned.items; is_quiet = run.quiet }
+    record (want_in (option_map (λ s. s.now) run.file) (map (λ s. s.now) run.formats.items) run.workers) { budget = run.budget; show = map (λ s. s.now) run.show.items; unsigned = map (λ s. s.now) run.unsigned.items; is_quiet = run.quiet }
 
 -- a network is drawn by one worker if it is drawn as it is
 abbrev pub want_of_draw : DrawChoice → Want
-want_of_draw draw = want_in (option_map (λ s. s.now) draw.file) (unwrap_or draw.workers 1)
+want_of_draw draw = want_in (option_map (λ s. s.now) draw.file) (map (λ s. s.now) draw.formats.items) (unwrap_or draw.workers 1)
+
+abbrev pub want_of_check : CheckChoice → Want
+want_of_check check = want_in (option_map (λ s. s.now) check.file) (map (λ s. s.now) check.formats.items) 1
 
 -- a family, its names and ports; what each file holds, and which can't be used beside each other, if that is known; whether it is known that no write fails; and what was done
 -- before and after
 module _ (kinds : Family) (named : List ℕ → Option (ℕ × ℕ)) (signature : Card → Option Signature) (contents : List ℕ → Option (List ℕ)) (clash : List ℕ → Bool → List ℕ → Bool → Option Bool) (steady : Bool) (before after : Option (List Effect)) where
-  abbrev pub RunsChoice : RunChoice → Status → Notes → Type 0
-  RunsChoice run status notes =
-      HasRun named signature contents clash (want_of_run run) (map (λ s. s.now) run.tokens.items) (map (λ s. s.now) run.outputs.items) steady before after status kinds notes
+  abbrev pub RunsChoice : RunChoice → RanV → Type 0
+  RunsChoice run ran =
+      HasRun named signature contents clash (want_of_run run) (map (λ s. s.now) run.tokens.items) (map (λ s. s.now) run.outputs.items) steady before after kinds ran
 
   module _ (title : ℕ → List ℕ × ℕ) where
     abbrev pub DrawsChoice : DrawChoice → Status → Type 0
@@ -44,17 +48,17 @@ module _ (kinds : Family) (named : List ℕ → Option (ℕ × ℕ)) (signature 
 
     -- what was chosen is done, or is left to be streamed, with nothing done
     abbrev pub Does : Choice → Outcome → Type 0
-    Does (Check file tokens) (Exits status) = HasChecked named signature contents clash (want_in (option_map (λ s. s.now) file) 1) (map (λ s. s.now) tokens.items) [] steady before after status
-    Does (Check file tokens) (Ran status notes) = ⊥
-    Does (Check file tokens) (Streams stream) = ⊥
+    Does (Check check) (Exits status) = HasChecked named signature contents clash (want_of_check check) (map (λ s. s.now) check.tokens.items) [] steady before after status
+    Does (Check check) (Ran ran) = ⊥
+    Does (Check check) (Streams stream) = ⊥
     Does (Run run) (Exits status) = ⊥
-    Does (Run run) (Ran status notes) = RunsChoice run status notes
+    Does (Run run) (Ran ran) = RunsChoice run ran
     Does (Run run) (Streams stream) = ⊥
     Does (Draw draw) (Exits status) = DrawsChoice draw status
-    Does (Draw draw) (Ran status notes) = ⊥
+    Does (Draw draw) (Ran ran) = ⊥
     Does (Draw draw) (Streams stream) = ⊥
     Does (Stream chosen) (Exits status) = ⊥
-    Does (Stream chosen) (Ran status notes) = ⊥
+    Does (Stream chosen) (Ran ran) = ⊥
     Does (Stream chosen) (Streams stream) = (stream ≡ chosen) × (after ≡ before)
 
     -- the arguments are a choice, and it is done
@@ -72,7 +76,7 @@ module _ (named : List ℕ → Option (ℕ × ℕ)) (signature : Card → Option
   IsDrawStop draw stop = IsStop named signature contents clash (want_of_draw draw) (map (λ s. s.now) draw.tokens.items) [] stop
 
   abbrev pub IsStopIn : Choice → Stop → Type 0
-  IsStopIn (Check file tokens) stop = IsStop named signature contents clash (want_in (option_map (λ s. s.now) file) 1) (map (λ s. s.now) tokens.items) [] stop
+  IsStopIn (Check check) stop = IsStop named signature contents clash (want_of_check check) (map (λ s. s.now) check.tokens.items) [] stop
   IsStopIn (Run run) stop = IsRunStop run stop
   IsStopIn (Draw draw) stop = IsDrawStop draw stop
   IsStopIn (Stream chosen) stop = ⊥
@@ -82,6 +86,7 @@ module _ (named : List ℕ → Option (ℕ × ℕ)) (signature : Card → Option
   IsProgramStop words (Words fault) = IsHoxFault words fault
   IsProgramStop words (Refused refusal) = (choice : Choice) × IsHoxChoice words choice × IsStopIn choice (Refused refusal)
   IsProgramStop words (NoPair option text) = (choice : Choice) × IsHoxChoice words choice × IsStopIn choice (NoPair option text)
+  IsProgramStop words (Format stop) = (choice : Choice) × IsHoxChoice words choice × IsStopIn choice (Format stop)
   IsProgramStop words InputTwice = (choice : Choice) × IsHoxChoice words choice × IsStopIn choice InputTwice
   IsProgramStop words (Clash one other) = (choice : Choice) × IsHoxChoice words choice × IsStopIn choice (Clash one other)
   IsProgramStop words (Unread file error) = (choice : Choice) × IsHoxChoice words choice × IsStopIn choice (Unread file error)

@@ -1,12 +1,55 @@
 -- What is written of a run.
-use Rattle.std.specs.Prelude.{◌≡◌, ◌≢◌, ◌⊎◌, ◌||◌, not, ℕ, Bool, true, false, List, [], ◌∷◌, Option, string_bytes, nat_lt, if◌then◌else◌}
+use Rattle.std.specs.Prelude.{◌≡◌, ◌≢◌, ◌⊎◌, ◌||◌, ◌++◌, ◌-◌, ◌^◌, not, ℕ, Bool, true, false, length, map, min, List, [], ◌∷◌, Option, Some, None, unwrap_or, string_bytes, nat_lt, if◌then◌else◌}
 use Rattle.std.specs.List.{AllZip}
 use Rattle.kpn_front.specs.declared.status.Status.{Status}
 use Rattle.kpn_front.specs.declared.status.Status.TheVariants.{WriteFailed}
+use Rattle.hox_format.specs.Forms.{form}
+use Rattle.hox_format.specs.Heads.{head_text, tail_text}
+use Rattle.hox_network.specs.declared.request.TokenFile.{TokenFile}
+use Rattle.hox_run.specs.declared.files.StreamFile.{StreamFile}
 use Rattle.hox_run.specs.declared.telling.Told.{Told}
 use Rattle.hox_execute.specs.declared.pairs.Pair.{Pair}
+use Rattle.hox_execute.specs.declared.running.Ran.{Ran}
+use Rattle.hox_execute.specs.declared.texts.FileNote.{FileNote}
 use Rattle.hox_execute.specs.Files.{Effect, GoOn, not_said, not_written, said, standard, wrote}
 use Rattle.hox_execute.specs.Pairs.{count_standard}
+
+-- how many samples a second there are if nothing tells
+abbrev pub usual_rate : ℕ
+usual_rate = 44100
+
+-- and how many the first tells that does
+abbrev pub first_rate : List (Option ℕ) → ℕ
+first_rate [] = usual_rate
+first_rate (None ∷ rates) = first_rate rates
+first_rate (Some rate ∷ rates) = rate
+
+abbrev pub rate_of : List TokenFile → ℕ
+rate_of files = first_rate (map (λ (f : TokenFile). f.rate) files)
+
+-- how many frames the head of a file tells
+abbrev pub frames_told : StreamFile → Option ℕ
+frames_told file = Some (min file.tokens (2 ^ 32 - 1))
+
+-- the file of a stream: what stands before its tokens, these as records, and what stands after them
+abbrev pub file_text : ℕ → Pair → StreamFile → List ℕ
+file_text rate pair file =
+    head_text (form pair.format) (pair.channel.now ∷ []) rate (frames_told file) ++ file.bytes ++ tail_text (form pair.format) (length file.bytes) (frames_told file)
+
+abbrev pub file_texts : ℕ → List Pair → List StreamFile → List (List ℕ)
+file_texts rate [] files = []
+file_texts rate (p ∷ ps) [] = []
+file_texts rate (p ∷ ps) (file ∷ files) = file_text rate p file ∷ file_texts rate ps files
+
+-- what is noted of a file
+abbrev pub file_note : StreamFile → FileNote
+file_note file = record { tokens = file.tokens; clipped = file.clipped; is_misfit = file.is_misfit }
+
+-- what is noted of a run beside its status
+pub record IsNoted (outputs : List Pair) (told : Told) (ran : Ran) : Type 0 where
+  pub notes : ran.notes ≡ told.notes
+  pub outputs_are : ran.outputs.items ≡ outputs
+  pub files : ran.files.items ≡ map file_note told.outputs.items
 
 -- a report goes to standard output, and if a stream goes there to standard error
 abbrev pub reported : List Pair → List ℕ → Effect
@@ -19,9 +62,12 @@ streams_written (p ∷ ps) [] = []
 streams_written (p ∷ ps) (text ∷ texts) = wrote p.file.now text ∷ streams_written ps texts
 
 -- the report, unless it is not wanted, and then the streams
-abbrev pub written_of : Bool → List Pair → Told → List Effect
-written_of true outputs told = streams_written outputs told.outputs.items
-written_of false outputs told = reported outputs (string_bytes told.report) ∷ streams_written outputs told.outputs.items
+abbrev pub told_written : Bool → List Pair → List ℕ → List (List ℕ) → List Effect
+told_written true outputs report texts = streams_written outputs texts
+told_written false outputs report texts = reported outputs report ∷ streams_written outputs texts
+
+abbrev pub written_of : Bool → ℕ → List Pair → Told → List Effect
+written_of is_quiet rate outputs told = told_written is_quiet outputs (string_bytes told.report) (file_texts rate outputs told.outputs.items)
 
 -- what is left where an effect fails
 abbrev pub failure_of : Effect → Effect

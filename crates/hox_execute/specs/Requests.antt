@@ -1,26 +1,34 @@
 -- What is asked for, and the files that are read for it.
-use Rattle.std.specs.Prelude.{◌≡◌, ◌==◌, ◌&&◌, ◌||◌, ◌<◌, ◌⊎◌, not, ℕ, codes, Bool, false, true, List, length, map, Option, IfSome, Result}
-use Rattle.std.specs.List.{AllZip, Any, list_any}
-use Rattle.std.specs.Str.{bytes_eq}
+use Rattle.std.specs.Prelude.{◌≡◌, ◌==◌, ◌&&◌, ◌||◌, ◌<◌, ◌⊎◌, not, ℕ, codes, Bool, false, true, List, length, map, Option, Some, IfSome, Result, Ok, Err}
+use Rattle.std.specs.List.{All, AllZip, Any}
 use Rattle.kpn_model.specs.declared.kinds.Card.{Card}
 use Rattle.kpn_model.specs.declared.kinds.Signature.{Signature}
 use Rattle.kpn_model.specs.Network.{Network}
 use Rattle.hox_network.specs.declared.reading.TheConstants.{LONGEST_FILE}
 use Rattle.hox_network.specs.declared.request.Fault.{Fault}
 use Rattle.hox_network.specs.declared.request.Request.{Request}
-use Rattle.hox_network.specs.declared.request.StreamText.{StreamText}
+use Rattle.hox_network.specs.declared.request.StreamAs.{StreamAs}
 use Rattle.hox_network.specs.declared.request.TokenFile.{TokenFile}
 use Rattle.hox_network.specs.Preparing.{Serves}
-use Rattle.kpn_tokens.specs.declared.layouts.Layout.TheVariants.{Lines}
+use Rattle.kpn_tokens.specs.declared.layouts.Decimals.{Decimals}
+use Rattle.kpn_tokens.specs.declared.layouts.Layout.{Layout}
+use Rattle.hox_format.specs.declared.bodies.Body.{Body}
+use Rattle.hox_format.specs.declared.bodies.HeadFault.{HeadFault}
+use Rattle.hox_format.specs.Bodies.{IsBodyResult, body_bytes}
+use Rattle.hox_format.specs.Forms.{form}
+use Rattle.hox_format.specs.Heads.{layout_of}
+use Rattle.hox_execute.specs.declared.formats.FormatStop.{FormatStop}
+use Rattle.hox_execute.specs.declared.formats.FormatStop.TheVariants.{Head, NoUse, Unknown}
 use Rattle.hox_execute.specs.declared.pairs.Pair.{Pair}
 use Rattle.hox_execute.specs.declared.reading.Asked.{Asked}
 use Rattle.hox_execute.specs.declared.reading.ReadError.{ReadError}
 use Rattle.hox_execute.specs.declared.reading.ReadError.TheVariants.{Failed, TooLong, Memory as NoMemory}
 use Rattle.hox_execute.specs.declared.reading.Wanted.{Wanted}
 use Rattle.hox_execute.specs.declared.stops.Stop.{Stop}
-use Rattle.hox_execute.specs.declared.stops.Stop.TheVariants.{Clash, InputTwice, Memory, NoPair, Refused, Unread, Words}
+use Rattle.hox_execute.specs.declared.stops.Stop.TheVariants.{Clash, Format, InputTwice, Memory, NoPair, Refused, Unread, Words}
 use Rattle.hox_execute.specs.declared.uses.Role.TheVariants.{Tokens}
-use Rattle.hox_execute.specs.Pairs.{ArePairs, IsUnpaired, channels_of, count_standard, is_named_twice}
+use Rattle.hox_execute.specs.Formats.{is_named}
+use Rattle.hox_execute.specs.Pairs.{ArePairs, IsUnpaired, IsUnusable, IsUsable, channels_of, count_standard, is_named_twice}
 use Rattle.hox_execute.specs.Uses.{AreApart, IsMisuse, Used, uses_in}
 
 -- what a command wants of the network of a description, as contracts see it
@@ -29,11 +37,12 @@ pub record Want : Type 0 where
   pub workers : ℕ
   pub budget : Option ℕ
   pub show : List (List ℕ)
+  pub formats : List (List ℕ)
   pub unsigned : List (List ℕ)
   pub is_quiet : Bool
 
 abbrev pub want_of : Wanted → Want
-want_of wanted = record { file = wanted.file.now; workers = wanted.workers; budget = wanted.budget; show = map (λ s. s.now) wanted.show.now; unsigned = map (λ s. s.now) wanted.unsigned.now; is_quiet = wanted.is_quiet }
+want_of wanted = record { file = wanted.file.now; workers = wanted.workers; budget = wanted.budget; show = map (λ s. s.now) wanted.show.now; formats = map (λ s. s.now) wanted.formats.now; unsigned = map (λ s. s.now) wanted.unsigned.now; is_quiet = wanted.is_quiet }
 
 -- something is told on standard output, unless nothing is to be told, or a stream goes there
 abbrev pub is_told : Bool → List Pair → Bool
@@ -49,28 +58,55 @@ IsErrorIn known (Failed error) = Unit {0}
 IsErrorIn known TooLong = IfSome known (λ bytes. LONGEST_FILE < length bytes)
 IsErrorIn known NoMemory = Unit {0}
 
--- the words of a channel are written unsigned: it is named, or all channels are
-abbrev pub is_unsigned : List (List ℕ) → List ℕ → Bool
-is_unsigned names channel = list_any (λ name. bytes_eq name channel || bytes_eq name (codes "all")) names
+-- how the words of a channel are shown
+abbrev pub shown_as : List (List ℕ) → List ℕ → StreamAs Decimals
+shown_as unsigned channel = record { channel = channel; written = record { digits = 0; is_unsigned = is_named unsigned channel } }
 
--- how the stream of a channel is written
-abbrev pub stream_text_of : List (List ℕ) → List ℕ → StreamText
-stream_text_of unsigned channel = record { channel = channel; decimals = record { digits = 0; is_unsigned = is_unsigned unsigned channel } }
+-- how the stream of a channel is written to its file
+abbrev pub written_as : Pair → StreamAs Layout
+written_as pair = record { channel = pair.channel.now; written = layout_of (form pair.format) }
 
 -- what is asked for besides tokens
 pub record AsksRest (want : Want) (outputs : List Pair) (request : Request) : Type 0 where
   pub workers : request.workers ≡ want.workers
   pub budget : request.budget ≡ want.budget
-  pub show : request.show ≡ map (stream_text_of want.unsigned) want.show
-  pub outputs_are : request.outputs ≡ map (stream_text_of want.unsigned) (channels_of outputs)
+  pub show : request.show ≡ map (shown_as want.unsigned) want.show
+  pub outputs_are : request.outputs ≡ map written_as outputs
+
+-- the tokens of a channel are those of the body of these bytes of its file
+pub record IsFileOf (pair : Pair) (bytes : List ℕ) (file : TokenFile) : Type 0 where
+  pub channel : file.channel ≡ pair.channel.now
+  pub body : Body
+  pub told : IsBodyResult (form pair.format) 0 1 bytes true (Ok (Some body))
+  pub layout : file.layout ≡ body.layout
+  pub bytes_are : file.bytes ≡ body_bytes body bytes
+  pub rate : file.rate ≡ body.rate
+
+-- what stands before its tokens is refused, or memory was
+abbrev pub IsHeadFault : Pair → List ℕ → FormatStop → Type 0
+IsHeadFault pair bytes (Head file fault) = (file.now ≡ pair.file.now) × IsBodyResult (form pair.format) 0 1 bytes true (Err fault)
+IsHeadFault pair bytes (Unknown fault) = ⊥
+IsHeadFault pair bytes (NoUse channel) = ⊥
+
+abbrev pub IsNoFileOf : Pair → List ℕ → Stop → Type 0
+IsNoFileOf pair bytes (Format stop) = IsHeadFault pair bytes stop
+IsNoFileOf pair bytes Memory = Unit {0}
+IsNoFileOf pair bytes (NoPair option text) = ⊥
+IsNoFileOf pair bytes InputTwice = ⊥
+IsNoFileOf pair bytes (Clash one other) = ⊥
+IsNoFileOf pair bytes (Unread file error) = ⊥
+IsNoFileOf pair bytes (Refused refusal) = ⊥
+IsNoFileOf pair bytes (Words fault) = ⊥
 
 -- the bytes of each file are given, if they are known
 module _ (contents : List ℕ → Option (List ℕ)) where
+  -- these are the bytes of the file of a pair, if they are known
+  abbrev pub AreBytesOf : Pair → List ℕ → Type 0
+  AreBytesOf pair bytes = IfSome (contents pair.file.now) (λ known. bytes ≡ known)
+
   -- the tokens of a channel are those of its file
-  pub record IsRead (pair : Pair) (file : TokenFile) : Type 0 where
-    pub channel : file.channel ≡ pair.channel.now
-    pub layout : file.layout ≡ Lines (record { digits = 0; is_unsigned = false })
-    pub bytes : IfSome (contents pair.file.now) (λ bytes. file.bytes ≡ bytes)
+  abbrev pub IsRead : Pair → TokenFile → Type 0
+  IsRead pair file = (bytes : List ℕ) × AreBytesOf pair bytes × IsFileOf pair bytes file
 
   -- what is asked for, with what the files of tokens hold
   pub record IsRequest (want : Want) (tokens outputs : List Pair) (request : Request) : Type 0 where
@@ -81,9 +117,14 @@ module _ (contents : List ℕ → Option (List ℕ)) where
   abbrev pub IsReadError : List ℕ → ReadError → Type 0
   IsReadError name error = IsErrorIn (contents name) error
 
-  -- the file of some pair could not be read, or memory was refused
+  -- the file of some pair could not be read, or what stands before its tokens is refused; or memory was refused
+  -- what stands before the tokens of the file of some pair is refused
+  abbrev pub IsHeadless : List Pair → FormatStop → Type 0
+  IsHeadless pairs stop = Any (λ p. (bytes : List ℕ) × AreBytesOf p bytes × IsHeadFault p bytes stop) pairs
+
   abbrev pub IsUnfetched : List Pair → Stop → Type 0
   IsUnfetched pairs (Unread file error) = Any (λ (p : Pair). p.file.now ≡ file.now) pairs × IsReadError file.now error
+  IsUnfetched pairs (Format stop) = IsHeadless pairs stop
   IsUnfetched pairs Memory = Unit {0}
   IsUnfetched pairs (NoPair option text) = ⊥
   IsUnfetched pairs InputTwice = ⊥
@@ -95,19 +136,29 @@ module _ (contents : List ℕ → Option (List ℕ)) where
   module _ (clash : List ℕ → Bool → List ℕ → Bool → Option Bool) (want : Want) (token_texts output_texts : List (List ℕ)) where
     -- the texts name channels and files, standard input once at most, the uses of files stand beside each other, and this is asked for
     pub record IsAsked (asked : Asked) : Type 0 where
-      pub tokens : ArePairs token_texts asked.tokens.items
-      pub outputs : ArePairs output_texts asked.outputs.items
+      pub tokens : ArePairs want.formats want.unsigned token_texts asked.tokens.items
+      pub outputs : ArePairs want.formats want.unsigned output_texts asked.outputs.items
+      pub formats : All (IsUsable asked.tokens.items asked.outputs.items) want.formats
       pub once : is_named_twice want.file asked.tokens.items ≡ false
       pub apart : AreApart clash (uses_asked want asked.tokens.items asked.outputs.items)
       pub request : IsRequest want asked.tokens.items asked.outputs.items asked.request
 
-    -- a text names no file, or standard input is named twice, or two uses of files can't stand beside each other, or a file could not be
+    -- a text names no file, or a text on formats is none or of no use
+    abbrev pub AreUnpaired : Stop → Type 0
+    AreUnpaired stop =
+        IsUnpaired want.formats (codes "tokens") token_texts stop
+        ⊎ (IsUnpaired want.formats (codes "out") output_texts stop
+        ⊎ ((tokens outputs : List Pair) × ArePairs want.formats want.unsigned token_texts tokens × ArePairs want.formats want.unsigned output_texts outputs × IsUnusable want.formats tokens outputs stop))
+
+    -- a text names no file, or no format, or standard input is named twice, or two uses of files can't stand beside each other, or a file could not be
     -- read, or memory was refused
     abbrev pub IsUnasked : Stop → Type 0
-    IsUnasked (NoPair option text) = IsUnpaired (codes "tokens") token_texts (NoPair option text) ⊎ IsUnpaired (codes "out") output_texts (NoPair option text)
-    IsUnasked InputTwice = (tokens : List Pair) × ArePairs token_texts tokens × (is_named_twice want.file tokens ≡ true)
-    IsUnasked (Clash one other) = (tokens outputs : List Pair) × ArePairs token_texts tokens × ArePairs output_texts outputs × IsMisuse clash (uses_asked want tokens outputs) (Clash one other)
-    IsUnasked (Unread file error) = (tokens : List Pair) × ArePairs token_texts tokens × IsUnfetched tokens (Unread file error)
+    IsUnasked (NoPair option text) = AreUnpaired (NoPair option text)
+    IsUnasked (Format stop) = AreUnpaired (Format stop) ⊎ ((tokens : List Pair) × ArePairs want.formats want.unsigned token_texts tokens × IsHeadless tokens stop)
+    IsUnasked InputTwice = (tokens : List Pair) × ArePairs want.formats want.unsigned token_texts tokens × (is_named_twice want.file tokens ≡ true)
+    IsUnasked (Clash one other) =
+        (tokens outputs : List Pair) × ArePairs want.formats want.unsigned token_texts tokens × ArePairs want.formats want.unsigned output_texts outputs × IsMisuse clash (uses_asked want tokens outputs) (Clash one other)
+    IsUnasked (Unread file error) = (tokens : List Pair) × ArePairs want.formats want.unsigned token_texts tokens × IsUnfetched tokens (Unread file error)
     IsUnasked Memory = Unit {0}
     IsUnasked (Refused refusal) = ⊥
     IsUnasked (Words fault) = ⊥

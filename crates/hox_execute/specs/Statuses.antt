@@ -4,21 +4,29 @@ use Rattle.kpn_front.specs.declared.status.Status.{Status}
 use Rattle.kpn_front.specs.declared.status.Status.TheVariants.{Success, WrongArguments, Refused as WasRefused, MemoryRefused}
 use Rattle.hox_args.specs.HoxChoices.{asks_for_hox_help}
 use Rattle.hox_network.specs.Statuses.{status_of_fault}
+use Rattle.hox_execute.specs.declared.formats.FormatStop.{FormatStop}
+use Rattle.hox_execute.specs.declared.formats.FormatStop.TheVariants.{Head, NoUse, Unknown}
 use Rattle.hox_execute.specs.declared.reading.ReadError.{ReadError}
 use Rattle.hox_execute.specs.declared.reading.ReadError.TheVariants.{Failed, TooLong, Memory as NoMemory}
 use Rattle.hox_execute.specs.declared.stops.Stop.{Stop}
-use Rattle.hox_execute.specs.declared.stops.Stop.TheVariants.{Clash, InputTwice, Memory, NoPair, Refused, Unread, Words}
+use Rattle.hox_execute.specs.declared.stops.Stop.TheVariants.{Clash, Format, InputTwice, Memory, NoPair, Refused, Unread, Words}
 
 abbrev pub status_of_unread : ReadError → Status
 status_of_unread NoMemory = MemoryRefused
 status_of_unread (Failed error) = WasRefused
 status_of_unread TooLong = WasRefused
 
+abbrev pub status_of_format : FormatStop → Status
+status_of_format (Unknown fault) = WrongArguments
+status_of_format (NoUse channel) = WrongArguments
+status_of_format (Head file fault) = WasRefused
+
 abbrev pub status_of_stop : Stop → Status
 status_of_stop (Words fault) = if asks_for_hox_help fault then Success else WrongArguments
 status_of_stop (NoPair option text) = WrongArguments
 status_of_stop InputTwice = WrongArguments
 status_of_stop (Clash one other) = WrongArguments
+status_of_stop (Format stop) = status_of_format stop
 status_of_stop (Unread file error) = status_of_unread error
 status_of_stop (Refused refusal) = status_of_fault refusal.fault
 status_of_stop Memory = MemoryRefused

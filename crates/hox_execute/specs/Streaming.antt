@@ -1,6 +1,7 @@
 -- What `hox stream` does, from what is chosen and files to what is written.
-use Rattle.std.specs.Prelude.{◌≡◌, ◌⊎◌, ℕ, codes, Bool, false, true, List, [], map, nat_lt, Option, IfSome, option_map, unwrap_or, Err}
-use Rattle.std.specs.List.{AllZip, Any}
+use Rattle.std.specs.Prelude.{◌≡◌, ◌⊎◌, ℕ, codes, Bool, false, true, List, [], ◌∷◌, map, nat_lt, Option, None, IfSome, option_map, unwrap_or, Err}
+use Rattle.std.specs.List.{All, AllZip, Any}
+use Rattle.std.specs.Io.KnownBytes.{Appends}
 use Rattle.kpn_sketch.specs.declared.fault.NetFault.TheVariants.{Input}
 use Rattle.kpn_sketch.specs.declared.sketch.Sketch.{Sketch}
 use Rattle.kpn_sketch.specs.Description.{Describes}
@@ -21,19 +22,23 @@ use Rattle.hox_stream.specs.Serves.{Serves, new_inlets, new_outs}
 use Rattle.hox_stream.specs.Starts.{IsNoNetwork, IsStarted, IsStreamFault}
 use Rattle.hox_stream.specs.Views.{InletView, OutsView}
 use Rattle.kpn_tokens.specs.declared.layouts.Layout.{Layout}
-use Rattle.kpn_tokens.specs.declared.layouts.Layout.TheVariants.{Lines}
+use Rattle.hox_format.specs.Forms.{form}
+use Rattle.hox_format.specs.Heads.{head_text, layout_of}
+use Rattle.hox_format.specs.Resuming.{IsBegun}
+use Rattle.hox_format.specs.declared.resuming.Begun.{Begun}
 use Rattle.hox_args.specs.declared.arguments.StreamChoice.{StreamChoice}
 use Rattle.hox_execute.specs.declared.pairs.Pair.{Pair}
-use Rattle.hox_execute.specs.declared.stops.Stop.TheVariants.{Clash, InputTwice, Memory, NoPair, Refused as WasRefused, Unread as NotRead, Words}
+use Rattle.hox_execute.specs.declared.stops.Stop.TheVariants.{Clash, Format, InputTwice, Memory, NoPair, Refused as WasRefused, Unread as NotRead, Words}
+use Rattle.hox_execute.specs.declared.stops.Stop.{Stop}
 use Rattle.hox_execute.specs.declared.streaming.Ends.{Ends}
 use Rattle.hox_execute.specs.declared.streaming.StreamStop.{StreamStop}
-use Rattle.hox_execute.specs.declared.streaming.StreamStop.TheVariants.{Asked, OutputTwice, Refused, Unopened as NotOpened, Unread, Unwritten}
+use Rattle.hox_execute.specs.declared.streaming.StreamStop.TheVariants.{Asked, Headless, OutputTwice, Refused, Unopened as NotOpened, Unread, Unwritten}
 use Rattle.hox_execute.specs.declared.streaming.Unopened.{Unopened}
 use Rattle.hox_execute.specs.declared.streaming.Unopened.TheVariants.{Refused as IsRefused, Faulty, Memory as NoMemory}
 use Rattle.hox_execute.specs.declared.uses.Role.TheVariants.{In}
 use Rattle.hox_execute.specs.Files.{standard}
-use Rattle.hox_execute.specs.Pairs.{ArePairs, IsUnpaired, channels_of, count_standard, is_named_twice}
-use Rattle.hox_execute.specs.Requests.{is_unsigned}
+use Rattle.hox_execute.specs.Pairs.{ArePairs, IsUnpaired, IsUnusable, IsUsable, channels_of, count_standard, is_named_twice}
+use Rattle.hox_execute.specs.Reports.{first_rate}
 use Rattle.hox_execute.specs.Uses.{AreApart, IsMisuse, Used, uses_in}
 
 -- the file of a choice, or standard input
@@ -46,6 +51,9 @@ inputs_of choice = map (λ s. s.now) choice.inputs.items
 abbrev pub outputs_of : StreamChoice → List (List ℕ)
 outputs_of choice = map (λ s. s.now) choice.outputs.items
 
+abbrev pub formats_of : StreamChoice → List (List ℕ)
+formats_of choice = map (λ s. s.now) choice.formats.items
+
 abbrev pub unsigned_of : StreamChoice → List (List ℕ)
 unsigned_of choice = map (λ s. s.now) choice.unsigned.items
 
@@ -53,56 +61,89 @@ unsigned_of choice = map (λ s. s.now) choice.unsigned.items
 abbrev pub uses_between : StreamChoice → List Pair → List Pair → List Used
 uses_between choice inputs outputs = uses_in In (file_of choice) inputs outputs false
 
+-- the channels and files of the texts of an option, with how the files have tokens
+abbrev pub ArePairsOf : StreamChoice → List (List ℕ) → List Pair → Type 0
+ArePairsOf choice texts pairs = ArePairs (formats_of choice) (unsigned_of choice) texts pairs
+
+-- a text names no file, or a text on formats is none or of no use
+abbrev pub AreUnpaired : StreamChoice → Stop → Type 0
+AreUnpaired choice stop =
+    IsUnpaired (formats_of choice) (codes "in") (inputs_of choice) stop
+    ⊎ (IsUnpaired (formats_of choice) (codes "out") (outputs_of choice) stop
+    ⊎ ((inputs outputs : List Pair) × ArePairsOf choice (inputs_of choice) inputs × ArePairsOf choice (outputs_of choice) outputs × IsUnusable (formats_of choice) inputs outputs stop))
+
 -- which files can't be used beside each other, if that is known
 module _ (clash : List ℕ → Bool → List ℕ → Bool → Option Bool) (choice : StreamChoice) where
   -- the ends that are chosen: standard input and standard output are named once at most, and the uses of files stand beside each other
   pub record AreEnds (ends : Ends) : Type 0 where
-    pub inputs : ArePairs (inputs_of choice) ends.inputs.items
-    pub outputs : ArePairs (outputs_of choice) ends.outputs.items
+    pub inputs : ArePairsOf choice (inputs_of choice) ends.inputs.items
+    pub outputs : ArePairsOf choice (outputs_of choice) ends.outputs.items
+    pub formats : All (IsUsable ends.inputs.items ends.outputs.items) (formats_of choice)
     pub one_input : is_named_twice (file_of choice) ends.inputs.items ≡ false
     pub one_output : nat_lt 1 (count_standard ends.outputs.items) ≡ false
     pub apart : AreApart clash (uses_between choice ends.inputs.items ends.outputs.items)
 
-  -- why there are none: a text names no file, standard input or standard output is named twice, two uses of files can't stand beside
+  -- why there are none: a text names no file, or no format, standard input or standard output is named twice, two uses of files can't stand beside
   -- each other, or memory was refused
   abbrev pub IsNoEnds : StreamStop → Type 0
-  IsNoEnds (Asked (NoPair option text)) = IsUnpaired (codes "in") (inputs_of choice) (NoPair option text) ⊎ IsUnpaired (codes "out") (outputs_of choice) (NoPair option text)
-  IsNoEnds (Asked InputTwice) = (inputs : List Pair) × ArePairs (inputs_of choice) inputs × (is_named_twice (file_of choice) inputs ≡ true)
+  IsNoEnds (Asked (NoPair option text)) = AreUnpaired choice (NoPair option text)
+  IsNoEnds (Asked (Format stop)) = AreUnpaired choice (Format stop)
+  IsNoEnds (Asked InputTwice) = (inputs : List Pair) × ArePairsOf choice (inputs_of choice) inputs × (is_named_twice (file_of choice) inputs ≡ true)
   IsNoEnds (Asked (Clash one other)) =
-      (inputs outputs : List Pair) × ArePairs (inputs_of choice) inputs × ArePairs (outputs_of choice) outputs × IsMisuse clash (uses_between choice inputs outputs) (Clash one other)
+      (inputs outputs : List Pair) × ArePairsOf choice (inputs_of choice) inputs × ArePairsOf choice (outputs_of choice) outputs × IsMisuse clash (uses_between choice inputs outputs) (Clash one other)
   IsNoEnds (Asked Memory) = Unit {0}
   IsNoEnds (Asked (NotRead file error)) = ⊥
   IsNoEnds (Asked (WasRefused refusal)) = ⊥
   IsNoEnds (Asked (Words fault)) = ⊥
-  IsNoEnds OutputTwice = (outputs : List Pair) × ArePairs (outputs_of choice) outputs × (nat_lt 1 (count_standard outputs) ≡ true)
+  IsNoEnds OutputTwice = (outputs : List Pair) × ArePairsOf choice (outputs_of choice) outputs × (nat_lt 1 (count_standard outputs) ≡ true)
   IsNoEnds (Refused file refused error) = ⊥
   IsNoEnds (NotOpened ends channels fault) = ⊥
+  IsNoEnds (Headless file fault) = ⊥
   IsNoEnds (Unread file error) = ⊥
   IsNoEnds (Unwritten file error) = ⊥
 
--- how tokens are laid out in the files of a stream: one a line, in decimal digits
-abbrev pub lines_of : Bool → Layout
-lines_of is_unsigned = Lines (record { digits = 0; is_unsigned = is_unsigned })
+-- a file that was opened to be read: how its tokens are laid out, how many there are a second if that is told, and what of it is left to
+-- read, if that is known
+pub record Opening : Type 0 where
+  pub layout : Layout
+  pub rate : Option ℕ
+  pub left : Option (List ℕ)
 
--- a file that was opened to be read has what the file holds, if that is known; in one that was opened to be written is nothing
-pub record IsOpened {X : Type 0} (remaining : X → Option (List ℕ)) (has_failed : X → Bool) (contents : List ℕ → Option (List ℕ)) (pair : Pair) (source : LaidOut X) : Type 0 where
-  pub layout : source.layout ≡ lines_of false
-  pub bytes : remaining source.stream ≡ contents pair.file.now
-  pub unfailed : has_failed source.stream ≡ false
+-- what stands before its tokens was read, and what is left are its records
+abbrev pub IsOpening : (List ℕ → Option (List ℕ)) → Pair → Opening → Type 0
+IsOpening contents pair opening = IsBegun (form pair.format) 0 1 (contents pair.file.now) opening.layout opening.rate opening.left
 
-abbrev pub IsEmpty : SinkView → Type 0
-IsEmpty sink = IfSome sink.contents (λ bytes. bytes ≡ [])
+-- what contracts see of a file that was opened
+abbrev pub opening_of : {X : Type 0} → (X → Option (List ℕ)) → Begun X → Opening
+opening_of left begun = record { layout = begun.layout; rate = begun.rate; left = left begun.source }
 
-pub record IsCreated {X : Type 0} (seen : X → SinkView) (unsigned : List (List ℕ)) (pair : Pair) (sink : LaidOut X) : Type 0 where
-  pub layout : sink.layout ≡ lines_of (is_unsigned unsigned pair.channel.now)
-  pub empty : IsEmpty (seen sink.stream)
+pub record IsOpened {X : Type 0} (left : X → Option (List ℕ)) (has_failed : X → Bool) (contents : List ℕ → Option (List ℕ)) (pair : Pair) (begun : Begun X) : Type 0 where
+  pub opening : IsOpening contents pair (opening_of left begun)
+  pub unfailed : has_failed begun.source ≡ false
 
--- a file of some pair can't be opened to be read, or to be written; or memory was refused
+-- the source of a file that was opened
+abbrev pub laid_source : {X : Type 0} → Begun X → LaidOut X
+laid_source begun = record { stream = begun.source; layout = begun.layout }
+
+-- how many samples a second these files tell
+abbrev pub rate_in : List Opening → ℕ
+rate_in openings = first_rate (map (λ (o : Opening). o.rate) openings)
+
+-- in a file that was opened to be written there was nothing, and then what stands before its tokens was written
+pub record IsCreated {X : Type 0} (seen : X → SinkView) (rate : ℕ) (pair : Pair) (sink : LaidOut X) : Type 0 where
+  pub layout : sink.layout ≡ layout_of (form pair.format)
+  pub created : Option (List ℕ)
+  pub empty : IfSome created (λ bytes. bytes ≡ [])
+  pub headed : Appends created (seen sink.stream).contents (head_text (form pair.format) (pair.channel.now ∷ []) rate None)
+
+-- a file of some pair can't be opened to be read, or what stands before its tokens is refused; or it can't be opened to be written; or
+-- memory was refused
 abbrev pub IsOfPair : List Pair → List ℕ → Type 0
 IsOfPair pairs name = Any (λ (p : Pair). p.file.now ≡ name) pairs
 
 abbrev pub IsUnread : List Pair → StreamStop → Type 0
 IsUnread pairs (Unread file error) = IsOfPair pairs file.now
+IsUnread pairs (Headless file fault) = IsOfPair pairs file.now
 IsUnread pairs (Unwritten file error) = ⊥
 IsUnread pairs (Asked stop) = stop ≡ Memory
 IsUnread pairs OutputTwice = ⊥
@@ -111,6 +152,7 @@ IsUnread pairs (NotOpened ends channels fault) = ⊥
 
 abbrev pub IsUnwritten : List Pair → StreamStop → Type 0
 IsUnwritten pairs (Unread file error) = ⊥
+IsUnwritten pairs (Headless file fault) = ⊥
 IsUnwritten pairs (Unwritten file error) = IsOfPair pairs file.now
 IsUnwritten pairs (Asked stop) = stop ≡ Memory
 IsUnwritten pairs OutputTwice = ⊥
@@ -119,25 +161,27 @@ IsUnwritten pairs (NotOpened ends channels fault) = ⊥
 
 abbrev pub IsUnfit : Ends → StreamStop → Type 0
 IsUnfit ends (Unread file error) = IsOfPair ends.inputs.items file.now
+IsUnfit ends (Headless file fault) = IsOfPair ends.inputs.items file.now
 IsUnfit ends (Unwritten file error) = IsOfPair ends.outputs.items file.now
 IsUnfit ends (Asked stop) = stop ≡ Memory
 IsUnfit ends OutputTwice = ⊥
 IsUnfit ends (Refused file refused error) = ⊥
 IsUnfit ends (NotOpened others channels fault) = ⊥
 
--- what the file of a pair holds, if that is known, a token a line
-abbrev pub held_in : (List ℕ → Option (List ℕ)) → Pair → LaidOut (Option (List ℕ))
-held_in contents pair = record { stream = contents pair.file.now; layout = lines_of false }
+-- the sources of a stream at its start, each with what is left of its file
+abbrev pub source_at : Opening → LaidOut (Option (List ℕ))
+source_at opening = record { stream = opening.left; layout = opening.layout }
 
--- the sources of a stream at its start, each with what its file holds
-abbrev pub sources_at : (List ℕ → Option (List ℕ)) → FlowView → List Pair → List InletView
-sources_at contents start pairs = new_inlets (λ (o : Option (List ℕ)). o) (λ _. false) start.network start.inputs (map (held_in contents) pairs)
+abbrev pub sources_at : FlowView → List Opening → List InletView
+sources_at start openings = new_inlets (λ (o : Option (List ℕ)). o) (λ _. false) start.network start.inputs (map source_at openings)
 
--- a stream runs from its start between files to its end; the words of these channels are written unsigned
-pub record RunsBetween (kinds : Family) (contents : List ℕ → Option (List ℕ)) (unsigned : List (List ℕ)) (ends : Ends) (start t : FlowView) (ins : List InletView) (outs : OutsView) (finish : Finish) : Type 0 where
+-- a stream runs from its start between files to its end
+pub record RunsBetween (kinds : Family) (contents : List ℕ → Option (List ℕ)) (ends : Ends) (start t : FlowView) (ins : List InletView) (outs : OutsView) (finish : Finish) : Type 0 where
+  pub openings : List Opening
+  pub opened : AllZip (IsOpening contents) ends.inputs.items openings
   pub sinks : List (LaidOut SinkView)
-  pub created : AllZip (IsCreated (λ (v : SinkView). v) unsigned) ends.outputs.items sinks
-  pub serves : Serves kinds start t (sources_at contents start ends.inputs.items) ins (new_outs (λ (v : SinkView). v) start.outputs sinks []) outs finish
+  pub created : AllZip (IsCreated (λ (v : SinkView). v) (rate_in openings)) ends.outputs.items sinks
+  pub serves : Serves kinds start t (sources_at start openings) ins (new_outs (λ (v : SinkView). v) start.outputs sinks []) outs finish
 
 -- a text is refused as a description
 abbrev pub IsRefusedText : (List ℕ → Option (ℕ × ℕ)) → (Card → Option Signature) → List ℕ → Unopened → Type 0
@@ -213,7 +257,7 @@ module _ (kinds : Family) (named : List ℕ → Option (ℕ × ℕ)) where
           pub chosen : AreEnds clash choice ends
           pub start : FlowView
           pub opens : Opens (file_of choice) ends start
-          pub runs : RunsBetween (both_family kinds exits) contents (unsigned_of choice) ends start t ins outs finish
+          pub runs : RunsBetween (both_family kinds exits) contents ends start t ins outs finish
 
         -- why it is not
         abbrev pub IsStreamStop : StreamStop → Type 0
@@ -221,5 +265,6 @@ module _ (kinds : Family) (named : List ℕ → Option (ℕ × ℕ)) where
         IsStreamStop OutputTwice = IsNoEnds clash choice OutputTwice
         IsStreamStop (Refused file refused error) = (file.now ≡ file_of choice) × IsRefusedIn named signature contents (file_of choice) (IsRefused refused error)
         IsStreamStop (NotOpened ends channels fault) = AreEnds clash choice ends × IsFaulty (file_of choice) ends fault
+        IsStreamStop (Headless file fault) = (ends : Ends) × AreEnds clash choice ends × IsOfPair ends.inputs.items file.now
         IsStreamStop (Unread file error) = (ends : Ends) × AreEnds clash choice ends × IsOfPair ends.inputs.items file.now
         IsStreamStop (Unwritten file error) = (ends : Ends) × AreEnds clash choice ends × IsOfPair ends.outputs.items file.now

@@ -7,7 +7,7 @@ use Rattle.hox_execute.specs.declared.uses.Role.{Role}
 use Rattle.hox_execute.specs.declared.uses.Role.TheVariants.{Description, Tokens, In, Out, Report}
 use Rattle.hox_execute.specs.declared.uses.Use.{Use}
 use Rattle.hox_execute.specs.declared.stops.Stop.{Stop}
-use Rattle.hox_execute.specs.declared.stops.Stop.TheVariants.{Clash, InputTwice, Memory, NoPair, Refused, Unread, Words}
+use Rattle.hox_execute.specs.declared.stops.Stop.TheVariants.{Clash, Format, InputTwice, Memory, NoPair, Refused, Unread, Words}
 use Rattle.hox_execute.specs.Files.{standard}
 
 abbrev pub is_written : Role → Bool
@@ -89,6 +89,7 @@ module _ (clash : List ℕ → Bool → List ℕ → Bool → Option Bool) where
   IsMisuse uses (Clash one other) = IsClash uses (used one) (used other)
   IsMisuse uses Memory = Unit {0}
   IsMisuse uses (NoPair option text) = ⊥
+  IsMisuse uses (Format stop) = ⊥
   IsMisuse uses InputTwice = ⊥
   IsMisuse uses (Unread file error) = ⊥
   IsMisuse uses (Refused refusal) = ⊥

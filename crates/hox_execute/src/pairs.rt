@@ -1,42 +1,41 @@
 //! Arguments that name a channel and a file.
-ghost use Rattle.std.specs.Prelude.{◌≡◌, ◌<◌, ◌⊎◌, map, IfOk, IfErr, IfSome, None, unwrap_or, option_map, length, nat_lt};
-ghost use Rattle.std.specs.List.{AllZip};
+ghost use Rattle.std.specs.Prelude.{◌≡◌, ℕ, List, map, IfOk, IfErr, unwrap_or, option_map, nat_lt};
+ghost use Rattle.std.specs.List.{Contains};
 ghost use Rattle.hox_execute.specs.Files.{standard};
-ghost use Rattle.hox_execute.specs.Pairs.{ArePairs, HasEquals, IsPair, IsUnpaired, count_standard, is_named_twice};
+ghost use Rattle.hox_execute.specs.Pairs.{ArePairs, IsPair, IsUnpaired, count_standard, is_named_twice};
 
+use crate::formats::{Formats, format_for};
 use crate::stops::Stop;
 use hox_args::channel_and_file;
+use hox_format::Format;
 use std::alloc::Global;
 
 /// The name of standard input, and of standard output.
 pub(crate) const STANDARD: &str = "-";
 
-/// A channel, and the name of a file for its tokens.
+/// A channel, the name of a file for its tokens, and how the file has them.
 #[derive(Clone, Copy, Debug)]
 pub struct Pair<'a> {
     pub channel: &'a str,
     pub file: &'a str,
+    pub format: Format<'a>,
 }
 
 /// Returns the pairs that the texts of an option say, each as `CHANNEL=FILE`, in order.
 ///
-/// Errors: the first text that has no `=`; or memory was refused.
+/// Errors: the first text that has no `=`, or of whose file no format can be told; or memory was refused.
 pub fn pairs_of<'a>(
     alloc: Global,
     option: &'a str,
     texts: &[&'a str],
+    formats: Formats<'a, '_>,
 ) -> Result<Vec<Pair<'a>>, Stop<'a>>
-    ensures ok { IfOk result (λ v. ArePairs (map (λ t. t.now) texts.now) v.items) }
-    ensures fault { IfErr result (IsUnpaired option.now (map (λ t. t.now) texts.now)) }
+    ensures ok { IfOk result (λ v. ArePairs (map (λ t. t.now) formats.entry.texts.now) (map (λ s. s.now) formats.entry.unsigned.now) (map (λ t. t.now) texts.now) v.items) }
+    ensures fault { IfErr result (IsUnpaired (map (λ t. t.now) formats.entry.texts.now) option.now (map (λ t. t.now) texts.now)) }
 {
     let mut pairs = Vec::new(alloc);
     for text in texts {
-        let Some(pair) = pair_of(*text) else {
-            return Err(Stop::NoPair {
-                option,
-                text: *text,
-            });
-        };
+        let pair = pair_of(option, *text, formats)?;
         if pairs.push(pair).is_err() {
             return Err(Stop::Memory);
         }
@@ -44,13 +43,26 @@ pub fn pairs_of<'a>(
     Ok(pairs)
 }
 
-/// Reads a text as `CHANNEL=FILE`, if it has a `=`.
-fn pair_of<'a>(text: &'a str) -> Option<Pair<'a>>
-    ensures some { IfSome result (IsPair text.now) }
-    ensures none { result ≡ None → HasEquals text.now → ⊥ }
+/// Reads a text of an option as `CHANNEL=FILE`.
+fn pair_of<'a>(
+    option: &'a str,
+    text: &'a str,
+    formats: Formats<'a, '_>,
+) -> Result<Pair<'a>, Stop<'a>>
+    ensures ok { IfOk result (IsPair (map (λ t. t.now) formats.entry.texts.now) (map (λ s. s.now) formats.entry.unsigned.now) text.now) }
+    ensures fault { (texts : List (List ℕ)) → Contains texts text.now → IfErr result (IsUnpaired (map (λ t. t.now) formats.entry.texts.now) option.now texts) }
 {
-    let (channel, file) = channel_and_file(text)?;
-    Some(Pair { channel, file })
+    let Some((channel, file)) = channel_and_file(text) else {
+        return Err(Stop::NoPair { option, text });
+    };
+    match format_for(formats, channel, file) {
+        Ok(format) => Ok(Pair {
+            channel,
+            file,
+            format,
+        }),
+        Err(stop) => Err(Stop::Format(stop)),
+    }
 }
 
 /// The name of a file, or of standard input if there is none.

@@ -3,32 +3,33 @@ ghost use Rattle.std.specs.Prelude.{◌≡◌, ◌<◌, IfOk, IfErr, IfSome, fal
 ghost use Rattle.std.specs.List.{AllZip};
 ghost use Rattle.hox_execute.specs.Pairs.{channels_of};
 ghost use Rattle.hox_execute.specs.declared.pairs.Pair.{Pair as PairV};
-ghost use Rattle.hox_execute.specs.Requests.{AsksRest, IsAsked, IsErrorIn, IsRead, IsReadError, IsRequest, IsUnasked, IsUnfetched, is_told, is_unsigned, stream_text_of, want_of};
+ghost use Rattle.hox_format.specs.Bodies.{body_bytes};
+ghost use Rattle.hox_execute.specs.Requests.{AsksRest, IsAsked, IsErrorIn, IsFileOf, IsNoFileOf, IsRead, IsReadError, IsRequest, IsUnasked, IsUnfetched, is_told, shown_as, want_of, written_as};
 
 use crate::files::FileSystem;
+use crate::formats::{FormatStop, Formats, check_formats, is_named};
 use crate::pairs::{Pair, count_standard, is_named_twice, pairs_of};
 use crate::stops::Stop;
 use crate::uses::{Role, check_uses};
 use crate::watching::Watched;
-use hox_network::{ReadFault, Request, StreamText, TokenFile, read_whole};
+use hox_format::{Body, body_in, body_of, layout_of};
+use hox_network::{ReadFault, Request, StreamAs, TokenFile, read_whole};
 use kpn_front::Source;
 use kpn_model::{Listed, Text};
 use kpn_tokens::{Decimals, Layout};
 use std::alloc::{AllocError, Global};
 use std::io;
 
-/// The name by which all channels are named.
-const ALL: &str = "all";
-
 /// What a command wants of the network of a description: the name of the description's file, how many workers, which
-/// budget in place of the description's, the streams of which channels in the report, the words of which channels
-/// unsigned, and that nothing is told but what goes through channels.
+/// budget in place of the description's, the streams of which channels in the report, how files have tokens, with the
+/// words of which channels unsigned, and that nothing is told but what goes through channels.
 #[derive(Clone, Copy, Debug)]
 pub(crate) struct Wanted<'a, 'b> {
     pub(crate) file: &'a str,
     pub(crate) workers: usize,
     pub(crate) budget: Option<u64>,
     pub(crate) show: &'b [&'a str],
+    pub(crate) formats: &'b [&'a str],
     pub(crate) unsigned: &'b [&'a str],
     pub(crate) is_quiet: bool,
 }
@@ -52,8 +53,9 @@ pub struct Asked<'a> {
 
 /// Reads what is asked for, with the files of tokens.
 ///
-/// Errors: a text that names no channel and file; standard input that is named twice; two uses of files that can't
-/// stand beside each other; the first file that can't be read; or memory was refused.
+/// Errors: a text that names no channel and file, or no format; a format that is of no use; standard input that is named
+/// twice; two uses of files that can't stand beside each other; the first file that can't be read, or of which what
+/// stands before its tokens is refused; or memory was refused.
 pub(crate) fn asked_of<'a, S: FileSystem>(
     alloc: Global,
     files: &S,
@@ -64,8 +66,13 @@ pub(crate) fn asked_of<'a, S: FileSystem>(
     ensures ok { IfOk result (IsAsked (S.contents files.now) (S.clash files.now) (want_of wanted.entry) (map (λ t. t.now) tokens.now) (map (λ t. t.now) outputs.now)) }
     ensures fault { IfErr result (IsUnasked (S.contents files.now) (S.clash files.now) (want_of wanted.entry) (map (λ t. t.now) tokens.now) (map (λ t. t.now) outputs.now)) }
 {
-    let tokens = pairs_of(alloc, "tokens", tokens)?;
-    let outputs = pairs_of(alloc, "out", outputs)?;
+    let formats = Formats {
+        texts: wanted.formats,
+        unsigned: wanted.unsigned,
+    };
+    let tokens = pairs_of(alloc, "tokens", tokens, formats)?;
+    let outputs = pairs_of(alloc, "out", outputs, formats)?;
+    check_formats(wanted.formats, tokens.as_slice(), outputs.as_slice())?;
     if is_named_twice(wanted.file, tokens.as_slice()) {
         return Err(Stop::InputTwice);
     }
@@ -119,7 +126,7 @@ fn request_with(
     ensures tokens { IfOk result (λ request. request.tokens ≡ files.items) }
     ensures rest { IfOk result (AsksRest (want_of wanted.entry) outputs.now) }
 {
-    let written = written_by(alloc, wanted.unsigned, outputs)?;
+    let written = written_by(alloc, outputs)?;
     let show = shown_by(alloc, wanted.unsigned, wanted.show)?;
     Ok(Request {
         workers: wanted.workers,
@@ -131,56 +138,56 @@ fn request_with(
 }
 
 /// The channels to show, with how the words of each are written.
-fn shown_by(alloc: Global, unsigned: &[&str], show: &[&str]) -> Result<Vec<StreamText>, AllocError>
-    ensures { IfOk result (λ v. v.items ≡ map (stream_text_of (map (λ s. s.now) unsigned.now)) (map (λ s. s.now) show.now)) }
+fn shown_by(
+    alloc: Global,
+    unsigned: &[&str],
+    show: &[&str],
+) -> Result<Vec<StreamAs<Decimals>>, AllocError>
+    ensures { IfOk result (λ v. v.items ≡ map (shown_as (map (λ s. s.now) unsigned.now)) (map (λ s. s.now) show.now)) }
 {
     let mut shown = Vec::new(alloc);
     for name in show {
-        shown.push(stream_text_of(alloc, unsigned, *name)?)?;
+        shown.push(shown_as(alloc, unsigned, *name)?)?;
     }
     Ok(shown)
 }
 
-/// The channels of pairs, with how the words of each are written.
-fn written_by(
-    alloc: Global,
-    unsigned: &[&str],
-    pairs: &[Pair<'_>],
-) -> Result<Vec<StreamText>, AllocError>
-    ensures { IfOk result (λ v. v.items ≡ map (stream_text_of (map (λ s. s.now) unsigned.now)) (channels_of pairs.now)) }
+/// The channels of pairs, with how the file of each has tokens.
+fn written_by(alloc: Global, pairs: &[Pair<'_>]) -> Result<Vec<StreamAs<Layout>>, AllocError>
+    ensures { IfOk result (λ v. v.items ≡ map written_as pairs.now) }
 {
     let mut written = Vec::new(alloc);
     for pair in pairs {
-        written.push(stream_text_of(alloc, unsigned, pair.channel)?)?;
+        written.push(written_as(alloc, pair)?)?;
     }
     Ok(written)
 }
 
-/// A channel, with how its words are written.
-fn stream_text_of(alloc: Global, unsigned: &[&str], channel: &str) -> Result<StreamText, AllocError>
-    ensures { IfOk result (λ text. text ≡ stream_text_of (map (λ s. s.now) unsigned.now) channel.now) }
+/// The channel of a pair, with how its file has tokens.
+fn written_as(alloc: Global, pair: &Pair<'_>) -> Result<StreamAs<Layout>, AllocError>
+    ensures { IfOk result (λ stream. stream ≡ written_as pair.now) }
 {
-    Ok(StreamText {
-        channel: text_of(alloc, channel)?,
-        decimals: decimals_of(unsigned, channel),
+    Ok(StreamAs {
+        channel: text_of(alloc, pair.channel)?,
+        written: layout_of(&pair.format),
     })
 }
 
-/// How the words of a channel are written: with signs, unless it or all channels are named here.
-pub(crate) fn decimals_of(unsigned: &[&str], channel: &str) -> Decimals
-    ensures { result ≡ record { digits = 0; is_unsigned = is_unsigned (map (λ s. s.now) unsigned.now) channel.now } }
+/// A channel to show, with how its words are written: with signs, unless it or all channels are named here.
+fn shown_as(
+    alloc: Global,
+    unsigned: &[&str],
+    channel: &str,
+) -> Result<StreamAs<Decimals>, AllocError>
+    ensures { IfOk result (λ stream. stream ≡ shown_as (map (λ s. s.now) unsigned.now) channel.now) }
 {
-    Decimals {
-        digits: 0,
-        is_unsigned: is_unsigned(unsigned, channel),
-    }
-}
-
-/// Whether a channel is named, or all are.
-fn is_unsigned(names: &[&str], channel: &str) -> bool
-    ensures { result ≡ is_unsigned (map (λ s. s.now) names.now) channel.now }
-{
-    names.iter().any(|name| *name == channel || *name == ALL)
+    Ok(StreamAs {
+        channel: text_of(alloc, channel)?,
+        written: Decimals {
+            digits: 0,
+            is_unsigned: is_named(unsigned, channel),
+        },
+    })
 }
 
 /// The names of the channels of pairs.
@@ -226,7 +233,7 @@ fn token_file<'a, S: FileSystem>(
 {
     let pair = pairs[k];
     match read_file(alloc, files, pair.file) {
-        Ok(bytes) => file_of(alloc, pair.channel, bytes),
+        Ok(bytes) => file_of(alloc, pair, bytes),
         Err(ReadError::Memory) => Err(Stop::Memory),
         Err(error) => Err(Stop::Unread {
             file: pair.file,
@@ -235,19 +242,53 @@ fn token_file<'a, S: FileSystem>(
     }
 }
 
-/// A file of tokens for a channel.
-fn file_of<'a>(alloc: Global, channel: &str, bytes: Vec<u8>) -> Result<TokenFile, Stop<'a>>
-    ensures ok { IfOk result (λ file. (file.channel ≡ channel.now) × (file.layout ≡ Layout.Lines (record { digits = 0; is_unsigned = false })) × (file.bytes ≡ bytes.items)) }
-    ensures fault { IfErr result (λ stop. stop ≡ Stop.Memory) }
+/// The file of tokens of a pair, which has these bytes.
+fn file_of<'a>(alloc: Global, pair: Pair<'a>, bytes: Vec<u8>) -> Result<TokenFile, Stop<'a>>
+    ensures ok { IfOk result (IsFileOf pair.entry bytes.items) }
+    ensures fault { IfErr result (IsNoFileOf pair.entry bytes.items) }
 {
-    match text_of(alloc, channel) {
-        Ok(channel) => Ok(TokenFile {
-            channel,
-            layout: Layout::PLAIN,
-            bytes: Listed::new(bytes),
-        }),
+    let body = match body_in(alloc, &pair.format, 0, 1, bytes.as_slice(), true) {
+        Ok(Ok(Some(body))) => body,
+        Ok(Ok(None)) => unreachable!(),
+        Ok(Err(fault)) => {
+            return Err(Stop::Format(FormatStop::Head {
+                file: pair.file,
+                fault,
+            }));
+        }
+        Err(_) => return Err(Stop::Memory),
+    };
+    match file_with(alloc, pair.channel, &body, bytes) {
+        Ok(file) => Ok(file),
         Err(_) => Err(Stop::Memory),
     }
+}
+
+/// A file of tokens for a channel, with the body of these bytes.
+fn file_with(
+    alloc: Global,
+    channel: &str,
+    body: &Body,
+    bytes: Vec<u8>,
+) -> Result<TokenFile, AllocError>
+    ensures { IfOk result (λ file. file ≡ record { channel = channel.now; layout = body.now.layout; bytes = body_bytes body.now bytes.items; rate = body.now.rate }) }
+{
+    Ok(TokenFile {
+        channel: text_of(alloc, channel)?,
+        layout: body.layout,
+        bytes: Listed::new(body_alone(alloc, body, bytes)?),
+        rate: body.rate,
+    })
+}
+
+/// The bytes of a body alone: those of the file themselves, if it is the whole file.
+fn body_alone(alloc: Global, body: &Body, bytes: Vec<u8>) -> Result<Vec<u8>, AllocError>
+    ensures { IfOk result (λ alone. alone.items ≡ body_bytes body.now bytes.items) }
+{
+    if body.start == 0 && body.size.is_none() {
+        return Ok(bytes);
+    }
+    Vec::from_slice(alloc, body_of(bytes.as_slice(), body))
 }
 
 /// The bytes of a file.

@@ -4,14 +4,15 @@ ghost use Rattle.kpn_model.specs.Network.{family_of};
 ghost use Rattle.hox_network.specs.Preparing.{HasFewWorkers};
 ghost use Rattle.hox_run.specs.Serving.{GivesRun};
 ghost use Rattle.hox_execute.specs.Commands.{HasRun, IsStop};
-ghost use Rattle.hox_execute.specs.Reports.{Writes, written_of};
+ghost use Rattle.hox_execute.specs.Reports.{IsNoted, Writes, rate_of, written_of};
 ghost use Rattle.hox_execute.specs.Requests.{want_of};
 ghost use Rattle.hox_execute.specs.Served.{ServesNamed};
 
 use crate::files::FileSystem;
 use crate::pairs::Pair;
-use crate::reading::{Wanted, asked_of};
+use crate::reading::{Asked, Wanted, asked_of};
 use crate::stops::{Refusal, Stop, Unserved, unopened};
+use crate::texts::{FileNote, file_notes, file_texts, rate_of};
 use crate::watching::Watched;
 use crate::writing::write_told;
 use hox_network::Request;
@@ -23,16 +24,18 @@ use std::rt::Clock;
 use std::sync::Wait;
 use std::thread::Threads;
 
-/// The exit status of a run, and what it left unused.
+/// A run that was made: its exit status, what it left unused, the files of its streams, each beside its channel, and
+/// what was written to each.
 #[derive(Drop)]
-pub(crate) struct Ran {
-    pub(crate) status: Status,
-    pub(crate) notes: Notes,
+pub struct Ran<'a> {
+    pub status: Status,
+    pub notes: Notes,
+    pub outputs: Vec<Pair<'a>>,
+    pub files: Vec<FileNote>,
 }
 
 /// Runs the network that is wanted on the tokens of files, and writes what is told of it: the report, unless it is not
-/// wanted, and each stream to its file. Returns the exit status and what the run left unused. While it runs, `progress`
-/// is told how far it has come.
+/// wanted, and each stream to its file. While it runs, `progress` is told how far it has come.
 ///
 /// Errors: see [`Stop`].
 pub(crate) fn run<'a, K: Computes, S: FileSystem, R: Wait + Clock + Threads + Sync, P: Progress>(
@@ -43,15 +46,15 @@ pub(crate) fn run<'a, K: Computes, S: FileSystem, R: Wait + Clock + Threads + Sy
     tokens: &[&'a str],
     outputs: &[&'a str],
     progress: &P,
-) -> Result<Ran, Stop<'a>>
+) -> Result<Ran<'a>, Stop<'a>>
     requires { (1 ≤ wanted.workers) × (wanted.workers ≤ 16) }
-    ensures done { IfOk result (λ ran. HasRun K.named K.signature (S.contents files.old) (S.clash files.old) (want_of wanted.entry) (map (λ t. t.now) tokens.now) (map (λ t. t.now) outputs.now) (S.is_steady files.old) (S.effects files.old) (S.effects files.new) ran.status (family_of K.start K.answer_of) ran.notes) }
+    ensures done { IfOk result (λ ran. HasRun K.named K.signature (S.contents files.old) (S.clash files.old) (want_of wanted.entry) (map (λ t. t.now) tokens.now) (map (λ t. t.now) outputs.now) (S.is_steady files.old) (S.effects files.old) (S.effects files.new) (family_of K.start K.answer_of) ran) }
     ensures stop { IfErr result (IsStop K.named K.signature (S.contents files.old) (S.clash files.old) (want_of wanted.entry) (map (λ t. t.now) tokens.now) (map (λ t. t.now) outputs.now)) }
     ensures untouched { OnErr result (S.effects files.new ≡ S.effects files.old) }
 {
     let asked = asked_of(alloc, files, wanted, tokens, outputs)?;
     match told_of::<K, S, R, P>(rt, alloc, files, &asked.request, wanted.file, progress) {
-        Ok(told) => Ok(ran_of(files, told, asked.outputs.as_slice(), wanted.is_quiet)),
+        Ok(told) => ran_of(alloc, files, told, asked, wanted.is_quiet),
         Err(Unserved { fault, error }) => Err(Stop::Refused(Refusal {
             file: wanted.file,
             asked,
@@ -61,14 +64,47 @@ pub(crate) fn run<'a, K: Computes, S: FileSystem, R: Wait + Clock + Threads + Sy
     }
 }
 
-/// Writes what is told of a run, and returns its exit status and what it left unused.
-fn ran_of<S: FileSystem>(files: &mut S, told: Told, outputs: &[Pair<'_>], is_quiet: bool) -> Ran
-    ensures writes { Writes told.status (written_of is_quiet outputs.now told) (S.is_steady files.old) (S.effects files.old) (S.effects files.new) result.status }
-    ensures notes { result.notes ≡ told.notes }
+/// Writes what is told of a run.
+///
+/// Errors: memory was refused. Nothing is written then.
+fn ran_of<'a, S: FileSystem>(
+    alloc: Global,
+    files: &mut S,
+    told: Told,
+    asked: Asked<'a>,
+    is_quiet: bool,
+) -> Result<Ran<'a>, Stop<'a>>
+    ensures writes { IfOk result (λ ran. Writes told.status (written_of is_quiet (rate_of asked.entry.request.tokens) asked.entry.outputs.items told) (S.is_steady files.old) (S.effects files.old) (S.effects files.new) ran.status) }
+    ensures notes { IfOk result (IsNoted asked.entry.outputs.items told) }
+    ensures stop { IfErr result (λ stop. stop ≡ Stop.Memory) }
+    ensures untouched { OnErr result (S.effects files.new ≡ S.effects files.old) }
 {
-    let status = write_told(files, &told, outputs, is_quiet);
-    let Told { notes, .. } = told;
-    Ran { status, notes }
+    let Asked {
+        outputs,
+        request,
+        ..
+    } = asked;
+    let rate = rate_of(request.tokens.as_slice());
+    let Told {
+        status,
+        report,
+        outputs: streams,
+        notes,
+    } = told;
+    let Ok(noted) = file_notes(alloc, streams.as_slice()) else {
+        return Err(Stop::Memory);
+    };
+    let Ok(texts) = file_texts(alloc, rate, outputs.as_slice(), streams.as_slice()) else {
+        return Err(Stop::Memory);
+    };
+    let (pairs, texts) = (outputs.as_slice(), texts.as_slice());
+    let status = write_told(files, status, &report, pairs, texts, is_quiet);
+    Ok(Ran {
+        status,
+        notes,
+        outputs,
+        files: noted,
+    })
 }
 
 /// What is told of the run of the network that the description in this file has, as a request wants it. A file that

@@ -16,7 +16,7 @@ use crate::reading::Wanted;
 use crate::running::{Ran, run};
 use crate::stops::Stop;
 use hox_args::{Choice, DrawChoice, RunChoice, StreamChoice, read_words};
-use hox_run::{Notes, Progress};
+use hox_run::Progress;
 use kpn_compute::Computes;
 use kpn_front::Status;
 use kpn_picture::Titled;
@@ -30,9 +30,9 @@ use std::thread::Threads;
 pub enum Outcome<'a> {
     /// All was done, and the program exits with this status: 0, or 7 if a write failed.
     Exits(Status),
-    /// A network was run, and the program exits with this status, that of the verdict, or 7 if a write failed. This is
-    /// what the run left unused.
-    Ran(Status, Notes),
+    /// A network was run, and the program exits with its status: that of the verdict, or 2 if a token does not fit a
+    /// file, or 7 if a write failed.
+    Ran(Ran<'a>),
     /// This stream is to be run, and nothing was done yet.
     Streams(StreamChoice<'a>),
 }
@@ -86,9 +86,9 @@ fn execute_choice<
     ensures untouched { OnErr result (S.effects files.new ≡ S.effects files.old) }
 {
     match choice {
-        Choice::Check { file, tokens } => {
-            let wanted = network_in(file);
-            exits(check::<K, S>(alloc, files, wanted, tokens.as_slice()))
+        Choice::Check(chosen) => {
+            let wanted = network_in(chosen.file, chosen.formats.as_slice());
+            exits(check::<K, S>(alloc, files, wanted, chosen.tokens.as_slice()))
         }
         Choice::Run(run) => has_run(run_choice::<K, S, R, P>(rt, alloc, files, &run, progress)),
         Choice::Draw(draw) => exits(draw_choice::<K, S, R>(rt, alloc, files, &draw)),
@@ -107,24 +107,25 @@ fn exits<'a>(done: Result<Status, Stop<'a>>) -> Result<Outcome<'a>, Stop<'a>>
 }
 
 /// A network was run.
-fn has_run<'a>(done: Result<Ran, Stop<'a>>) -> Result<Outcome<'a>, Stop<'a>>
-    ensures { MatchResult result (λ outcome. (ran : RanV) × (outcome ≡ Outcome.Ran ran.status ran.notes) × (done.entry ≡ Ok ran)) (λ stop. done.entry ≡ Err stop) }
+fn has_run<'a>(done: Result<Ran<'a>, Stop<'a>>) -> Result<Outcome<'a>, Stop<'a>>
+    ensures { MatchResult result (λ outcome. (ran : RanV) × (outcome ≡ Outcome.Ran ran) × (done.entry ≡ Ok ran)) (λ stop. done.entry ≡ Err stop) }
 {
     match done {
-        Ok(Ran { status, notes }) => Ok(Outcome::Ran(status, notes)),
+        Ok(ran) => Ok(Outcome::Ran(ran)),
         Err(stop) => Err(stop),
     }
 }
 
-/// The network in this file is wanted, or on standard input.
-fn network_in<'a, 'b>(file: Option<&'a str>) -> Wanted<'a, 'b>
-    ensures { want_of result ≡ want_in (option_map (λ s. s.now) file.entry) 1 }
+/// The network in this file is wanted, or on standard input, with files that have tokens so.
+fn network_in<'a, 'b>(file: Option<&'a str>, formats: &'b [&'a str]) -> Wanted<'a, 'b>
+    ensures { want_of result ≡ want_in (option_map (λ s. s.now) file.entry) (map (λ s. s.now) formats.entry.now) 1 }
 {
     Wanted {
         file: name_of(file),
         workers: 1,
         budget: None,
         show: &[],
+        formats,
         unsigned: &[],
         is_quiet: false,
     }
@@ -137,9 +138,9 @@ fn run_choice<'a, K: Computes, S: FileSystem, R: Wait + Clock + Threads + Sync, 
     files: &mut S,
     choice: &RunChoice<'a>,
     progress: &P,
-) -> Result<Ran, Stop<'a>>
+) -> Result<Ran<'a>, Stop<'a>>
     requires { (1 ≤ choice.now.workers) × (choice.now.workers ≤ 16) }
-    ensures done { IfOk result (λ ran. RunsChoice (family_of K.start K.answer_of) K.named K.signature (S.contents files.old) (S.clash files.old) (S.is_steady files.old) (S.effects files.old) (S.effects files.new) choice.now ran.status ran.notes) }
+    ensures done { IfOk result (λ ran. RunsChoice (family_of K.start K.answer_of) K.named K.signature (S.contents files.old) (S.clash files.old) (S.is_steady files.old) (S.effects files.old) (S.effects files.new) choice.now ran) }
     ensures stop { IfErr result (IsRunStop K.named K.signature (S.contents files.old) (S.clash files.old) choice.now) }
     ensures untouched { OnErr result (S.effects files.new ≡ S.effects files.old) }
 {
@@ -168,6 +169,7 @@ fn wanted_of<'a, 'b>(choice: &'b RunChoice<'a>) -> Wanted<'a, 'b>
         workers: choice.workers,
         budget: choice.budget,
         show: choice.show.as_slice(),
+        formats: choice.formats.as_slice(),
         unsigned: choice.unsigned.as_slice(),
         is_quiet: choice.quiet,
     }
@@ -190,6 +192,7 @@ fn draw_choice<'a, K: Computes + Titled, S: FileSystem, R: Wait + Clock + Thread
         workers: choice.workers.unwrap_or(1),
         budget: None,
         show: &[],
+        formats: choice.formats.as_slice(),
         unsigned: &[],
         is_quiet: false,
     };

@@ -1,8 +1,9 @@
 //! Why what the arguments ask for is not done.
 ghost use Rattle.std.specs.Prelude.{◌≡◌, Some};
 ghost use Rattle.hox_network.specs.Preparing.{refusal};
-ghost use Rattle.hox_execute.specs.Statuses.{status_of_stop, status_of_unread};
+ghost use Rattle.hox_execute.specs.Statuses.{status_of_format, status_of_stop, status_of_unread};
 
+use crate::formats::FormatStop;
 use crate::reading::{Asked, ReadError};
 use crate::uses::Use;
 use hox_args::WordsFault;
@@ -25,6 +26,8 @@ pub enum Stop<'a> {
     /// is written and what is told. The tokens of one channel are read from two files; or both are written to standard
     /// output; or they are one file, which is written, or one source that gives its bytes once.
     Clash { one: Use<'a>, other: Use<'a> },
+    /// It can't be read how a file has tokens.
+    Format(FormatStop<'a>),
     /// The file of this name, which should have a channel's tokens, could not be read.
     Unread { file: &'a str, error: ReadError },
     /// What is asked for is refused.
@@ -58,10 +61,21 @@ impl<'a> Stop<'a> {
         match self {
             Stop::Words(fault) => fault.status(),
             Stop::NoPair { .. } | Stop::InputTwice | Stop::Clash { .. } => Status::WrongArguments,
+            Stop::Format(stop) => status_of_format(*stop),
             Stop::Unread { error, .. } => status_of_unread(*error),
             Stop::Refused(refusal) => refusal.fault.status(),
             Stop::Memory => Status::MemoryRefused,
         }
+    }
+}
+
+/// The exit status of a program that can't read how a file has tokens.
+fn status_of_format(stop: FormatStop<'_>) -> Status
+    ensures { result ≡ status_of_format stop.entry }
+{
+    match stop {
+        FormatStop::Unknown(_) | FormatStop::NoUse(_) => Status::WrongArguments,
+        FormatStop::Head { .. } => Status::Refused,
     }
 }
 

@@ -1,25 +1,31 @@
 //! Running a network on tokens that come from files, as they come.
-ghost use Rattle.std.specs.Prelude.{◌≡◌, IfOk, IfErr, IfSome, [], map};
-ghost use Rattle.std.specs.List.{AllZip};
+ghost use Rattle.std.specs.Prelude.{◌≡◌, ◌∷◌, [], None, IfOk, IfErr, IfSome, map};
+ghost use Rattle.std.specs.List.{All, AllZip};
+ghost use Rattle.hox_format.specs.Forms.{form};
+ghost use Rattle.hox_format.specs.Heads.{head_text};
+ghost use Rattle.hox_format.specs.Resuming.{left_of, resumed_has_failed};
+ghost use Rattle.hox_execute.specs.Reports.{first_rate};
 ghost use Rattle.kpn_model.specs.Network.{family_of};
 ghost use Rattle.hox_stream.specs.Serves.{Serves, new_inlets, new_outs};
 ghost use Rattle.hox_stream.specs.Views.{outs};
-ghost use Rattle.hox_execute.specs.Pairs.{channels_of};
-ghost use Rattle.hox_execute.specs.Streaming.{AreEnds, IsCreated, IsFaultyBetween, IsNoEnds, IsOpened, IsRefusedIn, IsRefusedText, IsSketchIn, IsSketchOf, IsStreamStop, IsUnfit, IsUnopened, IsUnread, IsUnreadText, IsUnwritten, Opens, RunsBetween, StartsBetween, StreamsBetween};
+ghost use Rattle.hox_execute.specs.Pairs.{IsUsable, channels_of};
+ghost use Rattle.hox_execute.specs.Streaming.{AreEnds, ArePairsOf, AreUnpaired, IsCreated, IsFaultyBetween, IsNoEnds, IsOpened, IsRefusedIn, IsRefusedText, IsSketchIn, IsSketchOf, IsStreamStop, IsUnfit, IsUnopened, IsUnread, IsUnreadText, IsUnwritten, Opens, RunsBetween, StartsBetween, StreamsBetween, formats_of, inputs_of, laid_source, outputs_of};
 
 use crate::files::FileSystem;
+use crate::formats::{Formats, check_formats};
 use crate::pairs::{Pair, is_named_twice, is_written_twice, name_of, pairs_of};
-use crate::reading::{ReadError, decimals_of, names_of, read_file};
+use crate::reading::{ReadError, names_of, read_file};
 use crate::stops::Stop;
+use crate::texts::USUAL_RATE;
 use crate::uses::{Role, check_uses};
 use hox_args::StreamChoice;
+use hox_format::{BeginFault, Begun, HeadFault, Resumed, append_head, begin, layout_of};
 use hox_network::{channel_names, load_by_ports, sketch_by_ports};
 use hox_stream::{Exits, LaidOut, OpenStream, Served, StreamFault, open_stream, serve};
 use kpn_compute::{Both, Computes};
 use kpn_front::{Refused, Sink, Source};
 use kpn_model::{Kinds, Listed, Text};
 use kpn_net::{Net, NetFault, Sketch};
-use kpn_tokens::Layout;
 use std::alloc::{AllocError, Global};
 use std::io;
 
@@ -37,11 +43,12 @@ pub struct Streamed<'a, F: Computes, I: Source, O: Sink> {
     pub served: Served<F, I, O>,
 }
 
-/// Why a stream is not run. Nothing was read of its inputs then, and nothing written.
+/// Why a stream is not run. Of its inputs no more was read then than what stands before their tokens, and a piece of
+/// these, and nothing was written but what stands before tokens.
 #[derive(Drop)]
 pub enum StreamStop<'a> {
-    /// A text names no file, or standard input is named more than once, or two uses of files can't stand beside each
-    /// other, or memory was refused.
+    /// A text names no file, or no format, or standard input is named more than once, or two uses of files can't stand
+    /// beside each other, or memory was refused.
     Asked(Stop<'a>),
     /// Standard output is named more than once.
     OutputTwice,
@@ -58,12 +65,17 @@ pub enum StreamStop<'a> {
         channels: Listed<Text>,
         fault: StreamFault,
     },
-    /// The file of this name could not be opened, to be read.
+    /// The file of this name could not be read, to the first of its tokens.
     Unread {
         file: &'a str,
         error: io::Error,
     },
-    /// The file of this name could not be opened, to be written.
+    /// What stands before the tokens in the file of this name is refused.
+    Headless {
+        file: &'a str,
+        fault: HeadFault,
+    },
+    /// The file of this name could not be opened, to be written, or what stands before its tokens could not be written.
     Unwritten {
         file: &'a str,
         error: io::Error,
@@ -79,14 +91,14 @@ pub fn stream<'a, K: Computes, S: FileSystem>(
     alloc: Global,
     files: &S,
     choice: &StreamChoice<'a>,
-) -> Result<Streamed<'a, Both<K, Exits>, S::Input, S::Output>, StreamStop<'a>>
+) -> Result<Streamed<'a, Both<K, Exits>, Resumed<S::Input>, S::Output>, StreamStop<'a>>
     ensures done { IfOk result (λ s. StreamsBetween (family_of K.start K.answer_of) K.named K.signature (S.contents files.now) (S.clash files.now) choice.now s.ends s.served.flow s.served.inlets.items (outs s.served.outlets.items s.served.tables.items) s.served.finish) }
     ensures stop { IfErr result (IsStreamStop (family_of K.start K.answer_of) K.named K.signature (S.contents files.now) (S.clash files.now) choice.now) }
 {
     let ends = ends_of(alloc, files, choice)?;
     let file = name_of(choice.file);
     match opened::<K, S>(alloc, files, file, &ends) {
-        Ok(start) => run_between(alloc, files, choice.unsigned.as_slice(), ends, start),
+        Ok(start) => run_between(alloc, files, ends, start),
         Err(Unopened::Refused(refused, error)) => Err(StreamStop::Refused {
             file,
             refused,
@@ -110,12 +122,8 @@ fn ends_of<'a, S: FileSystem>(
     ensures ok { IfOk result (AreEnds (S.clash files.now) choice.now) }
     ensures fault { IfErr result (IsNoEnds (S.clash files.now) choice.now) }
 {
-    let inputs = match pairs_of(alloc, "in", choice.inputs.as_slice()) {
-        Ok(inputs) => inputs,
-        Err(stop) => return Err(StreamStop::Asked(stop)),
-    };
-    let outputs = match pairs_of(alloc, "out", choice.outputs.as_slice()) {
-        Ok(outputs) => outputs,
+    let Ends { inputs, outputs } = match named_ends(alloc, choice) {
+        Ok(ends) => ends,
         Err(stop) => return Err(StreamStop::Asked(stop)),
     };
     let file = name_of(choice.file);
@@ -130,6 +138,23 @@ fn ends_of<'a, S: FileSystem>(
         Ok(()) => Ok(Ends { inputs, outputs }),
         Err(stop) => Err(StreamStop::Asked(stop)),
     }
+}
+
+/// The ends that are named, whether or not they can be used beside each other.
+fn named_ends<'a>(alloc: Global, choice: &StreamChoice<'a>) -> Result<Ends<'a>, Stop<'a>>
+    ensures inputs { IfOk result (λ ends. ArePairsOf choice.now (inputs_of choice.now) ends.inputs.items) }
+    ensures outputs { IfOk result (λ ends. ArePairsOf choice.now (outputs_of choice.now) ends.outputs.items) }
+    ensures formats { IfOk result (λ ends. All (IsUsable ends.inputs.items ends.outputs.items) (formats_of choice.now)) }
+    ensures fault { IfErr result (AreUnpaired choice.now) }
+{
+    let formats = Formats {
+        texts: choice.formats.as_slice(),
+        unsigned: choice.unsigned.as_slice(),
+    };
+    let inputs = pairs_of(alloc, "in", choice.inputs.as_slice(), formats)?;
+    let outputs = pairs_of(alloc, "out", choice.outputs.as_slice(), formats)?;
+    check_formats(formats.texts, inputs.as_slice(), outputs.as_slice())?;
+    Ok(Ends { inputs, outputs })
 }
 
 /// Why a stream is not opened: its description is refused, or could not be read for this reason; or the stream of the
@@ -263,24 +288,16 @@ fn channels_in<K: Kinds>(alloc: Global, text: &[u8]) -> Result<Listed<Text>, Uno
 fn run_between<'a, F: Computes, S: FileSystem>(
     alloc: Global,
     files: &S,
-    unsigned: &[&str],
     ends: Ends<'a>,
     start: OpenStream<F>,
-) -> Result<Streamed<'a, F, S::Input, S::Output>, StreamStop<'a>>
-    ensures done { IfOk result (λ s. (s.ends ≡ ends.entry) × RunsBetween (family_of F.start F.answer_of) (S.contents files.now) (map (λ s. s.now) unsigned.now) ends.entry start s.served.flow s.served.inlets.items (outs s.served.outlets.items s.served.tables.items) s.served.finish) }
+) -> Result<Streamed<'a, F, Resumed<S::Input>, S::Output>, StreamStop<'a>>
+    ensures done { IfOk result (λ s. (s.ends ≡ ends.entry) × RunsBetween (family_of F.start F.answer_of) (S.contents files.now) ends.entry start s.served.flow s.served.inlets.items (outs s.served.outlets.items s.served.tables.items) s.served.finish) }
     ensures stop { IfErr result (IsUnfit ends.entry) }
 {
-    match opened_between(alloc, files, unsigned, &ends) {
-        Ok(opened) => run_opened(alloc, ends, start, opened),
-        Err(stop) => Err(stop),
-    }
-}
-
-/// The files of a stream, opened: those from which tokens come, and those to which they go.
-#[derive(Drop)]
-struct OpenFiles<I: Source, O: Sink> {
-    sources: Vec<LaidOut<I>>,
-    sinks: Vec<LaidOut<O>>,
+    let sources = sources_of(alloc, files, ends.inputs.as_slice())?;
+    let rate = rate_of(sources.as_slice());
+    let sinks = sinks_of(alloc, files, ends.outputs.as_slice(), rate)?;
+    run_opened(alloc, ends, start, sources, sinks)
 }
 
 /// Runs a stream from its start between files that were opened.
@@ -288,65 +305,79 @@ fn run_opened<'a, F: Computes, I: Source + Drop, O: Sink + Drop>(
     alloc: Global,
     ends: Ends<'a>,
     start: OpenStream<F>,
-    opened: OpenFiles<I, O>,
-) -> Result<Streamed<'a, F, I, O>, StreamStop<'a>>
-    ensures done { IfOk result (λ s. (s.ends ≡ ends.entry) × Serves (family_of F.start F.answer_of) start s.served.flow (new_inlets I.remaining I.has_failed start.network start.inputs opened.sources.items) s.served.inlets.items (new_outs O.seen start.outputs opened.sinks.items []) (outs s.served.outlets.items s.served.tables.items) s.served.finish) }
+    sources: Vec<Begun<Resumed<I>>>,
+    sinks: Vec<LaidOut<O>>,
+) -> Result<Streamed<'a, F, Resumed<I>, O>, StreamStop<'a>>
+    ensures done { IfOk result (λ s. (s.ends ≡ ends.entry) × Serves (family_of F.start F.answer_of) start s.served.flow (new_inlets (left_of I.remaining) (resumed_has_failed I.has_failed) start.network start.inputs (map laid_source sources.items)) s.served.inlets.items (new_outs O.seen start.outputs sinks.items []) (outs s.served.outlets.items s.served.tables.items) s.served.finish) }
     ensures stop { IfErr result (IsUnfit ends.entry) }
 {
-    match serve(alloc, start, opened.sources, opened.sinks, Vec::new(alloc)) {
+    let Ok(sources) = laid_out(alloc, sources) else {
+        return Err(StreamStop::Asked(Stop::Memory));
+    };
+    match serve(alloc, start, sources, sinks, Vec::new(alloc)) {
         Ok(served) => Ok(Streamed { ends, served }),
         Err(_) => Err(StreamStop::Asked(Stop::Memory)),
     }
 }
 
-/// The files of a stream between these ends, opened; the words of these channels are written unsigned.
-fn opened_between<'a, S: FileSystem>(
+/// The sources of files that were opened.
+fn laid_out<S: Source + Drop>(
     alloc: Global,
-    files: &S,
-    unsigned: &[&str],
-    ends: &Ends<'a>,
-) -> Result<OpenFiles<S::Input, S::Output>, StreamStop<'a>>
-    ensures sources { IfOk result (λ f. AllZip (IsOpened S.Input.remaining S.Input.has_failed (S.contents files.now)) ends.now.inputs.items f.sources.items) }
-    ensures sinks { IfOk result (λ f. AllZip (IsCreated S.Output.seen (map (λ s. s.now) unsigned.now)) ends.now.outputs.items f.sinks.items) }
-    ensures stop { IfErr result (IsUnfit ends.now) }
+    begun: Vec<Begun<S>>,
+) -> Result<Vec<LaidOut<S>>, AllocError>
+    ensures { IfOk result (λ v. v.items ≡ map laid_source begun.items) }
 {
-    Ok(OpenFiles {
-        sources: sources_between(alloc, files, ends)?,
-        sinks: sinks_of(alloc, files, unsigned, ends.outputs.as_slice())?,
-    })
+    let mut sources = Vec::with_capacity(alloc, begun.len())?;
+    for opened in begun {
+        sources.push(laid_source(opened))?;
+    }
+    Ok(sources)
 }
 
-/// The files from which tokens come, opened to be read.
-fn sources_between<'a, S: FileSystem>(
-    alloc: Global,
-    files: &S,
-    ends: &Ends<'a>,
-) -> Result<Vec<LaidOut<S::Input>>, StreamStop<'a>>
-    ensures ok { IfOk result (λ v. AllZip (IsOpened S.Input.remaining S.Input.has_failed (S.contents files.now)) ends.now.inputs.items v.items) }
-    ensures stop { IfErr result (IsUnread ends.now.inputs.items) }
+/// The source of a file that was opened.
+fn laid_source<S>(begun: Begun<S>) -> LaidOut<S>
+    ensures { result ≡ laid_source begun }
 {
-    sources_of(alloc, files, ends.inputs.as_slice())
+    let Begun {
+        source,
+        layout,
+        rate: _,
+    } = begun;
+    LaidOut {
+        stream: source,
+        layout,
+    }
 }
 
-/// The files of these pairs, opened to be read.
+/// How many samples a second the first of these files tells that tells it.
+fn rate_of<S>(sources: &[Begun<S>]) -> u32
+    ensures { result ≡ first_rate (map (λ b. b.rate) sources.now) }
+{
+    for source in sources {
+        if let Some(rate) = source.rate {
+            return rate;
+        }
+    }
+    USUAL_RATE
+}
+
+/// The files of these pairs, opened to be read and read to where their tokens begin.
 fn sources_of<'a, S: FileSystem>(
     alloc: Global,
     files: &S,
     pairs: &[Pair<'a>],
-) -> Result<Vec<LaidOut<S::Input>>, StreamStop<'a>>
-    ensures ok { IfOk result (λ v. AllZip (IsOpened S.Input.remaining S.Input.has_failed (S.contents files.now)) pairs.now v.items) }
+) -> Result<Vec<Begun<Resumed<S::Input>>>, StreamStop<'a>>
+    ensures ok { IfOk result (λ v. AllZip (IsOpened (left_of S.Input.remaining) (resumed_has_failed S.Input.has_failed) (S.contents files.now)) pairs.now v.items) }
     ensures stop { IfErr result (IsUnread pairs.now) }
 {
     let mut sources = Vec::new(alloc);
     for k in 0..pairs.len() {
         let file = pairs[k].file;
-        let source = match files.open(file) {
+        let source = match source_of(alloc, files, &pairs[k]) {
             Ok(source) => source,
-            Err(error) => return Err(StreamStop::Unread { file, error }),
-        };
-        let source = LaidOut {
-            stream: source,
-            layout: Layout::PLAIN,
+            Err(BeginFault::Unread(error)) => return Err(StreamStop::Unread { file, error }),
+            Err(BeginFault::Head(fault)) => return Err(StreamStop::Headless { file, fault }),
+            Err(BeginFault::Memory) => return Err(StreamStop::Asked(Stop::Memory)),
         };
         let Ok(()) = sources.push(source) else {
             return Err(StreamStop::Asked(Stop::Memory));
@@ -355,30 +386,83 @@ fn sources_of<'a, S: FileSystem>(
     Ok(sources)
 }
 
-/// The files of these pairs, opened to be written; the words of these channels are written unsigned.
+/// The file of a pair, opened to be read and read to where its tokens begin.
+fn source_of<S: FileSystem>(
+    alloc: Global,
+    files: &S,
+    pair: &Pair<'_>,
+) -> Result<Begun<Resumed<S::Input>>, BeginFault>
+    ensures { IfOk result (IsOpened (left_of S.Input.remaining) (resumed_has_failed S.Input.has_failed) (S.contents files.now) pair.now) }
+{
+    match files.open(pair.file) {
+        Ok(source) => begin(alloc, source, &pair.format, 0, 1),
+        Err(error) => Err(BeginFault::Unread(error)),
+    }
+}
+
+/// The files of these pairs, opened to be written, with what stands before their tokens.
 fn sinks_of<'a, S: FileSystem>(
     alloc: Global,
     files: &S,
-    unsigned: &[&str],
     pairs: &[Pair<'a>],
+    rate: u32,
 ) -> Result<Vec<LaidOut<S::Output>>, StreamStop<'a>>
-    ensures ok { IfOk result (λ v. AllZip (IsCreated S.Output.seen (map (λ s. s.now) unsigned.now)) pairs.now v.items) }
+    ensures ok { IfOk result (λ v. AllZip (IsCreated S.Output.seen rate) pairs.now v.items) }
     ensures stop { IfErr result (IsUnwritten pairs.now) }
 {
     let mut sinks = Vec::new(alloc);
     for k in 0..pairs.len() {
         let file = pairs[k].file;
-        let sink = match files.create(file) {
+        let sink = match sink_of(alloc, files, &pairs[k], rate) {
             Ok(sink) => sink,
-            Err(error) => return Err(StreamStop::Unwritten { file, error }),
-        };
-        let sink = LaidOut {
-            stream: sink,
-            layout: Layout::Lines(decimals_of(unsigned, pairs[k].channel)),
+            Err(Uncreated::Failed(error)) => return Err(StreamStop::Unwritten { file, error }),
+            Err(Uncreated::Memory) => return Err(StreamStop::Asked(Stop::Memory)),
         };
         let Ok(()) = sinks.push(sink) else {
             return Err(StreamStop::Asked(Stop::Memory));
         };
     }
     Ok(sinks)
+}
+
+/// Why a file was not opened to be written: for this reason, or memory was refused.
+#[derive(Drop)]
+enum Uncreated {
+    Failed(io::Error),
+    Memory,
+}
+
+/// The file of a pair, opened to be written, with what stands before its tokens.
+fn sink_of<S: FileSystem>(
+    alloc: Global,
+    files: &S,
+    pair: &Pair<'_>,
+    rate: u32,
+) -> Result<LaidOut<S::Output>, Uncreated>
+    ensures { IfOk result (IsCreated S.Output.seen rate pair.now) }
+{
+    let Ok(head) = head_of(alloc, pair, rate) else {
+        return Err(Uncreated::Memory);
+    };
+    let mut stream = match files.create(pair.file) {
+        Ok(stream) => stream,
+        Err(error) => return Err(Uncreated::Failed(error)),
+    };
+    match stream.write_all(head.as_slice()) {
+        Ok(()) => Ok(LaidOut {
+            stream,
+            layout: layout_of(&pair.format),
+        }),
+        Err(error) => Err(Uncreated::Failed(error)),
+    }
+}
+
+/// What stands before the tokens in the file of a pair.
+fn head_of(alloc: Global, pair: &Pair<'_>, rate: u32) -> Result<Vec<u8>, AllocError>
+    ensures { IfOk result (λ head. head.items ≡ head_text (form pair.now.format) (pair.now.channel.now ∷ []) rate None) }
+{
+    let mut head = Vec::new(alloc);
+    let names = [pair.channel.as_bytes()];
+    append_head(alloc, &mut head, &pair.format, &names, rate, None)?;
+    Ok(head)
 }

@@ -113,7 +113,7 @@ fn push_uses<'a>(uses: &mut Vec<Use<'a>>, role: Role, pairs: &[Pair<'a>]) -> Res
     ensures { OnOk result (map used uses.new.items ≡ map used uses.old.items ++ map (used_for role) pairs.now) }
 {
     for pair in pairs {
-        let Pair { channel, file } = *pair;
+        let Pair { channel, file, .. } = *pair;
         uses.push(Use {
             role,
             channel,

@@ -1,38 +1,31 @@
 //! Writing a report and streams.
-ghost use Rattle.std.specs.Prelude.{◌≡◌, ◌++◌, true, List, [], ◌∷◌, Option, if◌then◌else◌};
+ghost use Rattle.std.specs.Prelude.{◌≡◌, ◌++◌, true, List, [], ◌∷◌, Option, if◌then◌else◌, string_bytes};
 ghost use Rattle.hox_execute.specs.Files.{Effect, standard, wrote};
-ghost use Rattle.hox_execute.specs.Reports.{Tries, Writes, reported, streams_written, written_of};
+ghost use Rattle.hox_execute.specs.Reports.{Tries, Writes, reported, streams_written, told_written};
 
 use crate::files::FileSystem;
 use crate::pairs::{Pair, STANDARD, is_output_named};
-use hox_run::Told;
 use kpn_front::Status;
 use kpn_model::Listed;
 
-/// Writes what is told of a run: the report, unless it is not wanted, to standard output, or to standard error if
-/// a stream goes to standard output; and each stream to its file, also where another write has failed. Returns the
-/// exit status, which is `WriteFailed` if a write fails.
+/// Writes what is told of a run with this status: the report, unless it is not wanted, to standard output, or to
+/// standard error if a stream goes to standard output; and the text of each stream to its file, also where another
+/// write has failed. Returns the exit status, which is `WriteFailed` if a write fails.
 pub(crate) fn write_told<S: FileSystem>(
     files: &mut S,
-    told: &Told,
+    status: Status,
+    report: &String,
     outputs: &[Pair<'_>],
+    texts: &[Listed<u8>],
     is_quiet: bool,
 ) -> Status
-    ensures { Writes told.now.status (written_of is_quiet outputs.now told.now) (S.is_steady files.old) (S.effects files.old) (S.effects files.new) result }
+    ensures { Writes status (told_written is_quiet outputs.now (string_bytes report.now) texts.now) (S.is_steady files.old) (S.effects files.old) (S.effects files.new) result }
 {
     if is_quiet {
-        return status_if(
-            write_streams(files, outputs, told.outputs.as_slice()),
-            told.status,
-        );
+        return status_if(write_streams(files, outputs, texts), status);
     }
-    let are_written = write_all(
-        files,
-        told.report.as_str(),
-        outputs,
-        told.outputs.as_slice(),
-    );
-    status_if(are_written, told.status)
+    let are_written = write_all(files, report.as_str(), outputs, texts);
+    status_if(are_written, status)
 }
 
 /// Writes a report, and each stream to its file, also where the report could not be written. Returns whether all were

@@ -14,6 +14,10 @@ left_in size held remaining = option_map (sized size) (prepend_known held remain
 abbrev pub left_of : {X : Type 0} → (X → Option (List ℕ)) → Resumed X → Option (List ℕ)
 left_of remaining r = left_in r.left (drop r.next r.held.items) (remaining r.source)
 
+-- the source that is read on
+abbrev pub source_of : {X : Type 0} → Resumed X → X
+source_of r = r.source
+
 -- whether a read of the source has failed
 abbrev pub resumed_has_failed : {X : Type 0} → (X → Bool) → Resumed X → Bool
 resumed_has_failed has_failed r = has_failed r.source

@@ -1,7 +1,7 @@
 //! Files that are read on from where their records begin.
 ghost use Rattle.std.specs.Prelude.{◌≡◌, ◌≤◌, ◌++◌, ℕ, List, false, drop, vec_len, Option, IfOk, OnOk};
 ghost use Rattle.hox_format.specs.Forms.{form};
-ghost use Rattle.hox_format.specs.Resuming.{IsBegun, IsFrontOf, left_in, left_of, resumed_has_failed};
+ghost use Rattle.hox_format.specs.Resuming.{IsBegun, IsFrontOf, left_in, left_of, resumed_has_failed, source_of};
 
 use crate::bodies::{Body, HeadFault, body_in};
 use crate::formats::Format;
@@ -13,6 +13,15 @@ use std::io;
 
 /// How many bytes one read takes at most while a file is begun.
 const PIECE: usize = 4096;
+
+impl<S> Resumed<S> {
+    /// Returns the source that is read on.
+    pub fn source(&self) -> &S
+        ensures { result.now ≡ source_of self.now }
+    {
+        &self.source
+    }
+}
 
 /// A file that was read to where its records begin: what is left of it, how they are laid out, and how many samples a
 /// second there are if that is told.

@@ -19,4 +19,4 @@ pub use names::channel_names;
 pub use preparing::prepare;
 pub use presets::{FileFault, PresetFault};
 pub use reading::{LONGEST_FILE, ReadFault, read_whole};
-pub use request::{Fault, Request, RunFault, StreamText, TokenFile};
+pub use request::{Fault, Request, RunFault, StreamAs, TokenFile};

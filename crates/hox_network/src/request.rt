@@ -8,31 +8,34 @@ use kpn_model::{Listed, Text};
 use kpn_sketch::NetFault;
 use kpn_tokens::{Decimals, Layout};
 
-/// The bytes of a file, and how they are laid out as tokens for the channel of this name.
+/// The bytes of a file, and how they are laid out as tokens for the channel of this name; and how many there are a
+/// second, if the file tells.
 #[derive(Drop)]
 pub struct TokenFile {
     pub channel: Text,
     pub layout: Layout,
     pub bytes: Listed<u8>,
+    pub rate: Option<u32>,
 }
 
-/// A channel whose stream is written as text, and how its words are written.
+/// A channel whose stream is wanted, and how its tokens are written.
 #[derive(Drop)]
-pub struct StreamText {
+pub struct StreamAs<W> {
     pub channel: Text,
-    pub decimals: Decimals,
+    pub written: W,
 }
 
 /// How a described network is to be run: by 1 to 16 workers; with this budget, in entries of a history, in
 /// place of that of the description; with the tokens of these files in its channels at first; with the streams
-/// of these channels in the report; and with the streams of these channels as texts of their own.
+/// of these channels in the report, their words written so; and with the streams of these channels as files of
+/// their own, laid out so.
 #[derive(Drop)]
 pub struct Request {
     pub workers: usize,
     pub budget: Option<u64>,
     pub tokens: Listed<TokenFile>,
-    pub show: Listed<StreamText>,
-    pub outputs: Listed<StreamText>,
+    pub show: Listed<StreamAs<Decimals>>,
+    pub outputs: Listed<StreamAs<Layout>>,
 }
 
 /// Why a request is not done.

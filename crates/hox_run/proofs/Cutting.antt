@@ -15,7 +15,8 @@ use Rattle.kpn_model.specs.Endings.{IsOver}
 use Rattle.kpn_model.specs.History.{each_process, place_of}
 use Rattle.kpn_state.specs.Standings.{standing, is_busy, parked_answer}
 use Rattle.kpn_machine.specs.MachineView.{MachineView, IsFaithful}
-use Rattle.hox_run.specs.declared.shown.ChannelText.{ChannelText}
+use Rattle.kpn_tokens.specs.declared.layouts.Decimals.{Decimals}
+use Rattle.hox_run.specs.declared.shown.ChannelAs.{ChannelAs}
 use Rattle.hox_run.specs.Cuts.{Leaves, after_verdict, left_at}
 use Rattle.hox_run.specs.Telling.{Follows}
 
@@ -37,7 +38,7 @@ leaves_of kinds admits s places faithful are = record {
       (λ idle. at ∙ ap (place_of s.network p) (sym (faithful.wanted p idle)));
 }
 
-module _ (kinds : Family) (net : Network) (show : List ChannelText) where
+module _ (kinds : Family) (net : Network) (show : List (ChannelAs Decimals)) where
   -- what is written after a verdict follows it
   pub follows_from : (cause : End) (E : List Entry) (M : State) (left : ℕ → Option Place) → Leaves kinds net M left → Follows kinds net show cause E M (after_verdict net cause E left show)
   follows_from Budget E M left leaves = (left, leaves, refl)

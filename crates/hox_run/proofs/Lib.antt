@@ -4,3 +4,4 @@ pub mod Progressing
 pub mod Named
 pub mod Served
 pub mod Grown
+pub mod Fitted

@@ -26,12 +26,15 @@ use Rattle.kpn_report.specs.Text.{end_line, digest_text, report_text}
 use Rattle.kpn_verdict.specs.VerdictText.{verdict_line}
 use Rattle.kpn_tokens.specs.declared.layouts.Layout.TheVariants.{Lines}
 use Rattle.kpn_tokens.specs.Records.{record_text}
-use Rattle.hox_run.specs.declared.shown.ChannelText.{ChannelText}
+use Rattle.kpn_tokens.specs.declared.layouts.Decimals.{Decimals}
+use Rattle.kpn_tokens.specs.declared.layouts.Layout.{Layout}
+use Rattle.hox_run.specs.declared.files.StreamFile.{StreamFile}
+use Rattle.hox_run.specs.declared.shown.ChannelAs.{ChannelAs}
 use Rattle.hox_run.specs.Notes.{AreNotes}
 use Rattle.hox_run.specs.declared.telling.Told.{Told}
 use Rattle.hox_run.specs.Cuts.{after_verdict, before_verdict, left_at, tokens_line}
 use Rattle.hox_run.proofs.Cutting.{follows_from, leaves_of, nothing_after, nothing_follows}
-use Rattle.hox_run.specs.Telling.{TellsOf, TellsRun, places_in, status_of_verdict, stream_text}
+use Rattle.hox_run.specs.Telling.{TellsOf, TellsRun, laid_out, places_in, status_with, stream_file}
 
 -- what is said of a network, a history and places is said of equal ones
 pub moved : (P : Network → List Entry → List Place → Type 0) (net m : Network) (E F : List Entry) (places others : List Place) → m ≡ net → F ≡ E → others ≡ places → P m F others → P net E places
@@ -60,17 +63,17 @@ module _ (kinds : Family) (net : Network) where
   over_text Memory E M over = elim over [ ]
 
   -- the streams that are shown of a run that is over, from its digest
-  abbrev shown_of : List ChannelText → Digest → List ℕ
+  abbrev shown_of : List (ChannelAs Decimals) → Digest → List ℕ
   shown_of show d = flat_map (λ c. tokens_line net (codes "stream ") (slice_index_or d.streams c.channel []) c) show
 
-  over_shown : (show : List ChannelText) (cause : End) (E : List Entry) (M : State) → IsOver kinds net M cause → before_verdict net cause E show ≡ shown_of show (digest kinds net cause E M)
+  over_shown : (show : List (ChannelAs Decimals)) (cause : End) (E : List Entry) (M : State) → IsOver kinds net M cause → before_verdict net cause E show ≡ shown_of show (digest kinds net cause E M)
   over_shown show Terminated E M over = refl
   over_shown show Deadlock E M over = refl
   over_shown show Ceiling E M over = refl
   over_shown show Budget E M over = elim over [ ]
   over_shown show Memory E M over = elim over [ ]
 
-  module _ (show outputs : List ChannelText) (told : Told) (one : OneDigest kinds) where
+  module _ (show : List (ChannelAs Decimals)) (outputs : List (ChannelAs Layout)) (told : Told) (one : OneDigest kinds) where
     pub told_of_each : (cause b : End) (E F : List Entry) (M N : State) (verdict : Verdict) → IsFinal kinds net E M cause → IsFinal kinds net F N b
         → TellsOf kinds net show outputs told cause E M verdict → TellsOf kinds net show outputs told b F N verdict
     told_of_each cause b E F M N verdict e f tells =
@@ -80,7 +83,7 @@ module _ (kinds : Family) (net : Network) where
         let texts : report_text kinds net cause E M None ≡ report_text kinds net b F N None = over_text cause E M e.over ∙ ap text_of same ∙ sym (over_text b F N f.over) in
         let shown : before_verdict net cause E show ≡ before_verdict net b F show = over_shown show cause E M e.over ∙ ap (shown_of show) same ∙ sym (over_shown show b F N f.over) in
         let at : (c : ℕ) → stream net E c ≡ stream net F c = λ c. each_stream kinds net (start kinds net) E M e.run c ∙ ap (λ (ss : List (List Token)). get_or ss c []) streams ∙ sym (each_stream kinds net (start kinds net) F N f.run c) in
-        let outs : stream_text net E ≡ stream_text net F = fun_ext (λ c. ap (flat_map (record_text (Lines c.decimals))) (at c.channel)) in
+        let outs : stream_file net E ≡ stream_file net F = fun_ext (λ c. ap (laid_out c.written) (at c.channel)) in
         record {
           judged = subst (λ (d : Digest). IsVerdict net d.places d.cause verdict) same tells.judged;
           status_is = tells.status_is;
@@ -89,17 +92,17 @@ module _ (kinds : Family) (net : Network) where
           report_is = tells.report_is ∙ ap (λ t. t ++ before_verdict net cause E show ++ verdict_line net (places_in kinds net M) verdict ++ tells.after) texts
               ∙ ap (λ t. report_text kinds net b F N None ++ t ++ verdict_line net (places_in kinds net M) verdict ++ tells.after) shown
               ∙ ap (λ (p : List Place). report_text kinds net b F N None ++ before_verdict net b F show ++ verdict_line net p verdict ++ tells.after) places;
-          outputs_are = tells.outputs_are ∙ ap (λ (o : ChannelText → List ℕ). map o outputs) outs;
+          outputs_are = tells.outputs_are ∙ ap (λ (o : ChannelAs Layout → StreamFile). map o outputs) outs;
         }
 
 -- so is what is told of the run of a machine that has ended
 pub told_so :
-    (kinds : Family) (admits : Card → List ℕ → Option Token → Type 0) (s : MachineView) (cause : End) (places : List Place) (verdict : Verdict) (show outputs : List ChannelText) (told : Told)
+    (kinds : Family) (admits : Card → List ℕ → Option Token → Type 0) (s : MachineView) (cause : End) (places : List Place) (verdict : Verdict) (show : List (ChannelAs Decimals)) (outputs : List (ChannelAs Layout)) (told : Told)
     → IsFaithful kinds admits s → TakesLeastRoom kinds s.network s.history s.state → ApproachLeastSolution kinds s.network s.history s.state → AllPrefixComparable kinds → OneDigest kinds
     → s.end ≡ Some cause → places ≡ each_process s.network (λ p. place_of s.network p (parked_answer (standing s.standings p)))
-    → IsVerdict s.network places cause verdict → told.status ≡ status_of_verdict verdict
+    → IsVerdict s.network places cause verdict → told.status ≡ status_with verdict told.outputs.items
     → ((has_report cause ≡ true → places ≡ places_in kinds s.network s.state) → string_bytes told.report ≡ report_text kinds s.network cause s.history s.state None ++ before_verdict s.network cause s.history show ++ verdict_line s.network places verdict ++ after_verdict s.network cause s.history (left_at s.standings places) show)
-    → told.outputs.items ≡ map (stream_text s.network s.history) outputs → AreNotes s.network cause s.history (left_at s.standings places) told.notes → TellsRun kinds s.network show outputs told
+    → told.outputs.items ≡ map (stream_file s.network s.history) outputs → AreNotes s.network cause s.history (left_at s.standings places) told.notes → TellsRun kinds s.network show outputs told
 told_so kinds admits s cause places verdict show outputs told faithful room streams comparable one ended places_are judged status_is report outputs_are notes =
     let net = s.network in
     let here = places_in kinds net s.state in

@@ -16,7 +16,7 @@ use Rattle.kpn_state.specs.Standings.{standing, is_busy}
 use Rattle.kpn_report.specs.Text.{place_text}
 use Rattle.kpn_tokens.specs.declared.layouts.Decimals.{Decimals}
 use Rattle.kpn_tokens.specs.Numbers.{token_text}
-use Rattle.hox_run.specs.declared.shown.ChannelText.{ChannelText}
+use Rattle.hox_run.specs.declared.shown.ChannelAs.{ChannelAs}
 
 -- a cut left each process so: no place is told of one that was ready, as each is that can go on, and else the place at which it
 -- waits, or that it has stopped
@@ -34,7 +34,7 @@ token_part decimals token = codes " " ++ token_text decimals token
 
 module _ (net : Network) where
   -- the network has the channel
-  abbrev pub IsWithin : ChannelText → Type 0
+  abbrev pub IsWithin : {W : Type 0} → ChannelAs W → Type 0
   IsWithin c = c.channel < length net.channels
 
   abbrev pub left_text : Option Place → List ℕ
@@ -45,24 +45,24 @@ module _ (net : Network) where
   left_line left p = codes "process " ++ process_name net p ++ codes " " ++ left_text (left p) ++ codes "\n"
 
   -- a line with these tokens of a channel, which begins with a word
-  abbrev pub tokens_line : List ℕ → List Token → ChannelText → List ℕ
-  tokens_line word tokens c = word ++ channel_name net c.channel ++ flat_map (token_part c.decimals) tokens ++ codes "\n"
+  abbrev pub tokens_line : List ℕ → List Token → ChannelAs Decimals → List ℕ
+  tokens_line word tokens c = word ++ channel_name net c.channel ++ flat_map (token_part c.written) tokens ++ codes "\n"
 
   -- such a line for the stream of each of these channels
-  abbrev pub streams_text : List ℕ → List Entry → List ChannelText → List ℕ
+  abbrev pub streams_text : List ℕ → List Entry → List (ChannelAs Decimals) → List ℕ
   streams_text word E channels = flat_map (λ c. tokens_line word (slice_index_or (each_channel net (λ b. stream net E b)) c.channel []) c) channels
 
   -- the streams of the channels to show, of a run that has a report
-  abbrev pub before_verdict : End → List Entry → List ChannelText → List ℕ
+  abbrev pub before_verdict : End → List Entry → List (ChannelAs Decimals) → List ℕ
   before_verdict Budget E show = []
   before_verdict Memory E show = []
   before_verdict _ E show = streams_text (codes "stream ") E show
 
   -- how a cut left the processes, and the streams so far of the channels to show
-  abbrev pub cut_text : List Entry → (ℕ → Option Place) → List ChannelText → List ℕ
+  abbrev pub cut_text : List Entry → (ℕ → Option Place) → List (ChannelAs Decimals) → List ℕ
   cut_text E left show = lines_upto (left_line left) (length net.processes) ++ streams_text (codes "prefix ") E show
 
   -- the text that follows the verdict
-  abbrev pub after_verdict : End → List Entry → (ℕ → Option Place) → List ChannelText → List ℕ
+  abbrev pub after_verdict : End → List Entry → (ℕ → Option Place) → List (ChannelAs Decimals) → List ℕ
   after_verdict Budget E left show = cut_text E left show
   after_verdict _ E left show = []

@@ -1,6 +1,7 @@
 -- What is told of a run.
-use Rattle.std.specs.Prelude.{◌≡◌, ℕ, true, List, [], ◌++◌, map, Option, None, string_bytes}
-use Rattle.std.specs.List.{flat_map}
+use Rattle.std.specs.Prelude.{◌≡◌, ℕ, Bool, true, false, if◌then◌else◌, List, [], ◌++◌, is_some, length, map, not, take, unwrap_or, Option, None, string_bytes}
+use Rattle.std.specs.List.{flat_map, list_any, position}
+use Rattle.kpn_model.specs.declared.token.Token.{Token}
 use Rattle.kpn_model.specs.declared.history.Entry.{Entry}
 use Rattle.kpn_model.specs.declared.history.End.{End}
 use Rattle.kpn_model.specs.declared.history.End.TheVariants.{Budget}
@@ -18,11 +19,13 @@ use Rattle.kpn_laws.specs.StreamsOfRun.{ApproachLeastSolution}
 use Rattle.kpn_run.specs.Runs.{IsComparable}
 use Rattle.kpn_report.specs.Text.{report_text}
 use Rattle.kpn_verdict.specs.VerdictText.{verdict_line}
-use Rattle.kpn_tokens.specs.declared.layouts.Layout.TheVariants.{Lines}
-use Rattle.kpn_tokens.specs.Records.{record_text}
+use Rattle.kpn_tokens.specs.declared.layouts.Decimals.{Decimals}
+use Rattle.kpn_tokens.specs.declared.layouts.Layout.{Layout}
+use Rattle.kpn_tokens.specs.Records.{clips, fits, misfits, record_text}
 use Rattle.kpn_front.specs.declared.status.Status.{Status}
-use Rattle.kpn_front.specs.declared.status.Status.TheVariants.{Success, BudgetSpent, MemoryRefused, Deadlocked, AtCeiling}
-use Rattle.hox_run.specs.declared.shown.ChannelText.{ChannelText}
+use Rattle.kpn_front.specs.declared.status.Status.TheVariants.{Success, BudgetSpent, MemoryRefused, Deadlocked, AtCeiling, Refused}
+use Rattle.hox_run.specs.declared.shown.ChannelAs.{ChannelAs}
+use Rattle.hox_run.specs.declared.files.StreamFile.{StreamFile}
 use Rattle.hox_run.specs.declared.telling.Told.{Told}
 use Rattle.hox_run.specs.Cuts.{Leaves, before_verdict, cut_text}
 use Rattle.hox_run.specs.Notes.{AreNotes}
@@ -36,9 +39,31 @@ status_of_verdict Cut = BudgetSpent
 status_of_verdict Full = AtCeiling
 status_of_verdict Memory = MemoryRefused
 
--- what went through a channel, its start tokens first, one token a line
-abbrev pub stream_text : Network → List Entry → ChannelText → List ℕ
-stream_text net E c = flat_map (record_text (Lines c.decimals)) (stream net E c.channel)
+-- the place of the first of some tokens that does not fit the layout, unless such ones are clipped
+abbrev pub first_misfit : Layout → List Token → Option ℕ
+first_misfit layout tokens = if clips layout then None else position (λ token. not (fits layout token)) tokens
+
+-- those before it, or all
+abbrev pub fitting : Layout → List Token → List Token
+fitting layout tokens = take (unwrap_or (first_misfit layout tokens) (length tokens)) tokens
+
+-- tokens as records, up to the first that does not fit, and how many of them are clipped
+abbrev pub laid_out : Layout → List Token → StreamFile
+laid_out layout tokens =
+    record {
+      bytes = flat_map (record_text layout) (fitting layout tokens);
+      tokens = length (fitting layout tokens);
+      clipped = if clips layout then misfits layout tokens else 0;
+      is_misfit = is_some (first_misfit layout tokens);
+    }
+
+-- what went through a channel, its start tokens first, as a file
+abbrev pub stream_file : Network → List Entry → ChannelAs Layout → StreamFile
+stream_file net E c = laid_out c.written (stream net E c.channel)
+
+-- the exit status of a run with this verdict, unless a token does not fit a file
+abbrev pub status_with : Verdict → List StreamFile → Status
+status_with verdict files = if list_any (λ (f : StreamFile). f.is_misfit) files then Refused else status_of_verdict verdict
 
 module _ (kinds : Family) (net : Network) where
   -- where the run to M left each process
@@ -46,19 +71,19 @@ module _ (kinds : Family) (net : Network) where
   places_in M = each_process net (λ p. place_of net p (wants kinds net M p))
 
   -- this follows the verdict: of a run that was cut, how it left each process, and the streams so far of the channels to show
-  abbrev pub Follows : List ChannelText → End → List Entry → State → List ℕ → Type 0
+  abbrev pub Follows : List (ChannelAs Decimals) → End → List Entry → State → List ℕ → Type 0
   Follows show Budget E M text = (left : ℕ → Option Place) × Leaves kinds net M left × (text ≡ cut_text net E left show)
   Follows show cause E M text = text ≡ []
 
-  module _ (show outputs : List ChannelText) (told : Told) where
+  module _ (show : List (ChannelAs Decimals)) (outputs : List (ChannelAs Layout)) (told : Told) where
     -- it is told of the run E to M, which ended for this cause, with this verdict on it
     pub record TellsOf (cause : End) (E : List Entry) (M : State) (verdict : Verdict) : Type 0 where
       pub judged : IsVerdict net (places_in M) cause verdict
-      pub status_is : told.status ≡ status_of_verdict verdict
+      pub status_is : told.status ≡ status_with verdict told.outputs.items
       pub after : List ℕ
       pub follows : Follows show cause E M after
       pub report_is : string_bytes told.report ≡ report_text kinds net cause E M None ++ before_verdict net cause E show ++ verdict_line net (places_in M) verdict ++ after
-      pub outputs_are : told.outputs.items ≡ map (stream_text net E) outputs
+      pub outputs_are : told.outputs.items ≡ map (stream_file net E) outputs
 
     -- a run from the start ended for a cause that justifies its end; it took no more room than the network needs, its streams
     -- approach the least solution of the network's equations, and they and those of any other run are prefix-comparable; it is told

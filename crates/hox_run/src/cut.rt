@@ -3,10 +3,11 @@ ghost use Rattle.std.specs.Prelude.{◌≡◌, ◌++◌, ◌<◌, OnOk, length, 
 ghost use Rattle.kpn_model.specs.NamesAndLines.{lines_upto};
 ghost use Rattle.hox_run.specs.Cuts.{after_verdict, left_at, left_line, left_text};
 
-use crate::shown::{ChannelText, channel_name, push_streams};
+use crate::shown::{ChannelAs, channel_name, push_streams};
 use kpn_model::{End, Entry, Kinds, Place};
 use kpn_network::Net;
 use kpn_state::Standing;
+use kpn_tokens::Decimals;
 use std::alloc::{AllocError, Global};
 use std::fmt::Write;
 
@@ -23,7 +24,7 @@ pub(crate) fn push_after_verdict<K: Kinds>(
     standings: &[Standing],
     places: &[Place],
     end: End,
-    show: &[ChannelText],
+    show: &[ChannelAs<Decimals>],
 ) -> Result<(), AllocError>
     ensures { OnOk result (string_bytes out.new ≡ string_bytes out.old ++ after_verdict net.now end history.now (left_at standings.now places.now) show.now) }
 {

@@ -3,6 +3,7 @@
 #![tactic(auto)]
 
 mod cut;
+mod files;
 mod notes;
 mod progress;
 mod running;
@@ -10,9 +11,10 @@ mod serving;
 mod shown;
 mod telling;
 
+pub use files::StreamFile;
 pub use notes::{Notes, SourceNote};
 pub use progress::{Progress, Silent, SoFar};
 pub use running::execute;
 pub use serving::serve;
-pub use shown::ChannelText;
+pub use shown::ChannelAs;
 pub use telling::Told;

@@ -8,7 +8,7 @@ ghost use Rattle.hox_run.specs.Cuts.{IsWithin};
 ghost use Rattle.hox_run.specs.Telling.{TellsRun};
 
 use crate::progress::{OnBoard, Progress, tell_of};
-use crate::shown::ChannelText;
+use crate::shown::ChannelAs;
 use crate::telling::{Told, told_of};
 use hox_network::RunFault;
 use kpn_body::Body;
@@ -17,6 +17,7 @@ use kpn_machine::Machine;
 use kpn_network::Net;
 use kpn_observe::{WatchedFault, WatchedRun, run_watched};
 use kpn_run::{Prompt, RunFault as Fault, run};
+use kpn_tokens::{Decimals, Layout};
 use std::alloc::{AllocError, Global};
 use std::rt::Clock;
 use std::sync::Wait;
@@ -31,7 +32,7 @@ const PERIOD: u64 = 100;
 
 /// Runs a network by 1 to 16 workers, and returns what is told of the run: its exit status, its report with
 /// the verdict on it and the streams of the channels of `show`, and the stream of each channel of
-/// `outputs`, one token a line. A single worker is the calling thread.
+/// `outputs` as a file. A single worker is the calling thread.
 ///
 /// If the run came to its own end, the same is told of each run of the network that is over, whatever the
 /// schedule and the number of workers (Kahn 1974). A run that was cut by its budget gives the streams as far as
@@ -44,8 +45,8 @@ pub fn execute<K: Computes, R: Wait + Clock + Threads + Sync, P: Progress>(
     alloc: Global,
     net: Net<K>,
     workers: usize,
-    show: &[ChannelText],
-    outputs: &[ChannelText],
+    show: &[ChannelAs<Decimals>],
+    outputs: &[ChannelAs<Layout>],
     progress: &P,
 ) -> Result<Told, RunFault>
     requires workers { (1 ≤ workers) × (workers ≤ 16) }
@@ -70,8 +71,8 @@ fn execute_alone<K: Computes, P: Progress>(
     alloc: Global,
     net: Net<K>,
     bodies: Vec<CardBody<K>>,
-    show: &[ChannelText],
-    outputs: &[ChannelText],
+    show: &[ChannelAs<Decimals>],
+    outputs: &[ChannelAs<Layout>],
     progress: &P,
 ) -> Result<Told, AllocError>
     requires within { All (IsWithin net) outputs.now }
@@ -116,8 +117,8 @@ fn execute_by_workers<K: Computes, R: Wait + Clock + Threads + Sync>(
     net: Net<K>,
     bodies: Vec<CardBody<K>>,
     workers: usize,
-    show: &[ChannelText],
-    outputs: &[ChannelText],
+    show: &[ChannelAs<Decimals>],
+    outputs: &[ChannelAs<Layout>],
 ) -> Result<Told, RunFault>
     requires cards { map ⟦<CardBody<K> as Body>⟧.card bodies.items ≡ map (λ p. p.card) net.processes }
     requires workers { (1 < workers) × (workers ≤ 16) }
@@ -142,8 +143,8 @@ fn execute_watched<K: Computes, R: Wait + Clock + Threads + Sync, P: Progress>(
     net: Net<K>,
     bodies: Vec<CardBody<K>>,
     workers: usize,
-    show: &[ChannelText],
-    outputs: &[ChannelText],
+    show: &[ChannelAs<Decimals>],
+    outputs: &[ChannelAs<Layout>],
     progress: &P,
 ) -> Result<Told, RunFault>
     requires cards { map ⟦<CardBody<K> as Body>⟧.card bodies.items ≡ map (λ p. p.card) net.processes }
@@ -168,8 +169,8 @@ fn execute_watched<K: Computes, R: Wait + Clock + Threads + Sync, P: Progress>(
 fn told_of_watched<K: Computes>(
     alloc: Global,
     ran: &WatchedRun<K>,
-    show: &[ChannelText],
-    outputs: &[ChannelText],
+    show: &[ChannelAs<Decimals>],
+    outputs: &[ChannelAs<Layout>],
 ) -> Result<Told, RunFault>
     requires within { All (IsWithin ran.now.machine.network) outputs.now }
     ensures { IfOk result (TellsRun (family_of K.start K.answer_of) ran.now.machine.network show.now outputs.now) }

@@ -9,13 +9,14 @@ ghost use Rattle.hox_run.specs.Serving.{AreNamed, GivesRun, IsNamed, names_of};
 
 use crate::progress::Progress;
 use crate::running::execute;
-use crate::shown::ChannelText;
+use crate::shown::ChannelAs;
 use crate::telling::Told;
-use hox_network::{Fault, Request, RunFault, StreamText, channel_names, prepare};
+use hox_network::{Fault, Request, RunFault, StreamAs, channel_names, prepare};
 use kpn_compute::Computes;
 use kpn_front::Source;
 use kpn_model::{Kinds, Listed, Text};
 use kpn_network::Net;
+use kpn_tokens::{Decimals, Layout};
 use std::alloc::Global;
 use std::rt::Clock;
 use std::sync::Wait;
@@ -76,8 +77,8 @@ fn serve_prepared<K: Computes, R: Wait + Clock + Threads + Sync, P: Progress>(
 fn shown_in<K: Kinds>(
     alloc: Global,
     net: &Net<K>,
-    texts: &[StreamText],
-) -> Result<Vec<ChannelText>, Fault>
+    texts: &[StreamAs<Decimals>],
+) -> Result<Vec<ChannelAs<Decimals>>, Fault>
     ensures named { IfOk result (λ v. AreNamed net.now texts.now v.items) }
     ensures fault { IfErr result (λ e. (e ≡ Fault.Memory) ⊎ ((k : ℕ) × (e ≡ Fault.NoShown k (channel_names net.now)) × LacksChannel net.now (names_of texts.now) k)) }
 {
@@ -88,12 +89,12 @@ fn shown_in<K: Kinds>(
     }
 }
 
-/// The channels whose streams are wanted as texts of their own.
+/// The channels whose streams are wanted as files of their own.
 fn outputs_in<K: Kinds>(
     alloc: Global,
     net: &Net<K>,
-    texts: &[StreamText],
-) -> Result<Vec<ChannelText>, Fault>
+    texts: &[StreamAs<Layout>],
+) -> Result<Vec<ChannelAs<Layout>>, Fault>
     ensures named { IfOk result (λ v. AreNamed net.now texts.now v.items) }
     ensures within { IfOk result (λ v. All (IsWithin net.now) v.items) }
     ensures fault { IfErr result (λ e. (e ≡ Fault.Memory) ⊎ ((k : ℕ) × (e ≡ Fault.NoOutput k (channel_names net.now)) × LacksChannel net.now (names_of texts.now) k)) }
@@ -113,11 +114,11 @@ enum Missing {
 }
 
 /// The channels of these names.
-fn channels_in<K: Kinds>(
+fn channels_in<K: Kinds, W: Copy + Drop>(
     alloc: Global,
     net: &Net<K>,
-    texts: &[StreamText],
-) -> Result<Vec<ChannelText>, Missing>
+    texts: &[StreamAs<W>],
+) -> Result<Vec<ChannelAs<W>>, Missing>
     ensures named { IfOk result (λ v. AreNamed net.now texts.now v.items) }
     ensures within { IfOk result (λ v. All (IsWithin net.now) v.items) }
     ensures missing { IfErr result (λ e. (e ≡ Missing.Memory) ⊎ ((k : ℕ) × (e ≡ Missing.Channel k) × LacksChannel net.now (names_of texts.now) k)) }
@@ -134,16 +135,16 @@ fn channels_in<K: Kinds>(
     Ok(channels)
 }
 
-/// The channel of a name, with how its words are written.
-fn channel_of<K: Kinds>(net: &Net<K>, text: &StreamText) -> Option<ChannelText>
+/// The channel of a name, with how its tokens are written.
+fn channel_of<K: Kinds, W: Copy>(net: &Net<K>, text: &StreamAs<W>) -> Option<ChannelAs<W>>
     ensures named { IfSome result (IsNamed net.now text.now) }
     ensures within { IfSome result (IsWithin net.now) }
     ensures none { IfNone result (number_of_channel net.now text.now.channel ≡ None) }
 {
     let channel = net.find_channel(text.channel.as_str())?;
-    Some(ChannelText {
+    Some(ChannelAs {
         channel,
-        decimals: text.decimals,
+        written: text.written,
     })
 }
 

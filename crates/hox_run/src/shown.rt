@@ -12,11 +12,11 @@ use kpn_tokens::{Decimals, append_token};
 use std::alloc::{AllocError, Global};
 use std::str;
 
-/// A channel whose stream is written as text, and how its words are written.
+/// A channel whose stream is wanted, and how its tokens are written.
 #[derive(Clone, Copy, Debug, PartialEq, Eq)]
-pub struct ChannelText {
+pub struct ChannelAs<W> {
     pub channel: usize,
-    pub decimals: Decimals,
+    pub written: W,
 }
 
 /// Appends, of a run with this end that has a report, a line `stream` for each channel of `show`.
@@ -28,7 +28,7 @@ pub(crate) fn push_before_verdict<K: Kinds>(
     net: &Net<K>,
     history: &[Entry],
     end: End,
-    show: &[ChannelText],
+    show: &[ChannelAs<Decimals>],
 ) -> Result<(), AllocError>
     ensures { OnOk result (string_bytes out.new ≡ string_bytes out.old ++ before_verdict net.now end history.now show.now) }
 {
@@ -48,7 +48,7 @@ pub(crate) fn push_streams<K: Kinds>(
     out: &mut String,
     net: &Net<K>,
     history: &[Entry],
-    channels: &[ChannelText],
+    channels: &[ChannelAs<Decimals>],
     word: &str,
 ) -> Result<(), AllocError>
     ensures { OnOk result (string_bytes out.new ≡ string_bytes out.old ++ streams_text net.now word.now history.now channels.now) }
@@ -65,7 +65,7 @@ fn push_stream<K: Kinds>(
     out: &mut String,
     net: &Net<K>,
     history: &[Entry],
-    channel: ChannelText,
+    channel: ChannelAs<Decimals>,
     word: &str,
 ) -> Result<(), AllocError>
     ensures { OnOk result (string_bytes out.new ≡ string_bytes out.old ++ tokens_line net.now word.now (slice_index_or (each_channel net.now (λ b. stream net.now history.now b)) channel.channel []) channel) }
@@ -80,14 +80,14 @@ fn push_line<K: Kinds>(
     out: &mut String,
     net: &Net<K>,
     tokens: &[Token],
-    channel: ChannelText,
+    channel: ChannelAs<Decimals>,
     word: &str,
 ) -> Result<(), AllocError>
     ensures { OnOk result (string_bytes out.new ≡ string_bytes out.old ++ tokens_line net.now word.now tokens.now channel) }
 {
     out.push_str(word)?;
     out.push_str(channel_name(net, channel.channel))?;
-    push_tokens(alloc, out, channel.decimals, tokens)?;
+    push_tokens(alloc, out, channel.written, tokens)?;
     out.push_str("\n")
 }
 

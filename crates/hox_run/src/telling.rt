@@ -1,38 +1,38 @@
 //! What is told of a run that ended.
-ghost use Rattle.std.specs.Prelude.{◌≡◌, ◌<◌, ◌++◌, ℕ, true, None, IfOk, IsSome, OnOk, length, map, string_bytes};
-ghost use Rattle.std.specs.List.{All, flat_map};
+ghost use Rattle.std.specs.Prelude.{◌≡◌, ◌<◌, ◌++◌, ℕ, true, None, IfOk, IsSome, OnOk, string_bytes};
+ghost use Rattle.std.specs.List.{All, list_any};
 ghost use Rattle.kpn_model.specs.Network.{Family, family_of};
 ghost use Rattle.kpn_model.specs.Semantics.{State};
 ghost use Rattle.kpn_model.specs.Endings.{has_report};
 ghost use Rattle.kpn_model.specs.Verdicts.{IsVerdict};
 ghost use Rattle.kpn_report.specs.Text.{report_text};
 ghost use Rattle.kpn_verdict.specs.VerdictText.{verdict_line};
-ghost use Rattle.kpn_tokens.specs.Records.{record_text};
 ghost use Rattle.hox_run.specs.Cuts.{IsWithin, after_verdict, before_verdict, left_at};
-ghost use Rattle.hox_run.specs.Telling.{TellsRun, places_in, status_of_verdict, stream_text};
+ghost use Rattle.hox_run.specs.Telling.{TellsRun, places_in, status_of_verdict, status_with};
 
 use crate::cut::push_after_verdict;
+use crate::files::{StreamFile, stream_files};
 use crate::notes::{Notes, notes_of};
-use crate::shown::{ChannelText, push_before_verdict};
+use crate::shown::{ChannelAs, push_before_verdict};
 use kpn_front::Status;
 use kpn_laws::{determinacy_of, least_room_of, least_solution_of};
 use kpn_machine::Chronicle;
-use kpn_model::{End, Entry, Kinds, Listed, Place, Token, Verdict};
+use kpn_model::{End, Entry, Kinds, Place, Verdict};
 use kpn_network::Net;
-use kpn_report::{places_of, stream_of, text_of};
+use kpn_report::{places_of, text_of};
 use kpn_state::Standing;
-use kpn_tokens::{Decimals, Layout, append_tokens};
+use kpn_tokens::{Decimals, Layout};
 use kpn_verdict::{verdict_of, verdict_text};
 use std::alloc::{AllocError, Global};
 
 /// What is told of a run: the exit status, the report with the line of the verdict, and for each channel
-/// that was asked for its stream, one token a line; and what the run left unused. The report on a run that was cut
+/// that was asked for its stream as a file; and what the run left unused. The report on a run that was cut
 /// says too where it left each process, and what went so far through the channels to show.
 #[derive(Drop)]
 pub struct Told {
     pub status: Status,
     pub report: String,
-    pub outputs: Vec<Listed<u8>>,
+    pub outputs: Vec<StreamFile>,
     pub notes: Notes,
 }
 
@@ -49,8 +49,8 @@ struct Judged {
 pub(crate) fn told_of<K: Kinds>(
     alloc: Global,
     chronicle: &Chronicle<K>,
-    show: &[ChannelText],
-    outputs: &[ChannelText],
+    show: &[ChannelAs<Decimals>],
+    outputs: &[ChannelAs<Layout>],
 ) -> Result<Told, AllocError>
     requires ended { IsSome chronicle.now.end }
     requires within { All (IsWithin chronicle.now.network) outputs.now }
@@ -67,10 +67,11 @@ pub(crate) fn told_of<K: Kinds>(
     let standings = chronicle.standings();
     let places = places_of(alloc, net, standings)?;
     let judged = judge(alloc, net, history, standings, places.as_slice(), end, show)?;
+    let outputs = stream_files(alloc, net, history, outputs)?;
     Ok(Told {
-        status: status_of(judged.verdict),
+        status: status_with(judged.verdict, outputs.as_slice()),
         report: judged.report,
-        outputs: outputs_of(alloc, net, history, outputs)?,
+        outputs,
         notes: notes_of(alloc, net, history, standings, places.as_slice(), end)?,
     })
 }
@@ -83,7 +84,7 @@ fn judge<K: Kinds>(
     standings: &[Standing],
     places: &[Place],
     end: End,
-    show: &[ChannelText],
+    show: &[ChannelAs<Decimals>],
 ) -> Result<Judged, AllocError>
     ensures verdict { IfOk result (λ judged. IsVerdict net.now places.now end judged.verdict) }
     ensures report { IfOk result (λ judged. (kinds : Family) (M : State) → (has_report end ≡ true → places.now ≡ places_in kinds net.now M) → string_bytes judged.report ≡ report_text kinds net.now end history.now M None ++ before_verdict net.now end history.now show.now ++ verdict_line net.now places.now judged.verdict ++ after_verdict net.now end history.now (left_at standings.now places.now) show.now) }
@@ -113,7 +114,7 @@ fn push_judged<K: Kinds>(
     standings: &[Standing],
     places: &[Place],
     end: End,
-    show: &[ChannelText],
+    show: &[ChannelAs<Decimals>],
     verdict: Verdict,
 ) -> Result<(), AllocError>
     ensures { OnOk result (string_bytes out.new ≡ string_bytes out.old ++ before_verdict net.now end history.now show.now ++ verdict_line net.now places.now verdict ++ after_verdict net.now end history.now (left_at standings.now places.now) show.now) }
@@ -137,46 +138,22 @@ fn push_line<K: Kinds>(
     out.push_str(line.as_str())
 }
 
-/// The streams of these channels, each as a text.
-fn outputs_of<K: Kinds>(
-    alloc: Global,
-    net: &Net<K>,
-    history: &[Entry],
-    channels: &[ChannelText],
-) -> Result<Vec<Listed<u8>>, AllocError>
-    requires { All (IsWithin net.now) channels.now }
-    ensures { IfOk result (λ v. v.items ≡ map (stream_text net.now history.now) channels.now) }
+/// The exit status of a run with this verdict, unless a token does not fit one of these files.
+fn status_with(verdict: Verdict, files: &[StreamFile]) -> Status
+    ensures { result ≡ status_with verdict files.now }
 {
-    let mut outputs = Vec::with_capacity(alloc, channels.len())?;
-    for channel in channels {
-        outputs.push(output_of(alloc, net, history, *channel)?)?;
+    if has_misfit(files) {
+        Status::Refused
+    } else {
+        status_of(verdict)
     }
-    Ok(outputs)
 }
 
-/// The stream of a channel as a text.
-fn output_of<K: Kinds>(
-    alloc: Global,
-    net: &Net<K>,
-    history: &[Entry],
-    channel: ChannelText,
-) -> Result<Listed<u8>, AllocError>
-    requires { IsWithin net.now channel }
-    ensures { IfOk result (λ text. text ≡ stream_text net.now history.now channel) }
+/// Whether a token does not fit one of these files.
+fn has_misfit(files: &[StreamFile]) -> bool
+    ensures { result ≡ list_any (λ f. f.is_misfit) files.now }
 {
-    let tokens = stream_of(alloc, net, history, channel.channel)?;
-    lines_of(alloc, channel.decimals, tokens.as_slice())
-}
-
-/// Tokens as a text, one a line. Each fits, so that it fails for want of memory alone.
-fn lines_of(alloc: Global, decimals: Decimals, tokens: &[Token]) -> Result<Listed<u8>, AllocError>
-    ensures { IfOk result (λ text. text ≡ flat_map (record_text (Layout.Lines decimals)) tokens.now) }
-{
-    let mut lines = Vec::new(alloc);
-    match append_tokens(&mut lines, Layout::Lines(decimals), tokens) {
-        Ok(_) => Ok(Listed::new(lines)),
-        Err(_) => Err(AllocError),
-    }
+    files.iter().any(|file| file.is_misfit)
 }
 
 /// The exit status of a run with this verdict.

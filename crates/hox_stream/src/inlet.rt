@@ -117,6 +117,14 @@ impl<S: Source> Inlet<S> {
         self.is_over
     }
 
+    /// Returns how many bytes were read of which no record was taken: 8,192 at most.
+    pub fn held(&self) -> usize
+        ensures is { result ≡ length self.now.kept }
+        ensures few { result ≤ 8192 }
+    {
+        self.held.len() - self.next
+    }
+
     /// Returns the source. What was read and is not yet said is read no more.
     pub fn source(&self) -> &S
         ensures remaining { S.remaining result.now ≡ self.now.remaining }

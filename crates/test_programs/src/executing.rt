@@ -6,7 +6,7 @@ use crate::drawing::{COUNTER, COUNTER_LINES, drawn};
 use crate::samples::COPY;
 use hox_args::StreamChoice;
 use hox_execute::{
-    FileSystem, Outcome, Role, Stop, StreamStop, count_standard, execute, is_named_twice, pairs_of,
+    FileSystem, Formats, Outcome, Role, Stop, StreamStop, count_standard, execute, is_named_twice, pairs_of,
     stream,
 };
 use hox_network::AllKinds;
@@ -143,7 +143,8 @@ fn push_bytes(trace: &mut String, bytes: &[u8]) -> Result<(), AllocError> {
 /// The exit status, or 9 if a stream is to be run.
 fn status_of(outcome: &Result<Outcome<'_>, Stop<'_>>) -> u8 {
     match outcome {
-        Ok(Outcome::Exits(status) | Outcome::Ran(status, _)) => status.code(),
+        Ok(Outcome::Exits(status)) => status.code(),
+        Ok(Outcome::Ran(ran)) => ran.status.code(),
         Ok(Outcome::Streams(_)) => 9,
         Err(stop) => stop.status().code(),
     }
@@ -293,6 +294,45 @@ fn writes_words_with_signs_or_without(rt: HostRuntime) {
     }
 }
 
+/// Command lines on a table of two rows, with the exit status and what is done: a column of it goes through, into a table
+/// of its own, or as samples of one byte; and none does where a format is unknown or of no use, or does not fit the file.
+static FORMATS: [(&str, u8, &str); 9] = [
+    (
+        "hox run d --tokens x=t --quiet --out y=o --format x=csv,column=temp,delimiter=semicolon --format y=csv,header",
+        0,
+        "> o\ny\n3\n300\n",
+    ),
+    (
+        "hox run d --tokens x=t --quiet --out y=o --format x=csv,column=2,header,delimiter=semicolon --format y=u8",
+        2,
+        "> o\n\u{3}",
+    ),
+    (
+        "hox run d --tokens x=t --quiet --out y=o --format x=csv,column=2,header,delimiter=semicolon --format y=s8,clip",
+        0,
+        "> o\n\u{3}\u{7f}",
+    ),
+    ("hox run d --tokens x=t --out y=o --format x=cvs", 1, ""),
+    ("hox run d --tokens x=t --out y=o --format cvs", 1, ""),
+    ("hox run d --tokens x=t --out y=o --format z=u8", 1, ""),
+    ("hox run d --tokens x=t --out y=o --format x=wav", 2, ""),
+    ("hox check d --tokens x=t --format x=wav", 2, ""),
+    (
+        "hox check d --tokens x=t --format all=csv,column=temp,delimiter=semicolon",
+        0,
+        "> -\nok 3 processes 2 channels\n",
+    ),
+];
+
+#[test]
+fn reads_and_writes_by_formats(rt: HostRuntime) {
+    for (line, status, due) in &FORMATS {
+        let mut memory = memory_of(&rt, COPY);
+        memory.tokens = b"time;temp\n0;3\n1;300\n";
+        does_among(&rt, memory, line, *status, due);
+    }
+}
+
 #[test]
 fn writes_a_picture(rt: HostRuntime) {
     let picture = drawn(&rt, COUNTER_LINES);
@@ -300,14 +340,20 @@ fn writes_a_picture(rt: HostRuntime) {
     does(&rt, COUNTER, "hox draw d", 0, due.as_str());
 }
 
-/// What is written to the one output of a stream from the file of two words to an output of these texts; or why it is
-/// not run.
-fn streamed<R: AllocGlobal + Abort>(rt: &R, input: &'static str, output: &'static str) -> String {
+/// What is written to the one output of a stream from the file of two words to an output of these texts, the files as
+/// this text says; or why it is not run.
+fn streamed<R: AllocGlobal + Abort>(
+    rt: &R,
+    input: &'static str,
+    output: &'static str,
+    format: &'static str,
+) -> String {
     let alloc = rt.alloc();
     let choice = StreamChoice {
         file: None,
         inputs: vec![in alloc; input].expect(rt, "no memory"),
         outputs: vec![in alloc; output].expect(rt, "no memory"),
+        formats: vec![in alloc; format].expect(rt, "no memory"),
         unsigned: Vec::new(alloc),
         quiet: true,
     };
@@ -331,27 +377,35 @@ fn why(stop: &StreamStop<'_>) -> &'static str {
         StreamStop::Unopened { .. } => "unopened",
         StreamStop::Unread { .. } => "unread",
         StreamStop::Unwritten { .. } => "unwritten",
+        StreamStop::Headless { .. } => "headless",
     }
 }
 
 #[test]
 fn streams_from_file_to_file(rt: HostRuntime) {
-    for (input, output, due) in [
-        ("x=t", "y=o", "1\n16\n"),
-        ("x=t", "y", "asked"),
-        ("x=t", "y=t", "clash"),
-        ("x=t", "y=-", "1\n16\n"),
-        ("x=none", "y=o", "unread"),
-        ("z=t", "y=o", "unopened"),
+    for (input, output, format, due) in [
+        ("x=t", "y=o", "all=text", "1\n16\n"),
+        ("x=t", "y", "all=text", "asked"),
+        ("x=t", "y=t", "all=text", "clash"),
+        ("x=t", "y=-", "all=text", "1\n16\n"),
+        ("x=t", "y=o", "y=csv,header", "y\n1\n16\n"),
+        ("x=t", "y=o", "x=wav", "headless"),
+        ("x=t", "y=o", "z=text", "asked"),
+        ("x=none", "y=o", "all=text", "unread"),
+        ("z=t", "y=o", "all=text", "unopened"),
     ] {
-        same(&rt, input, streamed(&rt, input, output).as_str(), due);
+        same(&rt, input, streamed(&rt, input, output, format).as_str(), due);
     }
 }
 
 /// Channels and files that texts name, and how many of them are standard input.
 #[test]
 fn pairs_name_channels_and_files(rt: HostRuntime) {
-    let pairs = pairs_of(rt.alloc(), "in", &["x=-", "z=a=b"]);
+    let formats = Formats {
+        texts: &["z=u8"],
+        unsigned: &[],
+    };
+    let pairs = pairs_of(rt.alloc(), "in", &["x=-", "z=a=b"], formats);
     let Ok(pairs) = pairs else {
         panic!(rt; "refused");
     };

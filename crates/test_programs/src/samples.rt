@@ -4,7 +4,7 @@ ghost use Rattle.std.specs.Prelude.{◌≡◌, ◌≤◌};
 use crate::checks::same;
 use hox_args::{Choice, WordsFault, channel_and_file, read_words};
 use hox_network::{
-    AllKinds, Fault, FileFault, KINDS, PresetFault, Request, StreamText, TokenFile, channel_names,
+    AllKinds, Fault, FileFault, KINDS, PresetFault, Request, StreamAs, TokenFile, channel_names,
     load_by_ports, prepare, read_whole, sketch_by_ports,
 };
 use hox_run::{Notes, Progress, Silent, SoFar, Told, execute, serve};
@@ -66,22 +66,22 @@ fn text_of<R: Abort>(rt: &R, alloc: Global, text: &str) -> Text {
     Text::new(String::from_str(alloc, text).expect(rt, "no memory"))
 }
 
-/// A channel whose stream is wanted, with signs where they are due.
-fn stream_text<R: Abort>(rt: &R, alloc: Global, channel: &str) -> StreamText {
-    StreamText {
+/// A channel whose stream is wanted, and how its tokens are written.
+fn stream_as<R: Abort, W>(rt: &R, alloc: Global, channel: &str, written: W) -> StreamAs<W> {
+    StreamAs {
         channel: text_of(rt, alloc, channel),
-        decimals: Decimals::WHOLE,
+        written,
     }
 }
 
-/// Channels whose streams are wanted.
-fn stream_texts<R: Abort>(rt: &R, alloc: Global, channels: &[&str]) -> Listed<StreamText> {
-    let mut texts = Vec::new(alloc);
+/// Channels whose streams are wanted, with signs where they are due.
+fn streams_as<R: Abort>(rt: &R, alloc: Global, channels: &[&str]) -> Listed<StreamAs<Decimals>> {
+    let mut streams = Vec::new(alloc);
     for channel in channels {
-        let text = stream_text(rt, alloc, *channel);
-        texts.push(text).expect(rt, "no memory");
+        let stream = stream_as(rt, alloc, *channel, Decimals::WHOLE);
+        streams.push(stream).expect(rt, "no memory");
     }
-    Listed::new(texts)
+    Listed::new(streams)
 }
 
 /// What is asked for without a file of tokens.
@@ -104,6 +104,7 @@ fn file_of<R: Abort>(rt: &R, alloc: Global, channel: &str, tokens: &str) -> Toke
         channel: text_of(rt, alloc, channel),
         layout: Layout::PLAIN,
         bytes: Listed::new(bytes),
+        rate: None,
     }
 }
 
@@ -122,7 +123,7 @@ fn asked<R: Abort>(rt: &R, alloc: Global, tokens: &str, workers: usize) -> Reque
     ensures { result.workers ≡ workers }
 {
     let mut request = with_tokens(rt, alloc, tokens, workers);
-    let wanted = stream_text(rt, alloc, "y");
+    let wanted = stream_as(rt, alloc, "y", Layout::PLAIN);
     request.outputs.push(wanted).expect(rt, "no memory");
     request
 }
@@ -153,7 +154,7 @@ fn compare_report<R: Abort>(rt: &R, told: &Told, status: u8, lines: &str) {
 /// Compares the first output.
 fn compare_output<R: Abort>(rt: &R, told: &Told, lines: &str) {
     let y = told.outputs.as_slice().first().expect(rt, "no output");
-    same(rt, "y", y.as_slice(), lines.as_bytes());
+    same(rt, "y", y.bytes.as_slice(), lines.as_bytes());
 }
 
 /// Runs the network by so many workers, and compares what is told.
@@ -175,7 +176,7 @@ fn words_of_a_file_go_through(rt: HostRuntime) {
 #[test]
 fn the_streams_of_two_channels_are_shown(rt: HostRuntime) {
     let mut request = asked(&rt, rt.alloc(), "5\n6\n7\n", 1);
-    request.show = stream_texts(&rt, rt.alloc(), &["y", "x"]);
+    request.show = streams_as(&rt, rt.alloc(), &["y", "x"]);
     let told = told_of(&rt, COPY, &request, &Silent);
     compare_report(&rt, &told, 0, SHOWN_LINES);
 }
@@ -219,7 +220,7 @@ fn words_below_0_are_read_and_written(rt: HostRuntime) {
         "-9223372036854775808\n18446744073709551615\n",
         1,
     );
-    request.show = stream_texts(&rt, rt.alloc(), &["x"]);
+    request.show = streams_as(&rt, rt.alloc(), &["x"]);
     let told = told_of(&rt, COPY, &request, &Silent);
     compare_output(&rt, &told, "-9223372036854775808\n-1\n");
     let has_line = told
@@ -255,7 +256,7 @@ fn shown<R: Abort>(rt: &R, alloc: Global, workers: usize) -> Request
     ensures { result.workers ≡ workers }
 {
     let mut request = plain(alloc, workers);
-    request.show = stream_texts(rt, alloc, &["a", "a"]);
+    request.show = streams_as(rt, alloc, &["a", "a"]);
     request
 }
 
@@ -352,9 +353,9 @@ fn misnamed<R: Abort>(rt: &R, alloc: Global, place: &str) -> Request
             let file = file_of(rt, alloc, "z", "");
             request.tokens.push(file).expect(rt, "no memory");
         }
-        "show" => request.show = stream_texts(rt, alloc, &["y", "z"]),
+        "show" => request.show = streams_as(rt, alloc, &["y", "z"]),
         _ => {
-            let output = stream_text(rt, alloc, "z");
+            let output = stream_as(rt, alloc, "z", Layout::PLAIN);
             request.outputs.push(output).expect(rt, "no memory");
         }
     }

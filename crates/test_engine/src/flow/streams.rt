@@ -245,6 +245,14 @@ fn nothing_waits_after_a_stream(rt: HostRuntime) {
     same(&rt, "waiting", outlet.waiting(), 0);
 }
 
+/// A line that is refused is held with what was read behind it.
+#[test]
+fn what_is_refused_is_held(rt: HostRuntime) {
+    let served = served_of(&rt, rt.alloc(), b"3\nx\n5\n", Layout::PLAIN, Layout::PLAIN);
+    let inlet = served.inlets.as_slice().first().expect(&rt, "no source");
+    same(&rt, "held", inlet.held(), 4);
+}
+
 #[test]
 fn a_line_is_refused(rt: HostRuntime) {
     let fault = Refusal::Fault(RecordFault::NotAWord);

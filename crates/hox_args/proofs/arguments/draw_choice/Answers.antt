@@ -8,6 +8,7 @@ returns-clause-ok c = (
   record {
     file = c.text_in-file.ensures;
     tokens = c.in_ok-tokens.ensures.ok;
+    formats = c.in_ok-formats.ensures.ok;
     direction = rw c.has_flag.ensures at c.direction_of-direction.ensures;
     count = c.in_ok-count.count;
     read = rw c.text_in.ensures at c.in_ok-count.ensures.ok;

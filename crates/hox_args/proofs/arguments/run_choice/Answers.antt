@@ -9,6 +9,7 @@ returns-clause-ok c = (
     file = c.text_in-file.ensures;
     tokens = c.in_ok-tokens.ensures.ok;
     outputs = c.in_ok-outputs.ensures.ok;
+    formats = c.in_ok-formats.ensures.ok;
     show = c.in_ok-show.ensures.ok;
     unsigned = c.in_ok-unsigned.ensures.ok;
     budget = rw c.text_in-2.ensures at c.in_ok-budget.ensures.ok;

@@ -9,6 +9,7 @@ returns-clause-ok c = (
     file = c.text_in-file.ensures;
     inputs = c.in_ok-inputs.ensures.ok;
     outputs = c.in_ok-written.ensures.ok;
+    formats = c.in_ok-formats.ensures.ok;
     unsigned = c.in_ok-texts_in.ensures.ok;
     quiet = c.has_flag.ensures;
   },

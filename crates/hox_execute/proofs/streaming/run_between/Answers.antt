@@ -1,23 +1,41 @@
 -- The sources and sinks are the files that were opened.
-use Rattle.std.proofs.Common.{◌≡◌, map}
+use Rattle.std.proofs.Common.{◌≡◌, ap, map, subst, ◌∙◌}
 use Rattle.std.proofs.lemmas.Result.{IfOk-weaker}
+use Rattle.std.specs.List.{AllZip}
 use Rattle.kpn_model.specs.Network.{family_of}
 use Rattle.hox_stream.specs.Views.{outs}
-use Rattle.hox_execute.specs.Streaming.{RunsBetween}
-use Rattle.hox_execute.proofs.Sources.{all_created, same_sinks, same_sources, seen_in}
+use Rattle.hox_format.specs.Resuming.{left_of, resumed_has_failed}
+use Rattle.hox_execute.specs.Reports.{first_rate}
+use Rattle.hox_execute.specs.Streaming.{IsCreated, IsOpened, RunsBetween, opening_of, rate_in}
+use Rattle.hox_execute.proofs.Sources.{all_created, all_opened, same_rate, same_sinks, same_sources, seen_in}
 use Rattle.hox_execute.proofs.streaming.run_between.Goals as goal
 
-pub returns-in-Ok-clause-done : goal.returns-in-Ok-clause-done
-returns-in-Ok-clause-done g c =
+pub returns-clause-done : goal.returns-clause-done
+returns-clause-done g c =
     let kinds = family_of g.F.Kinds.start g.F.Kinds.answer_of in
     let contents = g.S.FileSystem.contents c.args.files.now in
     let seen = g.S.Output.Sink.seen in
+    let left = left_of g.S.Input.Source.remaining in
+    let failed = resumed_has_failed g.S.Input.Source.has_failed in
     let start = c.args.start in
     let ends = c.args.ends in
-    let unsigned = map (λ s. s.now) c.args.unsigned.now in
-    let opened = c.in-Ok.opened in
-    let ins = same_sources g.S.Input.Source.remaining g.S.Input.Source.has_failed contents start.network start.inputs ends.inputs.items opened.sources.items c.in-Ok.ensures.sources in
-    let sinks = same_sinks seen start.outputs opened.sinks.items in
-    let created = all_created seen unsigned ends.outputs.items opened.sinks.items c.in-Ok.ensures.sinks in
-    IfOk-weaker c.run_opened.result _ (λ s. (s.ends ≡ ends) × RunsBetween kinds contents unsigned ends start s.served.flow s.served.inlets.items (outs s.served.outlets.items s.served.tables.items) s.served.finish)
-    (λ s h. (h.0, record { sinks = map (seen_in seen) opened.sinks.items; created = created; serves = rw (ins, sinks) at h.1 })) c.run_opened.ensures.done
+    let sources = c.in_ok-sources.sources.items in
+    let sinks = c.in_ok-sinks.sinks.items in
+    let opened = subst (λ l. AllZip (IsOpened left failed contents) l sources) c.as_slice.ensures.value c.in_ok-sources.ensures.ok in
+    let ins = same_sources left failed contents start.network start.inputs ends.inputs.items sources opened in
+    let written_to = same_sinks seen start.outputs sinks in
+    let rate : c.rate_of-rate.result ≡ rate_in (map (opening_of left) sources) = c.rate_of-rate.ensures ∙ ap (λ l. first_rate (map (λ b. b.rate) l)) c.as_slice-2.ensures.value ∙ same_rate left failed contents sources in
+    let written = subst (λ l. AllZip (IsCreated seen c.rate_of-rate.result) l sinks) c.as_slice-3.ensures.value c.in_ok-sinks.ensures.ok in
+    let created = subst (λ r. AllZip (IsCreated seen r) ends.outputs.items sinks) rate written in
+    IfOk-weaker c.run_opened.result _ (λ s. (s.ends ≡ ends) × RunsBetween kinds contents ends start s.served.flow s.served.inlets.items (outs s.served.outlets.items s.served.tables.items) s.served.finish)
+    (λ s h. (
+      h.0,
+      record {
+        openings = map (opening_of left) sources;
+        opened = all_opened left failed contents ends.inputs.items sources opened;
+        sinks = map (seen_in seen) sinks;
+        created = all_created seen (rate_in (map (opening_of left) sources)) ends.outputs.items sinks created;
+        serves = rw (ins, written_to) at h.1;
+      },
+    ))
+    c.run_opened.ensures.done

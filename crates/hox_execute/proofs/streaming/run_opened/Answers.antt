@@ -1,6 +1,6 @@
--- There are no files of several channels.
+-- The sources are those of the files that were opened, and there are no files of several channels.
 use Rattle.std.proofs.Common.{refl}
 use Rattle.hox_execute.proofs.streaming.run_opened.Goals as goal
 
-pub returns-in-Ok-clause-done : goal.returns-in-Ok-clause-done
-returns-in-Ok-clause-done g c = (refl, rw (c.new.ensures.items) at c.in-Ok.ensures)
+pub returns-in-Ok-serve-clause-done : goal.returns-in-Ok-serve-clause-done
+returns-in-Ok-serve-clause-done g c = (refl, rw (c.in-Ok.ensures, c.new.ensures.items) at c.in-Ok-serve.ensures)

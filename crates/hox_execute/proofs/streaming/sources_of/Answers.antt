@@ -1,5 +1,5 @@
 -- One source more.
-use Rattle.std.proofs.Common.{refl}
+use Rattle.hox_format.specs.Resuming.{left_of, resumed_has_failed}
 use Rattle.hox_execute.specs.Streaming.{IsOpened}
 use Rattle.hox_execute.proofs.Zipped.{zipped_at}
 use Rattle.hox_execute.proofs.streaming.sources_of.Goals as goal
@@ -7,5 +7,5 @@ use Rattle.hox_execute.proofs.streaming.sources_of.Goals as goal
 pub loop-k-preserved : goal.loop-k-preserved
 loop-k-preserved g c =
     let l = c.loop-k in
-    zipped_at (IsOpened g.S.Input.Source.remaining g.S.Input.Source.has_failed (g.S.FileSystem.contents c.args.files.now)) c.args.pairs.now l.k _ l.sources.items c.push.new.self.items _ c.loop-k-test.true
-    l.invariant c.in-Ok-push.ensures.items (record { layout = refl; bytes = c.in-Ok.ensures.bytes; unfailed = c.in-Ok.ensures.unfailed })
+    zipped_at (IsOpened (left_of g.S.Input.Source.remaining) (resumed_has_failed g.S.Input.Source.has_failed) (g.S.FileSystem.contents c.args.files.now)) c.args.pairs.now l.k _ l.sources.items c.push.new.self.items _ c.loop-k-test.true
+    l.invariant c.in-Ok-push.ensures.items c.in-Ok.ensures

@@ -31,7 +31,7 @@ returns g c =
     c.determinacy_of.ensures.all_comparable c.determinacy_of.ensures.one_digest (sym c.in-Some.ensures.end)
     (rw (c.net-net.ensures, c.standings-standings.ensures) at c.in_ok-places.ensures)
     judged
-    c.status_of.ensures
+    (rw c.as_slice-2.ensures.value at c.status_with.ensures)
     told
-    (rw (c.net-net.ensures, c.history-history.ensures) at c.in_ok-outputs_of.ensures)
-    (rw (c.net-net.ensures, c.history-history.ensures, c.standings-standings.ensures, c.as_slice-2.ensures.value) at c.in_ok-notes_of.ensures)
+    (rw (c.net-net.ensures, c.history-history.ensures) at c.in_ok-outputs.ensures)
+    (rw (c.net-net.ensures, c.history-history.ensures, c.standings-standings.ensures, c.as_slice-3.ensures.value) at c.in_ok-notes_of.ensures)

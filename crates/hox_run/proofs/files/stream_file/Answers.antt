@@ -1,6 +1,6 @@
 -- The lines are those of the channel's stream.
 use Rattle.std.proofs.Common.{rules}
-use Rattle.hox_run.proofs.telling.output_of.Goals as goal
+use Rattle.hox_run.proofs.files.stream_file.Goals as goal
 
 pub returns : goal.returns
 returns g c = search rules

@@ -1,0 +1,133 @@
+//! What is said of formats of files.
+use crate::messages::input_name;
+use crate::reasons::output_name;
+use hox_execute::{FileNote, FormatStop, Pair};
+use hox_format::{Format, FormatFault, HeadFault};
+use kpn_tokens::{RecordFault, WavFault};
+
+/// The formats that there are.
+const FORMATS: &str =
+    "text, csv, wav, s8, u8, s16, s24, s32, s64 and u64, the last five also with le or be";
+
+/// Says why it can't be read how a file has tokens.
+pub(crate) fn say_format<R: Eprint>(rt: &R, stop: FormatStop<'_>) {
+    match stop {
+        FormatStop::Unknown(fault) => say_unknown_format(rt, fault),
+        FormatStop::NoUse(channel) => say_no_use(rt, channel),
+        FormatStop::Head { file, fault } => say_head(rt, file, fault),
+    }
+}
+
+/// Says why a text names no format, and what would do.
+fn say_unknown_format<R: Eprint>(rt: &R, fault: FormatFault<'_>) {
+    let _ = match fault {
+        FormatFault::Name(name) => {
+            eprintln!(rt; "hox: --format: unknown format {name:?}; there are {FORMATS}")
+        }
+        FormatFault::Key(key) => {
+            eprintln!(rt;
+                "hox: --format: the format has no setting {key:?} that is written so; see hox run --help"
+            )
+        }
+        FormatFault::Value { key, value } => {
+            eprintln!(rt; "hox: --format: {key} can't be {value:?}; see hox run --help")
+        }
+    };
+}
+
+/// Says that no file is given for a channel for which a format is named.
+fn say_no_use<R: Eprint>(rt: &R, channel: &str) {
+    let _ = eprintln!(rt; "hox: --format {channel}: no file is given for this channel");
+}
+
+/// Says what is wrong with what stands before the tokens in a file, and what would do.
+pub(crate) fn say_head<R: Eprint>(rt: &R, file: &str, fault: HeadFault) {
+    let file = input_name(file);
+    let _ = match fault {
+        HeadFault::Wav(fault) => {
+            let what = wrong_with_wav(fault);
+            eprintln!(rt; "hox: {file} {what}")
+        }
+        HeadFault::NoColumn => {
+            eprintln!(rt; "hox: {file}: no column has the name that --format gives")
+        }
+        HeadFault::Names(fault) => {
+            let what = wrong_with_names(fault);
+            eprintln!(rt; "hox: line 1 of {file} {what}")
+        }
+        HeadFault::Channels { has } => {
+            eprintln!(rt;
+                "hox: {file} has {has} channels; channel=N of --format takes one, from 1 on"
+            )
+        }
+        HeadFault::NoChannel { has } => {
+            eprintln!(rt; "hox: {file} has {has} channels, and not the one that --format takes")
+        }
+        HeadFault::TooLong => { eprintln!(rt; "hox: line 1 of {file} has more than 65536 bytes") }
+        HeadFault::TooWide => {
+            eprintln!(rt; "hox: the samples of all channels of {file} have more than 65535 bytes")
+        }
+    };
+}
+
+/// What is wrong with a WAV file.
+fn wrong_with_wav(fault: WavFault) -> &'static str {
+    match fault {
+        WavFault::NotWav => "is no WAV file; --format names another format",
+        WavFault::NotPcm => "has other samples than PCM of 8, 16, 24 or 32 bits",
+        WavFault::NoFormat => "does not tell what its samples are before they begin",
+        WavFault::CutShort => "ends before its samples begin",
+        WavFault::TooLong => "has more than 65536 bytes before its samples",
+    }
+}
+
+/// What is wrong with a row of names.
+fn wrong_with_names(fault: RecordFault) -> &'static str {
+    match fault {
+        RecordFault::OpenQuote => "has a quoted name that goes on over its end",
+        RecordFault::TwoRows => "has a carriage return within; end lines with line feeds",
+        _ => "is no row of names",
+    }
+}
+
+/// How many lines stand before the tokens in a file of this format.
+pub(crate) fn lines_before(format: Format<'_>) -> u64 {
+    match format {
+        Format::Csv(csv) if csv.has_header => 1,
+        _ => 0,
+    }
+}
+
+/// How a record of a file of this format is named.
+pub(crate) fn record_name(format: Format<'_>) -> &'static str {
+    match format {
+        Format::Text(_) | Format::Csv(_) => "line",
+        Format::Wav(_) | Format::Raw(_) => "frame",
+    }
+}
+
+/// Says of each file of a run's streams which token does not fit, and how many were clipped.
+pub(crate) fn say_files<R: Eprint>(rt: &R, outputs: &[Pair<'_>], files: &[FileNote]) {
+    for (pair, file) in outputs.iter().zip(files) {
+        say_clipped(rt, pair, file.clipped as u64);
+        if file.is_misfit {
+            say_misfit(rt, pair, (file.tokens as u64).saturating_add(1));
+        }
+    }
+}
+
+/// Says which token of a channel, counted from 1, does not fit the file to which it goes, and what would do.
+pub(crate) fn say_misfit<R: Eprint>(rt: &R, pair: &Pair<'_>, token: u64) {
+    let (channel, file) = (pair.channel, output_name(pair.file));
+    let _ = eprintln!(rt;
+        "hox: token {token} of channel {channel} has no sample in {file}; clip of --format writes the nearest, or take wider samples"
+    );
+}
+
+/// Says how many tokens of a channel were written as the nearest sample, if any were.
+pub(crate) fn say_clipped<R: Eprint>(rt: &R, pair: &Pair<'_>, clipped: u64) {
+    if clipped > 0 {
+        let channel = pair.channel;
+        let _ = eprintln!(rt; "hox: channel {channel}: {clipped} tokens were clipped");
+    }
+}
