@@ -17,11 +17,11 @@ def noisy_sine(count=10000, period=2000):
     return [round(32768 + 12000 * math.sin(2 * math.pi * n / period) + noise.uniform(-3000, 3000)) for n in range(count)]
 
 
-def smooth(samples):
-    """y += (x - y) / 8, rounded down, from y = 0."""
+def smooth(samples, power=3):
+    """y += (x - y) / 2^power, rounded down, from y = 0."""
     y, words = 0, []
     for x in samples:
-        y += (x - y) >> 3
+        y += (x - y) >> power
         words.append(y)
     return words
 
@@ -75,10 +75,11 @@ def log(count=200):
     return rows
 
 
-def tone(count=8000, rate=8000):
-    """A second of a tone of 220 Hz and, three times as high and half as loud, another one, with noise."""
+def tone(count=8000, rate=8000, pitch=220):
+    """A second of a tone of 220 Hz, or of another pitch, and, three times as high and half as loud, another one, with
+    noise."""
     noise = random.Random("tone")
-    turn = 2 * math.pi * 220 / rate
+    turn = 2 * math.pi * pitch / rate
     return [round(12000 * math.sin(turn * n) + 6000 * math.sin(3 * turn * n) + noise.uniform(-2000, 2000)) for n in range(count)]
 
 
@@ -102,20 +103,28 @@ def log_of(rows):
     return "".join(["date,inside,outside\n", *(f"{at},{hundredths(inside)},{hundredths(outside)}\n" for at, inside, outside in rows)])
 
 
-def wav_of(samples, rate=8000):
-    """A WAV file of one channel, of 16 bits."""
+def wav_of(*channels, rate=8000):
+    """A WAV file of 16 bits, with these channels."""
     file = io.BytesIO()
     with wave.open(file, "wb") as out:
-        out.setnchannels(1)
+        out.setnchannels(len(channels))
         out.setsampwidth(2)
         out.setframerate(rate)
-        out.writeframes(b"".join(it.to_bytes(2, "little", signed=True) for it in samples))
+        out.writeframes(b"".join(it.to_bytes(2, "little", signed=True) for frame in zip(*channels) for it in frame))
     return file.getvalue()
+
+
+def climate_of(rows):
+    """How much warmer it is inside, and the temperature outside, smoothed."""
+    smoothed = smooth([outside for _, _, outside in rows], 2)
+    columns = [f"{hundredths(inside - outside)},{hundredths(low)}\n" for (_, inside, outside), low in zip(rows, smoothed)]
+    return "".join(["difference,smooth\n", *columns])
 
 
 def files():
     """Each file, and its text or its bytes."""
-    samples, readings, forces, rows, heard = noisy_sine(), temperatures(), pushes(), log(), tone()
+    samples, readings, forces, rows = noisy_sine(), temperatures(), pushes(), log()
+    heard, other = tone(), tone(pitch=330)
     words = smooth(samples)
     return {
         "noisy.txt": text_of(samples),
@@ -129,6 +138,9 @@ def files():
         "outside.csv": text_of(["average", *map(hundredths, averages([outside for _, _, outside in rows]))]),
         "tone.wav": wav_of(heard),
         "soft.wav": wav_of(smooth(heard)),
+        "climate.csv": climate_of(rows),
+        "stereo.wav": wav_of(heard, other),
+        "soft_stereo.wav": wav_of(smooth(heard, 2), smooth(other, 4)),
     }
 
 

@@ -15,6 +15,8 @@ pub(crate) fn say_format<R: Eprint>(rt: &R, stop: FormatStop<'_>) {
         FormatStop::Unknown(fault) => say_unknown_format(rt, fault),
         FormatStop::NoUse(channel) => say_no_use(rt, channel),
         FormatStop::Head { file, fault } => say_head(rt, file, fault),
+        FormatStop::Alone { file } => say_single(rt, file),
+        FormatStop::Unlike { file, channel } => say_unlike(rt, file, channel),
     }
 }
 
@@ -40,6 +42,20 @@ fn say_no_use<R: Eprint>(rt: &R, channel: &str) {
     let _ = eprintln!(rt; "hox: --format {channel}: no file is given for this channel");
 }
 
+/// Says that a file is for one channel alone that is given for several, and what would do.
+fn say_single<R: Eprint>(rt: &R, file: &str) {
+    let _ = eprintln!(rt;
+        "hox: {file} is given for several channels; its --format must be csv, wav or samples, with no column or channel chosen"
+    );
+}
+
+/// Says that a file has another format for one channel than for the one before it, and what would do.
+fn say_unlike<R: Eprint>(rt: &R, file: &str, channel: &str) {
+    let _ = eprintln!(rt;
+        "hox: --format {channel}: the channels of {file} may differ in digits and unsigned alone; --format all=FORMAT names one for all"
+    );
+}
+
 /// Says what is wrong with what stands before the tokens in a file, and what would do.
 pub(crate) fn say_head<R: Eprint>(rt: &R, file: &str, fault: HeadFault) {
     let file = input_name(file);
@@ -57,7 +73,7 @@ pub(crate) fn say_head<R: Eprint>(rt: &R, file: &str, fault: HeadFault) {
         }
         HeadFault::Channels { has } => {
             eprintln!(rt;
-                "hox: {file} has {has} channels; channel=N of --format takes one, from 1 on"
+                "hox: {file} has {has} channels; name as many, as l,r=FILE, or take one by channel=N of --format"
             )
         }
         HeadFault::NoChannel { has } => {

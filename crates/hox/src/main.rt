@@ -8,6 +8,7 @@ mod host;
 mod messages;
 mod progress;
 mod reasons;
+mod sinks;
 mod same;
 mod streaming;
 mod taps;

@@ -1,11 +1,14 @@
 //! What is told of a stream that ended.
-use crate::formats::{lines_before, record_name, say_clipped, say_misfit};
+use crate::formats::{lines_before, record_name};
 use crate::messages::{input_name, needed, say_no_memory, say_record};
-use crate::reasons::{say_unreadable, say_unwritten};
+use crate::reasons::say_unreadable;
+use crate::sinks::{
+    Written, all_written, failure_at, say_all_clipped, say_apart, say_output_unwritten, say_token,
+};
 use crate::taps::Failing;
 use crate::unused::say_unused_by_stream;
 use hox_execute::{Ends, Pair, Streamed};
-use hox_stream::{Finish, Inlet, LONGEST_RECORD, Outlet, Refusal, Served};
+use hox_stream::{Finish, Inlet, LONGEST_RECORD, Refusal, Served};
 use kpn_body::Body;
 use kpn_compute::Computes;
 use kpn_flow::Flow;
@@ -25,13 +28,15 @@ pub(crate) fn say_told<
     O: Sink + Failing,
 >(rt: &R, streamed: &Streamed<'_, F, I, O>, is_quiet: bool) -> u8 {
     let (ends, served) = (&streamed.ends, &streamed.served);
-    if is_reader_gone(served.finish, served.outlets.as_slice()) {
+    if is_reader_gone(served) {
         return Status::WriteFailed.code();
     }
-    if !is_quiet {
-        say_counts(rt, ends, served);
+    match all_written(rt.alloc(), served) {
+        Ok(written) => say_counted(rt, ends, served, written.as_slice(), is_quiet),
+        Err(_) => {
+            let _ = say_no_memory(rt);
+        }
     }
-    say_all_clipped(rt, ends.outputs.as_slice(), served.outlets.as_slice());
     say_fault(rt, ends, served);
     let status = say_verdict(rt, served, is_quiet);
     say_unused_by_stream(rt, streamed);
@@ -55,14 +60,29 @@ fn say_verdict<R: Eprint + AllocGlobal, F: Computes, I: Source, O: Sink>(
     }
 }
 
+/// Says what was read and written, unless it is not wanted; and for how many tokens the nearest that fits.
+fn say_counted<R: Eprint, F: Computes, I: Source, O: Sink>(
+    rt: &R,
+    ends: &Ends<'_>,
+    served: &Served<F, I, O>,
+    written: &[Written],
+    is_quiet: bool,
+) {
+    if !is_quiet {
+        say_counts(rt, ends, served, written);
+    }
+    say_all_clipped(rt, ends.outputs.as_slice(), written);
+}
+
 /// Says what was read and written.
 fn say_counts<R: Eprint, F: Computes, I: Source, O: Sink>(
     rt: &R,
     ends: &Ends<'_>,
     served: &Served<F, I, O>,
+    written: &[Written],
 ) {
     say_read(rt, ends.inputs.as_slice(), served.inlets.as_slice());
-    say_written(rt, ends.outputs.as_slice(), served.outlets.as_slice());
+    say_written(rt, ends.outputs.as_slice(), written);
     let (entries, growths) = (served.flow.entries(), served.flow.growths());
     let _ = eprintln!(rt; "entries {entries} growths {growths}");
 }
@@ -75,9 +95,9 @@ fn say_read<R: Eprint, I: Source>(rt: &R, inputs: &[Pair<'_>], inlets: &[Inlet<I
 }
 
 /// Says how many tokens were written of each output.
-fn say_written<R: Eprint, O: Sink>(rt: &R, outputs: &[Pair<'_>], outlets: &[Outlet<O>]) {
-    for (pair, outlet) in outputs.iter().zip(outlets) {
-        say_count(rt, "out", pair.channel, outlet.tokens());
+fn say_written<R: Eprint>(rt: &R, outputs: &[Pair<'_>], written: &[Written]) {
+    for (pair, written) in outputs.iter().zip(written) {
+        say_count(rt, "out", pair.channel, written.tokens);
     }
 }
 
@@ -106,19 +126,14 @@ fn judged<B: Body>(
 }
 
 /// Whether a stream ended since the reader of a pipe to which it is written is gone.
-fn is_reader_gone<O: Sink + Failing>(finish: Finish, outlets: &[Outlet<O>]) -> bool {
-    match finish {
-        Finish::Unwritten(k) => match failure_at(outlets, k) {
+fn is_reader_gone<F: Computes, I: Source, O: Sink + Failing>(served: &Served<F, I, O>) -> bool {
+    match served.finish {
+        Finish::Unwritten(k) => match failure_at(served, k) {
             Some(error) => error.kind() == io::ErrorKind::BrokenPipe,
             None => false,
         },
         _ => false,
     }
-}
-
-/// Why the sink at this place could not be written.
-fn failure_at<O: Sink + Failing>(outlets: &[Outlet<O>], k: usize) -> Option<io::Error> {
-    outlets.get(k)?.sink().error()
 }
 
 /// Says what ended a stream before the network came to its end, if something did.
@@ -127,7 +142,7 @@ fn say_fault<R: Eprint + AllocGlobal, F: Computes, I: Source + Failing, O: Sink 
     ends: &Ends<'_>,
     served: &Served<F, I, O>,
 ) {
-    let (inlets, outlets) = (served.inlets.as_slice(), served.outlets.as_slice());
+    let (inlets, outputs) = (served.inlets.as_slice(), ends.outputs.as_slice());
     match served.finish {
         Finish::Refused(k, refusal) => say_refused_record(
             rt,
@@ -137,8 +152,9 @@ fn say_fault<R: Eprint + AllocGlobal, F: Computes, I: Source + Failing, O: Sink 
             refusal,
         ),
         Finish::Unread(k) => say_input_unread(rt, ends.inputs.as_slice(), inlets, k),
-        Finish::Unwritten(k) => say_output_unwritten(rt, ends.outputs.as_slice(), outlets, k),
-        Finish::Misfit(k) => say_token(rt, ends.outputs.as_slice(), outlets, k),
+        Finish::Unwritten(k) => say_output_unwritten(rt, outputs, served, k),
+        Finish::Misfit(k) => say_token(rt, outputs, served, k),
+        Finish::Apart(k) => say_apart(rt, outputs, served, k),
         Finish::Memory => {
             let _ = say_no_memory(rt);
         }
@@ -159,38 +175,6 @@ fn say_input_unread<R: Eprint + AllocGlobal, I: Source + Failing>(
     match inlet.source().error() {
         Some(error) => say_unreadable(rt, pair.file, error),
         None => {}
-    }
-}
-
-/// Says why the sink at this place could not be written; if memory was refused for that, that it was.
-fn say_output_unwritten<R: Eprint + AllocGlobal, O: Sink + Failing>(
-    rt: &R,
-    outputs: &[Pair<'_>],
-    outlets: &[Outlet<O>],
-    k: usize,
-) {
-    let Some(pair) = outputs.get(k) else {
-        return;
-    };
-    match failure_at(outlets, k) {
-        Some(error) => say_unwritten(rt, pair.file, error),
-        None => {
-            let _ = say_no_memory(rt);
-        }
-    }
-}
-
-/// Says which token of a channel does not fit the file to which it goes.
-fn say_token<R: Eprint, O: Sink>(rt: &R, outputs: &[Pair<'_>], outlets: &[Outlet<O>], k: usize) {
-    if let (Some(pair), Some(outlet)) = (outputs.get(k), outlets.get(k)) {
-        say_misfit(rt, pair, outlet.tokens().saturating_add(1));
-    }
-}
-
-/// Says how many tokens were written as the nearest that fits.
-fn say_all_clipped<R: Eprint, O: Sink>(rt: &R, outputs: &[Pair<'_>], outlets: &[Outlet<O>]) {
-    for (pair, outlet) in outputs.iter().zip(outlets) {
-        say_clipped(rt, pair, outlet.clipped());
     }
 }
 

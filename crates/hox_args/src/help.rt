@@ -32,7 +32,8 @@ without end are for hox stream. The channel's capacity is at least their number.
   wav             channel=N (from 1), bits=8, 16, 24 or 32, rate=N (samples a second), clip
   s16le           channel=N, channels=N, clip; also s8, u8, and s16, s24, s32, s64 and u64, with le or be
 A file whose name ends in .wav is WAV if nothing is said. A word that has no sample is refused, or with clip the
-nearest is written.
+nearest is written. One file has several channels side by side, as columns or as channels of samples, where it is
+given for several, as --out left,right=out.wav.
 
 The description is TOML. Its keys, and in brackets what holds if one is absent:
   version         1 or 2

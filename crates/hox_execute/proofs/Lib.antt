@@ -12,3 +12,5 @@ pub mod Chosen
 pub mod Named
 pub mod Both
 pub mod Firsts
+pub mod Parted
+pub mod Grouped

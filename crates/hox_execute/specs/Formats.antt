@@ -6,7 +6,7 @@ use Rattle.std.specs.Str.{bytes_eq}
 use Rattle.hox_format.specs.Forms.{Form, form_of_file, unsigned_form}
 use Rattle.hox_format.specs.Saying.{Said, format_said, refused}
 use Rattle.hox_execute.specs.declared.formats.FormatStop.{FormatStop}
-use Rattle.hox_execute.specs.declared.formats.FormatStop.TheVariants.{Head, NoUse, Unknown}
+use Rattle.hox_execute.specs.declared.formats.FormatStop.TheVariants.{Alone, Head, NoUse, Unknown, Unlike}
 
 -- the sign between a channel and what is said of it, `=`
 abbrev pub is_equals : ℕ → Bool
@@ -54,3 +54,5 @@ abbrev pub IsNoFormat : List (List ℕ) → FormatStop → Type 0
 IsNoFormat texts (Unknown fault) = (text : List ℕ) × Contains texts text × (format_said (after_first is_equals text) ≡ Err (refused fault))
 IsNoFormat texts (NoUse channel) = ⊥
 IsNoFormat texts (Head file fault) = ⊥
+IsNoFormat texts (Alone file) = ⊥
+IsNoFormat texts (Unlike file channel) = ⊥

@@ -1,10 +1,18 @@
 -- What is written of a run.
-use Rattle.std.specs.Prelude.{◌≡◌, ◌≢◌, ◌⊎◌, ◌||◌, ◌++◌, ◌-◌, ◌^◌, not, ℕ, Bool, true, false, length, map, min, List, [], ◌∷◌, Option, Some, None, unwrap_or, string_bytes, nat_lt, if◌then◌else◌}
-use Rattle.std.specs.List.{AllZip}
+use Rattle.std.specs.Prelude.{◌≡◌, ◌≢◌, ◌⊎◌, ◌==◌, ◌||◌, ◌++◌, ◌-◌, ◌^◌, not, ℕ, Bool, true, false, length, map, min, List, [], ◌∷◌, Option, Some, None, string_bytes, nat_lt, if◌then◌else◌}
+use Rattle.std.specs.List.{AllZip, flat_map}
+use Rattle.std.specs.Option.{option_map_or}
+use Rattle.kpn_tokens.specs.declared.layouts.Layout.{Layout}
+use Rattle.kpn_tokens.specs.declared.layouts.Separator.TheVariants.{Comma}
+use Rattle.kpn_tokens.specs.declared.tables.Table.{Table}
+use Rattle.kpn_tokens.specs.declared.tables.Table.TheVariants.{Rows}
+use Rattle.kpn_tokens.specs.Records.{record_text}
+use Rattle.kpn_tokens.specs.Tables.{ColumnView, longest, table_text}
 use Rattle.kpn_front.specs.declared.status.Status.{Status}
 use Rattle.kpn_front.specs.declared.status.Status.TheVariants.{WriteFailed}
 use Rattle.hox_format.specs.Forms.{form}
-use Rattle.hox_format.specs.Heads.{head_text, tail_text}
+use Rattle.hox_format.specs.Heads.{head_text, layout_of, tail_text}
+use Rattle.hox_format.specs.Tables.{decimals_of}
 use Rattle.hox_network.specs.declared.request.TokenFile.{TokenFile}
 use Rattle.hox_run.specs.declared.files.StreamFile.{StreamFile}
 use Rattle.hox_run.specs.declared.telling.Told.{Told}
@@ -12,7 +20,8 @@ use Rattle.hox_execute.specs.declared.pairs.Pair.{Pair}
 use Rattle.hox_execute.specs.declared.running.Ran.{Ran}
 use Rattle.hox_execute.specs.declared.texts.FileNote.{FileNote}
 use Rattle.hox_execute.specs.Files.{Effect, GoOn, not_said, not_written, said, standard, wrote}
-use Rattle.hox_execute.specs.Pairs.{count_standard}
+use Rattle.hox_run.specs.Telling.{fitting}
+use Rattle.hox_execute.specs.Pairs.{channels_of, count_standard, firsts, group_in, is_alone, shared_in}
 
 -- how many samples a second there are if nothing tells
 abbrev pub usual_rate : ℕ
@@ -27,23 +36,47 @@ first_rate (Some rate ∷ rates) = rate
 abbrev pub rate_of : List TokenFile → ℕ
 rate_of files = first_rate (map (λ (f : TokenFile). f.rate) files)
 
+-- the tokens that go into a file, channel by channel
+abbrev pub columns : List Pair → List StreamFile → List ColumnView
+columns [] files = []
+columns (p ∷ ps) [] = []
+columns (p ∷ ps) (file ∷ files) = record { decimals = decimals_of (form p.format); tokens = file.tokens } ∷ columns ps files
+
+-- how several channels stand side by side in the file of a pair
+abbrev pub table_in : Pair → Table
+table_in pair = option_map_or (λ s. s.table) (shared_in pair) (Rows Comma)
+
+-- the tokens of a channel alone as records, up to the first that does not fit; those of several as rows
+abbrev pub alone_text : Layout → List ColumnView → List ℕ
+alone_text layout [] = []
+alone_text layout (column ∷ columns) = flat_map (record_text layout) (fitting layout column.tokens)
+
+abbrev pub body_text : Pair → List ColumnView → List ℕ
+body_text pair columns = if is_alone pair then alone_text (layout_of (form pair.format)) columns else table_text (table_in pair) columns
+
 -- how many frames the head of a file tells
-abbrev pub frames_told : StreamFile → Option ℕ
-frames_told file = Some (min file.tokens (2 ^ 32 - 1))
+abbrev pub frames_told : List ColumnView → Option ℕ
+frames_told columns = Some (min (longest columns) (2 ^ 32 - 1))
 
--- the file of a stream: what stands before its tokens, these as records, and what stands after them
-abbrev pub file_text : ℕ → Pair → StreamFile → List ℕ
-file_text rate pair file =
-    head_text (form pair.format) (pair.channel.now ∷ []) rate (frames_told file) ++ file.bytes ++ tail_text (form pair.format) (length file.bytes) (frames_told file)
+-- a file of streams: what stands before their tokens, these, and what stands after them
+abbrev pub text_of : ℕ → Pair → List (List ℕ) → List ColumnView → List ℕ
+text_of rate pair names columns =
+    head_text (form pair.format) names rate (frames_told columns) ++ body_text pair columns ++ tail_text (form pair.format) (length (body_text pair columns)) (frames_told columns)
 
+-- the file of the first of these pairs
+abbrev pub file_text : ℕ → List Pair → List StreamFile → List ℕ
+file_text rate [] files = []
+file_text rate (p ∷ ps) files = text_of rate p (channels_of (group_in (p ∷ ps))) (columns (group_in (p ∷ ps)) files)
+
+-- each file begins with a first channel
 abbrev pub file_texts : ℕ → List Pair → List StreamFile → List (List ℕ)
 file_texts rate [] files = []
 file_texts rate (p ∷ ps) [] = []
-file_texts rate (p ∷ ps) (file ∷ files) = file_text rate p file ∷ file_texts rate ps files
+file_texts rate (p ∷ ps) (file ∷ files) = if p.place == 0 then file_text rate (p ∷ ps) (file ∷ files) ∷ file_texts rate ps files else file_texts rate ps files
 
 -- what is noted of a file
 abbrev pub file_note : StreamFile → FileNote
-file_note file = record { tokens = file.tokens; clipped = file.clipped; is_misfit = file.is_misfit }
+file_note file = record { tokens = length file.tokens; clipped = file.clipped; is_misfit = file.is_misfit }
 
 -- what is noted of a run beside its status
 pub record IsNoted (outputs : List Pair) (told : Told) (ran : Ran) : Type 0 where
@@ -67,7 +100,7 @@ told_written true outputs report texts = streams_written outputs texts
 told_written false outputs report texts = reported outputs report ∷ streams_written outputs texts
 
 abbrev pub written_of : Bool → ℕ → List Pair → Told → List Effect
-written_of is_quiet rate outputs told = told_written is_quiet outputs (string_bytes told.report) (file_texts rate outputs told.outputs.items)
+written_of is_quiet rate outputs told = told_written is_quiet (firsts outputs) (string_bytes told.report) (file_texts rate outputs told.outputs.items)
 
 -- what is left where an effect fails
 abbrev pub failure_of : Effect → Effect

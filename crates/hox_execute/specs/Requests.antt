@@ -18,7 +18,7 @@ use Rattle.hox_format.specs.Bodies.{IsBodyResult, body_bytes}
 use Rattle.hox_format.specs.Forms.{form}
 use Rattle.hox_format.specs.Heads.{layout_of}
 use Rattle.hox_execute.specs.declared.formats.FormatStop.{FormatStop}
-use Rattle.hox_execute.specs.declared.formats.FormatStop.TheVariants.{Head, NoUse, Unknown}
+use Rattle.hox_execute.specs.declared.formats.FormatStop.TheVariants.{Alone, Head, NoUse, Unknown, Unlike}
 use Rattle.hox_execute.specs.declared.pairs.Pair.{Pair}
 use Rattle.hox_execute.specs.declared.reading.Asked.{Asked}
 use Rattle.hox_execute.specs.declared.reading.ReadError.{ReadError}
@@ -28,7 +28,7 @@ use Rattle.hox_execute.specs.declared.stops.Stop.{Stop}
 use Rattle.hox_execute.specs.declared.stops.Stop.TheVariants.{Clash, Format, InputTwice, Memory, NoPair, Refused, Unread, Words}
 use Rattle.hox_execute.specs.declared.uses.Role.TheVariants.{Tokens}
 use Rattle.hox_execute.specs.Formats.{is_named}
-use Rattle.hox_execute.specs.Pairs.{ArePairs, IsUnpaired, IsUnusable, IsUsable, channels_of, count_standard, is_named_twice}
+use Rattle.hox_execute.specs.Pairs.{ArePairs, IsUnpaired, IsUnusable, IsUsable, channels_of, count_standard, firsts, is_named_twice}
 use Rattle.hox_execute.specs.Uses.{AreApart, IsMisuse, Used, uses_in}
 
 -- what a command wants of the network of a description, as contracts see it
@@ -50,7 +50,7 @@ is_told is_quiet outputs = not is_quiet && (count_standard outputs == 0)
 
 -- the uses of files that are asked for
 abbrev pub uses_asked : Want → List Pair → List Pair → List Used
-uses_asked want tokens outputs = uses_in Tokens want.file tokens outputs (is_told want.is_quiet outputs)
+uses_asked want tokens outputs = uses_in Tokens want.file tokens (firsts outputs) (is_told want.is_quiet outputs)
 
 -- why a file could not be read, of which these are the bytes, if they are known
 abbrev pub IsErrorIn : Option (List ℕ) → ReadError → Type 0
@@ -77,16 +77,18 @@ pub record AsksRest (want : Want) (outputs : List Pair) (request : Request) : Ty
 pub record IsFileOf (pair : Pair) (bytes : List ℕ) (file : TokenFile) : Type 0 where
   pub channel : file.channel ≡ pair.channel.now
   pub body : Body
-  pub told : IsBodyResult (form pair.format) 0 1 bytes true (Ok (Some body))
+  pub told : IsBodyResult (form pair.format) pair.place pair.count bytes true (Ok (Some body))
   pub layout : file.layout ≡ body.layout
   pub bytes_are : file.bytes ≡ body_bytes body bytes
   pub rate : file.rate ≡ body.rate
 
 -- what stands before its tokens is refused, or memory was
 abbrev pub IsHeadFault : Pair → List ℕ → FormatStop → Type 0
-IsHeadFault pair bytes (Head file fault) = (file.now ≡ pair.file.now) × IsBodyResult (form pair.format) 0 1 bytes true (Err fault)
+IsHeadFault pair bytes (Head file fault) = (file.now ≡ pair.file.now) × IsBodyResult (form pair.format) pair.place pair.count bytes true (Err fault)
 IsHeadFault pair bytes (Unknown fault) = ⊥
 IsHeadFault pair bytes (NoUse channel) = ⊥
+IsHeadFault pair bytes (Alone file) = ⊥
+IsHeadFault pair bytes (Unlike file channel) = ⊥
 
 abbrev pub IsNoFileOf : Pair → List ℕ → Stop → Type 0
 IsNoFileOf pair bytes (Format stop) = IsHeadFault pair bytes stop
@@ -117,11 +119,11 @@ module _ (contents : List ℕ → Option (List ℕ)) where
   abbrev pub IsReadError : List ℕ → ReadError → Type 0
   IsReadError name error = IsErrorIn (contents name) error
 
-  -- the file of some pair could not be read, or what stands before its tokens is refused; or memory was refused
   -- what stands before the tokens of the file of some pair is refused
   abbrev pub IsHeadless : List Pair → FormatStop → Type 0
   IsHeadless pairs stop = Any (λ p. (bytes : List ℕ) × AreBytesOf p bytes × IsHeadFault p bytes stop) pairs
 
+  -- the file of some pair could not be read, or what stands before its tokens is refused; or memory was refused
   abbrev pub IsUnfetched : List Pair → Stop → Type 0
   IsUnfetched pairs (Unread file error) = Any (λ (p : Pair). p.file.now ≡ file.now) pairs × IsReadError file.now error
   IsUnfetched pairs (Format stop) = IsHeadless pairs stop
@@ -146,8 +148,8 @@ module _ (contents : List ℕ → Option (List ℕ)) where
     -- a text names no file, or a text on formats is none or of no use
     abbrev pub AreUnpaired : Stop → Type 0
     AreUnpaired stop =
-        IsUnpaired want.formats (codes "tokens") token_texts stop
-        ⊎ (IsUnpaired want.formats (codes "out") output_texts stop
+        IsUnpaired want.formats want.unsigned (codes "tokens") token_texts stop
+        ⊎ (IsUnpaired want.formats want.unsigned (codes "out") output_texts stop
         ⊎ ((tokens outputs : List Pair) × ArePairs want.formats want.unsigned token_texts tokens × ArePairs want.formats want.unsigned output_texts outputs × IsUnusable want.formats tokens outputs stop))
 
     -- a text names no file, or no format, or standard input is named twice, or two uses of files can't stand beside each other, or a file could not be

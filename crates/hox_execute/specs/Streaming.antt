@@ -1,6 +1,6 @@
 -- What `hox stream` does, from what is chosen and files to what is written.
 use Rattle.std.specs.Prelude.{◌≡◌, ◌⊎◌, ℕ, codes, Bool, false, true, List, [], ◌∷◌, map, nat_lt, Option, None, IfSome, option_map, unwrap_or, Err}
-use Rattle.std.specs.List.{All, AllZip, Any}
+use Rattle.std.specs.List.{All, AllZip, Any, filter}
 use Rattle.std.specs.Io.KnownBytes.{Appends}
 use Rattle.kpn_sketch.specs.declared.fault.NetFault.TheVariants.{Input}
 use Rattle.kpn_sketch.specs.declared.sketch.Sketch.{Sketch}
@@ -16,6 +16,7 @@ use Rattle.kpn_flow.specs.Flows.{FlowView}
 use Rattle.hox_network.specs.Ports.{as_meant}
 use Rattle.hox_stream.specs.declared.finish.Finish.{Finish}
 use Rattle.hox_stream.specs.declared.serving.LaidOut.{LaidOut}
+use Rattle.hox_stream.specs.declared.serving.LaidTable.{LaidTable}
 use Rattle.hox_stream.specs.declared.starting.StreamFault.{StreamFault}
 use Rattle.hox_stream.specs.Exits.{exit_named, exit_ports, exits, with_exits}
 use Rattle.hox_stream.specs.Serves.{Serves, new_inlets, new_outs}
@@ -25,6 +26,7 @@ use Rattle.kpn_tokens.specs.declared.layouts.Layout.{Layout}
 use Rattle.hox_format.specs.Forms.{form}
 use Rattle.hox_format.specs.Heads.{head_text, layout_of}
 use Rattle.hox_format.specs.Resuming.{IsBegun}
+use Rattle.hox_format.specs.Tables.{decimals_of}
 use Rattle.hox_format.specs.declared.resuming.Begun.{Begun}
 use Rattle.hox_args.specs.declared.arguments.StreamChoice.{StreamChoice}
 use Rattle.hox_execute.specs.declared.pairs.Pair.{Pair}
@@ -37,8 +39,8 @@ use Rattle.hox_execute.specs.declared.streaming.Unopened.{Unopened}
 use Rattle.hox_execute.specs.declared.streaming.Unopened.TheVariants.{Refused as IsRefused, Faulty, Memory as NoMemory}
 use Rattle.hox_execute.specs.declared.uses.Role.TheVariants.{In}
 use Rattle.hox_execute.specs.Files.{standard}
-use Rattle.hox_execute.specs.Pairs.{ArePairs, IsUnpaired, IsUnusable, IsUsable, channels_of, count_standard, is_named_twice}
-use Rattle.hox_execute.specs.Reports.{first_rate}
+use Rattle.hox_execute.specs.Pairs.{ArePairs, IsUnpaired, IsUnusable, IsUsable, Group, channels_of, count_standard, firsts, groups, in_order, is_alone, is_named_twice}
+use Rattle.hox_execute.specs.Reports.{first_rate, table_in}
 use Rattle.hox_execute.specs.Uses.{AreApart, IsMisuse, Used, uses_in}
 
 -- the file of a choice, or standard input
@@ -59,7 +61,7 @@ unsigned_of choice = map (λ s. s.now) choice.unsigned.items
 
 -- the uses of files between these ends. What is told goes to standard error
 abbrev pub uses_between : StreamChoice → List Pair → List Pair → List Used
-uses_between choice inputs outputs = uses_in In (file_of choice) inputs outputs false
+uses_between choice inputs outputs = uses_in In (file_of choice) inputs (firsts outputs) false
 
 -- the channels and files of the texts of an option, with how the files have tokens
 abbrev pub ArePairsOf : StreamChoice → List (List ℕ) → List Pair → Type 0
@@ -68,20 +70,23 @@ ArePairsOf choice texts pairs = ArePairs (formats_of choice) (unsigned_of choice
 -- a text names no file, or a text on formats is none or of no use
 abbrev pub AreUnpaired : StreamChoice → Stop → Type 0
 AreUnpaired choice stop =
-    IsUnpaired (formats_of choice) (codes "in") (inputs_of choice) stop
-    ⊎ (IsUnpaired (formats_of choice) (codes "out") (outputs_of choice) stop
+    IsUnpaired (formats_of choice) (unsigned_of choice) (codes "in") (inputs_of choice) stop
+    ⊎ (IsUnpaired (formats_of choice) (unsigned_of choice) (codes "out") (outputs_of choice) stop
     ⊎ ((inputs outputs : List Pair) × ArePairsOf choice (inputs_of choice) inputs × ArePairsOf choice (outputs_of choice) outputs × IsUnusable (formats_of choice) inputs outputs stop))
 
 -- which files can't be used beside each other, if that is known
 module _ (clash : List ℕ → Bool → List ℕ → Bool → Option Bool) (choice : StreamChoice) where
-  -- the ends that are chosen: standard input and standard output are named once at most, and the uses of files stand beside each other
+  -- the ends that are chosen: standard input and standard output are named once at most, and the uses of files stand beside each other. Files
+  -- of one channel come before those of several
   pub record AreEnds (ends : Ends) : Type 0 where
     pub inputs : ArePairsOf choice (inputs_of choice) ends.inputs.items
-    pub outputs : ArePairsOf choice (outputs_of choice) ends.outputs.items
-    pub formats : All (IsUsable ends.inputs.items ends.outputs.items) (formats_of choice)
+    pub written : List Pair
+    pub outputs : ArePairsOf choice (outputs_of choice) written
+    pub in_order : ends.outputs.items ≡ in_order written
+    pub formats : All (IsUsable ends.inputs.items written) (formats_of choice)
     pub one_input : is_named_twice (file_of choice) ends.inputs.items ≡ false
-    pub one_output : nat_lt 1 (count_standard ends.outputs.items) ≡ false
-    pub apart : AreApart clash (uses_between choice ends.inputs.items ends.outputs.items)
+    pub one_output : nat_lt 1 (count_standard (firsts written)) ≡ false
+    pub apart : AreApart clash (uses_between choice ends.inputs.items written)
 
   -- why there are none: a text names no file, or no format, standard input or standard output is named twice, two uses of files can't stand beside
   -- each other, or memory was refused
@@ -95,7 +100,7 @@ module _ (clash : List ℕ → Bool → List ℕ → Bool → Option Bool) (choi
   IsNoEnds (Asked (NotRead file error)) = ⊥
   IsNoEnds (Asked (WasRefused refusal)) = ⊥
   IsNoEnds (Asked (Words fault)) = ⊥
-  IsNoEnds OutputTwice = (outputs : List Pair) × ArePairsOf choice (outputs_of choice) outputs × (nat_lt 1 (count_standard outputs) ≡ true)
+  IsNoEnds OutputTwice = (outputs : List Pair) × ArePairsOf choice (outputs_of choice) outputs × (nat_lt 1 (count_standard (firsts outputs)) ≡ true)
   IsNoEnds (Refused file refused error) = ⊥
   IsNoEnds (NotOpened ends channels fault) = ⊥
   IsNoEnds (Headless file fault) = ⊥
@@ -111,7 +116,7 @@ pub record Opening : Type 0 where
 
 -- what stands before its tokens was read, and what is left are its records
 abbrev pub IsOpening : (List ℕ → Option (List ℕ)) → Pair → Opening → Type 0
-IsOpening contents pair opening = IsBegun (form pair.format) 0 1 (contents pair.file.now) opening.layout opening.rate opening.left
+IsOpening contents pair opening = IsBegun (form pair.format) pair.place pair.count (contents pair.file.now) opening.layout opening.rate opening.left
 
 -- what contracts see of a file that was opened
 abbrev pub opening_of : {X : Type 0} → (X → Option (List ℕ)) → Begun X → Opening
@@ -129,12 +134,22 @@ laid_source begun = record { stream = begun.source; layout = begun.layout }
 abbrev pub rate_in : List Opening → ℕ
 rate_in openings = first_rate (map (λ (o : Opening). o.rate) openings)
 
--- in a file that was opened to be written there was nothing, and then what stands before its tokens was written
-pub record IsCreated {X : Type 0} (seen : X → SinkView) (rate : ℕ) (pair : Pair) (sink : LaidOut X) : Type 0 where
-  pub layout : sink.layout ≡ layout_of (form pair.format)
+-- in a file that was opened to be written there was nothing, and then what stands before the tokens of channels of these names was written
+pub record IsHeaded {X : Type 0} (seen : X → SinkView) (rate : ℕ) (pair : Pair) (names : List (List ℕ)) (stream : X) : Type 0 where
   pub created : Option (List ℕ)
   pub empty : IfSome created (λ bytes. bytes ≡ [])
-  pub headed : Appends created (seen sink.stream).contents (head_text (form pair.format) (pair.channel.now ∷ []) rate None)
+  pub headed : Appends created (seen stream).contents (head_text (form pair.format) names rate None)
+
+-- a file of one channel that was opened to be written
+pub record IsCreated {X : Type 0} (seen : X → SinkView) (rate : ℕ) (pair : Pair) (sink : LaidOut X) : Type 0 where
+  pub layout : sink.layout ≡ layout_of (form pair.format)
+  pub headed : IsHeaded seen rate pair (pair.channel.now ∷ []) sink.stream
+
+-- a file of several channels that was opened to be written
+pub record IsTabled {X : Type 0} (seen : X → SinkView) (rate : ℕ) (group : Group) (laid : LaidTable X) : Type 0 where
+  pub table : laid.table ≡ table_in group.first
+  pub columns : laid.columns.items ≡ map (λ (p : Pair). decimals_of (form p.format)) group.pairs
+  pub headed : IsHeaded seen rate group.first (channels_of group.pairs) laid.stream
 
 -- a file of some pair can't be opened to be read, or what stands before its tokens is refused; or it can't be opened to be written; or
 -- memory was refused
@@ -180,8 +195,10 @@ pub record RunsBetween (kinds : Family) (contents : List ℕ → Option (List �
   pub openings : List Opening
   pub opened : AllZip (IsOpening contents) ends.inputs.items openings
   pub sinks : List (LaidOut SinkView)
-  pub created : AllZip (IsCreated (λ (v : SinkView). v) (rate_in openings)) ends.outputs.items sinks
-  pub serves : Serves kinds start t (sources_at start openings) ins (new_outs (λ (v : SinkView). v) start.outputs sinks []) outs finish
+  pub created : AllZip (IsCreated (λ (v : SinkView). v) (rate_in openings)) (filter is_alone ends.outputs.items) sinks
+  pub tables : List (LaidTable SinkView)
+  pub tabled : AllZip (IsTabled (λ (v : SinkView). v) (rate_in openings)) (groups ends.outputs.items) tables
+  pub serves : Serves kinds start t (sources_at start openings) ins (new_outs (λ (v : SinkView). v) start.outputs sinks tables) outs finish
 
 -- a text is refused as a description
 abbrev pub IsRefusedText : (List ℕ → Option (ℕ × ℕ)) → (Card → Option Signature) → List ℕ → Unopened → Type 0

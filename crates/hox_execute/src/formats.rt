@@ -30,6 +30,10 @@ pub enum FormatStop<'a> {
     NoUse(&'a str),
     /// What stands before the tokens in this file is refused.
     Head { file: &'a str, fault: HeadFault },
+    /// This file is given for several channels, and is for one alone.
+    Alone { file: &'a str },
+    /// This file is given for several channels, and for this one has another format than for the one before it.
+    Unlike { file: &'a str, channel: &'a str },
 }
 
 /// How the file of a channel has tokens.

@@ -11,6 +11,7 @@ mod progress;
 mod reading;
 mod running;
 mod serving;
+mod sinks;
 mod stops;
 mod streaming;
 mod texts;

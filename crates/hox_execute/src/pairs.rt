@@ -1,29 +1,45 @@
 //! Arguments that name a channel and a file.
-ghost use Rattle.std.specs.Prelude.{◌≡◌, ℕ, List, map, IfOk, IfErr, unwrap_or, option_map, nat_lt};
-ghost use Rattle.std.specs.List.{Contains};
+ghost use Rattle.std.specs.Prelude.{◌≡◌, ℕ, true, false, List, length, map, IfOk, IfErr, OnOk, unwrap_or, option_map, nat_lt};
+ghost use Rattle.std.specs.List.{All, AllZip, Contains, filter, flat_map};
+ghost use Rattle.hox_format.specs.Saying.{pieces};
 ghost use Rattle.hox_execute.specs.Files.{standard};
-ghost use Rattle.hox_execute.specs.Pairs.{ArePairs, IsPair, IsUnpaired, count_standard, is_named_twice};
+ghost use Rattle.hox_execute.specs.Formats.{HasEquals};
+ghost use Rattle.hox_execute.specs.Pairs.{ArePairs, AreShared, IsLike, IsPair, IsUnlike, IsUnpaired, IsUnsaid, IsUnshared, count_standard, firsts, in_order, is_alone, is_grouped, is_named_twice, is_single, parts, parts_from, shared_in};
 
-use crate::formats::{Formats, format_for};
+use crate::formats::{FormatStop, Formats, format_for};
 use crate::stops::Stop;
 use hox_args::channel_and_file;
-use hox_format::Format;
-use std::alloc::Global;
+use hox_format::{Format, Shared, shared_by};
+use std::alloc::{AllocError, Global};
 
 /// The name of standard input, and of standard output.
 pub(crate) const STANDARD: &str = "-";
 
-/// A channel, the name of a file for its tokens, and how the file has them.
+/// A channel, the name of a file for its tokens, and how the file has them; and which of the channels it is that the
+/// file is given for, counted from 0, and how many these are.
 #[derive(Clone, Copy, Debug)]
 pub struct Pair<'a> {
     pub channel: &'a str,
     pub file: &'a str,
     pub format: Format<'a>,
+    pub place: usize,
+    pub count: usize,
 }
 
-/// Returns the pairs that the texts of an option say, each as `CHANNEL=FILE`, in order.
+impl Pair<'_> {
+    /// Returns whether the file is given for this channel alone.
+    pub fn is_alone(&self) -> bool
+        ensures { result ≡ is_alone self.now }
+    {
+        self.count == 1
+    }
+}
+
+/// Returns the pairs that the texts of an option say, each as `CHANNEL=FILE`, or `CHANNEL,..=FILE` for several channels
+/// side by side in one file, in order.
 ///
-/// Errors: the first text that has no `=`, or of whose file no format can be told; or memory was refused.
+/// Errors: the first text that has no `=`, or of whose file no format can be told; or the first file that is given for
+/// several channels and is for one alone, or has another format for one of them; or memory was refused.
 pub fn pairs_of<'a>(
     alloc: Global,
     option: &'a str,
@@ -31,11 +47,87 @@ pub fn pairs_of<'a>(
     formats: Formats<'a, '_>,
 ) -> Result<Vec<Pair<'a>>, Stop<'a>>
     ensures ok { IfOk result (λ v. ArePairs (map (λ t. t.now) formats.entry.texts.now) (map (λ s. s.now) formats.entry.unsigned.now) (map (λ t. t.now) texts.now) v.items) }
-    ensures fault { IfErr result (IsUnpaired (map (λ t. t.now) formats.entry.texts.now) option.now (map (λ t. t.now) texts.now)) }
+    ensures fault { IfErr result (IsUnpaired (map (λ t. t.now) formats.entry.texts.now) (map (λ s. s.now) formats.entry.unsigned.now) option.now (map (λ t. t.now) texts.now)) }
+{
+    let pairs = all_pairs(alloc, option, texts, formats)?;
+    match check_shared(pairs.as_slice()) {
+        Ok(()) => Ok(pairs),
+        Err(stop) => Err(Stop::Format(stop)),
+    }
+}
+
+/// The pairs that the texts of an option say, whether or not the files can have them.
+fn all_pairs<'a>(
+    alloc: Global,
+    option: &'a str,
+    texts: &[&'a str],
+    formats: Formats<'a, '_>,
+) -> Result<Vec<Pair<'a>>, Stop<'a>>
+    ensures said { IfOk result (λ _. All HasEquals (map (λ t. t.now) texts.now)) }
+    ensures each { IfOk result (λ v. AllZip (IsPair (map (λ t. t.now) formats.entry.texts.now) (map (λ s. s.now) formats.entry.unsigned.now)) (flat_map parts (map (λ t. t.now) texts.now)) v.items) }
+    ensures fault { IfErr result (IsUnsaid (map (λ t. t.now) formats.entry.texts.now) option.now (map (λ t. t.now) texts.now)) }
 {
     let mut pairs = Vec::new(alloc);
     for text in texts {
-        let pair = pair_of(option, *text, formats)?;
+        let more = pairs_in(alloc, option, *text, formats)?;
+        if pairs.extend_from_slice(more.as_slice()).is_err() {
+            return Err(Stop::Memory);
+        }
+    }
+    Ok(pairs)
+}
+
+/// The pairs that a text of an option says: one for each of the channels before the first `=`.
+fn pairs_in<'a>(
+    alloc: Global,
+    option: &'a str,
+    text: &'a str,
+    formats: Formats<'a, '_>,
+) -> Result<Vec<Pair<'a>>, Stop<'a>>
+    ensures said { IfOk result (λ _. HasEquals text.now) }
+    ensures each { IfOk result (λ v. AllZip (IsPair (map (λ t. t.now) formats.entry.texts.now) (map (λ s. s.now) formats.entry.unsigned.now)) (parts text.now) v.items) }
+    ensures fault { (texts : List (List ℕ)) → Contains texts text.now → IfErr result (IsUnsaid (map (λ t. t.now) formats.entry.texts.now) option.now texts) }
+{
+    let Some((channels, file)) = channel_and_file(text) else {
+        return Err(Stop::NoPair { option, text });
+    };
+    let Ok(names) = names_in(alloc, channels) else {
+        return Err(Stop::Memory);
+    };
+    pairs_for(alloc, names.as_slice(), file, formats)
+}
+
+/// Names, with commas between them.
+fn names_in<'a>(alloc: Global, text: &'a str) -> Result<Vec<&'a str>, AllocError>
+    ensures { IfOk result (λ v. map (λ s. s.now) v.items ≡ pieces text.now) }
+{
+    text.split(',').collect(alloc)
+}
+
+/// The pairs of channels that stand side by side in a file.
+fn pairs_for<'a>(
+    alloc: Global,
+    names: &[&'a str],
+    file: &'a str,
+    formats: Formats<'a, '_>,
+) -> Result<Vec<Pair<'a>>, Stop<'a>>
+    ensures each { IfOk result (λ v. AllZip (IsPair (map (λ t. t.now) formats.entry.texts.now) (map (λ s. s.now) formats.entry.unsigned.now)) (parts_from file.now (length names.now) 0 (map (λ s. s.now) names.now)) v.items) }
+    ensures fault { (option : List ℕ) (texts : List (List ℕ)) → IfErr result (IsUnsaid (map (λ t. t.now) formats.entry.texts.now) option texts) }
+{
+    let mut pairs = Vec::new(alloc);
+    for place in 0..names.len() {
+        let channel = names[place];
+        let format = match format_for(formats, channel, file) {
+            Ok(format) => format,
+            Err(stop) => return Err(Stop::Format(stop)),
+        };
+        let pair = Pair {
+            channel,
+            file,
+            format,
+            place,
+            count: names.len(),
+        };
         if pairs.push(pair).is_err() {
             return Err(Stop::Memory);
         }
@@ -43,26 +135,97 @@ pub fn pairs_of<'a>(
     Ok(pairs)
 }
 
-/// Reads a text of an option as `CHANNEL=FILE`.
-fn pair_of<'a>(
-    option: &'a str,
-    text: &'a str,
-    formats: Formats<'a, '_>,
-) -> Result<Pair<'a>, Stop<'a>>
-    ensures ok { IfOk result (IsPair (map (λ t. t.now) formats.entry.texts.now) (map (λ s. s.now) formats.entry.unsigned.now) text.now) }
-    ensures fault { (texts : List (List ℕ)) → Contains texts text.now → IfErr result (IsUnpaired (map (λ t. t.now) formats.entry.texts.now) option.now texts) }
+/// Checks of each file that is given for several channels that it has them all in one way.
+///
+/// Errors: a file is for one channel alone, or has another format for one channel than for the one before it.
+fn check_shared<'a>(pairs: &[Pair<'a>]) -> Result<(), FormatStop<'a>>
+    ensures ok { OnOk result (AreShared pairs.now) }
+    ensures fault { IfErr result (IsUnshared pairs.now) }
 {
-    let Some((channel, file)) = channel_and_file(text) else {
-        return Err(Stop::NoPair { option, text });
-    };
-    match format_for(formats, channel, file) {
-        Ok(format) => Ok(Pair {
-            channel,
-            file,
-            format,
-        }),
-        Err(stop) => Err(Stop::Format(stop)),
+    for k in 0..pairs.len() {
+        let pair = pairs[k];
+        if is_single(&pair) {
+            return Err(FormatStop::Alone { file: pair.file });
+        }
+        if k > 0 && is_unlike(&pairs[k - 1], &pair) {
+            return Err(FormatStop::Unlike {
+                file: pair.file,
+                channel: pair.channel,
+            });
+        }
     }
+    Ok(())
+}
+
+/// Whether a file is for one channel alone that is given for several.
+fn is_single(pair: &Pair<'_>) -> bool
+    ensures { result ≡ is_single pair.now }
+{
+    !pair.is_alone() && shared_in(pair).is_none()
+}
+
+/// Whether a file has another format for a channel than for the one before it.
+fn is_unlike(last: &Pair<'_>, pair: &Pair<'_>) -> bool
+    ensures unlike { result ≡ true → IsUnlike last.now pair.now }
+    ensures like { result ≡ false → IsLike last.now pair.now }
+{
+    pair.place > 0 && shared_in(pair) != shared_in(last)
+}
+
+/// What the channels have in common for which the file of a pair is given.
+pub(crate) fn shared_in(pair: &Pair<'_>) -> Option<Shared>
+    ensures { result ≡ shared_in pair.now }
+{
+    shared_by(&pair.format, pair.count)
+}
+
+/// The first pair of each file.
+pub(crate) fn firsts_of<'a>(alloc: Global, pairs: &[Pair<'a>]) -> Result<Vec<Pair<'a>>, AllocError>
+    ensures { IfOk result (λ v. v.items ≡ firsts pairs.now) }
+{
+    let mut firsts = Vec::new(alloc);
+    for pair in pairs {
+        if pair.place == 0 {
+            firsts.push(*pair)?;
+        }
+    }
+    Ok(firsts)
+}
+
+/// Those that have a file alone, and then those that stand side by side in one.
+pub(crate) fn in_order<'a>(alloc: Global, pairs: &[Pair<'a>]) -> Result<Vec<Pair<'a>>, AllocError>
+    ensures { IfOk result (λ v. v.items ≡ in_order pairs.now) }
+{
+    let mut ordered = alone_among(alloc, pairs)?;
+    let grouped = grouped_among(alloc, pairs)?;
+    ordered.extend_from_slice(grouped.as_slice())?;
+    Ok(ordered)
+}
+
+/// Those of these pairs that have a file alone.
+fn alone_among<'a>(alloc: Global, pairs: &[Pair<'a>]) -> Result<Vec<Pair<'a>>, AllocError>
+    ensures { IfOk result (λ v. v.items ≡ filter is_alone pairs.now) }
+{
+    let mut alone = Vec::new(alloc);
+    for pair in pairs {
+        if pair.is_alone() {
+            alone.push(*pair)?;
+        }
+    }
+    Ok(alone)
+}
+
+/// Those of these pairs that stand side by side in a file.
+fn grouped_among<'a>(alloc: Global, pairs: &[Pair<'a>]) -> Result<Vec<Pair<'a>>, AllocError>
+    ensures { IfOk result (λ v. v.items ≡ filter is_grouped pairs.now) }
+{
+    let mut grouped = Vec::new(alloc);
+    for pair in pairs {
+        if !pair.is_alone() {
+            grouped.push(*pair)?;
+        }
+    }
+    Ok(grouped)
 }
 
 /// The name of a file, or of standard input if there is none.

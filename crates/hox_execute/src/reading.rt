@@ -8,7 +8,7 @@ ghost use Rattle.hox_execute.specs.Requests.{AsksRest, IsAsked, IsErrorIn, IsFil
 
 use crate::files::FileSystem;
 use crate::formats::{FormatStop, Formats, check_formats, is_named};
-use crate::pairs::{Pair, count_standard, is_named_twice, pairs_of};
+use crate::pairs::{Pair, count_standard, firsts_of, is_named_twice, pairs_of};
 use crate::stops::Stop;
 use crate::uses::{Role, check_uses};
 use crate::watching::Watched;
@@ -77,7 +77,10 @@ pub(crate) fn asked_of<'a, S: FileSystem>(
         return Err(Stop::InputTwice);
     }
     let is_told = is_told(wanted.is_quiet, outputs.as_slice());
-    let (read, written) = (tokens.as_slice(), outputs.as_slice());
+    let Ok(firsts) = firsts_of(alloc, outputs.as_slice()) else {
+        return Err(Stop::Memory);
+    };
+    let (read, written) = (tokens.as_slice(), firsts.as_slice());
     let file = wanted.file;
     match check_uses(alloc, files, Role::Tokens, file, read, written, is_told) {
         Ok(()) => {}
@@ -247,7 +250,8 @@ fn file_of<'a>(alloc: Global, pair: Pair<'a>, bytes: Vec<u8>) -> Result<TokenFil
     ensures ok { IfOk result (IsFileOf pair.entry bytes.items) }
     ensures fault { IfErr result (IsNoFileOf pair.entry bytes.items) }
 {
-    let body = match body_in(alloc, &pair.format, 0, 1, bytes.as_slice(), true) {
+    let (place, count) = (pair.place, pair.count);
+    let body = match body_in(alloc, &pair.format, place, count, bytes.as_slice(), true) {
         Ok(Ok(Some(body))) => body,
         Ok(Ok(None)) => unreachable!(),
         Ok(Err(fault)) => {

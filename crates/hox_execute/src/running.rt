@@ -9,7 +9,7 @@ ghost use Rattle.hox_execute.specs.Requests.{want_of};
 ghost use Rattle.hox_execute.specs.Served.{ServesNamed};
 
 use crate::files::FileSystem;
-use crate::pairs::Pair;
+use crate::pairs::{Pair, firsts_of};
 use crate::reading::{Asked, Wanted, asked_of};
 use crate::stops::{Refusal, Stop, Unserved, unopened};
 use crate::texts::{FileNote, file_notes, file_texts, rate_of};
@@ -94,11 +94,14 @@ fn ran_of<'a, S: FileSystem>(
     let Ok(noted) = file_notes(alloc, streams.as_slice()) else {
         return Err(Stop::Memory);
     };
-    let Ok(texts) = file_texts(alloc, rate, outputs.as_slice(), streams.as_slice()) else {
+    let (Ok(texts), Ok(firsts)) = (
+        file_texts(alloc, rate, outputs.as_slice(), streams.as_slice()),
+        firsts_of(alloc, outputs.as_slice()),
+    ) else {
         return Err(Stop::Memory);
     };
-    let (pairs, texts) = (outputs.as_slice(), texts.as_slice());
-    let status = write_told(files, status, &report, pairs, texts, is_quiet);
+    let (firsts, texts) = (firsts.as_slice(), texts.as_slice());
+    let status = write_told(files, status, &report, firsts, texts, is_quiet);
     Ok(Ran {
         status,
         notes,

@@ -1,27 +1,28 @@
 //! Running a network on tokens that come from files, as they come.
-ghost use Rattle.std.specs.Prelude.{◌≡◌, ◌∷◌, [], None, IfOk, IfErr, IfSome, map};
+ghost use Rattle.std.specs.Prelude.{◌≡◌, IfOk, IfErr, IfSome, map};
 ghost use Rattle.std.specs.List.{All, AllZip};
-ghost use Rattle.hox_format.specs.Forms.{form};
-ghost use Rattle.hox_format.specs.Heads.{head_text};
 ghost use Rattle.hox_format.specs.Resuming.{left_of, resumed_has_failed};
 ghost use Rattle.hox_execute.specs.Reports.{first_rate};
 ghost use Rattle.kpn_model.specs.Network.{family_of};
 ghost use Rattle.hox_stream.specs.Serves.{Serves, new_inlets, new_outs};
 ghost use Rattle.hox_stream.specs.Views.{outs};
 ghost use Rattle.hox_execute.specs.Pairs.{IsUsable, channels_of};
-ghost use Rattle.hox_execute.specs.Streaming.{AreEnds, ArePairsOf, AreUnpaired, IsCreated, IsFaultyBetween, IsNoEnds, IsOpened, IsRefusedIn, IsRefusedText, IsSketchIn, IsSketchOf, IsStreamStop, IsUnfit, IsUnopened, IsUnread, IsUnreadText, IsUnwritten, Opens, RunsBetween, StartsBetween, StreamsBetween, formats_of, inputs_of, laid_source, outputs_of};
+ghost use Rattle.hox_execute.specs.Streaming.{AreEnds, ArePairsOf, AreUnpaired, IsFaultyBetween, IsNoEnds, IsOpened, IsRefusedIn, IsRefusedText, IsSketchIn, IsSketchOf, IsStreamStop, IsUnfit, IsUnopened, IsUnread, IsUnreadText, Opens, RunsBetween, StartsBetween, StreamsBetween, formats_of, inputs_of, laid_source, outputs_of};
 
 use crate::files::FileSystem;
 use crate::formats::{Formats, check_formats};
-use crate::pairs::{Pair, is_named_twice, is_written_twice, name_of, pairs_of};
+use crate::pairs::{
+    Pair, firsts_of, in_order, is_named_twice, is_written_twice, name_of, pairs_of,
+};
 use crate::reading::{ReadError, names_of, read_file};
+use crate::sinks::{sinks_of, tables_of};
 use crate::stops::Stop;
 use crate::texts::USUAL_RATE;
 use crate::uses::{Role, check_uses};
 use hox_args::StreamChoice;
-use hox_format::{BeginFault, Begun, HeadFault, Resumed, append_head, begin, layout_of};
+use hox_format::{BeginFault, Begun, HeadFault, Resumed, begin};
 use hox_network::{channel_names, load_by_ports, sketch_by_ports};
-use hox_stream::{Exits, LaidOut, OpenStream, Served, StreamFault, open_stream, serve};
+use hox_stream::{Exits, LaidOut, LaidTable, OpenStream, Served, StreamFault, open_stream, serve};
 use kpn_compute::{Both, Computes};
 use kpn_front::{Refused, Sink, Source};
 use kpn_model::{Kinds, Listed, Text};
@@ -29,7 +30,8 @@ use kpn_net::{Net, NetFault, Sketch};
 use std::alloc::{AllocError, Global};
 use std::io;
 
-/// The ends of a stream: from which files tokens come into which channels, and to which files which channels go.
+/// The ends of a stream: from which files tokens come into which channels, and to which files which channels go, those
+/// that have a file alone before those that stand side by side in one.
 #[derive(Drop)]
 pub struct Ends<'a> {
     pub inputs: Vec<Pair<'a>>,
@@ -126,16 +128,25 @@ fn ends_of<'a, S: FileSystem>(
         Ok(ends) => ends,
         Err(stop) => return Err(StreamStop::Asked(stop)),
     };
+    let (Ok(firsts), Ok(in_order)) = (
+        firsts_of(alloc, outputs.as_slice()),
+        in_order(alloc, outputs.as_slice()),
+    ) else {
+        return Err(StreamStop::Asked(Stop::Memory));
+    };
     let file = name_of(choice.file);
     if is_named_twice(file, inputs.as_slice()) {
         return Err(StreamStop::Asked(Stop::InputTwice));
     }
-    if is_written_twice(outputs.as_slice()) {
+    if is_written_twice(firsts.as_slice()) {
         return Err(StreamStop::OutputTwice);
     }
-    let (read, written) = (inputs.as_slice(), outputs.as_slice());
+    let (read, written) = (inputs.as_slice(), firsts.as_slice());
     match check_uses(alloc, files, Role::In, file, read, written, false) {
-        Ok(()) => Ok(Ends { inputs, outputs }),
+        Ok(()) => Ok(Ends {
+            inputs,
+            outputs: in_order,
+        }),
         Err(stop) => Err(StreamStop::Asked(stop)),
     }
 }
@@ -297,7 +308,8 @@ fn run_between<'a, F: Computes, S: FileSystem>(
     let sources = sources_of(alloc, files, ends.inputs.as_slice())?;
     let rate = rate_of(sources.as_slice());
     let sinks = sinks_of(alloc, files, ends.outputs.as_slice(), rate)?;
-    run_opened(alloc, ends, start, sources, sinks)
+    let tables = tables_of(alloc, files, ends.outputs.as_slice(), rate)?;
+    run_opened(alloc, ends, start, sources, sinks, tables)
 }
 
 /// Runs a stream from its start between files that were opened.
@@ -307,14 +319,15 @@ fn run_opened<'a, F: Computes, I: Source + Drop, O: Sink + Drop>(
     start: OpenStream<F>,
     sources: Vec<Begun<Resumed<I>>>,
     sinks: Vec<LaidOut<O>>,
+    tables: Vec<LaidTable<O>>,
 ) -> Result<Streamed<'a, F, Resumed<I>, O>, StreamStop<'a>>
-    ensures done { IfOk result (λ s. (s.ends ≡ ends.entry) × Serves (family_of F.start F.answer_of) start s.served.flow (new_inlets (left_of I.remaining) (resumed_has_failed I.has_failed) start.network start.inputs (map laid_source sources.items)) s.served.inlets.items (new_outs O.seen start.outputs sinks.items []) (outs s.served.outlets.items s.served.tables.items) s.served.finish) }
+    ensures done { IfOk result (λ s. (s.ends ≡ ends.entry) × Serves (family_of F.start F.answer_of) start s.served.flow (new_inlets (left_of I.remaining) (resumed_has_failed I.has_failed) start.network start.inputs (map laid_source sources.items)) s.served.inlets.items (new_outs O.seen start.outputs sinks.items tables.items) (outs s.served.outlets.items s.served.tables.items) s.served.finish) }
     ensures stop { IfErr result (IsUnfit ends.entry) }
 {
     let Ok(sources) = laid_out(alloc, sources) else {
         return Err(StreamStop::Asked(Stop::Memory));
     };
-    match serve(alloc, start, sources, sinks, Vec::new(alloc)) {
+    match serve(alloc, start, sources, sinks, tables) {
         Ok(served) => Ok(Streamed { ends, served }),
         Err(_) => Err(StreamStop::Asked(Stop::Memory)),
     }
@@ -395,74 +408,7 @@ fn source_of<S: FileSystem>(
     ensures { IfOk result (IsOpened (left_of S.Input.remaining) (resumed_has_failed S.Input.has_failed) (S.contents files.now) pair.now) }
 {
     match files.open(pair.file) {
-        Ok(source) => begin(alloc, source, &pair.format, 0, 1),
+        Ok(source) => begin(alloc, source, &pair.format, pair.place, pair.count),
         Err(error) => Err(BeginFault::Unread(error)),
     }
-}
-
-/// The files of these pairs, opened to be written, with what stands before their tokens.
-fn sinks_of<'a, S: FileSystem>(
-    alloc: Global,
-    files: &S,
-    pairs: &[Pair<'a>],
-    rate: u32,
-) -> Result<Vec<LaidOut<S::Output>>, StreamStop<'a>>
-    ensures ok { IfOk result (λ v. AllZip (IsCreated S.Output.seen rate) pairs.now v.items) }
-    ensures stop { IfErr result (IsUnwritten pairs.now) }
-{
-    let mut sinks = Vec::new(alloc);
-    for k in 0..pairs.len() {
-        let file = pairs[k].file;
-        let sink = match sink_of(alloc, files, &pairs[k], rate) {
-            Ok(sink) => sink,
-            Err(Uncreated::Failed(error)) => return Err(StreamStop::Unwritten { file, error }),
-            Err(Uncreated::Memory) => return Err(StreamStop::Asked(Stop::Memory)),
-        };
-        let Ok(()) = sinks.push(sink) else {
-            return Err(StreamStop::Asked(Stop::Memory));
-        };
-    }
-    Ok(sinks)
-}
-
-/// Why a file was not opened to be written: for this reason, or memory was refused.
-#[derive(Drop)]
-enum Uncreated {
-    Failed(io::Error),
-    Memory,
-}
-
-/// The file of a pair, opened to be written, with what stands before its tokens.
-fn sink_of<S: FileSystem>(
-    alloc: Global,
-    files: &S,
-    pair: &Pair<'_>,
-    rate: u32,
-) -> Result<LaidOut<S::Output>, Uncreated>
-    ensures { IfOk result (IsCreated S.Output.seen rate pair.now) }
-{
-    let Ok(head) = head_of(alloc, pair, rate) else {
-        return Err(Uncreated::Memory);
-    };
-    let mut stream = match files.create(pair.file) {
-        Ok(stream) => stream,
-        Err(error) => return Err(Uncreated::Failed(error)),
-    };
-    match stream.write_all(head.as_slice()) {
-        Ok(()) => Ok(LaidOut {
-            stream,
-            layout: layout_of(&pair.format),
-        }),
-        Err(error) => Err(Uncreated::Failed(error)),
-    }
-}
-
-/// What stands before the tokens in the file of a pair.
-fn head_of(alloc: Global, pair: &Pair<'_>, rate: u32) -> Result<Vec<u8>, AllocError>
-    ensures { IfOk result (λ head. head.items ≡ head_text (form pair.now.format) (pair.now.channel.now ∷ []) rate None) }
-{
-    let mut head = Vec::new(alloc);
-    let names = [pair.channel.as_bytes()];
-    append_head(alloc, &mut head, &pair.format, &names, rate, None)?;
-    Ok(head)
 }

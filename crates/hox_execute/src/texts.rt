@@ -1,12 +1,17 @@
 //! The texts of files of streams.
-ghost use Rattle.std.specs.Prelude.{◌≡◌, ◌++◌, IfOk, map};
-ghost use Rattle.hox_execute.specs.Reports.{file_note, file_text, file_texts, rate_of};
+ghost use Rattle.std.specs.Prelude.{◌≡◌, ◌++◌, IfOk, map, take};
+ghost use Rattle.kpn_tokens.specs.Tables.{column_of};
+ghost use Rattle.hox_execute.specs.Pairs.{channels_of, group_in};
+ghost use Rattle.hox_execute.specs.Reports.{alone_text, body_text, columns, file_note, file_text, file_texts, rate_of, table_in, text_of};
 
-use crate::pairs::Pair;
-use hox_format::{append_head, append_tail};
+use crate::pairs::{Pair, shared_in};
+use hox_format::{append_head, append_tail, decimals_of, layout_of};
 use hox_network::TokenFile;
 use hox_run::StreamFile;
 use kpn_model::Listed;
+use kpn_tokens::{
+    AppendFault, Layout, Separator, Table, TokenColumn, append_table, append_tokens, longest,
+};
 use std::alloc::{AllocError, Global};
 
 /// How many samples a second a WAV file has of which nothing tells.
@@ -39,7 +44,7 @@ fn file_note(file: &StreamFile) -> FileNote
     ensures { result ≡ file_note file.now }
 {
     FileNote {
-        tokens: file.tokens,
+        tokens: file.tokens.as_slice().len(),
         clipped: file.clipped,
         is_misfit: file.is_misfit,
     }
@@ -57,7 +62,7 @@ pub(crate) fn rate_of(files: &[TokenFile]) -> u32
     USUAL_RATE
 }
 
-/// The texts of the files of streams, in order, each for the pair at its place.
+/// The texts of the files of streams, in order. The stream of each pair stands at its place.
 ///
 /// Errors: memory was refused.
 pub(crate) fn file_texts(
@@ -70,26 +75,133 @@ pub(crate) fn file_texts(
 {
     let mut texts = Vec::new(alloc);
     for k in 0..pairs.len().min(files.len()) {
-        texts.push(file_text(alloc, rate, &pairs[k], &files[k])?)?;
+        if pairs[k].place == 0 {
+            texts.push(file_text(alloc, rate, &pairs[k..], &files[k..])?)?;
+        }
     }
     Ok(texts)
 }
 
-/// The text of the file of a stream: what stands before its tokens, these as records, and what stands after them.
+/// The text of the file of the first of these pairs, and of those behind it that have the same file.
 fn file_text(
     alloc: Global,
     rate: u32,
-    pair: &Pair<'_>,
-    file: &StreamFile,
+    pairs: &[Pair<'_>],
+    files: &[StreamFile],
 ) -> Result<Listed<u8>, AllocError>
-    ensures { IfOk result (λ text. text ≡ file_text rate pair.now file.now) }
+    ensures { IfOk result (λ text. text ≡ file_text rate pairs.now files.now) }
 {
-    let frames = Some(file.tokens.min(u32::MAX as usize) as u32);
-    let bytes = file.bytes.as_slice();
-    let names = [pair.channel.as_bytes()];
+    let Some(first) = pairs.first() else {
+        return Ok(Listed::new(Vec::new(alloc)));
+    };
+    let group = group_of(pairs);
+    let names = byte_names(alloc, group)?;
+    let columns = columns_of(alloc, group, files)?;
+    text_of(alloc, rate, first, names.as_slice(), columns.as_slice())
+}
+
+/// The first of these pairs, and those behind it that have the same file.
+pub(crate) fn group_of<'a, 'b>(pairs: &'b [Pair<'a>]) -> &'b [Pair<'a>]
+    ensures { result.now ≡ group_in pairs.now }
+{
+    match pairs.first() {
+        Some(first) => &pairs[..first.count.min(pairs.len())],
+        None => pairs,
+    }
+}
+
+/// The names of the channels of pairs.
+pub(crate) fn byte_names<'a>(
+    alloc: Global,
+    pairs: &[Pair<'a>],
+) -> Result<Vec<&'a [u8]>, AllocError>
+    ensures { IfOk result (λ v. map (λ name. name.now) v.items ≡ channels_of pairs.now) }
+{
+    let mut names = Vec::with_capacity(alloc, pairs.len())?;
+    for pair in pairs {
+        names.push(pair.channel.as_bytes())?;
+    }
+    Ok(names)
+}
+
+/// The tokens that go into a file, channel by channel.
+fn columns_of<'a>(
+    alloc: Global,
+    pairs: &[Pair<'_>],
+    files: &'a [StreamFile],
+) -> Result<Vec<TokenColumn<'a>>, AllocError>
+    ensures { IfOk result (λ v. map column_of v.items ≡ columns pairs.now files.now) }
+{
+    let mut columns = Vec::new(alloc);
+    for k in 0..pairs.len().min(files.len()) {
+        columns.push(TokenColumn {
+            decimals: decimals_of(&pairs[k].format),
+            tokens: files[k].tokens.as_slice(),
+        })?;
+    }
+    Ok(columns)
+}
+
+/// The text of a file: what stands before its tokens, these as records or as rows, and what stands after them.
+fn text_of(
+    alloc: Global,
+    rate: u32,
+    pair: &Pair<'_>,
+    names: &[&[u8]],
+    columns: &[TokenColumn<'_>],
+) -> Result<Listed<u8>, AllocError>
+    ensures { IfOk result (λ text. text ≡ text_of rate pair.now (map (λ name. name.now) names.now) (map column_of columns.now)) }
+{
+    let frames = Some(longest(columns).min(u32::MAX as usize) as u32);
+    let body = body_text(alloc, pair, columns)?;
+    let bytes = body.as_slice();
     let mut text = Vec::new(alloc);
-    append_head(alloc, &mut text, &pair.format, &names, rate, frames)?;
+    append_head(alloc, &mut text, &pair.format, names, rate, frames)?;
     text.extend_from_slice(bytes)?;
     append_tail(&mut text, &pair.format, bytes.len() as u64, frames)?;
     Ok(Listed::new(text))
+}
+
+/// The tokens of a channel alone as records, or those of several as rows.
+fn body_text(
+    alloc: Global,
+    pair: &Pair<'_>,
+    columns: &[TokenColumn<'_>],
+) -> Result<Vec<u8>, AllocError>
+    ensures { IfOk result (λ text. text.items ≡ body_text pair.now (map column_of columns.now)) }
+{
+    if pair.is_alone() {
+        return alone_text(alloc, layout_of(&pair.format), columns);
+    }
+    let mut text = Vec::new(alloc);
+    append_table(alloc, &mut text, table_in(pair), columns)?;
+    Ok(text)
+}
+
+/// The tokens of the first of these columns as records, up to one that does not fit.
+fn alone_text(
+    alloc: Global,
+    layout: Layout,
+    columns: &[TokenColumn<'_>],
+) -> Result<Vec<u8>, AllocError>
+    ensures { IfOk result (λ text. text.items ≡ alone_text layout (map column_of columns.now)) }
+{
+    let mut text = Vec::new(alloc);
+    let Some(column) = columns.first() else {
+        return Ok(text);
+    };
+    match append_tokens(&mut text, layout, column.tokens) {
+        Ok(_) | Err(AppendFault::DoesNotFit { .. }) => Ok(text),
+        Err(AppendFault::Memory) => Err(AllocError),
+    }
+}
+
+/// How several channels stand side by side in the file of a pair.
+pub(crate) fn table_in(pair: &Pair<'_>) -> Table
+    ensures { result ≡ table_in pair.now }
+{
+    match shared_in(pair) {
+        Some(shared) => shared.table,
+        None => Table::Rows(Separator::Comma),
+    }
 }

@@ -3,3 +3,4 @@ pub mod Saying
 pub mod Bodies
 pub mod Heads
 pub mod Resuming
+pub mod Tables

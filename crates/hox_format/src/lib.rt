@@ -12,6 +12,7 @@ mod parsing;
 mod resumed;
 mod resuming;
 mod settings;
+mod tables;
 
 pub use bodies::{Body, HeadFault, body_in, body_of};
 pub use formats::{Csv, Format, Raw, Wav, Which};
@@ -19,3 +20,4 @@ pub use heads::{append_head, append_tail, layout_of};
 pub use parsing::{FormatFault, format_of};
 pub use resumed::Resumed;
 pub use resuming::{BeginFault, Begun, begin};
+pub use tables::{Head, Shared, decimals_of, shared_by};

@@ -34,7 +34,7 @@ use Rattle.hox_run.specs.Notes.{AreNotes}
 use Rattle.hox_run.specs.declared.telling.Told.{Told}
 use Rattle.hox_run.specs.Cuts.{after_verdict, before_verdict, left_at, tokens_line}
 use Rattle.hox_run.proofs.Cutting.{follows_from, leaves_of, nothing_after, nothing_follows}
-use Rattle.hox_run.specs.Telling.{TellsOf, TellsRun, laid_out, places_in, status_with, stream_file}
+use Rattle.hox_run.specs.Telling.{TellsOf, TellsRun, fitted, places_in, status_with, stream_file}
 
 -- what is said of a network, a history and places is said of equal ones
 pub moved : (P : Network → List Entry → List Place → Type 0) (net m : Network) (E F : List Entry) (places others : List Place) → m ≡ net → F ≡ E → others ≡ places → P m F others → P net E places
@@ -83,7 +83,7 @@ module _ (kinds : Family) (net : Network) where
         let texts : report_text kinds net cause E M None ≡ report_text kinds net b F N None = over_text cause E M e.over ∙ ap text_of same ∙ sym (over_text b F N f.over) in
         let shown : before_verdict net cause E show ≡ before_verdict net b F show = over_shown show cause E M e.over ∙ ap (shown_of show) same ∙ sym (over_shown show b F N f.over) in
         let at : (c : ℕ) → stream net E c ≡ stream net F c = λ c. each_stream kinds net (start kinds net) E M e.run c ∙ ap (λ (ss : List (List Token)). get_or ss c []) streams ∙ sym (each_stream kinds net (start kinds net) F N f.run c) in
-        let outs : stream_file net E ≡ stream_file net F = fun_ext (λ c. ap (laid_out c.written) (at c.channel)) in
+        let outs : stream_file net E ≡ stream_file net F = fun_ext (λ c. ap (fitted c.written) (at c.channel)) in
         record {
           judged = subst (λ (d : Digest). IsVerdict net d.places d.cause verdict) same tells.judged;
           status_is = tells.status_is;

@@ -1,6 +1,6 @@
 -- What is told of a run.
 use Rattle.std.specs.Prelude.{◌≡◌, ℕ, Bool, true, false, if◌then◌else◌, List, [], ◌++◌, is_some, length, map, not, take, unwrap_or, Option, None, string_bytes}
-use Rattle.std.specs.List.{flat_map, list_any, position}
+use Rattle.std.specs.List.{list_any, position}
 use Rattle.kpn_model.specs.declared.token.Token.{Token}
 use Rattle.kpn_model.specs.declared.history.Entry.{Entry}
 use Rattle.kpn_model.specs.declared.history.End.{End}
@@ -21,7 +21,7 @@ use Rattle.kpn_report.specs.Text.{report_text}
 use Rattle.kpn_verdict.specs.VerdictText.{verdict_line}
 use Rattle.kpn_tokens.specs.declared.layouts.Decimals.{Decimals}
 use Rattle.kpn_tokens.specs.declared.layouts.Layout.{Layout}
-use Rattle.kpn_tokens.specs.Records.{clips, fits, misfits, record_text}
+use Rattle.kpn_tokens.specs.Records.{clips, fits, misfits}
 use Rattle.kpn_front.specs.declared.status.Status.{Status}
 use Rattle.kpn_front.specs.declared.status.Status.TheVariants.{Success, BudgetSpent, MemoryRefused, Deadlocked, AtCeiling, Refused}
 use Rattle.hox_run.specs.declared.shown.ChannelAs.{ChannelAs}
@@ -47,19 +47,18 @@ first_misfit layout tokens = if clips layout then None else position (λ token. 
 abbrev pub fitting : Layout → List Token → List Token
 fitting layout tokens = take (unwrap_or (first_misfit layout tokens) (length tokens)) tokens
 
--- tokens as records, up to the first that does not fit, and how many of them are clipped
-abbrev pub laid_out : Layout → List Token → StreamFile
-laid_out layout tokens =
+-- what goes of tokens into a file: those up to the first that does not fit, and how many of them are clipped
+abbrev pub fitted : Layout → List Token → StreamFile
+fitted layout tokens =
     record {
-      bytes = flat_map (record_text layout) (fitting layout tokens);
-      tokens = length (fitting layout tokens);
+      tokens = fitting layout tokens;
       clipped = if clips layout then misfits layout tokens else 0;
       is_misfit = is_some (first_misfit layout tokens);
     }
 
--- what went through a channel, its start tokens first, as a file
+-- what goes of what went through a channel, its start tokens first
 abbrev pub stream_file : Network → List Entry → ChannelAs Layout → StreamFile
-stream_file net E c = laid_out c.written (stream net E c.channel)
+stream_file net E c = fitted c.written (stream net E c.channel)
 
 -- the exit status of a run with this verdict, unless a token does not fit a file
 abbrev pub status_with : Verdict → List StreamFile → Status

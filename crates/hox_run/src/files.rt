@@ -2,26 +2,25 @@
 ghost use Rattle.std.specs.Prelude.{◌≡◌, IfOk, map};
 ghost use Rattle.std.specs.List.{All};
 ghost use Rattle.hox_run.specs.Cuts.{IsWithin};
-ghost use Rattle.hox_run.specs.Telling.{laid_out, stream_file};
+ghost use Rattle.hox_run.specs.Telling.{fitted, stream_file};
 
 use crate::shown::ChannelAs;
 use kpn_model::{Entry, Kinds, Listed, Token};
 use kpn_network::Net;
 use kpn_report::stream_of;
-use kpn_tokens::{AppendFault, Layout, append_tokens};
+use kpn_tokens::{Layout, count_misfits};
 use std::alloc::{AllocError, Global};
 
-/// A stream as a file: its tokens as records, up to the first that does not fit; how many they are, and for how many
-/// the nearest was written that fits; and whether one does not fit.
+/// What goes into a file of a stream: its tokens, up to the first that does not fit; for how many of them the nearest
+/// is written that fits; and whether one does not fit.
 #[derive(Drop)]
 pub struct StreamFile {
-    pub bytes: Listed<u8>,
-    pub tokens: usize,
+    pub tokens: Listed<Token>,
     pub clipped: usize,
     pub is_misfit: bool,
 }
 
-/// The streams of these channels, each as a file.
+/// The streams of these channels, each as far as it goes into its file.
 ///
 /// Errors: memory was refused.
 pub(crate) fn stream_files<K: Kinds>(
@@ -40,7 +39,7 @@ pub(crate) fn stream_files<K: Kinds>(
     Ok(files)
 }
 
-/// The stream of a channel as a file.
+/// The stream of a channel, as far as it goes into its file.
 fn stream_file<K: Kinds>(
     alloc: Global,
     net: &Net<K>,
@@ -51,27 +50,26 @@ fn stream_file<K: Kinds>(
     ensures { IfOk result (λ file. file ≡ stream_file net.now history.now channel) }
 {
     let tokens = stream_of(alloc, net, history, channel.channel)?;
-    laid_out(alloc, channel.written, tokens.as_slice())
+    Ok(fitted(channel.written, tokens))
 }
 
-/// Tokens as records, up to the first that does not fit.
-fn laid_out(alloc: Global, layout: Layout, tokens: &[Token]) -> Result<StreamFile, AllocError>
-    ensures { IfOk result (λ file. file ≡ laid_out layout tokens.now) }
+/// Tokens up to the first that does not fit.
+fn fitted(layout: Layout, mut tokens: Vec<Token>) -> StreamFile
+    ensures { result ≡ fitted layout tokens.items }
 {
-    let mut bytes = Vec::new(alloc);
-    match append_tokens(&mut bytes, layout, tokens) {
-        Ok(clipped) => Ok(StreamFile {
-            bytes: Listed::new(bytes),
-            tokens: tokens.len(),
+    match count_misfits(layout, tokens.as_slice()) {
+        Ok(clipped) => StreamFile {
+            tokens: Listed::new(tokens),
             clipped,
             is_misfit: false,
-        }),
-        Err(AppendFault::DoesNotFit { place }) => Ok(StreamFile {
-            bytes: Listed::new(bytes),
-            tokens: place,
-            clipped: 0,
-            is_misfit: true,
-        }),
-        Err(AppendFault::Memory) => Err(AllocError),
+        },
+        Err(place) => {
+            tokens.truncate(place);
+            StreamFile {
+                tokens: Listed::new(tokens),
+                clipped: 0,
+                is_misfit: true,
+            }
+        }
     }
 }

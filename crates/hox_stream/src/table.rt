@@ -189,8 +189,8 @@ impl<S: Sink> TableOutlet<S> {
         }
     }
 
-    /// Whether a token of a column did not fit.
-    fn is_misfit(&self, place: usize) -> bool
+    /// Returns whether a token of a column did not fit, and so was not taken.
+    pub fn is_misfit(&self, place: usize) -> bool
         requires { place < length self.now.lanes }
         ensures { result ≡ (lane_at self.now place).is_misfit }
     {

@@ -13,3 +13,4 @@ pub mod RowsBack
 pub mod LinesBack
 pub mod TablesBack
 pub mod Chunks
+pub mod RowsOn

@@ -1,8 +1,9 @@
 -- Files in which several channels stand side by side.
 use Rattle.std.specs.Prelude.{◌≡◌, ◌<◌, ◌-◌, ◌*◌, ◌++◌, ℕ, zero, suc, false, codes, drop, get_or, length, map, max, List, [], ◌∷◌, Option, Some, None}
-use Rattle.std.specs.List.{AllByRecursion, flat_map}
+use Rattle.std.specs.List.{AllByRecursion, flat_map, slice_get}
 use Rattle.kpn_model.specs.declared.token.Sort.{Sort}
 use Rattle.kpn_model.specs.declared.token.Token.{Token}
+use Rattle.kpn_tokens.specs.declared.columns.TokenColumn.{TokenColumn}
 use Rattle.kpn_tokens.specs.declared.layouts.Cell.{Cell}
 use Rattle.kpn_tokens.specs.declared.layouts.Decimals.{Decimals}
 use Rattle.kpn_tokens.specs.declared.layouts.Layout.{Layout}
@@ -28,6 +29,9 @@ pub record ColumnView : Type 0 where
   pub decimals : Decimals
   pub tokens : List Token
 
+abbrev pub column_of : TokenColumn → ColumnView
+column_of c = record { decimals = c.decimals; tokens = c.tokens.now }
+
 abbrev pub no_column : ColumnView
 no_column = record { decimals = record { digits = 0; is_unsigned = false }; tokens = [] }
 
@@ -38,6 +42,10 @@ first_of (token ∷ tokens) = Some token
 
 abbrev pub first_cell : ColumnView → Cell
 first_cell column = record { decimals = column.decimals; token = first_of column.tokens }
+
+-- the token at a place of a column, if it has it
+abbrev pub cell_at : ℕ → ColumnView → Cell
+cell_at place column = record { decimals = column.decimals; token = slice_get column.tokens place }
 
 abbrev pub below : ColumnView → ColumnView
 below column = record { decimals = column.decimals; tokens = drop 1 column.tokens }

@@ -5,6 +5,7 @@
 #![tactic(auto)]
 
 mod appending;
+mod columns;
 mod cutting;
 mod heads;
 mod laws;
@@ -18,6 +19,7 @@ mod saying;
 mod tables;
 
 pub use appending::{AppendFault, append_tokens, count_misfits};
+pub use columns::{TokenColumn, append_table, longest};
 pub use cutting::record_in;
 pub use heads::{LONGEST_HEAD, WavFault, WavHead, append_wav_head, wav_head, wav_sample};
 pub use kpn_model::{Sort, Token};

@@ -1,0 +1,41 @@
+-- Several channels in one file.
+use Rattle.std.specs.Prelude.{◌==◌, ◌&&◌, ℕ, Bool, true, is_none, if◌then◌else◌, Option, Some, None}
+use Rattle.kpn_tokens.specs.declared.layouts.Decimals.{Decimals}
+use Rattle.kpn_tokens.specs.declared.layouts.Separator.{Separator}
+use Rattle.kpn_tokens.specs.declared.tables.Table.TheVariants.{Rows, Samples}
+use Rattle.kpn_tokens.specs.Heads.{wav_sample}
+use Rattle.hox_format.specs.declared.formats.Raw.{Raw}
+use Rattle.hox_format.specs.declared.formats.Wav.{Wav as WavFile}
+use Rattle.hox_format.specs.declared.tables.Head.TheVariants.{Nothing, Names, Wav}
+use Rattle.hox_format.specs.declared.tables.Shared.{Shared}
+use Rattle.hox_format.specs.Forms.{Form, lines, table, wave, samples, whole}
+
+-- what channels of one file have in common
+abbrev pub shared_rows : Separator → Bool → Shared
+shared_rows separator has_header = record { table = Rows separator; head = if has_header then Names else Nothing }
+
+abbrev pub shared_wave : WavFile → Shared
+shared_wave wav = record { table = Samples (record (wav_sample wav.width) { clips = wav.clips }); head = Wav wav.rate }
+
+abbrev pub shared_samples : Raw → Shared
+shared_samples raw = record { table = Samples raw.sample; head = Nothing }
+
+-- as many channels as are said, if any number is
+abbrev pub is_so_many : Option ℕ → ℕ → Bool
+is_so_many None count = true
+is_so_many (Some channels) count = channels == count
+
+-- what so many have in common, unless the format is for one channel alone: a line has one token, or a column or a channel is chosen, or there
+-- are another number of channels
+abbrev pub shared_by : Form → ℕ → Option Shared
+shared_by (lines decimals) count = None
+shared_by (table t) count = if is_none t.column then Some (shared_rows t.separator t.has_header) else None
+shared_by (wave wav) count = if is_none wav.channel then Some (shared_wave wav) else None
+shared_by (samples raw) count = if is_none raw.channel && is_so_many raw.channels count then Some (shared_samples raw) else None
+
+-- how a word of the file is written, if it is written in digits
+abbrev pub decimals_of : Form → Decimals
+decimals_of (lines decimals) = decimals
+decimals_of (table t) = t.decimals
+decimals_of (wave wav) = whole
+decimals_of (samples raw) = whole
