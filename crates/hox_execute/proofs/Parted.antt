@@ -1,9 +1,8 @@
 -- What texts say of channels, one part after the other.
-use Rattle.std.proofs.Common.{◌≡◌, ◌<◌, ◌+◌, ◌++◌, ℕ, zero, suc, List, [], ◌∷◌, Bor, map, get_or, length, drop, append_assoc, add-one, sym, ap, subst, ◌∙◌}
+use Rattle.std.proofs.Common.{◌≡◌, ◌<◌, ◌≤◌, ◌+◌, ◌++◌, ℕ, zero, suc, List, [], ◌∷◌, Bor, get_or, length, drop, append_assoc, add-one, refl, sym, ap, subst, ◌∙◌, arith}
 use Rattle.std.proofs.lemmas.List.{append-nil}
 use Rattle.std.specs.List.{AllZip, flat_map}
-use Rattle.hox_execute.specs.declared.pairs.Pair.{Pair}
-use Rattle.hox_execute.specs.Pairs.{IsPair, Part, parts, parts_from}
+use Rattle.hox_execute.specs.Pairs.{part_at, parts, parts_from}
 use Rattle.hox_execute.proofs.Firsts.{left_at, texts_of}
 
 pub zip_append : {A B : Type 0} (R : A → B → Type 0) (xs more : List A) (ys later : List B) → AllZip R xs ys → AllZip R more later → AllZip R (xs ++ more) (ys ++ later)
@@ -31,11 +30,17 @@ pub parts_left : (texts : List (Bor (List ℕ))) (k : ℕ) (d : Bor (List ℕ)) 
 parts_left texts k d within = ap (λ (l : List (Bor (List ℕ))). flat_map parts (texts_of l)) (left_at texts k d within)
 
 -- what a text says from a channel on
-abbrev pub part_at : List ℕ → ℕ → ℕ → List ℕ → Part
-part_at file count place name = record { channel = name; file = file; place = place; count = count }
+pub part_left : (file : List ℕ) (count : ℕ) (names : List (List ℕ)) (k : ℕ) → k < length names → parts_from file count k (drop k names) ≡ part_at file count k (get_or names k []) ∷ [] ++ parts_from file count (k + 1) (drop (k + 1) names)
+part_left file count names k within =
+    ap (parts_from file count k) (left_at names k [] within)
+    ∙ ap (λ (n : ℕ). part_at file count k (get_or names k []) ∷ parts_from file count n (drop (k + 1) names)) (sym (add-one k))
 
-pub part_left : (file : List ℕ) (count : ℕ) (names : List (Bor (List ℕ))) (k : ℕ) (d : Bor (List ℕ)) → k < length names
-    → parts_from file count k (texts_of (drop k names)) ≡ part_at file count k (get_or names k d).now ∷ [] ++ parts_from file count (k + 1) (texts_of (drop (k + 1) names))
-part_left file count names k d within =
-    ap (λ (l : List (Bor (List ℕ))). parts_from file count k (texts_of l)) (left_at names k d within)
-    ∙ ap (λ (n : ℕ). part_at file count k (get_or names k d).now ∷ parts_from file count n (texts_of (drop (k + 1) names))) (sym (add-one k))
+-- nothing is left behind the last
+pub nothing_left : {X : Type 0} (xs : List X) (k : ℕ) → length xs ≤ k → drop k xs ≡ []
+nothing_left [] zero h = refl
+nothing_left [] (suc k) h = refl
+nothing_left (x ∷ xs) zero h = absurd (omega (arith, h))
+nothing_left (x ∷ xs) (suc k) h = nothing_left xs k (omega (arith, h))
+
+pub completes_none : {A B : Type 0} (R : A → B → Type 0) (whole : List A) (so_far : List B) → so_far ≡ [] → Completes R whole so_far whole
+completes_none {A} {B} R whole so_far is more all = subst (λ (l : List B). AllZip R whole (l ++ more)) (sym is) all

@@ -1,7 +1,8 @@
 -- Lists that are made item by item of another.
-use Rattle.std.proofs.Common.{◌≡◌, ◌≤◌, ◌<◌, ◌+◌, ℕ, zero, suc, List, [], ◌∷◌, ◌++◌, length, map, take, get_or, refl, sym, subst, ap, ◌∙◌, arith}
-use Rattle.std.specs.List.{AllZip}
+use Rattle.std.proofs.Common.{◌≡◌, ◌≤◌, ◌<◌, ◌+◌, ℕ, zero, suc, Bool, true, cond, List, [], ◌∷◌, ◌++◌, length, map, take, get_or, refl, sym, subst, ap, ◌∙◌, arith}
+use Rattle.std.specs.List.{AllZip, filter}
 use Rattle.std.proofs.lemmas.List.{length-map, take_all, take_more}
+use Rattle.std.proofs.lemmas.List.Elements.{filter_more}
 use Rattle.std.proofs.lemmas.Slice.Zip.{all_zipped_more}
 
 pub mapped_at : {C A : Type 0} (f : C → A) (cs : List C) (k : ℕ) (d : C) → get_or (map f cs) k (f d) ≡ f (get_or cs k d)
@@ -39,3 +40,12 @@ module _ {A B : Type 0} (R : A → B → Type 0) where
   -- all items
   pub zipped_all : (xs : List A) (k : ℕ) (ys : List B) → AllZip R (take k xs) ys → length xs ≤ k → AllZip R xs ys
   zipped_all xs k ys all long = subst (λ l. AllZip R l ys) (take_all k xs long) all
+
+  -- one item more of those that pass a test
+  pub one_kept : (p : A → Bool) (xs : List A) (k : ℕ) (d : A) (ys zs : List B) (y : B) → k < length xs → p (get_or xs k d) ≡ true → AllZip R (filter p (take k xs)) ys → zs ≡ ys ++ y ∷ [] → R (get_or xs k d) y
+      → AllZip R (filter p (take (k + 1) xs)) zs
+  one_kept p xs k d ys zs y within passes all pushed here =
+      let x : A = get_or xs k d in
+      let kept = filter p (take k xs) in
+      let more : filter p (take (k + 1) xs) ≡ kept ++ x ∷ [] = filter_more p xs k d within ∙ ap (λ b. kept ++ cond b (x ∷ []) []) passes in
+      subst (λ (l : List A). AllZip R l zs) (sym more) (subst (λ (l : List B). AllZip R (kept ++ x ∷ []) l) (sym pushed) (all_zipped_more R kept ys x y all here))

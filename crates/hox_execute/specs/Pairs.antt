@@ -21,10 +21,13 @@ pub record Part : Type 0 where
   pub place : ℕ
   pub count : ℕ
 
+abbrev pub part_at : List ℕ → ℕ → ℕ → List ℕ → Part
+part_at file count place name = record { channel = name; file = file; place = place; count = count }
+
 -- of the channels from a place on
 abbrev pub parts_from : List ℕ → ℕ → ℕ → List (List ℕ) → List Part
 parts_from file count place [] = []
-parts_from file count place (name ∷ names) = record { channel = name; file = file; place = place; count = count } ∷ parts_from file count (suc place) names
+parts_from file count place (name ∷ names) = part_at file count place name ∷ parts_from file count (suc place) names
 
 -- the channels stand before the first `=`, with commas between them, and the file after it
 abbrev pub names_in : List ℕ → List (List ℕ)
@@ -53,20 +56,16 @@ shared_in pair = shared_by (form pair.format) pair.count
 abbrev pub is_single : Pair → Bool
 is_single pair = not (is_alone pair) && is_none (shared_in pair)
 
--- a channel and the one before it, of the same file, have the same in common with the others, or not
-abbrev pub IsLike : Pair → Pair → Type 0
-IsLike last pair = 0 < pair.place → shared_in pair ≡ shared_in last
-
+-- a channel has something else in common with the others of its file than the one before it
 pub record IsUnlike (last pair : Pair) : Type 0 where
   pub later : 0 < pair.place
   pub other : shared_in pair ≢ shared_in last
 
--- each file that is given for several channels has them all in one way
-pub record AreShared (pairs : List Pair) : Type 0 where
-  pub several : All (λ p. is_single p ≡ false) pairs
-  pub alike : (k : ℕ) (d : Pair) → suc k < length pairs → IsLike (get_or pairs k d) (get_or pairs (suc k) d)
+-- no file that is given for several channels is for one alone
+abbrev pub AreShared : List Pair → Type 0
+AreShared pairs = All (λ p. is_single p ≡ false) pairs
 
--- or one of them does not
+-- some file is; or it has another format for one channel than for the one before it
 abbrev pub IsUnshared : List Pair → FormatStop → Type 0
 IsUnshared pairs (Alone file) = Any (λ p. (p.file.now ≡ file.now) × (is_single p ≡ true)) pairs
 IsUnshared pairs (Unlike file channel) = (k : ℕ) × (last pair : Pair) × (get_or pairs k last ≡ last) × (get_or pairs (suc k) pair ≡ pair) × (suc k < length pairs) × (pair.file.now ≡ file.now) × (pair.channel.now ≡ channel.now) × IsUnlike last pair

@@ -1,10 +1,10 @@
 //! Arguments that name a channel and a file.
-ghost use Rattle.std.specs.Prelude.{◌≡◌, ℕ, true, false, List, length, map, IfOk, IfErr, OnOk, unwrap_or, option_map, nat_lt};
+ghost use Rattle.std.specs.Prelude.{◌≡◌, ◌<◌, ℕ, true, List, [], get_or, length, map, IfOk, IfErr, OnOk, unwrap_or, option_map, nat_lt};
 ghost use Rattle.std.specs.List.{All, AllZip, Contains, filter, flat_map};
 ghost use Rattle.hox_format.specs.Saying.{pieces};
 ghost use Rattle.hox_execute.specs.Files.{standard};
-ghost use Rattle.hox_execute.specs.Formats.{HasEquals};
-ghost use Rattle.hox_execute.specs.Pairs.{ArePairs, AreShared, IsLike, IsPair, IsUnlike, IsUnpaired, IsUnsaid, IsUnshared, count_standard, firsts, in_order, is_alone, is_grouped, is_named_twice, is_single, parts, parts_from, shared_in};
+ghost use Rattle.hox_execute.specs.Formats.{HasEquals, IsNoFormat};
+ghost use Rattle.hox_execute.specs.Pairs.{ArePairs, AreShared, IsPair, IsUnlike, IsUnpaired, IsUnsaid, IsUnshared, count_standard, firsts, in_order, is_alone, is_grouped, is_named_twice, is_single, part_at, parts, parts_from, shared_in};
 
 use crate::formats::{FormatStop, Formats, format_for};
 use crate::stops::Stop;
@@ -116,23 +116,36 @@ fn pairs_for<'a>(
 {
     let mut pairs = Vec::new(alloc);
     for place in 0..names.len() {
-        let channel = names[place];
-        let format = match format_for(formats, channel, file) {
-            Ok(format) => format,
+        let pair = match pair_at(names, place, file, formats) {
+            Ok(pair) => pair,
             Err(stop) => return Err(Stop::Format(stop)),
-        };
-        let pair = Pair {
-            channel,
-            file,
-            format,
-            place,
-            count: names.len(),
         };
         if pairs.push(pair).is_err() {
             return Err(Stop::Memory);
         }
     }
     Ok(pairs)
+}
+
+/// The pair of the channel at a place among those of a file.
+fn pair_at<'a>(
+    names: &[&'a str],
+    place: usize,
+    file: &'a str,
+    formats: Formats<'a, '_>,
+) -> Result<Pair<'a>, FormatStop<'a>>
+    requires { place < length names.now }
+    ensures ok { IfOk result (IsPair (map (λ t. t.now) formats.entry.texts.now) (map (λ s. s.now) formats.entry.unsigned.now) (part_at file.now (length names.now) place (get_or (map (λ s. s.now) names.now) place []))) }
+    ensures fault { IfErr result (IsNoFormat (map (λ t. t.now) formats.entry.texts.now)) }
+{
+    let channel = names[place];
+    Ok(Pair {
+        channel,
+        file,
+        format: format_for(formats, channel, file)?,
+        place,
+        count: names.len(),
+    })
 }
 
 /// Checks of each file that is given for several channels that it has them all in one way.
@@ -166,8 +179,7 @@ fn is_single(pair: &Pair<'_>) -> bool
 
 /// Whether a file has another format for a channel than for the one before it.
 fn is_unlike(last: &Pair<'_>, pair: &Pair<'_>) -> bool
-    ensures unlike { result ≡ true → IsUnlike last.now pair.now }
-    ensures like { result ≡ false → IsLike last.now pair.now }
+    ensures { result ≡ true → IsUnlike last.now pair.now }
 {
     pair.place > 0 && shared_in(pair) != shared_in(last)
 }

@@ -1,6 +1,9 @@
 //! The texts of files of streams.
 ghost use Rattle.std.specs.Prelude.{◌≡◌, ◌++◌, IfOk, map, take};
+ghost use Rattle.std.specs.List.{flat_map};
+ghost use Rattle.kpn_tokens.specs.Records.{record_text};
 ghost use Rattle.kpn_tokens.specs.Tables.{column_of};
+ghost use Rattle.hox_run.specs.Telling.{fitting};
 ghost use Rattle.hox_execute.specs.Pairs.{channels_of, group_in};
 ghost use Rattle.hox_execute.specs.Reports.{alone_text, body_text, columns, file_note, file_text, file_texts, rate_of, table_in, text_of};
 
@@ -10,7 +13,7 @@ use hox_network::TokenFile;
 use hox_run::StreamFile;
 use kpn_model::Listed;
 use kpn_tokens::{
-    AppendFault, Layout, Separator, Table, TokenColumn, append_table, append_tokens, longest,
+    AppendFault, Layout, Separator, Table, Token, TokenColumn, append_table, append_tokens, longest,
 };
 use std::alloc::{AllocError, Global};
 
@@ -186,12 +189,20 @@ fn alone_text(
 ) -> Result<Vec<u8>, AllocError>
     ensures { IfOk result (λ text. text.items ≡ alone_text layout (map column_of columns.now)) }
 {
+    match columns.first() {
+        Some(column) => records_of(alloc, layout, column.tokens),
+        None => Ok(Vec::new(alloc)),
+    }
+}
+
+/// Tokens as records, up to one that does not fit.
+fn records_of(alloc: Global, layout: Layout, tokens: &[Token]) -> Result<Vec<u8>, AllocError>
+    ensures { IfOk result (λ text. text.items ≡ flat_map (record_text layout) (fitting layout tokens.now)) }
+{
     let mut text = Vec::new(alloc);
-    let Some(column) = columns.first() else {
-        return Ok(text);
-    };
-    match append_tokens(&mut text, layout, column.tokens) {
-        Ok(_) | Err(AppendFault::DoesNotFit { .. }) => Ok(text),
+    match append_tokens(&mut text, layout, tokens) {
+        Ok(_) => Ok(text),
+        Err(AppendFault::DoesNotFit { place: _ }) => Ok(text),
         Err(AppendFault::Memory) => Err(AllocError),
     }
 }

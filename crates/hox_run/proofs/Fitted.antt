@@ -36,8 +36,13 @@ module _ (layout : Layout) (tokens : List Token) where
       by true e = refl
       by false e = none_found (λ token. not (fits layout token)) tokens (sym count ∙ unclipped e)
 
-  all_fitting : first_misfit layout tokens ≡ None → fitting layout tokens ≡ tokens
+  pub all_fitting : first_misfit layout tokens ≡ None → fitting layout tokens ≡ tokens
   all_fitting none = ap (λ (o : Option ℕ). take (unwrap_or o (length tokens)) tokens) none ∙ take_all (length tokens) tokens (omega arith)
+
+  pub cut_fitting : (place : ℕ) → clips layout ≡ false → position (λ token. not (fits layout token)) tokens ≡ Some place → fitting layout tokens ≡ take place tokens
+  cut_fitting place unclipped at =
+      let first : first_misfit layout tokens ≡ Some place = ap (λ c. cond c None (position (λ token. not (fits layout token)) tokens)) unclipped ∙ at in
+      ap (λ (o : Option ℕ). take (unwrap_or o (length tokens)) tokens) first
 
   clipped_is : (n : ℕ) → n ≡ misfits layout tokens → (clips layout ≡ false → n ≡ 0) → n ≡ cond (clips layout) (misfits layout tokens) 0
   clipped_is n count unclipped = by (clips layout) refl
@@ -64,7 +69,7 @@ module _ (layout : Layout) (tokens : List Token) where
       → (let file : StreamFile = record { tokens = items; clipped = 0; is_misfit = true } in file ≡ fitted layout tokens)
   cut_file items place same unclipped at =
       let first : first_misfit layout tokens ≡ Some place = ap (λ c. cond c None (position (λ token. not (fits layout token)) tokens)) unclipped ∙ at in
-      let front : fitting layout tokens ≡ take place tokens = ap (λ (o : Option ℕ). take (unwrap_or o (length tokens)) tokens) first in
+      let front : fitting layout tokens ≡ take place tokens = cut_fitting place unclipped at in
       let is : true ≡ is_some (first_misfit layout tokens) = ap (λ (o : Option ℕ). is_some o) (sym first) in
       let clipped : 0 ≡ cond (clips layout) (misfits layout tokens) 0 = ap (λ c. cond c (misfits layout tokens) 0) (sym unclipped) in
       file_by items 0 true (same ∙ sym front) clipped is

@@ -1,4 +1,4 @@
-use Rattle.std.proofs.Common.{◌×◌, drop, map, take}
+use Rattle.std.proofs.Common.{drop, take}
 use Rattle.std.specs.List.{All, flat_map}
 use Rattle.hox_execute.specs.Formats.{HasEquals}
 use Rattle.hox_execute.specs.Pairs.{IsPair, parts}

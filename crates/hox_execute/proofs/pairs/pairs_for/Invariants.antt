@@ -5,4 +5,4 @@ use Rattle.hox_execute.proofs.Parted.{Completes}
 use Rattle.hox_execute.proofs.pairs.pairs_for.Given as goal
 
 abbrev pub invariant-loop-place : goal.invariant-loop-place
-invariant-loop-place l = Completes (IsPair (texts_of l.formats.texts.now) (texts_of l.formats.unsigned.now)) (parts_from l.file.now (length l.names) 0 (texts_of l.names)) l.pairs.items (parts_from l.file.now (length l.names) l.place (texts_of (drop l.place l.names)))
+invariant-loop-place l = Completes (IsPair (texts_of l.formats.texts.now) (texts_of l.formats.unsigned.now)) (parts_from l.file (length l.names) 0 (texts_of l.names)) l.pairs.items (parts_from l.file (length l.names) l.place (drop l.place (texts_of l.names)))
