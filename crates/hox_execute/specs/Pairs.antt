@@ -1,16 +1,16 @@
 -- Arguments of the form CHANNEL=FILE.
-use Rattle.std.specs.Prelude.{◌≡◌, ◌||◌, ℕ, Bool, true, false, codes, List, map, count_by, nat_lt, if◌then◌else◌, Ok}
-use Rattle.std.specs.List.{AllZip, Contains, after_first, before_first, list_any}
+use Rattle.std.specs.Prelude.{◌≡◌, ◌||◌, ℕ, Bool, true, false, codes, List, map, count_by, nat_lt, if◌then◌else◌, Some, None, Ok}
+use Rattle.std.specs.List.{All, AllZip, Contains, after_first, before_first, list_any}
 use Rattle.std.specs.Str.{bytes_eq}
 use Rattle.hox_format.specs.Forms.{Form, form}
 use Rattle.hox_format.specs.Saying.{format_said}
 use Rattle.hox_execute.specs.declared.formats.FormatStop.{FormatStop}
-use Rattle.hox_execute.specs.declared.formats.FormatStop.TheVariants.{Head, NoUse, Unknown}
+use Rattle.hox_execute.specs.declared.formats.FormatStop.TheVariants.{Head, NoUse, Twice, Unknown}
 use Rattle.hox_execute.specs.declared.pairs.Pair.{Pair}
 use Rattle.hox_execute.specs.declared.stops.Stop.{Stop}
 use Rattle.hox_execute.specs.declared.stops.Stop.TheVariants.{Clash, Format, InputTwice, Memory, NoPair, Refused, Unread, Words}
 use Rattle.hox_execute.specs.Files.{standard}
-use Rattle.hox_execute.specs.Formats.{HasEquals, IsForm, IsNoFormat, all_channels, is_equals}
+use Rattle.hox_execute.specs.Formats.{HasEquals, IsForm, IsNoFormat, all_channels, is_equals, named_twice}
 
 -- what stands before and after the first `=`, and how the file has tokens, by these texts and the names of the channels whose words are
 -- unsigned
@@ -69,10 +69,16 @@ pub record IsUsable (inputs outputs : List Pair) (text : List ℕ) : Type 0 wher
   pub said : format_said (after_first is_equals text) ≡ Ok says
   pub of_use : is_of_use inputs outputs (before_first is_equals text) ≡ true
 
--- why it does not
+-- each of these texts does, and no channel is named twice
+pub record AreUsable (inputs outputs : List Pair) (texts : List (List ℕ)) : Type 0 where
+  pub each : All (IsUsable inputs outputs) texts
+  pub once : named_twice texts ≡ None
+
+-- why they do not
 abbrev pub IsUseless : List (List ℕ) → List Pair → List Pair → FormatStop → Type 0
 IsUseless texts inputs outputs (Unknown fault) = IsNoFormat texts (Unknown fault)
 IsUseless texts inputs outputs (NoUse channel) = (text : List ℕ) × Contains texts text × (channel.now ≡ before_first is_equals text) × (is_of_use inputs outputs channel.now ≡ false)
+IsUseless texts inputs outputs (Twice channel) = named_twice texts ≡ Some channel.now
 IsUseless texts inputs outputs (Head file fault) = ⊥
 
 abbrev pub IsUnusable : List (List ℕ) → List Pair → List Pair → Stop → Type 0

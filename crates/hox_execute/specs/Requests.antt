@@ -1,6 +1,6 @@
 -- What is asked for, and the files that are read for it.
 use Rattle.std.specs.Prelude.{◌≡◌, ◌==◌, ◌&&◌, ◌||◌, ◌<◌, ◌⊎◌, not, ℕ, codes, Bool, false, true, List, length, map, Option, Some, IfSome, Result, Ok, Err}
-use Rattle.std.specs.List.{All, AllZip, Any}
+use Rattle.std.specs.List.{AllZip, Any}
 use Rattle.kpn_model.specs.declared.kinds.Card.{Card}
 use Rattle.kpn_model.specs.declared.kinds.Signature.{Signature}
 use Rattle.kpn_model.specs.Network.{Network}
@@ -18,7 +18,7 @@ use Rattle.hox_format.specs.Bodies.{IsBodyResult, body_bytes}
 use Rattle.hox_format.specs.Forms.{form}
 use Rattle.hox_format.specs.Heads.{layout_of}
 use Rattle.hox_execute.specs.declared.formats.FormatStop.{FormatStop}
-use Rattle.hox_execute.specs.declared.formats.FormatStop.TheVariants.{Head, NoUse, Unknown}
+use Rattle.hox_execute.specs.declared.formats.FormatStop.TheVariants.{Head, NoUse, Twice, Unknown}
 use Rattle.hox_execute.specs.declared.pairs.Pair.{Pair}
 use Rattle.hox_execute.specs.declared.reading.Asked.{Asked}
 use Rattle.hox_execute.specs.declared.reading.ReadError.{ReadError}
@@ -28,7 +28,7 @@ use Rattle.hox_execute.specs.declared.stops.Stop.{Stop}
 use Rattle.hox_execute.specs.declared.stops.Stop.TheVariants.{Clash, Format, InputTwice, Memory, NoPair, Refused, Unread, Words}
 use Rattle.hox_execute.specs.declared.uses.Role.TheVariants.{Tokens}
 use Rattle.hox_execute.specs.Formats.{is_named}
-use Rattle.hox_execute.specs.Pairs.{ArePairs, IsUnpaired, IsUnusable, IsUsable, channels_of, count_standard, is_named_twice}
+use Rattle.hox_execute.specs.Pairs.{ArePairs, AreUsable, IsUnpaired, IsUnusable, channels_of, count_standard, is_named_twice}
 use Rattle.hox_execute.specs.Uses.{AreApart, IsMisuse, Used, uses_in}
 
 -- what a command wants of the network of a description, as contracts see it
@@ -87,6 +87,7 @@ abbrev pub IsHeadFault : Pair → List ℕ → FormatStop → Type 0
 IsHeadFault pair bytes (Head file fault) = (file.now ≡ pair.file.now) × IsBodyResult (form pair.format) 0 1 bytes true (Err fault)
 IsHeadFault pair bytes (Unknown fault) = ⊥
 IsHeadFault pair bytes (NoUse channel) = ⊥
+IsHeadFault pair bytes (Twice channel) = ⊥
 
 abbrev pub IsNoFileOf : Pair → List ℕ → Stop → Type 0
 IsNoFileOf pair bytes (Format stop) = IsHeadFault pair bytes stop
@@ -117,11 +118,11 @@ module _ (contents : List ℕ → Option (List ℕ)) where
   abbrev pub IsReadError : List ℕ → ReadError → Type 0
   IsReadError name error = IsErrorIn (contents name) error
 
-  -- the file of some pair could not be read, or what stands before its tokens is refused; or memory was refused
   -- what stands before the tokens of the file of some pair is refused
   abbrev pub IsHeadless : List Pair → FormatStop → Type 0
   IsHeadless pairs stop = Any (λ p. (bytes : List ℕ) × AreBytesOf p bytes × IsHeadFault p bytes stop) pairs
 
+  -- the file of some pair could not be read, or what stands before its tokens is refused; or memory was refused
   abbrev pub IsUnfetched : List Pair → Stop → Type 0
   IsUnfetched pairs (Unread file error) = Any (λ (p : Pair). p.file.now ≡ file.now) pairs × IsReadError file.now error
   IsUnfetched pairs (Format stop) = IsHeadless pairs stop
@@ -138,7 +139,7 @@ module _ (contents : List ℕ → Option (List ℕ)) where
     pub record IsAsked (asked : Asked) : Type 0 where
       pub tokens : ArePairs want.formats want.unsigned token_texts asked.tokens.items
       pub outputs : ArePairs want.formats want.unsigned output_texts asked.outputs.items
-      pub formats : All (IsUsable asked.tokens.items asked.outputs.items) want.formats
+      pub formats : AreUsable asked.tokens.items asked.outputs.items want.formats
       pub once : is_named_twice want.file asked.tokens.items ≡ false
       pub apart : AreApart clash (uses_asked want asked.tokens.items asked.outputs.items)
       pub request : IsRequest want asked.tokens.items asked.outputs.items asked.request

@@ -74,7 +74,9 @@ fn status_of_format(stop: FormatStop<'_>) -> Status
     ensures { result ≡ status_of_format stop.entry }
 {
     match stop {
-        FormatStop::Unknown(_) | FormatStop::NoUse(_) => Status::WrongArguments,
+        FormatStop::Unknown(_) | FormatStop::NoUse(_) | FormatStop::Twice(_) => {
+            Status::WrongArguments
+        }
         FormatStop::Head { .. } => Status::Refused,
     }
 }
