@@ -1,5 +1,5 @@
 -- The pieces of a text, and settings one after the other.
-use Rattle.std.proofs.Common.{◌≡◌, ◌<◌, ◌+◌, ◌∙◌, ℕ, Bor, Option, inl, inr, List, [], ◌∷◌, Ok, Err, None, Some, length, refl, sym, ap, arith}
+use Rattle.std.proofs.Common.{◌≡◌, ◌<◌, ◌+◌, ◌∙◌, ℕ, Bor, Option, inl, inr, List, [], ◌∷◌, Ok, Err, None, Some, length, refl, ap, arith}
 use Rattle.std.proofs.lemmas.Bool.{cases_Bool}
 use Rattle.std.proofs.lemmas.List.Splits.{slice_split_first}
 use Rattle.std.specs.List.{after_first, before_first, position_or_len}
@@ -33,10 +33,6 @@ pub refused_at : (said : Said) (f : Form) (settings setting : List ℕ) (later :
     → setting_said f setting ≡ Err fault → said ≡ Err fault
 refused_at said f settings setting later fault e cut h = e ∙ rw (cut, h) (stays_refused fault later)
 
--- a text whose first piece is the name of no format, or of one with settings
-module _ (text name : List ℕ) (later : List (List ℕ)) (cut : pieces text ≡ name ∷ later) where
-  pub unnamed : form_named name ≡ None → format_said text ≡ Err (no_name name)
-  unnamed h = rw (cut, h) (ap (each_once later) (stays_refused (no_name name) later))
-
-  pub settled : (f : Form) → form_named name ≡ Some f → (said : Said) → said ≡ settings_said (Ok f) later → format_said text ≡ each_once later said
-  settled f h said e = rw (cut, h) (ap (each_once later) (sym e))
+-- a text whose first piece is the name of no format
+pub unnamed : (text name : List ℕ) (later : List (List ℕ)) → pieces text ≡ name ∷ later → form_named name ≡ None → format_said text ≡ Err (no_name name)
+unnamed text name later cut h = rw (cut, h) (ap (each_once later) (stays_refused (no_name name) later))

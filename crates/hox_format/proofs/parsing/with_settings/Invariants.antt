@@ -1,4 +1,4 @@
-use Rattle.std.proofs.Common.{◌≡◌, ◌+◌, ℕ, Bor, List, Option, Some, None, Ok, length, option_map}
+use Rattle.std.proofs.Common.{◌≡◌, Ok, option_map}
 use Rattle.hox_format.specs.Forms.{form}
 use Rattle.hox_format.specs.Saying.{later_pieces, settings_said}
 use Rattle.hox_format.proofs.Pieces.{left}
