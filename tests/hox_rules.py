@@ -232,12 +232,19 @@ def tokens_line(word, name, tokens):
     return " ".join([word, name, *map(signed_text, tokens)])
 
 
-def unused(net):
+def without_tokens(name, given):
+    """What is said of a channel without tokens, whose file is one of these, if it has one."""
+    if name in given:
+        return f"channel {name}: {'standard input' if given[name] == '-' else given[name]} has no tokens"
+    return f"channel {name}: no tokens; --tokens {name}=FILE gives some"
+
+
+def unused(net, given):
     """What is said of what a run left unused that came to its own end: of each channel whose writer has stopped and put
     nothing on it that it has no tokens, or how many were not read."""
     sources = [it for it in net.channels if it.writer.done and not it.put]
     lines = [
-        f"channel {it.name}: {len(it.holds)} of its {len(it.begins_with)} tokens were not read" if it.begins_with else f"channel {it.name}: no tokens; --tokens {it.name}=FILE gives some"
+        f"channel {it.name}: {len(it.holds)} of its {len(it.begins_with)} tokens were not read" if it.begins_with else without_tokens(it.name, given)
         for it in sources
         if it.holds or not it.begins_with
     ]
@@ -245,7 +252,7 @@ def unused(net):
 
 
 # What is said of a run that was cut: which channels have no tokens depends on the schedule.
-CUT = re.compile(rb"((?:hox: channel \w+: no tokens; --tokens \w+=FILE gives some\n)*)hox: the budget of (\d+) entries was spent; --budget gives up to 1000000, in version 2 up to 2000000, and hox stream has none\n")
+CUT = re.compile(rb"((?:hox: channel \w+: (?:no tokens; --tokens \w+=FILE gives some|[\w. ]+ has no tokens)\n)*)hox: the budget of (\d+) entries was spent; --budget gives up to 1000000, in version 2 up to 2000000, and hox stream has none\n")
 
 
 def due(request, report, streams):
@@ -267,7 +274,7 @@ class Ended:
         report = net.report(cause, None) + shown + f"verdict {self.verdict}\n".encode()
         streams = {name: request.format_of(name).text(stream_of(net, name)) for name, _ in request.outputs}
         output, errors, files = due(request, report, streams)
-        self.due = output, errors + unused(net), files
+        self.due = output, errors + unused(net, dict(request.tokens)), files
 
     def kind(self):
         return f"hox {self.verdict.split(' ')[0]}"

@@ -14,6 +14,7 @@ pub(crate) fn say_format<R: Eprint>(rt: &R, stop: FormatStop<'_>) {
     match stop {
         FormatStop::Unknown(fault) => say_unknown_format(rt, fault),
         FormatStop::NoUse(channel) => say_no_use(rt, channel),
+        FormatStop::Twice(channel) => say_twice(rt, channel),
         FormatStop::Head { file, fault } => say_head(rt, file, fault),
         FormatStop::Alone { file } => say_single(rt, file),
         FormatStop::Unlike { file, channel } => say_unlike(rt, file, channel),
@@ -33,6 +34,9 @@ fn say_unknown_format<R: Eprint>(rt: &R, fault: FormatFault<'_>) {
         }
         FormatFault::Value { key, value } => {
             eprintln!(rt; "hox: --format: {key} can't be {value:?}; see hox run --help")
+        }
+        FormatFault::Twice(key) => {
+            eprintln!(rt; "hox: --format: {key} is given twice; give it once")
         }
     };
 }
@@ -54,6 +58,11 @@ fn say_unlike<R: Eprint>(rt: &R, file: &str, channel: &str) {
     let _ = eprintln!(rt;
         "hox: --format {channel}: the channels of {file} may differ in digits and unsigned alone; --format all=FORMAT names one for all"
     );
+}
+
+/// Says that two formats are named for a channel, and what would do.
+fn say_twice<R: Eprint>(rt: &R, channel: &str) {
+    let _ = eprintln!(rt; "hox: --format {channel} is given twice; name one format");
 }
 
 /// Says what is wrong with what stands before the tokens in a file, and what would do.
@@ -142,8 +151,10 @@ pub(crate) fn say_misfit<R: Eprint>(rt: &R, pair: &Pair<'_>, token: u64) {
 
 /// Says how many tokens of a channel were written as the nearest sample, if any were.
 pub(crate) fn say_clipped<R: Eprint>(rt: &R, pair: &Pair<'_>, clipped: u64) {
-    if clipped > 0 {
-        let channel = pair.channel;
-        let _ = eprintln!(rt; "hox: channel {channel}: {clipped} tokens were clipped");
-    }
+    let channel = pair.channel;
+    let _ = match clipped {
+        0 => Ok(()),
+        1 => eprintln!(rt; "hox: channel {channel}: 1 token was clipped"),
+        _ => eprintln!(rt; "hox: channel {channel}: {clipped} tokens were clipped"),
+    };
 }

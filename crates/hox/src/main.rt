@@ -83,7 +83,7 @@ fn status_after<R: Files + Input + Print + Eprint + AllocGlobal>(
         Ok(Outcome::Exits(status)) => status.code(),
         Ok(Outcome::Ran(ran)) => {
             say_files(rt, ran.outputs.as_slice(), ran.files.as_slice());
-            say_unused_by_run(rt, &ran.notes);
+            say_unused_by_run(rt, &ran);
             ran.status.code()
         }
         Ok(Outcome::Streams(stream)) => stream_asked(rt, host, stream),

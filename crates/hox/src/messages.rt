@@ -140,9 +140,16 @@ fn say_kinds<R: Eprint>(rt: &R) {
     let _ = eprintln!(rt; "hox: the kinds are {KINDS}");
 }
 
-/// Says what is wrong with this text by its fault.
+/// Says what is wrong with this text by its fault. Where it is of a sketch that is at hand no more, since memory was
+/// refused, the fault alone is said: the text by itself does not tell what `hox` takes its arguments for.
 fn say_fault_of<R: Eprint + AllocGlobal>(rt: &R, file: &str, text: &[u8], fault: NetFault) {
-    match message_of::<AllKinds>(rt.alloc(), text, fault, KINDS) {
+    let message = match fault {
+        NetFault::NotToml | NetFault::Keys => {
+            message_of::<AllKinds>(rt.alloc(), text, fault, KINDS)
+        }
+        _ => None,
+    };
+    match message {
         Some(message) => say_of(rt, file, message.as_str()),
         None => say_plain(rt, file, fault),
     }

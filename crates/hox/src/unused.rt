@@ -1,7 +1,8 @@
 //! What is said of what a run or a stream left unused.
 ghost use Rattle.std.specs.Prelude.{◌<◌, length};
 
-use hox_execute::{Pair, Streamed};
+use crate::messages::input_name;
+use hox_execute::{Pair, Ran, Streamed};
 use hox_run::{Notes, SourceNote};
 use hox_stream::{Finish, Inlet};
 use kpn_compute::{CardBody, Computes, bodies_of};
@@ -12,23 +13,38 @@ use kpn_net::Net;
 use std::alloc::Global;
 
 /// Says what a run left unused: sources without tokens, tokens that were not read, and the budget if it was spent.
-pub(crate) fn say_unused_by_run<R: Eprint>(rt: &R, notes: &Notes) {
-    for source in &notes.sources {
-        say_source(rt, source, notes.budget.is_some());
+pub(crate) fn say_unused_by_run<R: Eprint>(rt: &R, ran: &Ran<'_>) {
+    let Notes { sources, budget } = &ran.notes;
+    for source in sources {
+        say_source(rt, source, ran.tokens.as_slice(), budget.is_some());
     }
-    if let Some(budget) = notes.budget {
-        say_budget_spent(rt, budget);
+    if let Some(budget) = budget {
+        say_budget_spent(rt, *budget);
     }
 }
 
-/// Says what a run left unused of a source. Of a run that was cut only that there were no tokens.
-fn say_source<R: Eprint>(rt: &R, source: &SourceNote, is_cut: bool) {
+/// Says what a run left unused of a source, whose tokens are those of a file if it is among these. Of a run that was
+/// cut only that there were no tokens.
+fn say_source<R: Eprint>(rt: &R, source: &SourceNote, given: &[Pair<'_>], is_cut: bool) {
     let channel = source.channel.as_str();
     if source.tokens == 0 {
-        say_no_tokens(rt, channel, "tokens");
+        say_without_tokens(rt, channel, given);
     } else if source.unread > 0 && !is_cut {
         say_not_read(rt, channel, source.unread, source.tokens);
     }
+}
+
+/// Says that a channel has no tokens: that its file has none, or which option would give it some.
+fn say_without_tokens<R: Eprint>(rt: &R, channel: &str, given: &[Pair<'_>]) {
+    match given.iter().find(|pair| pair.channel == channel) {
+        Some(pair) => say_empty(rt, channel, input_name(pair.file)),
+        None => say_no_tokens(rt, channel, "tokens"),
+    }
+}
+
+/// Says that the file for a channel has no tokens.
+fn say_empty<R: Eprint>(rt: &R, channel: &str, file: &str) {
+    let _ = eprintln!(rt; "hox: channel {channel}: {file} has no tokens");
 }
 
 /// Says that a channel has no tokens, and which option would give it some.
@@ -110,6 +126,6 @@ fn is_untouched<I: Source>(inlet: &Inlet<I>) -> bool {
 
 /// Says that the rest of a file was not read.
 fn say_rest<R: Eprint>(rt: &R, channel: &str, file: &str) {
-    let file = if file == "-" { "standard input" } else { file };
+    let file = input_name(file);
     let _ = eprintln!(rt; "hox: channel {channel}: the rest of {file} was not read");
 }

@@ -25,7 +25,8 @@ word, which is written -1 (--unsigned CHANNEL writes the other). What stands aft
 and so is a line without a token. There may be 1,000,000 tokens, and in version 1 of the description 65,535: files
 without end are for hox stream. The channel's capacity is at least their number.
 
---format CHANNEL=FORMAT[,KEY[=VALUE]..] says how the file of a channel has tokens otherwise. The formats, and keys:
+--format CHANNEL=FORMAT[,KEY[=VALUE]..] says how the file of a channel has tokens otherwise, once for each channel
+(or all), and with each key once. The formats, and keys:
   text            digits=N (after the point: with 2, 21.37 is the word 2137), unsigned
   csv             column=N (from 1) or column=NAME, header (a row of names), delimiter=comma, semicolon or tab,
                   digits=N, unsigned

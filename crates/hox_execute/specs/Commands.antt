@@ -50,7 +50,7 @@ module _ (named : List ℕ → Option (ℕ × ℕ)) (signature : Card → Option
     pub record HasRun (kinds : Family) (ran : Ran) : Type 0 where
       pub asked : Asked
       pub told : Told
-      pub noted : IsNoted asked.outputs.items told ran
+      pub noted : IsNoted asked.tokens.items asked.outputs.items told ran
       pub comes : Comes (GivesRun kinds) asked (Ok told)
       pub writes : Writes told.status (written_of want.is_quiet (rate_of asked.request.tokens) asked.outputs.items told) steady before after ran.status
 

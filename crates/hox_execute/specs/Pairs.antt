@@ -1,5 +1,5 @@
 -- Arguments of the form CHANNEL=FILE.
-use Rattle.std.specs.Prelude.{◌≡◌, ◌≢◌, ◌<◌, ◌==◌, ◌&&◌, ◌||◌, ◌⊎◌, ◌++◌, ℕ, suc, Bool, true, false, not, codes, is_none, length, get_or, List, [], ◌∷◌, map, count_by, nat_lt, take, if◌then◌else◌, Option, Ok}
+use Rattle.std.specs.Prelude.{◌≡◌, ◌≢◌, ◌<◌, ◌==◌, ◌&&◌, ◌||◌, ◌⊎◌, ◌++◌, ℕ, suc, Bool, true, false, not, codes, is_none, length, get_or, List, [], ◌∷◌, map, count_by, nat_lt, take, if◌then◌else◌, Option, Some, None, Ok}
 use Rattle.std.specs.List.{All, AllZip, Any, Contains, after_first, before_first, filter, flat_map, list_any}
 use Rattle.std.specs.Str.{bytes_eq}
 use Rattle.hox_format.specs.declared.tables.Shared.{Shared}
@@ -7,12 +7,12 @@ use Rattle.hox_format.specs.Forms.{Form, form}
 use Rattle.hox_format.specs.Saying.{format_said, pieces}
 use Rattle.hox_format.specs.Tables.{shared_by}
 use Rattle.hox_execute.specs.declared.formats.FormatStop.{FormatStop}
-use Rattle.hox_execute.specs.declared.formats.FormatStop.TheVariants.{Alone, Head, NoUse, Unknown, Unlike}
+use Rattle.hox_execute.specs.declared.formats.FormatStop.TheVariants.{Alone, Head, NoUse, Twice, Unknown, Unlike}
 use Rattle.hox_execute.specs.declared.pairs.Pair.{Pair}
 use Rattle.hox_execute.specs.declared.stops.Stop.{Stop}
 use Rattle.hox_execute.specs.declared.stops.Stop.TheVariants.{Clash, Format, InputTwice, Memory, NoPair, Refused, Unread, Words}
 use Rattle.hox_execute.specs.Files.{standard}
-use Rattle.hox_execute.specs.Formats.{HasEquals, IsForm, IsNoFormat, all_channels, is_equals}
+use Rattle.hox_execute.specs.Formats.{HasEquals, IsForm, IsNoFormat, all_channels, is_equals, named_twice}
 
 -- what a text CHANNEL,..=FILE says of one of its channels: the file, its place among them, and how many they are
 pub record Part : Type 0 where
@@ -71,6 +71,7 @@ IsUnshared pairs (Alone file) = Any (λ p. (p.file.now ≡ file.now) × (is_sing
 IsUnshared pairs (Unlike file channel) = (k : ℕ) × (last pair : Pair) × (get_or pairs k last ≡ last) × (get_or pairs (suc k) pair ≡ pair) × (suc k < length pairs) × (pair.file.now ≡ file.now) × (pair.channel.now ≡ channel.now) × IsUnlike last pair
 IsUnshared pairs (Unknown fault) = ⊥
 IsUnshared pairs (NoUse channel) = ⊥
+IsUnshared pairs (Twice channel) = ⊥
 IsUnshared pairs (Head file fault) = ⊥
 
 -- each text has an `=`, and these are the pairs of the channels that they name, in order
@@ -168,10 +169,16 @@ pub record IsUsable (inputs outputs : List Pair) (text : List ℕ) : Type 0 wher
   pub said : format_said (after_first is_equals text) ≡ Ok says
   pub of_use : is_of_use inputs outputs (before_first is_equals text) ≡ true
 
--- why it does not
+-- each of these texts does, and no channel is named twice
+pub record AreUsable (inputs outputs : List Pair) (texts : List (List ℕ)) : Type 0 where
+  pub each : All (IsUsable inputs outputs) texts
+  pub once : named_twice texts ≡ None
+
+-- why they do not
 abbrev pub IsUseless : List (List ℕ) → List Pair → List Pair → FormatStop → Type 0
 IsUseless texts inputs outputs (Unknown fault) = IsNoFormat texts (Unknown fault)
 IsUseless texts inputs outputs (NoUse channel) = (text : List ℕ) × Contains texts text × (channel.now ≡ before_first is_equals text) × (is_of_use inputs outputs channel.now ≡ false)
+IsUseless texts inputs outputs (Twice channel) = named_twice texts ≡ Some channel.now
 IsUseless texts inputs outputs (Head file fault) = ⊥
 IsUseless texts inputs outputs (Alone file) = ⊥
 IsUseless texts inputs outputs (Unlike file channel) = ⊥

@@ -79,8 +79,9 @@ abbrev pub file_note : StreamFile → FileNote
 file_note file = record { tokens = length file.tokens; clipped = file.clipped; is_misfit = file.is_misfit }
 
 -- what is noted of a run beside its status
-pub record IsNoted (outputs : List Pair) (told : Told) (ran : Ran) : Type 0 where
+pub record IsNoted (tokens outputs : List Pair) (told : Told) (ran : Ran) : Type 0 where
   pub notes : ran.notes ≡ told.notes
+  pub tokens_are : ran.tokens.items ≡ tokens
   pub outputs_are : ran.outputs.items ≡ outputs
   pub files : ran.files.items ≡ map file_note told.outputs.items
 

@@ -1,6 +1,6 @@
 -- What is asked for, and the files that are read for it.
 use Rattle.std.specs.Prelude.{◌≡◌, ◌==◌, ◌&&◌, ◌||◌, ◌<◌, ◌⊎◌, not, ℕ, codes, Bool, false, true, List, length, map, Option, Some, IfSome, Result, Ok, Err}
-use Rattle.std.specs.List.{All, AllZip, Any}
+use Rattle.std.specs.List.{AllZip, Any}
 use Rattle.kpn_model.specs.declared.kinds.Card.{Card}
 use Rattle.kpn_model.specs.declared.kinds.Signature.{Signature}
 use Rattle.kpn_model.specs.Network.{Network}
@@ -18,7 +18,7 @@ use Rattle.hox_format.specs.Bodies.{IsBodyResult, body_bytes}
 use Rattle.hox_format.specs.Forms.{form}
 use Rattle.hox_format.specs.Heads.{layout_of}
 use Rattle.hox_execute.specs.declared.formats.FormatStop.{FormatStop}
-use Rattle.hox_execute.specs.declared.formats.FormatStop.TheVariants.{Alone, Head, NoUse, Unknown, Unlike}
+use Rattle.hox_execute.specs.declared.formats.FormatStop.TheVariants.{Alone, Head, NoUse, Twice, Unknown, Unlike}
 use Rattle.hox_execute.specs.declared.pairs.Pair.{Pair}
 use Rattle.hox_execute.specs.declared.reading.Asked.{Asked}
 use Rattle.hox_execute.specs.declared.reading.ReadError.{ReadError}
@@ -28,7 +28,7 @@ use Rattle.hox_execute.specs.declared.stops.Stop.{Stop}
 use Rattle.hox_execute.specs.declared.stops.Stop.TheVariants.{Clash, Format, InputTwice, Memory, NoPair, Refused, Unread, Words}
 use Rattle.hox_execute.specs.declared.uses.Role.TheVariants.{Tokens}
 use Rattle.hox_execute.specs.Formats.{is_named}
-use Rattle.hox_execute.specs.Pairs.{ArePairs, IsUnpaired, IsUnusable, IsUsable, channels_of, count_standard, firsts, is_named_twice}
+use Rattle.hox_execute.specs.Pairs.{ArePairs, AreUsable, IsUnpaired, IsUnusable, channels_of, count_standard, firsts, is_named_twice}
 use Rattle.hox_execute.specs.Uses.{AreApart, IsMisuse, Used, uses_in}
 
 -- what a command wants of the network of a description, as contracts see it
@@ -87,6 +87,7 @@ abbrev pub IsHeadFault : Pair → List ℕ → FormatStop → Type 0
 IsHeadFault pair bytes (Head file fault) = (file.now ≡ pair.file.now) × IsBodyResult (form pair.format) pair.place pair.count bytes true (Err fault)
 IsHeadFault pair bytes (Unknown fault) = ⊥
 IsHeadFault pair bytes (NoUse channel) = ⊥
+IsHeadFault pair bytes (Twice channel) = ⊥
 IsHeadFault pair bytes (Alone file) = ⊥
 IsHeadFault pair bytes (Unlike file channel) = ⊥
 
@@ -140,7 +141,7 @@ module _ (contents : List ℕ → Option (List ℕ)) where
     pub record IsAsked (asked : Asked) : Type 0 where
       pub tokens : ArePairs want.formats want.unsigned token_texts asked.tokens.items
       pub outputs : ArePairs want.formats want.unsigned output_texts asked.outputs.items
-      pub formats : All (IsUsable asked.tokens.items asked.outputs.items) want.formats
+      pub formats : AreUsable asked.tokens.items asked.outputs.items want.formats
       pub once : is_named_twice want.file asked.tokens.items ≡ false
       pub apart : AreApart clash (uses_asked want asked.tokens.items asked.outputs.items)
       pub request : IsRequest want asked.tokens.items asked.outputs.items asked.request

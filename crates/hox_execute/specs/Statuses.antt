@@ -5,7 +5,7 @@ use Rattle.kpn_front.specs.declared.status.Status.TheVariants.{Success, WrongArg
 use Rattle.hox_args.specs.HoxChoices.{asks_for_hox_help}
 use Rattle.hox_network.specs.Statuses.{status_of_fault}
 use Rattle.hox_execute.specs.declared.formats.FormatStop.{FormatStop}
-use Rattle.hox_execute.specs.declared.formats.FormatStop.TheVariants.{Alone, Head, NoUse, Unknown, Unlike}
+use Rattle.hox_execute.specs.declared.formats.FormatStop.TheVariants.{Alone, Head, NoUse, Twice, Unknown, Unlike}
 use Rattle.hox_execute.specs.declared.reading.ReadError.{ReadError}
 use Rattle.hox_execute.specs.declared.reading.ReadError.TheVariants.{Failed, TooLong, Memory as NoMemory}
 use Rattle.hox_execute.specs.declared.stops.Stop.{Stop}
@@ -19,6 +19,7 @@ status_of_unread TooLong = WasRefused
 abbrev pub status_of_format : FormatStop → Status
 status_of_format (Unknown fault) = WrongArguments
 status_of_format (NoUse channel) = WrongArguments
+status_of_format (Twice channel) = WrongArguments
 status_of_format (Head file fault) = WasRefused
 status_of_format (Alone file) = WrongArguments
 status_of_format (Unlike file channel) = WrongArguments

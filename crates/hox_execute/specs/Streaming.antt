@@ -1,6 +1,6 @@
 -- What `hox stream` does, from what is chosen and files to what is written.
 use Rattle.std.specs.Prelude.{◌≡◌, ◌⊎◌, ℕ, codes, Bool, false, true, List, [], ◌∷◌, map, nat_lt, Option, None, IfSome, option_map, unwrap_or, Err}
-use Rattle.std.specs.List.{All, AllZip, Any, filter}
+use Rattle.std.specs.List.{AllZip, Any, filter}
 use Rattle.std.specs.Io.KnownBytes.{Appends}
 use Rattle.kpn_sketch.specs.declared.fault.NetFault.TheVariants.{Input}
 use Rattle.kpn_sketch.specs.declared.sketch.Sketch.{Sketch}
@@ -39,7 +39,7 @@ use Rattle.hox_execute.specs.declared.streaming.Unopened.{Unopened}
 use Rattle.hox_execute.specs.declared.streaming.Unopened.TheVariants.{Refused as IsRefused, Faulty, Memory as NoMemory}
 use Rattle.hox_execute.specs.declared.uses.Role.TheVariants.{In}
 use Rattle.hox_execute.specs.Files.{standard}
-use Rattle.hox_execute.specs.Pairs.{ArePairs, IsUnpaired, IsUnusable, IsUsable, Group, channels_of, count_standard, firsts, groups, in_order, is_alone, is_named_twice}
+use Rattle.hox_execute.specs.Pairs.{ArePairs, AreUsable, IsUnpaired, IsUnusable, Group, channels_of, count_standard, firsts, groups, in_order, is_alone, is_named_twice}
 use Rattle.hox_execute.specs.Reports.{first_rate, table_in}
 use Rattle.hox_execute.specs.Uses.{AreApart, IsMisuse, Used, uses_in}
 
@@ -83,7 +83,7 @@ module _ (clash : List ℕ → Bool → List ℕ → Bool → Option Bool) (choi
     pub written : List Pair
     pub outputs : ArePairsOf choice (outputs_of choice) written
     pub in_order : ends.outputs.items ≡ in_order written
-    pub formats : All (IsUsable ends.inputs.items written) (formats_of choice)
+    pub formats : AreUsable ends.inputs.items written (formats_of choice)
     pub one_input : is_named_twice (file_of choice) ends.inputs.items ≡ false
     pub one_output : nat_lt 1 (count_standard (firsts written)) ≡ false
     pub apart : AreApart clash (uses_between choice ends.inputs.items written)

@@ -1,10 +1,10 @@
 //! How files have tokens, as the arguments say it.
 ghost use Rattle.std.specs.Prelude.{◌≡◌, ℕ, List, map, IfErr, IfOk, OnOk, IfSome, Some, None, if◌then◌else◌, option_map};
-ghost use Rattle.std.specs.List.{All, Contains, after_first};
+ghost use Rattle.std.specs.List.{Contains, after_first, before_first};
 ghost use Rattle.hox_format.specs.Forms.{form};
 ghost use Rattle.hox_format.specs.Saying.{seen};
-ghost use Rattle.hox_execute.specs.Formats.{IsForm, IsNoFormat, format_text, is_equals, is_named, is_text_of, marked, said_for, said_of_all};
-ghost use Rattle.hox_execute.specs.Pairs.{IsUnusable, IsUsable, has_channel, is_of_use};
+ghost use Rattle.hox_execute.specs.Formats.{IsForm, IsNoFormat, format_text, is_equals, is_named, is_text_of, marked, named_twice, said_for, said_of_all};
+ghost use Rattle.hox_execute.specs.Pairs.{AreUsable, IsUnusable, IsUsable, has_channel, is_of_use};
 
 use crate::pairs::Pair;
 use crate::stops::Stop;
@@ -28,6 +28,8 @@ pub enum FormatStop<'a> {
     Unknown(FormatFault<'a>),
     /// No file is given for this channel, for which a format is named.
     NoUse(&'a str),
+    /// Two formats are named for this channel.
+    Twice(&'a str),
     /// What stands before the tokens in this file is refused.
     Head { file: &'a str, fault: HeadFault },
     /// This file is given for several channels, and is for one alone.
@@ -116,21 +118,48 @@ pub(crate) fn is_named(names: &[&str], channel: &str) -> bool
     names.iter().any(|name| *name == channel || *name == ALL)
 }
 
-/// Checks that each text says how files have tokens, for a channel of these pairs or for all.
+/// Checks that each text says how files have tokens, for a channel of these pairs or for all, and of each channel and of
+/// all one at most.
 ///
-/// Errors: the first text that does not.
+/// Errors: the first text that does not; or else the first channel of which a later text says it too.
 pub(crate) fn check_formats<'a>(
     texts: &[&'a str],
     inputs: &[Pair<'a>],
     outputs: &[Pair<'a>],
 ) -> Result<(), Stop<'a>>
-    ensures ok { OnOk result (All (IsUsable inputs.now outputs.now) (map (λ t. t.now) texts.now)) }
+    ensures ok { OnOk result (AreUsable inputs.now outputs.now (map (λ t. t.now) texts.now)) }
     ensures fault { IfErr result (IsUnusable (map (λ t. t.now) texts.now) inputs.now outputs.now) }
 {
     for text in texts {
         check_format(*text, inputs, outputs)?;
     }
-    Ok(())
+    match named_twice(texts) {
+        Some(channel) => Err(Stop::Format(FormatStop::Twice(channel))),
+        None => Ok(()),
+    }
+}
+
+/// The first channel of which two texts say how its file has tokens.
+fn named_twice<'a>(texts: &[&'a str]) -> Option<&'a str>
+    ensures { option_map (λ t. t.now) result ≡ named_twice (map (λ t. t.now) texts.now) }
+{
+    for k in 0..texts.len() {
+        let channel = channel_in(texts[k]);
+        if format_text(&texts[k + 1..], channel).is_some() {
+            return Some(channel);
+        }
+    }
+    None
+}
+
+/// The channel of a text.
+fn channel_in(text: &str) -> &str
+    ensures { result.now ≡ before_first is_equals text.now }
+{
+    match channel_and_file(text) {
+        Some((channel, _)) => channel,
+        None => text,
+    }
 }
 
 /// The same for one text.

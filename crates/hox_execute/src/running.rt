@@ -24,12 +24,13 @@ use std::rt::Clock;
 use std::sync::Wait;
 use std::thread::Threads;
 
-/// A run that was made: its exit status, what it left unused, the files of its streams, each beside its channel, and
-/// what was written to each.
+/// A run that was made: its exit status, what it left unused, the files of its first tokens and of its streams, each
+/// beside its channel, and what was written to each of these.
 #[derive(Drop)]
 pub struct Ran<'a> {
     pub status: Status,
     pub notes: Notes,
+    pub tokens: Vec<Pair<'a>>,
     pub outputs: Vec<Pair<'a>>,
     pub files: Vec<FileNote>,
 }
@@ -75,14 +76,14 @@ fn ran_of<'a, S: FileSystem>(
     is_quiet: bool,
 ) -> Result<Ran<'a>, Stop<'a>>
     ensures writes { IfOk result (λ ran. Writes told.status (written_of is_quiet (rate_of asked.entry.request.tokens) asked.entry.outputs.items told) (S.is_steady files.old) (S.effects files.old) (S.effects files.new) ran.status) }
-    ensures notes { IfOk result (IsNoted asked.entry.outputs.items told) }
+    ensures notes { IfOk result (IsNoted asked.entry.tokens.items asked.entry.outputs.items told) }
     ensures stop { IfErr result (λ stop. stop ≡ Stop.Memory) }
     ensures untouched { OnErr result (S.effects files.new ≡ S.effects files.old) }
 {
     let Asked {
+        tokens,
         outputs,
         request,
-        ..
     } = asked;
     let rate = rate_of(request.tokens.as_slice());
     let Told {
@@ -105,6 +106,7 @@ fn ran_of<'a, S: FileSystem>(
     Ok(Ran {
         status,
         notes,
+        tokens,
         outputs,
         files: noted,
     })

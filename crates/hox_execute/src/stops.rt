@@ -76,6 +76,7 @@ fn status_of_format(stop: FormatStop<'_>) -> Status
     match stop {
         FormatStop::Unknown(_)
         | FormatStop::NoUse(_)
+        | FormatStop::Twice(_)
         | FormatStop::Alone { .. }
         | FormatStop::Unlike { .. } => Status::WrongArguments,
         FormatStop::Head { .. } => Status::Refused,

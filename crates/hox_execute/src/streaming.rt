@@ -1,12 +1,12 @@
 //! Running a network on tokens that come from files, as they come.
 ghost use Rattle.std.specs.Prelude.{◌≡◌, IfOk, IfErr, IfSome, map};
-ghost use Rattle.std.specs.List.{All, AllZip};
+ghost use Rattle.std.specs.List.{AllZip};
 ghost use Rattle.hox_format.specs.Resuming.{left_of, resumed_has_failed};
 ghost use Rattle.hox_execute.specs.Reports.{first_rate};
 ghost use Rattle.kpn_model.specs.Network.{family_of};
 ghost use Rattle.hox_stream.specs.Serves.{Serves, new_inlets, new_outs};
 ghost use Rattle.hox_stream.specs.Views.{outs};
-ghost use Rattle.hox_execute.specs.Pairs.{IsUsable, channels_of};
+ghost use Rattle.hox_execute.specs.Pairs.{AreUsable, channels_of};
 ghost use Rattle.hox_execute.specs.Streaming.{AreEnds, ArePairsOf, AreUnpaired, IsFaultyBetween, IsNoEnds, IsOpened, IsRefusedIn, IsRefusedText, IsSketchIn, IsSketchOf, IsStreamStop, IsUnfit, IsUnopened, IsUnread, IsUnreadText, Opens, RunsBetween, StartsBetween, StreamsBetween, formats_of, inputs_of, laid_source, outputs_of};
 
 use crate::files::FileSystem;
@@ -155,7 +155,7 @@ fn ends_of<'a, S: FileSystem>(
 fn named_ends<'a>(alloc: Global, choice: &StreamChoice<'a>) -> Result<Ends<'a>, Stop<'a>>
     ensures inputs { IfOk result (λ ends. ArePairsOf choice.now (inputs_of choice.now) ends.inputs.items) }
     ensures outputs { IfOk result (λ ends. ArePairsOf choice.now (outputs_of choice.now) ends.outputs.items) }
-    ensures formats { IfOk result (λ ends. All (IsUsable ends.inputs.items ends.outputs.items) (formats_of choice.now)) }
+    ensures formats { IfOk result (λ ends. AreUsable ends.inputs.items ends.outputs.items (formats_of choice.now)) }
     ensures fault { IfErr result (AreUnpaired choice.now) }
 {
     let formats = Formats {

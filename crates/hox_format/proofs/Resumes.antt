@@ -7,7 +7,10 @@ use Rattle.std.specs.Io.KnownBytes.{Consumes, IsAtEnd, prepend_known}
 use Rattle.std.specs.Option.{option_map_or}
 use Rattle.hox_format.specs.declared.bodies.Body.{Body}
 use Rattle.hox_format.specs.Bodies.{body_bytes, sized}
-use Rattle.hox_format.specs.Resuming.{IsFront, IsFrontOf, left_in}
+use Rattle.hox_format.specs.declared.resuming.BeginFault.{BeginFault}
+use Rattle.hox_format.specs.declared.resuming.BeginFault.TheVariants.{Head, Memory, Unread}
+use Rattle.hox_format.specs.Forms.{Form}
+use Rattle.hox_format.specs.Resuming.{IsFront, IsFrontOf, IsNoHead, IsUnbegun, left_in}
 
 -- how many bytes are read at most
 abbrev pub most : Option ℕ → ℕ → ℕ
@@ -117,16 +120,28 @@ all_left xs n = take_all (length xs - n) (drop n xs) (omega (arith, length-drop 
 sized_drop : (size : Option ℕ) (start : ℕ) (bytes held ys : List ℕ) → start ≤ length held → bytes ≡ held ++ ys → sized size (drop start held ++ ys) ≡ sized size (drop start bytes)
 sized_drop size start bytes held ys few e = ap (sized size) (sym (drop-append-le start held ys few)) ∙ ap (λ l. sized size (drop start l)) (sym e)
 
+-- what was read of a file is its front
+pub front_of : (known : Option (List ℕ)) (held : List ℕ) (last : Bool) (rem : Option (List ℕ)) → IsFrontOf known held last rem → IfSome known (λ bytes. IsFront held bytes last)
+front_of None held last rem front = tt
+front_of (Some bytes) held last None front = absurd front.read
+front_of (Some bytes) held last (Some ys) front = record {
+  begins = ap (take (length held)) front.read ∙ take_at held ys (length held) refl;
+  ends = λ e. sym (append-nil held) ∙ ap (λ l. held ++ l) (sym (front.ends e)) ∙ sym front.read;
+}
+
+-- what is not for what stands before the records is any other cause
+pub unbegun : (form : Form) (place count : ℕ) (known : Option (List ℕ)) (fault : BeginFault) → IsNoHead fault → IsUnbegun form place count known fault
+unbegun form place count known (Head fault) h = absurd h
+unbegun form place count known (Unread error) h = tt
+unbegun form place count known Memory h = tt
+
 -- what is left from where the records begin
 pub body_left : (body : Body) (known : Option (List ℕ)) (held : List ℕ) (last : Bool) (rem : Option (List ℕ)) → body.start ≤ length held → IsFrontOf known held last rem
     → IfSome known (λ bytes. IsFront held bytes last × (left_in body.size (drop body.start held) rem ≡ Some (body_bytes body bytes)))
 body_left body None held last rem few front = tt
 body_left body (Some bytes) held last None few front = absurd front.read
 body_left body (Some bytes) held last (Some ys) few front = (
-  record {
-    begins = ap (take (length held)) front.read ∙ take_at held ys (length held) refl;
-    ends = λ e. sym (append-nil held) ∙ ap (λ l. held ++ l) (sym (front.ends e)) ∙ sym front.read;
-  },
+  front_of (Some bytes) held last (Some ys) front,
   ap (λ l. Some l) (sized_drop body.size body.start bytes held ys few front.read),
 )
 

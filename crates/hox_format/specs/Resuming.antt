@@ -1,9 +1,11 @@
 -- Files that are read on from where their records begin.
-use Rattle.std.specs.Prelude.{◌≡◌, ℕ, Bool, true, List, drop, length, take, Option, Some, IfSome, option_map, Ok}
+use Rattle.std.specs.Prelude.{◌≡◌, ℕ, Bool, true, List, drop, length, take, Option, Some, IfSome, option_map, Ok, Err}
 use Rattle.std.specs.Io.KnownBytes.{Consumes, IsAtEnd, prepend_known}
 use Rattle.kpn_tokens.specs.declared.layouts.Layout.{Layout}
 use Rattle.hox_format.specs.declared.bodies.Body.{Body}
 use Rattle.hox_format.specs.declared.resumed.Resumed.{Resumed}
+use Rattle.hox_format.specs.declared.resuming.BeginFault.{BeginFault}
+use Rattle.hox_format.specs.declared.resuming.BeginFault.TheVariants.{Head, Memory, Unread}
 use Rattle.hox_format.specs.Bodies.{IsBodyResult, body_bytes, sized}
 use Rattle.hox_format.specs.Forms.{Form}
 
@@ -38,6 +40,18 @@ pub record IsBegun (form : Form) (place count : ℕ) (known : Option (List ℕ))
   pub layout_is : layout ≡ body.layout
   pub rate_is : rate ≡ body.rate
   pub left_is : IfSome known (λ bytes. left ≡ Some (body_bytes body bytes))
+
+-- why it is not begun: its first bytes tell that what stands before its records is refused; or it can't be read, or memory was refused
+abbrev pub IsUnbegun : Form → ℕ → ℕ → Option (List ℕ) → BeginFault → Type 0
+IsUnbegun form place count known (Head fault) = (front : List ℕ) × (last : Bool) × IsBodyResult form place count front last (Err fault) × IfSome known (λ bytes. IsFront front bytes last)
+IsUnbegun form place count known (Unread error) = Unit {0}
+IsUnbegun form place count known Memory = Unit {0}
+
+-- it was not for what stands before its records
+abbrev pub IsNoHead : BeginFault → Type 0
+IsNoHead (Head fault) = ⊥
+IsNoHead (Unread error) = Unit {0}
+IsNoHead Memory = Unit {0}
 
 -- a file that is being begun: the bytes that were read of it; and whether no more come
 pub record IsFrontOf (known : Option (List ℕ)) (held : List ℕ) (last : Bool) (remaining : Option (List ℕ)) : Type 0 where

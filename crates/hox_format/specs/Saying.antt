@@ -1,7 +1,7 @@
 -- What a text says of a format: its name, and keys one after the other, each of which changes it.
 use Rattle.std.specs.Prelude.{◌-◌, ◌^◌, ◌==◌, ◌&&◌, ℕ, Bool, true, false, bytes_eq, codes, length, nat_le, nat_lt, option_map, if◌then◌else◌, List, [], ◌∷◌, Option, Some, None, Result, Ok, Err}
 use Rattle.std.specs.Char.{is_ascii_digit}
-use Rattle.std.specs.List.{after_first, before_first, find, list_all, position_or_len, slice_split}
+use Rattle.std.specs.List.{after_first, before_first, find, list_all, list_any, position_or_len, slice_split}
 use Rattle.std.specs.Str.Parse.{digits_value}
 use Rattle.kpn_tokens.specs.declared.layouts.Coding.{Coding}
 use Rattle.kpn_tokens.specs.declared.layouts.Coding.TheVariants.{Signed, Unsigned}
@@ -17,19 +17,21 @@ use Rattle.hox_format.specs.declared.formats.Format.{Format}
 use Rattle.hox_format.specs.declared.formats.Raw.{Raw}
 use Rattle.hox_format.specs.declared.formats.Wav.{Wav}
 use Rattle.hox_format.specs.declared.parsing.FormatFault.{FormatFault}
-use Rattle.hox_format.specs.declared.parsing.FormatFault.TheVariants.{Name, Key, Value}
+use Rattle.hox_format.specs.declared.parsing.FormatFault.TheVariants.{Name, Key, Value, Twice}
 use Rattle.hox_format.specs.Forms.{Chosen, at, called, Form, lines, table, wave, samples, Table, form, plain_lines, plain_table, plain_wave, unsigned, unsigned_table}
 
--- a fault, as contracts see it: no format has the name, it has no such key, or the key does not take the value
+-- a fault, as contracts see it: no format has the name, it has no such key, the key does not take the value, or it is given twice
 pub data Refused : Type 0 where
   no_name : List ℕ → Refused
   no_key : List ℕ → Refused
   no_value : List ℕ → List ℕ → Refused
+  given_twice : List ℕ → Refused
 
 abbrev pub refused : FormatFault → Refused
 refused (Name name) = no_name name.now
 refused (Key key) = no_key key.now
 refused (Value key value) = no_value key.now value.now
+refused (Twice key) = given_twice key.now
 
 abbrev pub Said : Type 0
 Said = Result Form Refused
@@ -216,9 +218,29 @@ abbrev pub name_said : List ℕ → Option Form → Said
 name_said name None = Err (no_name name)
 name_said name (Some f) = Ok f
 
+-- the key of a setting, and the first key that a later setting has too
+abbrev pub key_of : List ℕ → List ℕ
+key_of setting = before_first is_equals setting
+
+abbrev pub has_key : List ℕ → List ℕ → Bool
+has_key key setting = bytes_eq (key_of setting) key
+
+abbrev pub key_twice : List (List ℕ) → Option (List ℕ)
+key_twice [] = None
+key_twice (setting ∷ later) = if list_any (has_key (key_of setting)) later then Some (key_of setting) else key_twice later
+
+-- a key is given once
+abbrev pub unless_twice : Option (List ℕ) → Form → Said
+unless_twice None f = Ok f
+unless_twice (Some key) f = Err (given_twice key)
+
+abbrev pub each_once : List (List ℕ) → Said → Said
+each_once settings (Ok f) = unless_twice (key_twice settings) f
+each_once settings (Err fault) = Err fault
+
 abbrev pub pieces_said : List (List ℕ) → Said
 pieces_said [] = Err (no_name [])
-pieces_said (name ∷ settings) = settings_said (name_said name (form_named name)) settings
+pieces_said (name ∷ settings) = each_once settings (settings_said (name_said name (form_named name)) settings)
 
 abbrev pub format_said : List ℕ → Said
 format_said text = pieces_said (pieces text)

@@ -1,7 +1,8 @@
 //! Formats, as they are named.
-ghost use Rattle.std.specs.Prelude.{◌≡◌, ◌∷◌, ◌<◌, IfSome, length, option_map};
+ghost use Rattle.std.specs.Prelude.{◌≡◌, ◌∷◌, ◌<◌, IfSome, Ok, length, option_map};
+ghost use Rattle.std.specs.List.{list_any};
 ghost use Rattle.hox_format.specs.Forms.{form};
-ghost use Rattle.hox_format.specs.Saying.{form_named, format_said, later_pieces, pieces, plain_sample, sample_named, seen, setting_said};
+ghost use Rattle.hox_format.specs.Saying.{form_named, format_said, has_key, key_of, key_twice, later_pieces, pieces, plain_sample, sample_named, seen, setting_said, settings_said};
 
 use crate::formats::{Csv, Format, Raw, Wav};
 use crate::settings::{with_flag, with_value};
@@ -16,9 +17,11 @@ pub enum FormatFault<'a> {
     Key(&'a str),
     /// The key does not take this value.
     Value { key: &'a str, value: &'a str },
+    /// The key is given twice.
+    Twice(&'a str),
 }
 
-/// Returns the format that a text names, as `NAME[,KEY[=VALUE]..]`. Of keys of one name the last counts.
+/// Returns the format that a text names, as `NAME[,KEY[=VALUE]..]`. A key is given once.
 ///
 /// - `text`: a token a line, with the keys `digits=N` (digits after the point, 0 to 19) and `unsigned`.
 /// - `csv`: a column, with `column=N` (from 1) or `column=NAME` (which says that there is a row of names; a
@@ -30,21 +33,78 @@ pub enum FormatFault<'a> {
 ///   samples, little-endian if it is not said, with `channel=N` and `channels=N` (from 1 to 65,535; the channel
 ///   is one of the channels, as far as both are said), and `clip`.
 ///
-/// Errors: the first name, key or value that is none of these. See [`FormatFault`].
+/// Errors: the first name, key or value that is none of these; or else the first key that is given twice. See
+/// [`FormatFault`].
 pub fn format_of<'a>(text: &'a str) -> Result<Format<'a>, FormatFault<'a>>
     ensures { seen result ≡ format_said text.now }
 {
-    let (name, mut rest) = first_piece(text);
+    let (name, settings) = first_piece(text);
     let Some(named) = format_named(name) else {
         return Err(FormatFault::Name(name));
     };
-    let mut format = named;
-    while let Some(settings) = rest {
-        let (setting, later) = first_piece(settings);
-        format = with_setting(format, setting)?;
+    let format = with_settings(named, settings)?;
+    match key_twice(settings) {
+        Some(key) => Err(FormatFault::Twice(key)),
+        None => Ok(format),
+    }
+}
+
+/// The format with settings, one after the other.
+fn with_settings<'a>(
+    format: Format<'a>,
+    settings: Option<&'a str>,
+) -> Result<Format<'a>, FormatFault<'a>>
+    ensures { seen result ≡ settings_said (Ok (form format.entry)) (later_pieces (option_map (λ t. t.now) settings.entry)) }
+{
+    let mut changed = format;
+    let mut rest = settings;
+    while let Some(text) = rest {
+        let (setting, later) = first_piece(text);
+        changed = with_setting(changed, setting)?;
         rest = later;
     }
-    Ok(format)
+    Ok(changed)
+}
+
+/// The first key that a later setting has too.
+fn key_twice(settings: Option<&str>) -> Option<&str>
+    ensures { option_map (λ t. t.now) result ≡ key_twice (later_pieces (option_map (λ t. t.now) settings.entry)) }
+{
+    let mut sought = settings;
+    while let Some(text) = sought {
+        let (setting, later) = first_piece(text);
+        let key = key_of(setting);
+        if has_key(later, key) {
+            return Some(key);
+        }
+        sought = later;
+    }
+    None
+}
+
+/// Whether one of these settings has this key.
+fn has_key(settings: Option<&str>, key: &str) -> bool
+    ensures { result ≡ list_any (has_key key.now) (later_pieces (option_map (λ t. t.now) settings.entry)) }
+{
+    let mut others = settings;
+    while let Some(text) = others {
+        let (setting, later) = first_piece(text);
+        if key_of(setting) == key {
+            return true;
+        }
+        others = later;
+    }
+    false
+}
+
+/// The key of a setting.
+fn key_of(setting: &str) -> &str
+    ensures { result.now ≡ key_of setting.now }
+{
+    match setting.split_once('=') {
+        Some((key, _)) => key,
+        None => setting,
+    }
 }
 
 /// What stands before the first comma, and what follows it, if there is one.

@@ -1,7 +1,7 @@
 //! Files that are read on from where their records begin.
-ghost use Rattle.std.specs.Prelude.{◌≡◌, ◌≤◌, ◌++◌, ℕ, List, false, drop, vec_len, Option, IfOk, OnOk};
+ghost use Rattle.std.specs.Prelude.{◌≡◌, ◌≤◌, ◌++◌, ℕ, List, false, drop, vec_len, Option, IfErr, IfOk, OnOk};
 ghost use Rattle.hox_format.specs.Forms.{form};
-ghost use Rattle.hox_format.specs.Resuming.{IsBegun, IsFrontOf, left_in, left_of, resumed_has_failed, source_of};
+ghost use Rattle.hox_format.specs.Resuming.{IsBegun, IsFrontOf, IsNoHead, IsUnbegun, left_in, left_of, resumed_has_failed, source_of};
 
 use crate::bodies::{Body, HeadFault, body_in};
 use crate::formats::Format;
@@ -52,6 +52,7 @@ pub fn begin<S: Source + Drop>(
 ) -> Result<Begun<Resumed<S>>, BeginFault>
     ensures begun { IfOk result (λ b. IsBegun (form format.now) place count (S.remaining source) b.layout b.rate (left_of S.remaining b.source)) }
     ensures unfailed { S.has_failed source ≡ false → IfOk result (λ b. resumed_has_failed S.has_failed b.source ≡ false) }
+    ensures refused { IfErr result (IsUnbegun (form format.now) place count (S.remaining source)) }
 {
     let mut front = Front {
         held: Vec::new(alloc),
@@ -113,6 +114,7 @@ fn resumed_at<S: Source>(front: Front<S>, body: Body) -> Begun<Resumed<S>>
 fn read_on<S: Source>(front: &mut Front<S>) -> Result<(), BeginFault>
     ensures reads { OnOk result ((known : Option (List ℕ)) → IsFrontOf known front.old.held.items front.old.is_last (S.remaining front.old.source) → IsFrontOf known front.new.held.items front.new.is_last (S.remaining front.new.source)) }
     ensures unfailed { S.has_failed front.old.source ≡ false → OnOk result (S.has_failed front.new.source ≡ false) }
+    ensures fault { IfErr result IsNoHead }
 {
     let mut piece = [0; PIECE];
     match front.source.read(&mut piece) {
@@ -126,7 +128,8 @@ fn read_on<S: Source>(front: &mut Front<S>) -> Result<(), BeginFault>
 
 /// Appends bytes.
 fn append(held: &mut Vec<u8>, bytes: &[u8]) -> Result<(), BeginFault>
-    ensures { OnOk result (held.new.items ≡ held.old.items ++ bytes.now) }
+    ensures appended { OnOk result (held.new.items ≡ held.old.items ++ bytes.now) }
+    ensures fault { IfErr result IsNoHead }
 {
     match held.extend_from_slice(bytes) {
         Ok(()) => Ok(()),

@@ -84,7 +84,7 @@ wav_sample width = record { width = width; coding = wav_coding width; endian = L
 abbrev pub size_told : ℕ → Option ℕ
 size_told n = if (n == 0) || (n == 0xFFFFFFFF) then None else Some n
 
--- the head of a WAV file: the format is told before the samples
+-- the head of a WAV file: the format is told before the samples, and these begin after no more than so many bytes
 pub record IsWavHead (bytes : List ℕ) (head : WavHead) : Type 0 where
   pub wav : is_wav bytes ≡ true
   pub format : ℕ
@@ -92,6 +92,7 @@ pub record IsWavHead (bytes : List ℕ) (head : WavHead) : Type 0 where
   pub samples : ℕ
   pub samples_found : SamplesAt bytes samples
   pub order : format < samples
+  pub near : samples + 8 ≤ 65536
   pub width : Width
   pub told : width_told format bytes ≡ Some width
   pub sample : head.sample ≡ wav_sample width
@@ -101,13 +102,13 @@ pub record IsWavHead (bytes : List ℕ) (head : WavHead) : Type 0 where
   pub size : head.size ≡ size_told (chunk_size samples bytes)
 
 -- why there is none: it does not begin so; it tells another format, or none before its samples; or these do not begin, and no more bytes
--- come, or too many have come
+-- come; or they begin after too many
 abbrev pub IsWavFault : List ℕ → Bool → WavFault → Type 0
 IsWavFault bytes last NotWav = is_wav bytes ≡ false
 IsWavFault bytes last NotPcm = (format : ℕ) × FormatAt bytes format × (width_told format bytes ≡ None)
 IsWavFault bytes last NoFormat = (samples : ℕ) × SamplesAt bytes samples × ((format : ℕ) → FormatAt bytes format → samples ≤ format)
-IsWavFault bytes last CutShort = (last ≡ true) × ((samples : ℕ) → SamplesAt bytes samples → ⊥)
-IsWavFault bytes last TooLong = (65536 < length bytes) × ((samples : ℕ) → SamplesAt bytes samples → ⊥)
+IsWavFault bytes last CutShort = (last ≡ true) × (length bytes ≤ 65536) × ((samples : ℕ) → SamplesAt bytes samples → ⊥)
+IsWavFault bytes last TooLong = (65536 < length bytes) × ((samples : ℕ) → SamplesAt bytes samples → 65536 < samples + 8)
 
 -- no head yet: more bytes come
 abbrev pub IsWavWanting : List ℕ → Bool → Type 0

@@ -55,7 +55,8 @@ pub enum WavFault {
 }
 
 /// Returns the head of a WAV file, if these first bytes of the file reach to the start of its samples. If no
-/// more bytes come, they have to.
+/// more bytes come, they have to. In whatever pieces a file comes, its samples begin within its first
+/// [`LONGEST_HEAD`] bytes.
 ///
 /// Errors: see [`WavFault`].
 pub fn wav_head(bytes: &[u8], is_last: bool) -> Result<Option<WavHead>, WavFault>
@@ -67,6 +68,9 @@ pub fn wav_head(bytes: &[u8], is_last: bool) -> Result<Option<WavHead>, WavFault
     let Some(samples) = chunk_in(bytes, b"data") else {
         return wanting(bytes.len(), is_last);
     };
+    if samples + 8 > LONGEST_HEAD {
+        return Err(WavFault::TooLong);
+    }
     let Some(format) = chunk_in(bytes, b"fmt ") else {
         return Err(WavFault::NoFormat);
     };
@@ -81,12 +85,12 @@ pub fn wav_head(bytes: &[u8], is_last: bool) -> Result<Option<WavHead>, WavFault
 
 /// No head yet, as long as more bytes come and there are not too many.
 fn wanting(length: usize, is_last: bool) -> Result<Option<WavHead>, WavFault>
-    ensures { MatchResult result (λ head. (head ≡ None) × (is_last ≡ false) × (length ≤ 65536)) (λ fault. ((fault ≡ WavFault.CutShort) × (is_last ≡ true)) ⊎ ((fault ≡ WavFault.TooLong) × (65536 < length))) }
+    ensures { MatchResult result (λ head. (head ≡ None) × (is_last ≡ false) × (length ≤ 65536)) (λ fault. ((fault ≡ WavFault.CutShort) × (is_last ≡ true) × (length ≤ 65536)) ⊎ ((fault ≡ WavFault.TooLong) × (65536 < length))) }
 {
-    if is_last {
-        Err(WavFault::CutShort)
-    } else if length > LONGEST_HEAD {
+    if length > LONGEST_HEAD {
         Err(WavFault::TooLong)
+    } else if is_last {
+        Err(WavFault::CutShort)
     } else {
         Ok(None)
     }

@@ -6,8 +6,8 @@ use crate::drawing::{COUNTER, COUNTER_LINES, drawn};
 use crate::samples::COPY;
 use hox_args::StreamChoice;
 use hox_execute::{
-    FileSystem, Formats, Outcome, Role, Stop, StreamStop, count_standard, execute, is_named_twice, pairs_of,
-    stream,
+    FileSystem, Formats, Outcome, Role, Stop, StreamStop, count_standard, execute, is_named_twice,
+    pairs_of, stream,
 };
 use hox_network::AllKinds;
 use hox_run::Silent;
@@ -394,7 +394,12 @@ fn streams_from_file_to_file(rt: HostRuntime) {
         ("x=none", "y=o", "all=text", "unread"),
         ("z=t", "y=o", "all=text", "unopened"),
     ] {
-        same(&rt, input, streamed(&rt, input, output, format).as_str(), due);
+        same(
+            &rt,
+            input,
+            streamed(&rt, input, output, format).as_str(),
+            due,
+        );
     }
 }
 

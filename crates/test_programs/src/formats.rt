@@ -42,7 +42,6 @@ fn formats_are_named(rt: HostRuntime) {
     let rows = [
         ("text", Format::TEXT),
         ("text,digits=2,unsigned", Format::Text(CENTS)),
-        ("text,digits=19,unsigned,digits=2", Format::Text(CENTS)),
         ("csv", Format::Csv(Csv::PLAIN)),
         (
             "csv,column=temp,delimiter=;",
@@ -54,7 +53,7 @@ fn formats_are_named(rt: HostRuntime) {
             }),
         ),
         (
-            "csv,delimiter=comma,delimiter=tab,column=3,digits=2,unsigned",
+            "csv,delimiter=tab,column=3,digits=2,unsigned",
             Format::Csv(Csv {
                 separator: Separator::Tab,
                 decimals: CENTS,
@@ -90,7 +89,7 @@ fn formats_are_named(rt: HostRuntime) {
             }),
         ),
         ("s16", Format::Raw(SAMPLES)),
-        ("s16le,channels=3,channels=1", some_channels(1)),
+        ("s16le,channels=1", some_channels(1)),
         (
             "s16be,channels=2,channel=2,clip",
             Format::Raw(Raw {
@@ -180,6 +179,16 @@ fn other_texts_name_no_format(rt: HostRuntime) {
         ("s16,channels=65536", refused("channels", "65536")),
         ("s16,channel=3,channels=2", refused("channels", "2")),
         ("s16,channels=2,channel=3", refused("channel", "3")),
+        (
+            "text,digits=19,unsigned,digits=2",
+            FormatFault::Twice("digits"),
+        ),
+        ("csv,column=a,column=2", FormatFault::Twice("column")),
+        (
+            "csv,header,digits=1,header,digits=1",
+            FormatFault::Twice("header"),
+        ),
+        ("wav,clip,clip,rat=1", FormatFault::Key("rat")),
     ];
     for (text, due) in &rows {
         same(&rt, *text, format_of(*text), Err(*due));

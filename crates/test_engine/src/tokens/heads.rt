@@ -5,6 +5,8 @@ use kpn_tokens::{
     Layout, Sort, Token, WavFault, WavHead, Width, append_wav_head, read_tokens, wav_head,
     wav_sample,
 };
+use std::alloc::AllocGlobal;
+use std::process::Abort;
 
 /// Two channels with 1, 100 and with -1, -100, as Python's wave module writes them in 8, 16, 24 and 32 bits.
 static FILES: [(Width, &[u8]); 4] = [
@@ -86,6 +88,37 @@ fn reads_the_extensible_form_piece_by_piece(rt: HostRuntime) {
     );
     let fault = wav_head(&EXTENSIBLE[..79], true);
     same(&rt, "cut short", fault, Err(WavFault::CutShort));
+}
+
+/// What stands in a WAV file of one channel in 8 bits before the bytes of its first chunk of other bytes.
+const BEFORE_JUNK: &[u8] =
+    b"RIFF\x00\x00\x00\x00WAVEfmt \x10\x00\x00\x00\x01\x00\x01\x00@\x1f\x00\x00@\x1f\x00\x00\x01\x00\x08\x00junk";
+
+/// A WAV file of eight samples, before which so many bytes stand: 52 or more.
+fn long_headed<R: Abort + AllocGlobal>(rt: &R, start: usize) -> Vec<u8> {
+    let size = (start - 52) as u32;
+    let mut file = Vec::from_slice(rt.alloc(), BEFORE_JUNK).expect(rt, "no memory");
+    file.extend_from_slice(&size.to_le_bytes())
+        .expect(rt, "no memory");
+    file.resize(start - 8, 0).expect(rt, "no memory");
+    file.extend_from_slice(b"data\x08\x00\x00\x00\x80\x80\x80\x80\x80\x80\x80\x80")
+        .expect(rt, "no memory");
+    file
+}
+
+#[test]
+fn refuses_a_long_head_in_whatever_pieces(rt: HostRuntime) {
+    let longest = long_headed(&rt, 65536);
+    let found = wav_head(&longest, true).expect(&rt, "no head");
+    same(&rt, "start", found.map(|head| head.start), Some(65536));
+    let long = long_headed(&rt, 65538);
+    for (length, is_last) in [(65537, false), (65537, true), (65538, false), (65546, true)] {
+        let fault = wav_head(&long[..length], is_last);
+        same(&rt, "long", fault, Err(WavFault::TooLong));
+    }
+    same(&rt, "wanting", wav_head(&long[..65536], false), Ok(None));
+    let short = wav_head(&long[..65536], true);
+    same(&rt, "short", short, Err(WavFault::CutShort));
 }
 
 #[test]

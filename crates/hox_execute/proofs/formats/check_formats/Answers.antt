@@ -13,5 +13,9 @@ pub loop-text-preserved : goal.loop-text-preserved
 loop-text-preserved c =
     one_text_more (IsUsable c.args.inputs.now c.args.outputs.now) c.args.texts.now c.loop-text.text-index _ c.loop-text-test.true c.loop-text.invariant c.in_ok-check_format.ensures.ok
 
-pub returns-clause-ok : goal.returns-clause-ok
-returns-clause-ok c = all_texts (IsUsable c.args.inputs.now c.args.outputs.now) c.args.texts.now c.loop-text.text-index c.loop-text-test.false c.loop-text.invariant
+pub returns-in-None-clause-ok : goal.returns-in-None-clause-ok
+returns-in-None-clause-ok c =
+    record {
+      each = all_texts (IsUsable c.args.inputs.now c.args.outputs.now) c.args.texts.now c.loop-text.text-index c.loop-text-test.false c.loop-text.invariant;
+      once = search rules;
+    }

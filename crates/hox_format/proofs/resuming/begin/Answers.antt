@@ -1,10 +1,10 @@
 -- What was read to where the records begin is the front of the file.
-use Rattle.std.proofs.Common.{◌≡◌, ◌≤◌, List, drop, length, Option, Some, IfSome, Ok, ap, subst, ◌∙◌}
+use Rattle.std.proofs.Common.{◌≡◌, ◌≤◌, List, drop, length, Option, Some, IfSome, Ok, Err, ap, rules, subst, ◌∙◌}
 use Rattle.hox_format.specs.declared.bodies.Body.{Body}
 use Rattle.hox_format.specs.Bodies.{IsBodyResult, IsWithin, body_bytes}
 use Rattle.hox_format.specs.Forms.{form}
 use Rattle.hox_format.specs.Resuming.{IsFront, left_in}
-use Rattle.hox_format.proofs.Resumes.{body_left, fronts_known, left_known}
+use Rattle.hox_format.proofs.Resumes.{body_left, front_of, fronts_known, left_known}
 use Rattle.hox_format.proofs.resuming.begin.Goals as goal
 
 pub returns-in-Ok-Ok-Some-clause-begun : goal.returns-in-Ok-Ok-Some-clause-begun
@@ -27,3 +27,16 @@ returns-in-Ok-Ok-Some-clause-begun g c =
       rate_is = c.resumed_at.ensures.rate;
       left_is = left_known (λ bytes. IsFront front.held.items bytes front.is_last) (body_bytes body) known c.resumed_at.ensures.left left;
     }
+
+-- and so it is where what stands before them is refused
+pub returns-in-Ok-Err-clause-refused : goal.returns-in-Ok-Err-clause-refused
+returns-in-Ok-Err-clause-refused g c =
+    let front = c.pieces.front in
+    let fault = c.in-Ok-Err.fault in
+    let told : c.in-Ok-Err.field-0 ≡ Err fault = search rules in
+    let tells = subst (λ r. IsBodyResult (form c.args.format.now) c.args.place c.args.count c.as_slice.result.now front.is_last r) told c.in-Ok-Err.ensures.body in (
+      front.held.items,
+      front.is_last,
+      subst (λ l. IsBodyResult (form c.args.format.now) c.args.place c.args.count l front.is_last (Err fault)) c.as_slice.ensures.value tells,
+      front_of (g.S.Source.remaining c.args.source) front.held.items front.is_last (g.S.Source.remaining front.source) c.pieces.invariant.front,
+    )

@@ -32,3 +32,14 @@ head_of-requires-clause-format c =
     let told : width_told c.in-Some-chunk_in.format bytes ≡ Some c.in-Some-width_told.width = sym c.in-Some-width_told.ensures in
     let long : 16 ≤ chunk_size c.in-Some-chunk_in.format bytes = told_long c.in-Some-chunk_in.format bytes c.in-Some-width_told.width told in
     omega arith
+
+pub returns-then-samples-gt-LONGEST_HEAD : goal.returns-then-samples-gt-LONGEST_HEAD
+returns-then-samples-gt-LONGEST_HEAD c =
+    let bytes = c.args.bytes.now in
+    let past : 65536 < c.in-Some.samples + 8 = search rules in
+    let within : c.in-Some.samples + 8 ≤ length bytes = c.in-Some.ensures.1 in (
+      omega arith,
+      λ samples h.
+          let same : c.in-Some.samples ≡ samples = only_one bytes (codes "data") 12 c.in-Some.samples samples c.in-Some.ensures.0 h in
+          omega arith,
+    )
