@@ -64,7 +64,9 @@ fn first_of<'a, 'b>(outputs: &'b [Pair<'a>], k: usize) -> Option<&'b Pair<'a>> {
 /// The output at a place of the file of this number.
 fn output_at<'a, 'b>(outputs: &'b [Pair<'a>], k: usize, place: usize) -> Option<&'b Pair<'a>> {
     let first = first_of(outputs, k)?;
-    outputs.iter().find(|pair| pair.file == first.file && pair.place == place)
+    outputs
+        .iter()
+        .find(|pair| pair.file == first.file && pair.place == place)
 }
 
 /// The table among the files, of which this one has this number.

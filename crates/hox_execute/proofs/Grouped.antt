@@ -65,7 +65,7 @@ module _ (pairs : List Pair) (files : List StreamFile) (k : ℕ) (d : Pair) (wit
       let fs = drop (k + 1) files in
       let whole = ap (λ (l : List Pair). file_texts rate l (drop k files)) (left_at pairs k d within) ∙ ap (file_texts rate (here ∷ ps)) (left_at files k no_file among) in
       let text : file_text rate (here ∷ ps) (file ∷ fs) ≡ file_text rate (drop k pairs) (drop k files) =
-              ap (λ (l : List Pair). file_text rate l (file ∷ fs)) (sym (left_at pairs k d within)) ∙ ap (file_text rate (drop k pairs)) (sym (left_at files k no_file among)) in
+      ap (λ (l : List Pair). file_text rate l (file ∷ fs)) (sym (left_at pairs k d within)) ∙ ap (file_text rate (drop k pairs)) (sym (left_at files k no_file among)) in
       whole ∙ ap (λ (t : List ℕ). if here.place == 0 then t ∷ file_texts rate ps fs else file_texts rate ps fs) text
 
   pub text_left : (rate : ℕ) → (get_or pairs k d).place ≡ 0 → file_texts rate (drop k pairs) (drop k files) ≡ file_text rate (drop k pairs) (drop k files) ∷ file_texts rate (drop (k + 1) pairs) (drop (k + 1) files)

@@ -114,10 +114,7 @@ pub(crate) fn group_of<'a, 'b>(pairs: &'b [Pair<'a>]) -> &'b [Pair<'a>]
 }
 
 /// The names of the channels of pairs.
-pub(crate) fn byte_names<'a>(
-    alloc: Global,
-    pairs: &[Pair<'a>],
-) -> Result<Vec<&'a [u8]>, AllocError>
+pub(crate) fn byte_names<'a>(alloc: Global, pairs: &[Pair<'a>]) -> Result<Vec<&'a [u8]>, AllocError>
     ensures { IfOk result (λ v. map (λ name. name.now) v.items ≡ channels_of pairs.now) }
 {
     let mut names = Vec::with_capacity(alloc, pairs.len())?;

@@ -1,6 +1,7 @@
 -- The texts of files, one after the other.
-use Rattle.std.proofs.Common.{◌≡◌, ◌<◌, ◌≤◌, ◌+◌, ◌++◌, ◌∷◌, [], ℕ, List, append_assoc, drop, length, min, ap, sym, ◌∙◌, arith, rules}
-use Rattle.std.proofs.lemmas.List.{append-nil}
+use Rattle.std.proofs.Common.{◌≡◌, ◌<◌, ◌≤◌, ◌+◌, ◌++◌, ◌∷◌, [], ℕ, List, append_assoc, drop, length, min, take, ◌-◌, ap, ap₂, sym, ◌∙◌, arith, rules}
+use Rattle.std.proofs.lemmas.Bool.{ne_eqb}
+use Rattle.std.proofs.lemmas.List.{append-nil, length-drop, take_all}
 use Rattle.hox_execute.specs.Reports.{file_text, file_texts}
 use Rattle.hox_execute.proofs.Grouped.{no_text_left, text_left, texts_end}
 use Rattle.hox_execute.proofs.texts.file_texts.Goals.{then-pairs-k-eq0+in_ok-file_text+in_ok-push, else-pairs-k-eq0}
@@ -17,12 +18,16 @@ loop-k-preserved c =
     let later = file_texts rate (drop (l.k + 1) pairs) (drop (l.k + 1) files) in
     elim c.if-pairs-k-eq0.branch [
       | then-pairs-k-eq0+in_ok-file_text+in_ok-push w ↦
-          let text = file_text rate (drop l.k pairs) (drop l.k files) in
+          let text = w.in_ok-file_text.field-0 in
           let next = text_left pairs files l.k _ within among rate w.if-pairs-k-eq0.true in
-          let regrouped = append_assoc l.texts.items (text ∷ []) later in
-          search rules
+          let pushed : c.if-pairs-k-eq0.texts.items ≡ l.texts.items ++ text ∷ [] = search rules in
+          let ps : take (length pairs - l.k) (drop l.k pairs) ≡ drop l.k pairs = take_all (length pairs - l.k) (drop l.k pairs) (omega (arith, length-drop l.k pairs)) in
+          let fs : take (length files - l.k) (drop l.k files) ≡ drop l.k files = take_all (length files - l.k) (drop l.k files) (omega (arith, length-drop l.k files)) in
+          let same : text ≡ file_text rate (drop l.k pairs) (drop l.k files) = w.in_ok-file_text.ensures ∙ ap₂ (file_text rate) ps fs in
+          ap (λ (x : List (List ℕ)). x ++ later) pushed ∙ append_assoc l.texts.items (text ∷ []) later ∙ ap (λ (t : List ℕ). l.texts.items ++ t ∷ later) same
+          ∙ ap (λ (x : List (List ℕ)). l.texts.items ++ x) (sym next) ∙ l.invariant
       | else-pairs-k-eq0 w ↦
-          let next = no_text_left pairs files l.k _ within among rate w.if-pairs-k-eq0.false in
+          let next = no_text_left pairs files l.k _ within among rate (ne_eqb _ 0 w.if-pairs-k-eq0.false) in
           search rules
     ]
 

@@ -13,7 +13,7 @@ returns-in-Ok c =
 
 pub returns-in-Err-DoesNotFit : goal.returns-in-Err-DoesNotFit
 returns-in-Err-DoesNotFit c =
-    let place = c.in-Err-DoesNotFit.place in
+    let place = c.in-Err-DoesNotFit.field-0-0 in
     let refused = c.in-Err-DoesNotFit.ensures.refused place (ap (λ e. Err e) c.in-Err-DoesNotFit.field-0-is) in
     let text = flat_map (record_text c.args.layout) (take place c.args.tokens.now) in
     let front = cut_fitting c.args.layout c.args.tokens.now place refused.unclipped refused.first_misfit in
