@@ -6,8 +6,8 @@ use crate::drawing::{COUNTER, COUNTER_LINES, drawn};
 use crate::samples::COPY;
 use hox_args::StreamChoice;
 use hox_execute::{
-    FileSystem, Formats, Outcome, Role, Stop, StreamStop, count_standard, execute, is_named_twice,
-    pairs_of, stream,
+    FileSystem, Formats, Outcome, Pair, Role, Stop, StreamStop, count_standard, execute,
+    is_named_twice, pairs_of, stream,
 };
 use hox_network::AllKinds;
 use hox_run::Silent;
@@ -401,6 +401,70 @@ fn streams_from_file_to_file(rt: HostRuntime) {
             due,
         );
     }
+}
+
+/// Command lines that run the copy between a file of 1 and 16 and one file for both channels; the exit status, and what
+/// is written.
+const BESIDE: [(&str, u8, &str); 5] = [
+    (
+        "hox run d --tokens x=t --quiet --out x,y=o --format all=csv",
+        0,
+        "> o\n1,1\n16,16\n",
+    ),
+    (
+        "hox run d --tokens x=t --quiet --out y,x=o --format x=csv --format y=csv,digits=1",
+        0,
+        "> o\n0.1,1\n1.6,16\n",
+    ),
+    (
+        "hox run d --tokens x=t --quiet --out x,y=o --format x=csv --format y=s8",
+        1,
+        "",
+    ),
+    ("hox run d --tokens x=t --quiet --out x,y=o", 1, ""),
+    (
+        "hox run d --tokens x=t --quiet --out x,y=o --out y=o --format all=csv",
+        1,
+        "",
+    ),
+];
+
+#[test]
+fn writes_channels_side_by_side(rt: HostRuntime) {
+    for (line, status, due) in &BESIDE {
+        does(&rt, COPY, line, *status, due);
+    }
+}
+
+#[test]
+fn one_file_is_given_for_several_channels(rt: HostRuntime) {
+    let formats = Formats {
+        texts: &["all=s16"],
+        unsigned: &[],
+    };
+    let Ok(pairs) = pairs_of(rt.alloc(), "in", &["x=f", "l,r=g"], formats) else {
+        panic!(rt; "refused");
+    };
+    for (place, due) in [
+        (0, Some(("x", "f", 0, 1, true))),
+        (1, Some(("l", "g", 0, 2, false))),
+        (2, Some(("r", "g", 1, 2, false))),
+        (3, None),
+    ] {
+        let pair = pairs.as_slice().get(place).map(parts_of);
+        same(&rt, "pair", pair, due);
+    }
+}
+
+/// The channel of a pair, its file, its place, how many there are, and whether it is alone.
+fn parts_of<'a>(pair: &Pair<'a>) -> (&'a str, &'a str, usize, usize, bool) {
+    (
+        pair.channel,
+        pair.file,
+        pair.place,
+        pair.count,
+        pair.is_alone(),
+    )
 }
 
 /// Channels and files that texts name, and how many of them are standard input.

@@ -1,13 +1,14 @@
 //! How files have tokens, as it is named; and what stands in them before the tokens.
 use crate::checks::same;
 use hox_format::{
-    BeginFault, Body, Csv, Format, FormatFault, HeadFault, Raw, Wav, Which, append_head,
-    append_tail, begin, body_in, body_of, format_of, layout_of,
+    BeginFault, Body, Csv, Format, FormatFault, Head, HeadFault, Raw, Shared, Wav, Which,
+    append_head, append_tail, begin, body_in, body_of, decimals_of, format_of, layout_of,
+    shared_by,
 };
 use kpn_front::Source;
 use kpn_tokens::{
-    Coding, Column, Decimals, Endian, Frame, Layout, RecordFault, Sample, Separator, WavFault,
-    Width, wav_sample,
+    Coding, Column, Decimals, Endian, Frame, Layout, RecordFault, Sample, Separator, Table, Token,
+    TokenColumn, WavFault, Width, append_table, longest, wav_sample,
 };
 use std::alloc::AllocGlobal;
 use std::process::Abort;
@@ -464,6 +465,80 @@ fn a_channel_alone_has_a_layout(rt: HostRuntime) {
     ] {
         let format = format_of(text).expect(&rt, "a format");
         same(&rt, text, layout_of(&format), due);
+    }
+}
+
+/// What channels have in common in a file of a format, and how many of them; none if it is for one alone.
+#[test]
+fn channels_share_a_file(rt: HostRuntime) {
+    let table = Table::Rows(Separator::Comma);
+    for (text, count, due) in [
+        (
+            "csv,header,digits=2",
+            2,
+            Some(Shared {
+                table,
+                head: Head::Names,
+            }),
+        ),
+        (
+            "csv",
+            7,
+            Some(Shared {
+                table,
+                head: Head::Nothing,
+            }),
+        ),
+        (
+            "wav,rate=8000",
+            2,
+            Some(Shared {
+                table: Table::Samples(wav_sample(Width::Two)),
+                head: Head::Wav(Some(8000)),
+            }),
+        ),
+        (
+            "s16,channels=2",
+            2,
+            Some(Shared {
+                table: Table::Samples(S16),
+                head: Head::Nothing,
+            }),
+        ),
+        ("s16,channels=2", 3, None),
+        ("s16,channel=1", 2, None),
+        ("wav,channel=2", 2, None),
+        ("csv,column=1", 2, None),
+        ("text", 2, None),
+    ] {
+        let format = format_of(text).expect(&rt, "a format");
+        same(&rt, text, shared_by(&format, count), due);
+    }
+    let format = format_of("csv,digits=2,unsigned").expect(&rt, "a format");
+    same(&rt, "decimals", decimals_of(&format), CENTS);
+}
+
+#[test]
+fn columns_stand_side_by_side(rt: HostRuntime) {
+    let columns = [
+        TokenColumn {
+            decimals: Decimals::WHOLE,
+            tokens: &[Token::Word(1), Token::Word(2)],
+        },
+        TokenColumn {
+            decimals: CENTS,
+            tokens: &[Token::Word(250)],
+        },
+    ];
+    same(&rt, "longest", longest(&columns), 2);
+    let rows: [(Table, &[u8]); 2] = [
+        (Table::Rows(Separator::Comma), b"1,2.50\n2,\n"),
+        (Table::Samples(S16), b"\x01\x00\xfa\x00\x02\x00\x00\x00"),
+    ];
+    for (table, due) in rows {
+        let mut out = Vec::new(rt.alloc());
+        append_table(rt.alloc(), &mut out, table, &columns).expect(&rt, "no memory");
+        same(&rt, "rows", out.as_slice(), due);
     }
 }
 

@@ -152,9 +152,9 @@ fn compare_report<R: Abort>(rt: &R, told: &Told, status: u8, lines: &str) {
 }
 
 /// Compares the first output.
-fn compare_output<R: Abort>(rt: &R, told: &Told, lines: &str) {
+fn compare_output<R: Abort>(rt: &R, told: &Told, tokens: &[Token]) {
     let y = told.outputs.as_slice().first().expect(rt, "no output");
-    same(rt, "y", y.bytes.as_slice(), lines.as_bytes());
+    same(rt, "y", y.tokens.as_slice(), tokens);
 }
 
 /// Runs the network by so many workers, and compares what is told.
@@ -164,7 +164,7 @@ fn tells<R: AllocGlobal + Wait + Clock + Threads + Abort + Sync>(rt: &R, workers
     let request = asked(rt, rt.alloc(), "1, first\n0x10", workers);
     let told = told_of(rt, COPY, &request, &Silent);
     compare_report(rt, &told, 0, COPY_LINES);
-    compare_output(rt, &told, "1\n16\n");
+    compare_output(rt, &told, &[Token::Word(1), Token::Word(16)]);
 }
 
 #[test]
@@ -222,7 +222,7 @@ fn words_below_0_are_read_and_written(rt: HostRuntime) {
     );
     request.show = streams_as(&rt, rt.alloc(), &["x"]);
     let told = told_of(&rt, COPY, &request, &Silent);
-    compare_output(&rt, &told, "-9223372036854775808\n-1\n");
+    compare_output(&rt, &told, &[Token::Word(1 << 63), Token::Word(u64::MAX)]);
     let has_line = told
         .report
         .contains("\nstream x -9223372036854775808 -1\nverdict ran dry\n");
@@ -435,8 +435,8 @@ fn an_argument_may_be_negative(rt: HostRuntime) {
     let words = "18446744073709551466\n18446744073709551516\n7\n101\n";
     let request = asked(&rt, rt.alloc(), words, 1);
     let told = told_of(&rt, WITHIN, &request, &Silent);
-    let due = "-100\n-100\n7\n100\n";
-    compare_output(&rt, &told, due);
+    let low = Token::Word(18446744073709551516);
+    compare_output(&rt, &told, &[low, low, Token::Word(7), Token::Word(100)]);
 }
 
 /// Start tokens of which some are below 0.
