@@ -94,31 +94,41 @@ fn reads_the_extensible_form_piece_by_piece(rt: HostRuntime) {
 const BEFORE_JUNK: &[u8] =
     b"RIFF\x00\x00\x00\x00WAVEfmt \x10\x00\x00\x00\x01\x00\x01\x00@\x1f\x00\x00@\x1f\x00\x00\x01\x00\x08\x00junk";
 
-/// A WAV file of eight samples, before which so many bytes stand: 52 or more.
-fn long_headed<R: Abort + AllocGlobal>(rt: &R, start: usize) -> Vec<u8> {
-    let size = (start - 52) as u32;
+/// A WAV file of eight samples, before which 52 bytes stand and so many other ones.
+fn long_headed<R: Abort + AllocGlobal>(rt: &R, junk: u32) -> Vec<u8> {
     let mut file = Vec::from_slice(rt.alloc(), BEFORE_JUNK).expect(rt, "no memory");
-    file.extend_from_slice(&size.to_le_bytes())
+    file.extend_from_slice(&junk.to_le_bytes())
         .expect(rt, "no memory");
-    file.resize(start - 8, 0).expect(rt, "no memory");
+    file.resize(44 + junk as usize, 0).expect(rt, "no memory");
     file.extend_from_slice(b"data\x08\x00\x00\x00\x80\x80\x80\x80\x80\x80\x80\x80")
         .expect(rt, "no memory");
     file
 }
 
+/// The first bytes of a file, so many.
+fn front<'a, R: Abort>(rt: &R, file: &'a [u8], length: usize) -> &'a [u8] {
+    file.get(..length).expect(rt, "too short")
+}
+
 #[test]
 fn refuses_a_long_head_in_whatever_pieces(rt: HostRuntime) {
-    let longest = long_headed(&rt, 65536);
+    let longest = long_headed(&rt, 65484);
     let found = wav_head(&longest, true).expect(&rt, "no head");
     same(&rt, "start", found.map(|head| head.start), Some(65536));
-    let long = long_headed(&rt, 65538);
+    let long = long_headed(&rt, 65486);
+    let long = long.as_slice();
     for (length, is_last) in [(65537, false), (65537, true), (65538, false), (65546, true)] {
-        let fault = wav_head(&long[..length], is_last);
+        let fault = wav_head(front(&rt, long, length), is_last);
         same(&rt, "long", fault, Err(WavFault::TooLong));
     }
-    same(&rt, "wanting", wav_head(&long[..65536], false), Ok(None));
-    let short = wav_head(&long[..65536], true);
-    same(&rt, "short", short, Err(WavFault::CutShort));
+    let wanting = front(&rt, long, 65536);
+    same(&rt, "wanting", wav_head(wanting, false), Ok(None));
+    same(
+        &rt,
+        "short",
+        wav_head(wanting, true),
+        Err(WavFault::CutShort),
+    );
 }
 
 #[test]
