@@ -75,6 +75,37 @@ impl<B: Body> Task<B> {
         self.last
     }
 
+    /// Makes it a task of the same process and the same body in this local state, after this last token. The body's
+    /// card must admit the two.
+    #[inline(always)]
+    pub fn renew(&mut self, local: Local, last: Option<Token>)
+        requires { B.Kinds.admits self.old.card local last }
+        ensures { self.new ≡ input self.old.process self.old.card local last }
+    {
+        let Task {
+            process: _,
+            body: _,
+            local: held,
+            last: read,
+        } = self;
+        *held = local;
+        *read = last;
+    }
+
+    /// Returns the body alone, which was not called; its card is unchanged.
+    #[inline]
+    pub fn into_body(self) -> B
+        ensures { B.card result ≡ self.card }
+    {
+        let Task {
+            process: _,
+            body,
+            local: _,
+            last: _,
+        } = self;
+        body
+    }
+
     /// Calls the body, and returns its answer with what it was asked. Takes no lock and no memory.
     #[inline]
     pub fn call(self) -> Finished<B>

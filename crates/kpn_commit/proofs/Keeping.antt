@@ -103,6 +103,12 @@ module _ {kinds : Family} {admits : Card → List ℕ → Option Token → Type 
       all = each_set (λ q (y : Standing). Fits kinds net r N q y) l p x Stopped within here
           (λ q o. let is = same q o in record { stopped = λ e. let f = k.stopped q e in cc; done = λ e. k.done q (cc); wanted = λ a e. let f = k.wanted q a e in cc; blocked = λ a. blocked q a o })
 
+  -- a process that is ready or out, and stays so, changes nothing
+  pub keeps_still : (p : ℕ) (x : Standing) → p < length l → is_busy (standing l p) ≡ true → is_busy x ≡ true → StandingsFit kinds admits net s M (set l p x)
+  keeps_still p x within before after =
+      moved s M p x (record { processes = k.processes; channels = k.channels; well_typed = k.well_typed; smallest = k.smallest; greatest = k.greatest }) within (λ q o. refl)
+      (record { stopped = λ e. cc; done = λ e. let f = k.done p e in cc; wanted = λ a e. cc; blocked = λ a ne e. cc }) (λ q a o ne e. k.blocked q a ne e)
+
   -- a live process is made ready, or goes out
   pub keeps_busy : (p : ℕ) (x : Standing) → p < length l → ((q : ℕ) → q ≢ p → s ≢ Some q) → is_busy x ≡ true → status M p ≢ Done → StandingsFit kinds admits net None M (set l p x)
   keeps_busy p x within others busy live =

@@ -1,5 +1,6 @@
 pub mod Deeds
 pub mod Keeping
+pub mod Onward
 pub mod Waits
 pub mod Candidates
 pub mod Idle

@@ -272,6 +272,16 @@ acted_waiting kinds {net = net} {M = M} {l = l} k p next d within busy =
     let idle = acted_waits_not net p d in
     same_capacities (waits_nowhere k p (standing_after d) within (busy_waits_not net p (standing l p) busy) idle.no_write idle.no_read) (after_deed kinds net M p next d) (λ c. capacity_after kinds net M p c next d)
 
+-- a process that is ready or out, and stays so, changes nothing of who waits
+pub busy_waiting : {net : Network} {M : State} {l : List Standing} {w : Waiting} → AreWaiting net M l w → (p : ℕ) (x : Standing) → p < length l → is_busy (standing l p) ≡ true → is_busy x ≡ true → AreWaiting net M (set l p x) w
+busy_waiting {net = net} {l = l} k p x within before after =
+    let idle = busy_waits_not net p x after in
+    waits_nowhere k p x within (busy_waits_not net p (standing l p) before) idle.no_write idle.no_read
+
+-- the deed of a process that was ready or out changes no capacity
+pub deed_waiting : (kinds : Family) {net : Network} {M : State} {l : List Standing} {w : Waiting} → AreWaiting net M l w → (p : ℕ) (next : List ℕ) (d : Deed) → AreWaiting net (after_deed kinds net M p next d) l w
+deed_waiting kinds {net = net} {M = M} k p next d = same_capacities k (after_deed kinds net M p next d) (λ c. capacity_after kinds net M p c next d)
+
 -- the deed of a process that was parked
 module _ (kinds : Family) {net : Network} {M : State} {l : List Standing} {w : Waiting} (k : AreWaiting net M l w) (p : ℕ) (a : Answer) (within : p < length l) (parked : standing l p ≡ Parked a) where
   -- a read

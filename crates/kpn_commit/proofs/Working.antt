@@ -1,5 +1,5 @@
 -- What the work of a commit does, appends and leaves.
-use Rattle.std.proofs.Common.{◌≡◌, ◌≢◌, ◌↔◌, List, [], ◌∷◌, length, length-append, refl, arith, ℕ, ◌+◌, ◌<◌, ◌≤◌, true, false, Some, set}
+use Rattle.std.proofs.Common.{◌≡◌, ◌≢◌, ◌↔◌, List, [], ◌∷◌, length, length-append, refl, arith, ℕ, ◌+◌, ◌<◌, ◌≤◌, true, false, Some, None, set}
 use Rattle.std.specs.List.{list_any}
 use Rattle.kpn_model.specs.declared.kinds.Answer.{Answer}
 use Rattle.kpn_model.specs.declared.history.Deed.{Deed}
@@ -69,3 +69,18 @@ module _ (kinds : Family) (net : Network) (s : StateAndHistory) (l : List Standi
       over Deadlock h not can = absurd (over_grows_not kinds net s.state Deadlock can.channel can.to can.next h can.grows)
       over Ceiling h not can = absurd (over_grows_not kinds net s.state Ceiling can.channel can.to can.next h can.grows)
   grows_exactly Enlarged t moved budget entries h not = (λ _. (h.0, record { channel = h.1.channel; to = h.1.to; next = h.1.grown; grows = h.1.grows }), λ _. refl)
+
+-- at most two entries more don't spend the budget
+pub not_spent : (budget n more : ℕ) → more ≤ n + 2 → n + 2 < budget → None ≡ end_after Busy budget more
+not_spent budget n more few left = grind arith
+
+module _ (kinds : Family) (net : Network) (s : StateAndHistory) (l : List Standing) where
+  -- a reaction appends at most two entries
+  pub reaction_few : (p : ℕ) (a : Answer) (r : Reaction) (t : StateAndHistory) (moved : List Standing) → Reacts kinds net s l p a r t moved → length t.history ≤ length s.history + 2
+  reaction_few p a Waits t moved h = rw h.1 (omega arith)
+  reaction_few p a Acts t moved h = let n = length-append s.history (Did p h.0 ∷ []) in rw h.1.entry (omega arith)
+  reaction_few p a HandsOn t moved h =
+      let n = length-append s.history (Did p h.deed ∷ []) in
+      let m = length-append h.between.history (Did h.other h.handed ∷ []) in
+      let between : length h.between.history ≡ length s.history + 1 = rw h.first.entry (omega arith) in
+      rw h.second.entry (omega arith)

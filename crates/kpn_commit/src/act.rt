@@ -6,6 +6,7 @@ ghost use Rattle.kpn_model.specs.Lawful.{NamesPort, LeadsOn};
 ghost use Rattle.kpn_model.specs.Semantics.{wants, IsPossible, IsDeed, after_deed};
 ghost use Rattle.kpn_model.specs.declared.history.Entry.TheVariants.{Did};
 ghost use Rattle.kpn_state.specs.StateAndHistory.{more};
+ghost use Rattle.kpn_state.specs.declared.standing.Standing.TheVariants.{Ready};
 ghost use Rattle.kpn_state.specs.Standings.{StandingsFit, standing, standing_after, partner, HasChannel};
 
 use kpn_model::{Act, Answer, Card, Deed, Kinds, Local, Token};
@@ -131,5 +132,55 @@ pub fn advance<K: Kinds>(
     obey::<K>(net.card(process));
     let deed = perform(net, store, process, answer)?;
     standings.update(process, standing_after(deed));
+    Some(deed)
+}
+
+/// Reads or writes, if that can be done; otherwise returns `None`, and nothing changes.
+#[inline(always)]
+fn perform_on<K: Kinds>(
+    net: &Net<K>,
+    store: &mut Store,
+    process: usize,
+    answer: Answer,
+) -> Option<Deed>
+    requires process { process < length store.old.state.processes }
+    requires channels { length store.old.state.channels ≡ length net.now.channels }
+    requires room { length store.old.history < store.old.limit }
+    ensures is_deed { IfSome result (IsDeed (family_of K.start K.answer_of) net.now store.old.state process answer.act) }
+    ensures entry { IfSome result (λ deed. store.new ≡ more store.old (after_deed (family_of K.start K.answer_of) net.now store.old.state process answer.next deed) (Did process deed)) }
+    ensures ready { IfSome result (λ deed. standing_after deed ≡ Ready) }
+    ensures same { IfNone result (store.new ≡ store.old) }
+{
+    match answer.act {
+        Act::Stop => None,
+        Act::Read(port) => read(net, store, process, port, answer.next),
+        Act::Write(port, token) => write(net, store, process, port, token, answer.next),
+    }
+}
+
+/// Does what a process answered, if that is a read or a write and can be done; otherwise returns `None`, and nothing
+/// changes. That the process is ready then is left to the caller.
+#[inline(always)]
+pub(crate) fn advance_on<K: Kinds>(
+    net: &Net<K>,
+    store: &mut Store,
+    standings: &Roster,
+    process: usize,
+    answer: Answer,
+) -> Option<Deed>
+    requires keeps { StandingsFit (family_of K.start K.answer_of) K.admits net.now (Some process) store.old.state standings.now }
+    requires process { process < length standings.now }
+    requires wants { wants (family_of K.start K.answer_of) net.now store.old.state process ≡ Some answer }
+    requires room { length store.old.history < store.old.limit }
+    ensures is_deed { IfSome result (IsDeed (family_of K.start K.answer_of) net.now store.old.state process answer.act) }
+    ensures entry { IfSome result (λ deed. store.new ≡ more store.old (after_deed (family_of K.start K.answer_of) net.now store.old.state process answer.next deed) (Did process deed)) }
+    ensures ready { IfSome result (λ deed. standing_after deed ≡ Ready) }
+    ensures channel { IfSome result (HasChannel net.now) }
+    ensures keeps { IfSome result (λ deed. StandingsFit (family_of K.start K.answer_of) K.admits net.now (partner net.now deed) store.new.state (set standings.now process (standing_after deed))) }
+    ensures same { IfNone result (store.new ≡ store.old) }
+{
+    net.assure_valid();
+    obey::<K>(net.card(process));
+    let deed = perform_on(net, store, process, answer)?;
     Some(deed)
 }

@@ -1,17 +1,17 @@
 //! What an answer does at once: a deed, or the process is parked; and the deed of the parked process
 //! that it enables.
-ghost use Rattle.std.specs.Prelude.{◌≡◌, ◌≢◌, ◌↔◌, ◌<◌, ◌≤◌, ◌+◌, ℕ, length, set, Contains, Some, None, IsTrue, true, false};
+ghost use Rattle.std.specs.Prelude.{◌≡◌, ◌≢◌, ◌↔◌, ◌<◌, ◌≤◌, ◌+◌, ℕ, length, set, Contains, Some, None, IfSome, IfNone, IsTrue, true, false};
 ghost use Rattle.kpn_model.specs.Network.{family_of};
 ghost use Rattle.kpn_model.specs.declared.kinds.Answer.{Answer as AnswerV};
 ghost use Rattle.kpn_model.specs.Semantics.{wants, status, capacity, IsPossible};
 ghost use Rattle.kpn_model.specs.declared.history.Status.TheVariants.{Done};
-ghost use Rattle.kpn_state.specs.declared.standing.Standing.TheVariants.{Parked};
+ghost use Rattle.kpn_state.specs.declared.standing.Standing.TheVariants.{Parked, Ready};
 ghost use Rattle.kpn_state.specs.Marks.{mark_lists};
 ghost use Rattle.kpn_state.specs.Standings.{StandingsFit, standing, is_busy, partner, HasChannel};
 ghost use Rattle.kpn_commit.specs.Waiting.{AreWaiting, HasMark, partner_marked};
 ghost use Rattle.kpn_commit.specs.Reactions.{Reacts, Resumes};
 
-use crate::act::advance;
+use crate::act::{advance, advance_on};
 use crate::parking::park;
 use kpn_model::{Act, Answer, Deed, Kinds, Token};
 use kpn_network::Net;
@@ -110,6 +110,46 @@ fn react_to<K: Kinds>(
         Reaction::HandsOn
     } else {
         Reaction::Acts
+    }
+}
+
+/// Does the act of the answer of a process that is ready or out, and then the deed of the parked process that this
+/// enables, as `react` does; but it leaves the standing of the process to the caller, who makes it ready, or sends it out
+/// again. `None` if the act is a stop or can't be done, and nothing changes then. The history must have room for two
+/// entries.
+#[inline(always)]
+pub(crate) fn react_on<K: Kinds>(
+    net: &Net<K>,
+    store: &mut Store,
+    standings: &mut Roster,
+    waiting: &mut Waiting,
+    process: usize,
+    answer: Answer,
+) -> Option<Reaction>
+    requires keeps { StandingsFit (family_of K.start K.answer_of) K.admits net.now None store.old.state standings.old }
+    requires process { process < length standings.old }
+    requires wants { wants (family_of K.start K.answer_of) net.now store.old.state process ≡ Some answer }
+    requires busy { is_busy (standing standings.old process) ≡ true }
+    requires room { length store.old.history + 2 ≤ store.old.limit }
+    requires waiting { AreWaiting net.now store.old.state standings.old waiting.old }
+    ensures reacts { IfSome result (λ r. Reacts (family_of K.start K.answer_of) net.now store.old standings.old process answer r store.new (set standings.new process Ready)) }
+    ensures stays { standing standings.new process ≡ standing standings.old process }
+    ensures many { length standings.new ≡ length standings.old }
+    ensures keeps { IfSome result (λ _. StandingsFit (family_of K.start K.answer_of) K.admits net.now None store.new.state (set standings.new process Ready)) }
+    ensures waiting { IfSome result (λ _. AreWaiting net.now store.new.state (set standings.new process Ready) waiting.new) }
+    ensures same { IfNone result ((store.new ≡ store.old) × (standings.new ≡ standings.old) × (waiting.new ≡ waiting.old)) }
+{
+    let deed = advance_on(net, store, standings, process, answer)?;
+    if !partner_waits(&waiting.marks, deed) {
+        return Some(Reaction::Acts);
+    }
+    let Some(other) = partner(net, deed) else {
+        return Some(Reaction::Acts);
+    };
+    if resume(net, store, standings, waiting, other) {
+        Some(Reaction::HandsOn)
+    } else {
+        Some(Reaction::Acts)
     }
 }
 

@@ -1,13 +1,14 @@
 //! The work of a commit.
-ghost use Rattle.std.specs.Prelude.{◌≡◌, ◌<◌, ◌≤◌, ◌+◌, length, Some, None, true};
+ghost use Rattle.std.specs.Prelude.{◌≡◌, ◌<◌, ◌≤◌, ◌+◌, length, set, Some, None, true, IfSome, IfNone};
 ghost use Rattle.kpn_model.specs.Network.{family_of};
 ghost use Rattle.kpn_model.specs.Semantics.{wants};
+ghost use Rattle.kpn_state.specs.declared.standing.Standing.TheVariants.{Ready};
 ghost use Rattle.kpn_state.specs.Standings.{StandingsFit, standing, is_busy};
 ghost use Rattle.kpn_commit.specs.Waiting.{AreWaiting};
 ghost use Rattle.kpn_commit.specs.Works.{Works, outcome_of, end_after, resolution_entries};
 
 use crate::outcome::Outcome;
-use crate::react::{Reaction, react};
+use crate::react::{Reaction, react, react_on};
 use crate::resolution::{Resolution, resolve};
 use kpn_model::{Answer, End, Kinds};
 use kpn_network::Net;
@@ -77,4 +78,38 @@ pub fn work<K: Kinds>(
     let resolution = resolve(net, store, standings, waiting);
     let end = end_after(resolution, net.budget(), store.history().len() as u64);
     (outcome_of(reaction, resolution), end)
+}
+
+/// Works on the answer of a process that is ready or out, as `work` does, where it is a read or a write that can be done
+/// and the run goes on; but it leaves the standing of the process to the caller, who makes it ready, or sends it out
+/// again. Returns the outcome; `None` if it is not so, and nothing changes then. The history must have room for three
+/// entries.
+#[inline(always)]
+pub fn work_on<K: Kinds>(
+    net: &Net<K>,
+    store: &mut Store,
+    standings: &mut Roster,
+    waiting: &mut Waiting,
+    process: usize,
+    answer: Answer,
+) -> Option<Outcome>
+    requires keeps { StandingsFit (family_of K.start K.answer_of) K.admits net.now None store.old.state standings.old }
+    requires process { process < length standings.old }
+    requires wants { wants (family_of K.start K.answer_of) net.now store.old.state process ≡ Some answer }
+    requires busy { is_busy (standing standings.old process) ≡ true }
+    requires room { length store.old.history + 3 ≤ store.old.limit }
+    requires waiting { AreWaiting net.now store.old.state standings.old waiting.old }
+    ensures works { IfSome result (λ outcome. Works (family_of K.start K.answer_of) net.now store.old standings.old process answer outcome store.new (set standings.new process Ready) None) }
+    ensures stays { standing standings.new process ≡ standing standings.old process }
+    ensures many { length standings.new ≡ length standings.old }
+    ensures keeps { IfSome result (λ _. StandingsFit (family_of K.start K.answer_of) K.admits net.now None store.new.state (set standings.new process Ready)) }
+    ensures waiting { IfSome result (λ _. AreWaiting net.now store.new.state (set standings.new process Ready) waiting.new) }
+    ensures same { IfNone result ((store.new ≡ store.old) × (standings.new ≡ standings.old) × (waiting.new ≡ waiting.old)) }
+{
+    let entries = store.history().len() as u64;
+    if net.budget().saturating_sub(2) <= entries {
+        return None;
+    }
+    let reaction = react_on(net, store, standings, waiting, process, answer)?;
+    Some(outcome_of(reaction, Resolution::Busy))
 }

@@ -1,5 +1,5 @@
 -- Taking and committing one process after another.
-use Rattle.std.proofs.Common.{◌≡◌, ◌≢◌, ◌↔◌, ⊎_elim, List, [], ◌∷◌, ◌++◌, append_assoc, length, refl, ◌∙◌, arith, ℕ, suc, ◌+◌, ◌≤◌, true, false, cond}
+use Rattle.std.proofs.Common.{◌≡◌, ◌≢◌, ◌↔◌, ⊎_elim, List, [], ◌∷◌, ◌++◌, append_assoc, length, refl, subst, ◌∙◌, arith, ℕ, suc, ◌+◌, ◌≤◌, true, false, cond}
 use Rattle.std.specs.List.{list_any, count_by}
 use Rattle.std.proofs.lemmas.Bool.{cases_lt, cases_eq}
 use Rattle.std.proofs.lemmas.List.{get_or_past, get_or_default}
@@ -12,7 +12,7 @@ use Rattle.kpn_state.specs.Standings.{standing, is_busy, is_out}
 use Rattle.kpn_state.proofs.Placed.{standing_set_other}
 use Rattle.kpn_commit.specs.declared.outcome.Outcome.{Outcome}
 use Rattle.kpn_machine.specs.MachineView.{MachineView}
-use Rattle.kpn_machine.specs.Commits.{Commits, ContinuesRun, GoesRound}
+use Rattle.kpn_machine.specs.Commits.{Commits, ContinuesRun, GoesRound, GoesRounds}
 use Rattle.kpn_machine.proofs.Moves.{run_both}
 
 -- 1 for a process that is out
@@ -75,3 +75,9 @@ module _ {kinds : Family} {s t : MachineView} (r : GoesRound kinds s t) where
       (λ ne.
       let same : standing r.between.standings p ≡ standing s.standings p = rw r.takes.after (standing_set_other s.standings r.input.process p Out ne) in
       (λ out. let o = (r.others p ne).0 out in cc, λ out. (r.others p ne).1 (cc))) (cases_eq p r.input.process)
+
+module _ (kinds : Family) where
+  -- one more round
+  pub rounds_more : (s : MachineView) (outcomes : List Outcome) (m t : MachineView) (r : GoesRound kinds m t) → GoesRounds kinds s outcomes m → GoesRounds kinds s (outcomes ++ r.outcome ∷ []) t
+  rounds_more s [] m t r rounds = subst (λ (x : MachineView). GoesRounds kinds x (r.outcome ∷ []) t) rounds (t, r, refl, refl)
+  rounds_more s (o ∷ outcomes) m t r rounds = (rounds.0, rounds.1, rounds.2, rounds_more rounds.0 outcomes m t r rounds.3)

@@ -1,5 +1,6 @@
 pub mod Moves
 pub mod Sound
+pub mod Onward
 pub mod Seats
 pub mod Opened
 pub mod Listed

@@ -162,6 +162,29 @@ module _ {kinds : Family} {admits : Card → List ℕ → Option Token → Type 
             laid = omega arith;
           }
 
+      -- its task is taken back
+      pub sound_returned : IsSound kinds admits (machine_view net M E (set l i.process Ready) end answers) limit (set bodies i.process (Some i.card))
+      sound_returned =
+          let count = moved_count stays_in l i.process Ready out_within in
+          let was : stays_in (standing l i.process) ≡ 0 = rw out.out in
+          let waiting = moved_count waits l i.process Ready out_within in
+          let waited : waits (standing l i.process) ≡ 0 = rw out.out in
+          let here : standing (set l i.process Ready) i.process ≡ Ready = standing_set_same l i.process Ready out_within in
+          let laid = h.laid in
+          record {
+            run = h.run;
+            keeps = keeps_moved i.process Ready (rw out.out) refl;
+            limit_is = h.limit_is;
+            many_bodies = length-set bodies i.process (Some i.card) ∙ h.many_bodies;
+            has_bodies = bodies_back net l (set l i.process Ready) bodies i.process i.card out_bodies out.card h.has_bodies (λ q o e. standing_set_other l i.process q Ready o ∙ e);
+            few = h.few;
+            ends = h.ends;
+            busy = λ e. busy_at (set l i.process Ready) i.process (rw here);
+            idle = λ stop e not. let busy = busy_at l i.process (rw out.out) in let idle = h.idle stop e not in cc;
+            asked = λ e. let asked = h.asked e in omega arith;
+            laid = omega arith;
+          }
+
       -- the answer is worked on
       pub record Worked (o : Outcome) (t : MachineView) (left : ℕ) : Type 0 where
         pub commits : Commits kinds (machine_view net M E l end answers) i o t
@@ -254,7 +277,7 @@ goes_round {kinds = kinds} {net = net} {M = M} {E = E} {l = l} {end = end} {comm
     let seated : set (set bodies p None) p (Some (card_of net p)) ≡ bodies = rw (set-set, ← has) (set-get_or bodies p None) in
     record {
       sound = rw seated at w.sound;
-      goes = record { input = i; between = machine_view net M E (set l p Out) end commits; outcome = o; takes = record { ready = ready; card = refl; live = live.1.1; after = refl }; commits = w.commits; appends = w.appends; back = w.back; others = w.others };
+      goes = record { input = i; between = machine_view net M E (set l p Out) end commits; outcome = o; takes = record { ready = ready; card = refl; live = live.1.1; after = refl }; commits = w.commits; appends = w.appends; tells = w.tells; back = w.back; others = w.others };
     }
 
 -- what the body of a ready process answers is what the process wants

@@ -1,5 +1,5 @@
 -- What taking an answer does.
-use Rattle.std.specs.Prelude.{◌≡◌, ◌≢◌, ◌⊎◌, ◌↔◌, ℕ, ◌+◌, ◌<◌, ◌≤◌, true, false, List, Some, None, length, set, ◌++◌}
+use Rattle.std.specs.Prelude.{◌≡◌, ◌≢◌, ◌⊎◌, ◌↔◌, ℕ, ◌+◌, ◌<◌, ◌≤◌, true, false, List, [], ◌∷◌, Some, None, length, set, ◌++◌}
 use Rattle.std.specs.List.{list_any}
 use Rattle.kpn_model.specs.declared.history.Entry.{Entry}
 use Rattle.kpn_model.specs.declared.history.End.{End}
@@ -76,5 +76,20 @@ pub record GoesRound (kinds : Family) (s t : MachineView) : Type 0 where
   pub takes : TakesOut s input between
   pub commits : Commits kinds between input outcome t
   pub appends : Appends kinds between t (entries_appended outcome)
+  pub tells : TellsEnabled kinds between input.process outcome
   pub back : standing t.standings input.process ≢ Out
   pub others : (p : ℕ) → p ≢ input.process → (standing t.standings p ≡ Out) ↔ (standing between.standings p ≡ Out)
+
+-- ready processes were asked, one after the other, and their answers taken, each with the corresponding outcome
+abbrev pub GoesRounds : Family → MachineView → List Outcome → MachineView → Type 0
+GoesRounds kinds s [] t = t ≡ s
+GoesRounds kinds s (o ∷ outcomes) t = (m : MachineView) × (round : GoesRound kinds s m) × (round.outcome ≡ o) × GoesRounds kinds m outcomes t
+
+-- the answer of a process that was out was taken, and the process went out again
+pub record CommitsOn (kinds : Family) (s : MachineView) (i : Input) (outcome : Outcome) (j : Input) (t : MachineView) : Type 0 where
+  pub between : MachineView
+  pub commits : Commits kinds s i outcome between
+  pub appends : Appends kinds s between (entries_appended outcome)
+  pub tells : TellsEnabled kinds s i.process outcome
+  pub takes : TakesOut between j t
+  pub same : j.process ≡ i.process

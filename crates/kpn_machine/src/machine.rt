@@ -1,15 +1,17 @@
 //! The machine.
-ghost use Rattle.std.specs.Prelude.{count_by, ◌≡◌, ◌≢◌, ℕ, ◌<◌, ◌≤◌, ◌+◌, ◌↔◌, [], replicate, length, get_or, set, map, option_map, Some, None, IfSome, IfNone, IfErr, IfOk, OnOk, IsTrue, IsSome};
+ghost use Rattle.std.specs.Prelude.{count_by, ◌≡◌, ◌≢◌, ℕ, List, ◌<◌, ◌≤◌, ◌+◌, ◌↔◌, [], replicate, length, get_or, set, map, option_map, Some, None, IfSome, IfNone, IfErr, IfOk, OnOk, IsTrue, IsSome};
 ghost use Rattle.kpn_model.specs.Network.{card_of, family_of};
+ghost use Rattle.kpn_model.specs.History.{growths as growths_of};
 ghost use Rattle.kpn_model.specs.Semantics.{status, start};
 ghost use Rattle.kpn_machine.specs.Opening.{cards_of, IsOpenFault};
 ghost use Rattle.kpn_model.specs.declared.history.Status.TheVariants.{Done, Live};
 ghost use Rattle.kpn_model.specs.Valid.{IsWellTyped};
 ghost use Rattle.kpn_state.specs.declared.standing.Standing.TheVariants.{Out, Ready};
 ghost use Rattle.kpn_state.specs.Standings.{standing, is_out, is_ready, StandingsFit};
-ghost use Rattle.kpn_body.specs.Input.{input};
+ghost use Rattle.kpn_body.specs.Input.{input, answer_to};
 ghost use Rattle.kpn_machine.specs.MachineView.{machine_view, IsOut, IsOutAt, TakesOut, IsFaithful, IsFresh};
-ghost use Rattle.kpn_machine.specs.Commits.{Commits, Appends, EndsAs, ContinuesRun, GoesRound, TellsEnabled, entries_appended};
+ghost use Rattle.kpn_commit.specs.declared.outcome.Outcome.{Outcome as OutcomeV};
+ghost use Rattle.kpn_machine.specs.Commits.{Commits, CommitsOn, Appends, EndsAs, ContinuesRun, GoesRound, GoesRounds, TellsEnabled, entries_appended};
 ghost use Rattle.kpn_laws.specs.RoomOfRun.{TakesLeastRoom};
 ghost use Rattle.kpn_laws.specs.StreamsOfRun.{ApproachLeastSolution};
 
@@ -18,9 +20,9 @@ use crate::equality::{same_card, same_last, same_local};
 use crate::opening::{OpenFault, Start, misfit, prepare, seat_all};
 use kpn_body::{Body, Finished, Task};
 use kpn_commit::Outcome;
-use kpn_commit::work::work;
+use kpn_commit::work::{work, work_on};
 use kpn_laws::{least_room_of, least_solution_of, typed_runs, valid_runs};
-use kpn_model::{Act, Card, End, Entry, Kinds, Local, Status, Token};
+use kpn_model::{Act, Answer, Card, End, Entry, Kinds, Local, Status, Token};
 use kpn_network::Net;
 use kpn_state::standing::all_ready;
 use kpn_state::{Roster, Standing, Store, Waiting};
@@ -170,6 +172,14 @@ impl<B: Body> Machine<B> {
         ensures { result.now ≡ self.now.history }
     {
         self.store.history()
+    }
+
+    /// Returns how many of the entries so far are growths.
+    #[inline(always)]
+    pub fn growths(&self) -> usize
+        ensures { result ≡ length (growths_of self.now.history) }
+    {
+        self.store.growths()
     }
 
     /// Returns the network.
@@ -390,7 +400,54 @@ impl<B: Body> Machine<B> {
     }
 }
 
-/// Makes a process ready whose answer came after the end of the run.
+impl<B: Body> Machine<B> {
+    /// Takes the answer of a task, as `commit_asked` does, and then sends its process out again with the same body, as the
+    /// next task, if the answer is a read or a write that can be done and the run goes on. Returns the outcome; `None` if it
+    /// is not so, and nothing changes then. The process must be out with the task's card, local state and last token, as
+    /// `has_sent` tests.
+    #[inline(always)]
+    pub fn commit_on(&mut self, task: &mut Task<B>, answer: Answer) -> Option<Outcome>
+        requires out { IsOut self.old task.old }
+        requires answer { answer ≡ answer_to (family_of B.Kinds.start B.Kinds.answer_of) task.old }
+        ensures goes { IfSome result (λ outcome. CommitsOn (family_of B.Kinds.start B.Kinds.answer_of) self.old task.old outcome task.new self.new) }
+        ensures same { IfNone result ((self.new ≡ self.old) × (task.new ≡ task.old)) }
+    {
+        self.net.assure_valid();
+        if self.end.is_some() {
+            return None;
+        }
+        let process = task.process();
+        let outcome = work_on(
+            &self.net,
+            &mut self.store,
+            &mut self.standings,
+            &mut self.waiting,
+            process,
+            answer,
+        )?;
+        self.commits += 1;
+        let Status::Live { local, last } = self.store.status(process) else {
+            unreachable!()
+        };
+        task.renew(*local, *last);
+        Some(outcome)
+    }
+}
+
+impl<B: Body> Machine<B> {
+    /// Takes back a task that was not answered: its process is ready again, as it was. The process must be
+    /// out with the task's card, local state and last token, as `has_sent` tests.
+    pub fn take_back(&mut self, task: Task<B>)
+        requires { IsOut self.old task }
+        ensures { self.new ≡ record self.old { standings = set self.old.standings task.process Ready } }
+    {
+        let process = task.process();
+        self.bodies[process] = Some(task.into_body());
+        lay_back(&mut self.standings, process);
+    }
+}
+
+/// Makes a process ready that was out.
 #[inline(always)]
 fn lay_back(standings: &mut Roster, process: usize)
     requires { process < length standings.old }
@@ -561,6 +618,7 @@ impl<B: Body> Machine<B> {
     /// how many answers were taken. Processes that are out stay out. No contract says which ready process
     /// is asked. Takes no memory except that of growths.
     pub fn ask_in_place(&mut self, most: u64) -> u64
+        ensures rounds { (outcomes : List OutcomeV) × (length outcomes ≡ result) × GoesRounds (family_of B.Kinds.start B.Kinds.answer_of) self.old outcomes self.new }
         ensures goes { ContinuesRun (family_of B.Kinds.start B.Kinds.answer_of) self.old self.new }
         ensures commits { self.new.commits ≡ self.old.commits + result }
         ensures most { result ≤ most }

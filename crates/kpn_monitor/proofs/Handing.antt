@@ -1,10 +1,10 @@
 -- A hand's tasks and answers, with one more and one less.
-use Rattle.std.proofs.Common.{◌≡◌, ℕ, ◌+◌, ◌<◌, zero, suc, List, [], ◌∷◌, ◌++◌, length, drop, refl, ap, sym, subst, ◌∙◌, arith, length-append}
+use Rattle.std.proofs.Common.{◌≡◌, inl, inr, ℕ, ◌+◌, ◌<◌, zero, suc, List, [], ◌∷◌, ◌++◌, length, refl, ap, sym, subst, ◌∙◌, arith, length-append}
 use Rattle.std.specs.Prelude.{◌≢◌, Option, Some, None, IsSome, MatchOption, slice_get, slice_index_or}
 use mathlib.Core.List.{IsPrefix}
 use Rattle.kpn_watch.proofs.Fronts.{prefix_self, prefix_trans}
 use Rattle.std.specs.List.{All, sum_by}
-use Rattle.std.proofs.lemmas.List.Sums.{sum_by-append, sum_by-cons}
+use Rattle.std.proofs.lemmas.List.Sums.{sum_by-cons}
 use Rattle.std.proofs.lemmas.List.Elements.{All-append}
 use Rattle.kpn_model.specs.declared.token.Token.{Token}
 use Rattle.kpn_model.specs.declared.kinds.Card.{Card}
@@ -14,10 +14,9 @@ use Rattle.kpn_body.specs.Input.{Input, answer_to}
 use Rattle.kpn_commit.specs.declared.outcome.Outcome.{Outcome}
 use Rattle.kpn_commit.specs.declared.outcome.Outcome.TheVariants.{Done, Parked, LaidBack}
 use Rattle.kpn_machine.specs.MachineView.{MachineView, TakesOut}
-use Rattle.kpn_machine.specs.Commits.{Commits, Appends, entries_appended}
-use Rattle.kpn_monitor.specs.Views.{Holding}
+use Rattle.kpn_machine.specs.Commits.{Commits, Appends, GoesRounds, entries_appended}
 use Rattle.kpn_monitor.specs.Kept.{WasCommitted}
-use Rattle.kpn_monitor.specs.Hands.{AreAnswers, TakesOutAll, CommitsAll, WereCommitted}
+use Rattle.kpn_monitor.specs.Hands.{AreAnswers, TakesOutAll, GoesOutAgain, Gives, Gave, WereCommitted}
 
 -- one more task
 pub answers_put : (kinds : Family) (tasks : List Input) (answers : List Answer) (i : Input) → AreAnswers kinds tasks answers → AreAnswers kinds (tasks ++ i ∷ []) answers
@@ -36,24 +35,6 @@ answers_called kinds (t ∷ tasks) [] i a at is are = (is ∙ ap (answer_to kind
 answers_called kinds [] (b ∷ answers) i a at is are = absurd are
 answers_called kinds (t ∷ tasks) (b ∷ answers) i a at is are = (are.0, answers_called kinds tasks answers i a at is are.1)
 
--- the first task has the first answer, and the others have the others
-pub answers_first : (kinds : Family) (tasks : List Input) (answers : List Answer) (i : Input) (a : Answer) → Some i ≡ slice_get tasks 0 → Some a ≡ slice_get answers 0 → AreAnswers kinds tasks answers → a ≡ answer_to kinds i
-answers_first kinds [] answers i a at is are = absurd (cc)
-answers_first kinds (t ∷ tasks) [] i a at is are = absurd (cc)
-answers_first kinds (t ∷ tasks) (b ∷ answers) i a at is are = some_same a b is ∙ are.0 ∙ ap (answer_to kinds) (sym (some_same i t at))
-
-pub answers_rest : (kinds : Family) (tasks : List Input) (answers : List Answer) (a : Answer) → Some a ≡ slice_get answers 0 → AreAnswers kinds tasks answers → AreAnswers kinds (drop 1 tasks) (drop 1 answers)
-answers_rest kinds tasks [] a is are = absurd (cc)
-answers_rest kinds [] (b ∷ answers) a is are = absurd are
-answers_rest kinds (t ∷ tasks) (b ∷ answers) a is are = are.1
-
-pub first_and_rest : {X : Type 0} (xs : List X) (x : X) → Some x ≡ slice_get xs 0 → xs ≡ x ∷ drop 1 xs
-first_and_rest [] x is = absurd (cc)
-first_and_rest (y ∷ xs) x is = ap (λ z. z ∷ xs) (sym (some_same x y is))
-
-pub sum_more : {X : Type 0} (f : X → ℕ) (xs : List X) (y : X) → sum_by f (xs ++ y ∷ []) ≡ sum_by f xs + f y
-sum_more f xs y = omega (arith, sum_by-append f xs (y ∷ []))
-
 pub length_more : {X : Type 0} (xs : List X) (y : X) → length (xs ++ y ∷ []) ≡ length xs + 1
 length_more xs y = omega (arith, length-append xs (y ∷ []))
 
@@ -66,14 +47,21 @@ pub takes_more : (s : MachineView) (tasks : List Input) (m : MachineView) (i : I
 takes_more s [] m i t all one = (t, subst (λ (x : MachineView). TakesOut x i t) all one, refl)
 takes_more s (j ∷ tasks) m i t all one = (all.0, all.1, takes_more all.0 tasks m i t all.2 one)
 
--- one more answer was taken
-pub commits_more : (kinds : Family) (s : MachineView) (tasks : List Input) (outcomes : List Outcome) (m : MachineView) (i : Input) (left : List Input) (o : Outcome) (t : MachineView) → CommitsAll kinds s tasks outcomes m (i ∷ left) → Commits kinds m i o t → Appends kinds m t (entries_appended o)
-    → CommitsAll kinds s tasks (outcomes ++ o ∷ []) t left
-commits_more kinds s [] [] m i left o t all one more = absurd (let e = all.1 in cc)
-commits_more kinds s (j ∷ tasks) [] m i left o t all one more =
-    subst (λ (l : List Input). CommitsAll kinds s l (o ∷ []) t left) all.1 (subst (λ (x : MachineView). CommitsAll kinds x (i ∷ left) (o ∷ []) t left) all.0 (t, one, more, (refl, refl)))
-commits_more kinds s [] (p ∷ outcomes) m i left o t all one more = absurd all
-commits_more kinds s (j ∷ tasks) (p ∷ outcomes) m i left o t all one more = (all.0, all.1, all.2, commits_more kinds all.0 tasks outcomes m i left o t all.3 one more)
+-- tasks that go out again later stand behind
+out_again : (s : MachineView) (again : List Input) (t : MachineView) (rest more : List Input) → GoesOutAgain s again t rest → GoesOutAgain s (again ++ more) t (rest ++ more)
+out_again s again t rest more (inl same) = inl (ap (λ (l : List Input). l ++ more) same.0, same.1)
+out_again s again t rest more (inr one) = inr (one.0, ap (λ (l : List Input). l ++ more) one.1, one.2)
+
+-- answers were given until a machine m, and one more is given to it
+pub gives_more : (kinds : Family) (s : MachineView) (tasks : List Input) (outcomes : List Outcome) (again : List Input) (m : MachineView) (i : Input) (left : List Input) (o : Outcome) (n : MachineView) (more : List Input) (t : MachineView)
+    → Gives kinds s tasks outcomes again m (i ∷ left) → Commits kinds m i o n → Appends kinds m n (entries_appended o) → GoesOutAgain n more t [] → Gives kinds s tasks (outcomes ++ o ∷ []) (again ++ more) t left
+gives_more kinds s [] [] again m i left o n more t all one appends out = absurd (let e = all.1 in cc)
+gives_more kinds s (j ∷ tasks) [] again m i left o n more t all one appends out =
+    let last : Gives kinds m (i ∷ left) (o ∷ []) more t left = (n, one, appends, t, [], out, (refl, refl, refl)) in
+    rw (all.2) (subst (λ (l : List Input). Gives kinds s l (o ∷ []) more t left) all.1 (subst (λ (x : MachineView). Gives kinds x (i ∷ left) (o ∷ []) more t left) all.0 last))
+gives_more kinds s [] (p ∷ outcomes) again m i left o n more t all one appends out = absurd all
+gives_more kinds s (j ∷ tasks) (p ∷ outcomes) again m i left o n more t all one appends out =
+    (all.0, all.1, all.2, all.3, all.4 ++ more, out_again all.0 again all.3 all.4 more all.5, gives_more kinds all.3 tasks outcomes all.4 m i left o n more t all.6 one appends out)
 
 pub committed_more : (kinds : Family) (admits : Card → List ℕ → Option Token → Type 0) (net : Network) (tasks : List Input) (outcomes : List Outcome) (i : Input) (left : List Input) (o : Outcome)
     → WereCommitted kinds admits net tasks outcomes (i ∷ left) → WasCommitted kinds admits net i o → WereCommitted kinds admits net tasks (outcomes ++ o ∷ []) left
@@ -81,37 +69,6 @@ committed_more kinds admits net [] [] i left o all one = absurd (let e = all in 
 committed_more kinds admits net (j ∷ tasks) [] i left o all one = subst (λ (l : List Input). WereCommitted kinds admits net l (o ∷ []) left) all (one, refl)
 committed_more kinds admits net [] (p ∷ outcomes) i left o all one = absurd all
 committed_more kinds admits net (j ∷ tasks) (p ∷ outcomes) i left o all one = (all.0, committed_more kinds admits net tasks outcomes i left o all.1 one)
-
--- a hand gave its first answer, and noted the outcome
-pub gave_machine : (kinds : Family) (s : MachineView) (tasks : List Input) (before between after : Holding) (m t : MachineView) (i : Input) (o : Outcome)
-    → before.tasks ≡ i ∷ between.tasks → between.outcomes ≡ before.outcomes → after ≡ record between { outcomes = between.outcomes ++ o ∷ [] }
-    → CommitsAll kinds s tasks before.outcomes m before.tasks → Commits kinds m i o t → Appends kinds m t (entries_appended o) → CommitsAll kinds s tasks after.outcomes t after.tasks
-gave_machine kinds s tasks before between after m t i o first same noted all one more =
-    subst (λ (h : Holding). CommitsAll kinds s tasks h.outcomes t h.tasks) (sym noted) (subst (λ (os : List Outcome). CommitsAll kinds s tasks (os ++ o ∷ []) t between.tasks) (sym same)
-    (commits_more kinds s tasks before.outcomes m i between.tasks o t (subst (λ (l : List Input). CommitsAll kinds s tasks before.outcomes m l) first all) one more))
-
-pub gave_committed : (kinds : Family) (admits : Card → List ℕ → Option Token → Type 0) (net : Network) (tasks : List Input) (before between after : Holding) (i : Input) (o : Outcome)
-    → before.tasks ≡ i ∷ between.tasks → between.outcomes ≡ before.outcomes → after ≡ record between { outcomes = between.outcomes ++ o ∷ [] }
-    → WereCommitted kinds admits net tasks before.outcomes before.tasks → WasCommitted kinds admits net i o → WereCommitted kinds admits net tasks after.outcomes after.tasks
-gave_committed kinds admits net tasks before between after i o first same noted all one =
-    subst (λ (h : Holding). WereCommitted kinds admits net tasks h.outcomes h.tasks) (sym noted) (subst (λ (os : List Outcome). WereCommitted kinds admits net tasks (os ++ o ∷ []) between.tasks) (sym same)
-    (committed_more kinds admits net tasks before.outcomes i between.tasks o (subst (λ (l : List Input). WereCommitted kinds admits net tasks before.outcomes l) first all) one))
-
--- how many outcomes and tasks there are after it
-pub gave_many : (before between after : Holding) (i : Input) (o : Outcome) → before.tasks ≡ i ∷ between.tasks → between.outcomes ≡ before.outcomes → after ≡ record between { outcomes = between.outcomes ++ o ∷ [] }
-    → (length after.outcomes ≡ length before.outcomes + 1) × (length after.tasks + 1 ≡ length before.tasks) × (after.called ≡ between.called) × (sum_by entries_appended after.outcomes ≡ sum_by entries_appended before.outcomes + entries_appended o)
-gave_many before between after i o first same noted =
-    let outs : after.outcomes ≡ before.outcomes ++ o ∷ [] = ap (λ (h : Holding). h.outcomes) noted ∙ ap (λ (os : List Outcome). os ++ o ∷ []) same in
-    let left : after.tasks ≡ between.tasks = ap (λ (h : Holding). h.tasks) noted in (
-      ap length outs ∙ length_more before.outcomes o,
-      omega (arith, ap length left, ap length first),
-      ap (λ (h : Holding). h.called) noted,
-      ap (sum_by entries_appended) outs ∙ sum_more entries_appended before.outcomes o,
-    )
-
--- a hand was dealt one more task
-pub dealt_out : (s : MachineView) (before after : Holding) (m : MachineView) (i : Input) (t : MachineView) → after ≡ record before { tasks = before.tasks ++ i ∷ [] } → TakesOut m i t → TakesOutAll s before.tasks m → TakesOutAll s after.tasks t
-dealt_out s before after m i t is one all = subst (λ (h : Holding). TakesOutAll s h.tasks t) (sym is) (takes_more s before.tasks m i t all one)
 
 pub one_at : {X : Type 0} (P : X → Type 0) (y : X) → P y → (k : ℕ) (d : X) → k < 1 → P (slice_index_or (y ∷ []) k d)
 one_at P y p zero d lt = p
@@ -147,19 +104,50 @@ went_on_again s m t a b one more = record {
       (next.0 ∙ first.0, next.1 ∙ first.1);
 }
 
--- if answers were taken, the history went on by as many entries as they appended
-went_on : (kinds : Family) (s : MachineView) (tasks : List Input) (outcomes : List Outcome) (t : MachineView) (left : List Input) → CommitsAll kinds s tasks outcomes t left → WentOn s t (sum_by entries_appended outcomes)
-went_on kinds s tasks [] t left all = subst (λ (x : MachineView). WentOn s x 0) (sym all.0) (went_nowhere s)
-went_on kinds s [] (o ∷ outcomes) t left all = absurd all
-went_on kinds s (i ∷ tasks) (o ∷ outcomes) t left all =
-    subst (λ n. WentOn s t n) (sym (sum_by-cons entries_appended o outcomes)) (went_on_again s all.0 t (entries_appended o) (sum_by entries_appended outcomes) (went_on_once kinds s i o all.0 all.1 all.2) (went_on kinds all.0 tasks outcomes t left all.3))
+-- processes that go out again append nothing
+went_out : (s : MachineView) (again : List Input) (t : MachineView) (rest : List Input) (r : MachineView) (n : ℕ) → GoesOutAgain s again t rest → WentOn r s n → WentOn r t n
+went_out s again t rest r n (inl same) on = subst (λ (x : MachineView). WentOn r x n) (sym same.1) on
+went_out s again t rest r n (inr one) on = subst (λ (x : MachineView). WentOn r x n) (sym one.2.after) (record { history = on.history; count = on.count; ended = on.ended })
+
+-- if answers were given, the history went on by as many entries as they appended
+pub went_on : (kinds : Family) (s : MachineView) (tasks : List Input) (outcomes : List Outcome) (again : List Input) (t : MachineView) (left : List Input) → Gives kinds s tasks outcomes again t left → WentOn s t (sum_by entries_appended outcomes)
+went_on kinds s tasks [] again t left all = subst (λ (x : MachineView). WentOn s x 0) (sym all.0) (went_nowhere s)
+went_on kinds s [] (o ∷ outcomes) again t left all = absurd all
+went_on kinds s (i ∷ tasks) (o ∷ outcomes) again t left all =
+    let first = went_out all.0 again all.3 all.4 s (entries_appended o) all.5 (went_on_once kinds s i o all.0 all.1 all.2) in
+    subst (λ n. WentOn s t n) (sym (sum_by-cons entries_appended o outcomes)) (went_on_again s all.3 t (entries_appended o) (sum_by entries_appended outcomes) first (went_on kinds all.3 tasks outcomes all.4 t left all.6))
+
+-- also if some were taken back
+pub gave_on : (kinds : Family) (s : MachineView) (tasks : List Input) (outcomes : List Outcome) (t : MachineView) (left : List Input) → Gave kinds s tasks outcomes t left → WentOn s t (sum_by entries_appended outcomes)
+gave_on kinds s tasks outcomes t left all =
+    let on = went_on kinds s tasks outcomes all.1 all.0 left all.2 in
+    let same = all.3 in
+    record { history = rw same.history on.history; count = rw same.history on.count; ended = λ stands. let e = on.ended stands in (same.history ∙ e.0, same.end ∙ e.1) }
 
 -- also if one was refused
 pub gave : (kinds : Family) (s : MachineView) (tasks : List Input) (outcomes : List Outcome) (t : MachineView) (left : List Input) (refused : Option Input)
-    → MatchOption refused (CommitsAll kinds s tasks outcomes t left) (λ i. CommitsAll kinds s tasks outcomes t (i ∷ left)) → WentOn s t (sum_by entries_appended outcomes)
-gave kinds s tasks outcomes t left None all = went_on kinds s tasks outcomes t left all
-gave kinds s tasks outcomes t left (Some i) all = went_on kinds s tasks outcomes t (i ∷ left) all
+    → MatchOption refused (Gave kinds s tasks outcomes t []) (λ i. Gave kinds s tasks outcomes t (i ∷ left)) → WentOn s t (sum_by entries_appended outcomes)
+gave kinds s tasks outcomes t left None all = gave_on kinds s tasks outcomes t [] all
+gave kinds s tasks outcomes t left (Some i) all = gave_on kinds s tasks outcomes t (i ∷ left) all
 
 pub some_end : {X : Type 0} (e : Option X) → IsSome e → e ≢ None
 some_end None some is = absurd (cc)
 some_end (Some x) some is = cc
+
+-- rounds append as many entries as their outcomes say
+pub rounds_append : (kinds : Family) (s : MachineView) (outcomes : List Outcome) (t : MachineView) → GoesRounds kinds s outcomes t → length t.history ≡ length s.history + sum_by entries_appended outcomes
+rounds_append kinds s [] t rounds = omega (arith, ap (λ (x : MachineView). length x.history) rounds)
+rounds_append kinds s (o ∷ outcomes) t rounds =
+    let r = rounds.1 in
+    let more = r.appends in
+    let rest = rounds_append kinds rounds.0 outcomes t rounds.3 in
+    omega (
+      arith,
+      rest,
+      sum_by-cons entries_appended o outcomes,
+      ap entries_appended rounds.2,
+      more.count,
+      ap length more.history,
+      length-append r.between.history more.entries,
+      ap (λ (x : MachineView). length x.history) r.takes.after,
+    )

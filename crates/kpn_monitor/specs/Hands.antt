@@ -1,5 +1,5 @@
 -- What several tasks and their answers do, one after the other.
-use Rattle.std.specs.Prelude.{◌≡◌, ℕ, List, [], ◌∷◌, Option}
+use Rattle.std.specs.Prelude.{◌≡◌, ◌⊎◌, ℕ, List, [], ◌∷◌, Option}
 use Rattle.kpn_model.specs.declared.token.Token.{Token}
 use Rattle.kpn_model.specs.declared.kinds.Card.{Card}
 use Rattle.kpn_model.specs.declared.kinds.Answer.{Answer}
@@ -8,6 +8,8 @@ use Rattle.kpn_body.specs.Input.{Input, answer_to}
 use Rattle.kpn_commit.specs.declared.outcome.Outcome.{Outcome}
 use Rattle.kpn_machine.specs.MachineView.{MachineView, TakesOut}
 use Rattle.kpn_machine.specs.Commits.{Commits, Appends, entries_appended}
+use Rattle.kpn_monitor.specs.declared.guarded.Went.{Went}
+use Rattle.kpn_monitor.specs.declared.guarded.Went.TheVariants.{On, Nowhere, Over}
 use Rattle.kpn_monitor.specs.Kept.{WasCommitted}
 
 -- these are the answers to the first of the tasks, in order
@@ -21,15 +23,36 @@ abbrev pub TakesOutAll : MachineView → List Input → MachineView → Type 0
 TakesOutAll s [] t = t ≡ s
 TakesOutAll s (i ∷ tasks) t = (m : MachineView) × TakesOut s i m × TakesOutAll m tasks t
 
+-- a process may have gone out again at once, with the first of these tasks
+abbrev pub GoesOutAgain : MachineView → List Input → MachineView → List Input → Type 0
+GoesOutAgain s again t rest = ((again ≡ rest) × (t ≡ s)) ⊎ ((i : Input) × (again ≡ i ∷ rest) × TakesOut s i t)
+
 -- the answers to the first of the tasks are taken, one after the other, each with the corresponding outcome and its number of
--- entries; the tasks `left` remain
-abbrev pub CommitsAll : Family → MachineView → List Input → List Outcome → MachineView → List Input → Type 0
-CommitsAll kinds s tasks [] t left = (t ≡ s) × (left ≡ tasks)
-CommitsAll kinds s [] (o ∷ outcomes) t left = ⊥
-CommitsAll kinds s (i ∷ tasks) (o ∷ outcomes) t left = (m : MachineView) × Commits kinds s i o m × Appends kinds s m (entries_appended o) × CommitsAll kinds m tasks outcomes t left
+-- entries, and processes go out again with the tasks `again`; the tasks `left` remain
+abbrev pub Gives : Family → MachineView → List Input → List Outcome → List Input → MachineView → List Input → Type 0
+Gives kinds s tasks [] again t left = (t ≡ s) × (left ≡ tasks) × (again ≡ [])
+Gives kinds s [] (o ∷ outcomes) again t left = ⊥
+Gives kinds s (i ∷ tasks) (o ∷ outcomes) again t left = (m : MachineView) × Commits kinds s i o m × Appends kinds s m (entries_appended o) × (n : MachineView) × (rest : List Input) × GoesOutAgain m again n rest × Gives kinds n tasks outcomes rest t left
+
+-- the run stands where it stood, though other processes may be out
+pub record StandsAs (s t : MachineView) : Type 0 where
+  pub network : t.network ≡ s.network
+  pub state : t.state ≡ s.state
+  pub history : t.history ≡ s.history
+  pub end : t.end ≡ s.end
+
+-- answers were given as above, and of those that went out again some may have been taken back
+abbrev pub Gave : Family → MachineView → List Input → List Outcome → MachineView → List Input → Type 0
+Gave kinds s tasks outcomes t left = (m : MachineView) × (again : List Input) × Gives kinds s tasks outcomes again m left × StandsAs m t
 
 -- the answers to the first of the tasks were committed, each with the corresponding outcome; the tasks `left` remain
 abbrev pub WereCommitted : Family → (Card → List ℕ → Option Token → Type 0) → Network → List Input → List Outcome → List Input → Type 0
 WereCommitted kinds admits net tasks [] left = left ≡ tasks
 WereCommitted kinds admits net [] (o ∷ outcomes) left = ⊥
 WereCommitted kinds admits net (i ∷ tasks) (o ∷ outcomes) left = WasCommitted kinds admits net i o × WereCommitted kinds admits net tasks outcomes left
+
+-- how many answers were taken where bodies were asked in place
+abbrev pub answers_of : Went → ℕ
+answers_of (On n waited) = n
+answers_of Nowhere = 0
+answers_of (Over e) = 0

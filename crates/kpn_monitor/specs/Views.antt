@@ -40,3 +40,12 @@ pub record Holding : Type 0 where
   pub tasks : List Input
   pub called : ℕ
   pub outcomes : List Outcome
+
+-- what contracts see of the places of a hand: the tasks that went out again; those whose answers were not given, and how many of
+-- these, from the first on, were called; how many answers were given; and the outcomes of these
+pub record Placed : Type 0 where
+  pub again : List Input
+  pub tasks : List Input
+  pub called : ℕ
+  pub given : ℕ
+  pub outcomes : List Outcome

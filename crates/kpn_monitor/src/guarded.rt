@@ -3,7 +3,7 @@
 //! Whenever the lock is free, the history is a run of the network from its start; an end is justified
 //! and stays; the total of the book of entries is the length of the history; the run has ended if the
 //! book of overs is not empty; and what is published is the history with the phase of its end.
-ghost use Rattle.std.specs.Prelude.{Bool, ℕ, ◌≡◌, ◌≢◌, ◌+◌, ◌^◌, ◌<◌, ◌≤◌, ◌↔◌, [], ◌∷◌, ◌++◌, true, false, length, Some, IfNone, Ok, IfSome, IfOk, IfErr, IsErr, OnOk, OnErr, IsSome, MatchOption, MatchResult};
+ghost use Rattle.std.specs.Prelude.{Bool, ℕ, List, ◌≡◌, ◌≢◌, ◌+◌, ◌^◌, ◌<◌, ◌≤◌, ◌↔◌, [], ◌∷◌, ◌++◌, true, false, length, Some, IfNone, Ok, IfSome, IfOk, IfErr, IsErr, OnOk, OnErr, IsSome, MatchOption, MatchResult};
 ghost use mathlib.Core.List.{IsPrefix};
 ghost use Rattle.kpn_model.specs.Network.{family_of};
 ghost use Rattle.std.specs.List.{All, sum_by};
@@ -12,13 +12,15 @@ ghost use Rattle.kpn_model.specs.Semantics.{State};
 ghost use Rattle.kpn_model.specs.Determinacy.{IsRun};
 ghost use Rattle.kpn_watch.specs.declared.progress.Phase.TheVariants.{Running};
 ghost use Rattle.kpn_watch.specs.Phases.{phase_of};
-ghost use Rattle.kpn_monitor.specs.Kept.{IsShown, HasEnded, WasCommitted, WasTaken, WentOn, FoundNothing};
-ghost use Rattle.kpn_monitor.specs.Hands.{TakesOutAll, CommitsAll, WereCommitted};
+ghost use Rattle.kpn_monitor.specs.Kept.{IsShown, HasEnded, WasCommitted, WasTaken, WentRounds, FoundNothing};
+ghost use Rattle.kpn_monitor.specs.Hands.{TakesOutAll, Gave, Gives, WereCommitted, answers_of};
 ghost use Rattle.kpn_body.specs.Input.{Input};
+ghost use Rattle.kpn_commit.specs.declared.outcome.Outcome.{Outcome as OutcomeV};
 ghost use Rattle.kpn_machine.specs.MachineView.{MachineView, IsFaithful, IsFresh, IsOut, TakesOut};
 ghost use Rattle.kpn_model.specs.Endings.{MayStand};
-ghost use Rattle.kpn_machine.specs.Commits.{Commits, Appends, ContinuesRun, entries_appended};
+ghost use Rattle.kpn_machine.specs.Commits.{Commits, Appends, ContinuesRun, GoesRounds, entries_appended};
 
+use crate::giving::give_one;
 use crate::hand::{Hand, Sharing};
 use crate::naming::EntryLedger;
 use crate::seat::Seat;
@@ -56,8 +58,8 @@ pub enum Next {
 /// What came of asking processes in place.
 #[derive(Clone, Copy, Debug, PartialEq, Eq)]
 pub enum Went {
-    /// At least one answer was taken, after the lock was free at once, or after it was waited for.
-    On { waited: bool },
+    /// At least one answer was taken: how many, and whether the lock had to be waited for.
+    On { answers: u64, waited: bool },
     /// None was: no process was ready, or none was to be asked.
     Nowhere,
     /// The run has ended.
@@ -172,24 +174,29 @@ impl<B: Body, E: EntryLedger, O: Ledger> Guarded<B, E, O> {
         Ok(outcome)
     }
 
-    /// Gives the answers of a hand to the machine, one after the other, then publishes and books what
-    /// they appended. Stops at an answer that the machine did not ask for, and returns it.
+    /// Gives the answers of a hand, all of whose tasks were called, to the machine, one after the other, then
+    /// publishes and books what they appended. At most `keep` processes go out again at once, and their tasks
+    /// are in the hand. Stops at an answer that the machine did not ask for, and returns it.
     pub(crate) fn give(
         &mut self,
         board: &Board,
         hand: &mut Hand<B>,
         seat: &mut Seat<E, O>,
+        keep: usize,
     ) -> Option<Finished<B>>
-        requires { board.now ≡ E.board }
-        ensures machine { MatchOption result (CommitsAll (family_of B.Kinds.start B.Kinds.answer_of) self.old.machine hand.old.tasks hand.new.outcomes self.new.machine hand.new.tasks) (λ i. CommitsAll (family_of B.Kinds.start B.Kinds.answer_of) self.old.machine hand.old.tasks hand.new.outcomes self.new.machine (i ∷ hand.new.tasks)) }
-        ensures committed { MatchOption result (WereCommitted (family_of B.Kinds.start B.Kinds.answer_of) B.Kinds.admits E.net hand.old.tasks hand.new.outcomes hand.new.tasks) (λ i. WereCommitted (family_of B.Kinds.start B.Kinds.answer_of) B.Kinds.admits E.net hand.old.tasks hand.new.outcomes (i ∷ hand.new.tasks)) }
-        ensures called { MatchOption result ((hand.new.called ≡ 0) × (length hand.new.outcomes ≡ hand.old.called)) (λ _. hand.new.called + 1 + length hand.new.outcomes ≡ hand.old.called) }
-        ensures count { MatchOption result (length hand.new.tasks + length hand.new.outcomes ≡ length hand.old.tasks) (λ _. length hand.new.tasks + 1 + length hand.new.outcomes ≡ length hand.old.tasks) }
+        requires board { board.now ≡ E.board }
+        requires called { hand.old.called ≡ length hand.old.tasks }
+        ensures gave { MatchOption result (Gave (family_of B.Kinds.start B.Kinds.answer_of) self.old.machine hand.old.tasks hand.new.outcomes self.new.machine []) (λ i. Gave (family_of B.Kinds.start B.Kinds.answer_of) self.old.machine hand.old.tasks hand.new.outcomes self.new.machine (i ∷ hand.new.tasks)) }
+        ensures goes_on { IfNone result (self.new.machine.end ≡ None → Gives (family_of B.Kinds.start B.Kinds.answer_of) self.old.machine hand.old.tasks hand.new.outcomes hand.new.tasks self.new.machine []) }
+        ensures ended { IfNone result (self.new.machine.end ≢ None → hand.new.tasks ≡ []) }
+        ensures committed { MatchOption result (WereCommitted (family_of B.Kinds.start B.Kinds.answer_of) B.Kinds.admits E.net hand.old.tasks hand.new.outcomes []) (λ i. WereCommitted (family_of B.Kinds.start B.Kinds.answer_of) B.Kinds.admits E.net hand.old.tasks hand.new.outcomes (i ∷ hand.new.tasks)) }
+        ensures taken { IfNone result (All (WasTaken (family_of B.Kinds.start B.Kinds.answer_of) B.Kinds.admits E.net) hand.new.tasks) }
+        ensures most { IfNone result (length hand.new.tasks ≤ keep) }
+        ensures called { MatchOption result (hand.new.called ≡ 0) (λ _. hand.new.called ≡ length hand.new.tasks) }
         ensures seat { seat.new ≡ record seat.old { entries = seat.old.entries + sum_by entries_appended hand.new.outcomes } }
     {
-        hand.forget();
         let before = self.machine.history().len();
-        let refused = give_all(&mut self.machine, hand);
+        let refused = hand.give(&mut self.machine, keep);
         publish(&self.machine, &mut self.publisher, board);
         let history = self.machine.history();
         seat.add_entries(&mut self.entries, (history.len() - before) as u64);
@@ -216,13 +223,20 @@ impl<B: Body, E: EntryLedger, O: Ledger> Guarded<B, E, O> {
         }
     }
 
-    /// Takes at most `most` tasks for a hand that has none; or meets the end of the run and notes it in
-    /// the seat, also if `most` is 0.
-    pub(crate) fn deal(&mut self, hand: &mut Hand<B>, seat: &mut Seat<E, O>, most: usize) -> Next
-        requires tasks { hand.old.tasks ≡ [] }
+    /// Takes more tasks for a hand, whose tasks went out again just now, until it has as many as are wanted, at most
+    /// `most`; or, if it has none, meets the end of the run and notes it in the seat, also if `most` is 0.
+    pub(crate) fn deal(
+        &mut self,
+        hand: &mut Hand<B>,
+        seat: &mut Seat<E, O>,
+        most: usize,
+        wanted: usize,
+    ) -> Next
+        requires few { length hand.old.tasks ≤ most }
         requires called { hand.old.called ≡ 0 }
-        ensures out { TakesOutAll self.old.machine hand.new.tasks self.new.machine }
-        ensures taken { All (WasTaken (family_of B.Kinds.start B.Kinds.answer_of) B.Kinds.admits E.net) hand.new.tasks }
+        requires wanted { (wanted ≤ 64) × (1 ≤ most → wanted ≤ most) }
+        ensures out { (more : List Input) × (hand.new.tasks ≡ hand.old.tasks ++ more) × TakesOutAll self.old.machine more self.new.machine }
+        ensures taken { All (WasTaken (family_of B.Kinds.start B.Kinds.answer_of) B.Kinds.admits E.net) hand.old.tasks → All (WasTaken (family_of B.Kinds.start B.Kinds.answer_of) B.Kinds.admits E.net) hand.new.tasks }
         ensures rest { (hand.new.called ≡ 0) × (hand.new.outcomes ≡ hand.old.outcomes) }
         ensures most { length hand.new.tasks ≤ most }
         ensures tasks { result ≡ Next.Tasks → (seat.new ≡ seat.old) × (0 < length hand.new.tasks) }
@@ -235,7 +249,10 @@ impl<B: Body, E: EntryLedger, O: Ledger> Guarded<B, E, O> {
         if most == 0 {
             return self.meet_end(seat);
         }
-        let wanted = hand.wanted(self.machine.ready(), most, self.sharing());
+        if hand.len() > 0 {
+            self.deal_more(hand, wanted);
+            return Next::Tasks;
+        }
         match self.take(seat) {
             None => Next::Nothing,
             Some(Taken::Over(end)) => Next::Over(end),
@@ -257,9 +274,9 @@ impl<B: Body, E: EntryLedger, O: Ledger> Guarded<B, E, O> {
     ) -> Result<Next, Stranger<B>>
         requires board { board.now ≡ E.board }
         requires called { hand.old.called ≡ length hand.old.tasks }
-        ensures machine { IfOk result (λ _. (m : MachineView) × CommitsAll (family_of B.Kinds.start B.Kinds.answer_of) self.old.machine hand.old.tasks hand.new.outcomes m [] × TakesOutAll m hand.new.tasks self.new.machine) }
+        ensures machine { IfOk result (λ _. (m : MachineView) × (again : List Input) × (more : List Input) × (hand.new.tasks ≡ again ++ more) × Gave (family_of B.Kinds.start B.Kinds.answer_of) self.old.machine hand.old.tasks hand.new.outcomes m [] × (m.end ≡ None → Gives (family_of B.Kinds.start B.Kinds.answer_of) self.old.machine hand.old.tasks hand.new.outcomes again m []) × TakesOutAll m more self.new.machine) }
         ensures committed { OnOk result (WereCommitted (family_of B.Kinds.start B.Kinds.answer_of) B.Kinds.admits E.net hand.old.tasks hand.new.outcomes []) }
-        ensures stranger { IfErr result (λ s. WereCommitted (family_of B.Kinds.start B.Kinds.answer_of) B.Kinds.admits E.net hand.old.tasks hand.new.outcomes (s.finished ∷ hand.new.tasks) × CommitsAll (family_of B.Kinds.start B.Kinds.answer_of) self.old.machine hand.old.tasks hand.new.outcomes self.new.machine (s.finished ∷ hand.new.tasks)) }
+        ensures stranger { IfErr result (λ s. WereCommitted (family_of B.Kinds.start B.Kinds.answer_of) B.Kinds.admits E.net hand.old.tasks hand.new.outcomes (s.finished ∷ hand.new.tasks) × Gave (family_of B.Kinds.start B.Kinds.answer_of) self.old.machine hand.old.tasks hand.new.outcomes self.new.machine (s.finished ∷ hand.new.tasks)) }
         ensures kept { OnErr result ((seat.new.overs ≡ seat.old.overs) × (hand.new.called ≡ length hand.new.tasks)) }
         ensures seat { (seat.new.parts ≡ seat.old.parts) × (seat.new.entries ≡ seat.old.entries + sum_by entries_appended hand.new.outcomes) }
         ensures taken { OnOk result (All (WasTaken (family_of B.Kinds.start B.Kinds.answer_of) B.Kinds.admits E.net) hand.new.tasks × (hand.new.called ≡ 0)) }
@@ -270,9 +287,12 @@ impl<B: Body, E: EntryLedger, O: Ledger> Guarded<B, E, O> {
         ensures over { (e : EndV) → result ≡ Ok (Next.Over e) → (seat.new.overs ≡ 1) × (hand.new.tasks ≡ []) × (self.new.machine.end ≡ Some e) }
         ensures ended { (e : EndV) → result ≡ Ok (Next.Over e) → HasEnded (family_of B.Kinds.start B.Kinds.answer_of) B.Kinds.admits E.net e }
     {
-        match self.give(board, hand, seat) {
+        let wanted = self.wanted(hand, most);
+        // Those that are ready have waited, so they come before those that could stay.
+        let keep = wanted.min(most).saturating_sub(self.machine.ready());
+        match self.give(board, hand, seat, keep) {
             Some(finished) => Err(Stranger { finished }),
-            None => Ok(self.deal(hand, seat, most)),
+            None => Ok(self.deal(hand, seat, most, wanted)),
         }
     }
 
@@ -288,9 +308,9 @@ impl<B: Body, E: EntryLedger, O: Ledger> Guarded<B, E, O> {
     ) -> Went
         requires { board.now ≡ E.board }
         ensures machine { ContinuesRun (family_of B.Kinds.start B.Kinds.answer_of) self.old.machine self.new.machine }
-        ensures went { (n : ℕ) × (seat.new.entries ≡ seat.old.entries + n) × WentOn (family_of B.Kinds.start B.Kinds.answer_of) B.Kinds.admits E.net n }
+        ensures went { (outcomes : List OutcomeV) × (length outcomes ≡ answers_of result) × (seat.new.entries ≡ seat.old.entries + sum_by entries_appended outcomes) × GoesRounds (family_of B.Kinds.start B.Kinds.answer_of) self.old.machine outcomes self.new.machine × WentRounds (family_of B.Kinds.start B.Kinds.answer_of) B.Kinds.admits E.net outcomes }
         ensures parts { seat.new.parts ≡ seat.old.parts }
-        ensures on { (w : Bool) → result ≡ Went.On w → seat.new.overs ≡ seat.old.overs }
+        ensures on { (n : ℕ) (w : Bool) → result ≡ Went.On n w → (0 < n) × (n ≤ most) × (seat.new.overs ≡ seat.old.overs) }
         ensures nowhere { result ≡ Went.Nowhere → seat.new ≡ seat.old }
         ensures found { result ≡ Went.Nowhere → 0 < most → FoundNothing (family_of B.Kinds.start B.Kinds.answer_of) B.Kinds.admits E.net }
         ensures over { (e : EndV) → result ≡ Went.Over e → (seat.new ≡ record seat.old { overs = 1 }) × (self.new.machine.end ≡ Some e) }
@@ -298,7 +318,8 @@ impl<B: Body, E: EntryLedger, O: Ledger> Guarded<B, E, O> {
     {
         self.machine.assure_faithful();
         let before = self.machine.history().len();
-        if self.machine.ask_in_place(most) == 0 {
+        let answers = self.machine.ask_in_place(most);
+        if answers == 0 {
             return match self.meet_end(seat) {
                 Next::Over(end) => Went::Over(end),
                 Next::Nothing | Next::Tasks => Went::Nowhere,
@@ -308,20 +329,30 @@ impl<B: Body, E: EntryLedger, O: Ledger> Guarded<B, E, O> {
         let after = self.machine.history();
         let more = (after.len() - before) as u64;
         seat.add_entries(&mut self.entries, more);
-        Went::On { waited }
+        Went::On { answers, waited }
+    }
+
+    // How many tasks a hand is to have, if at most so many are wanted: its share of its own processes and of
+    // those that are ready.
+    fn wanted(&self, hand: &Hand<B>, most: usize) -> usize
+        ensures some { (1 ≤ result) × (result ≤ 64) }
+        ensures most { 1 ≤ most → result ≤ most }
+    {
+        let share = self.machine.ready().saturating_add(hand.len());
+        hand.wanted(share, most, self.sharing())
     }
 
     // Takes more tasks, until there are as many as are wanted or no process is ready.
     fn deal_more(&mut self, hand: &mut Hand<B>, wanted: usize)
-        requires one { length hand.old.tasks ≡ 1 }
-        requires room { (1 ≤ wanted) × (wanted ≤ 64) }
-        ensures out { (s : MachineView) → TakesOutAll s hand.old.tasks self.old.machine → TakesOutAll s hand.new.tasks self.new.machine }
+        requires some { 0 < length hand.old.tasks }
+        requires room { wanted ≤ 64 }
+        ensures out { (more : List Input) × (hand.new.tasks ≡ hand.old.tasks ++ more) × TakesOutAll self.old.machine more self.new.machine }
         ensures taken { All (WasTaken (family_of B.Kinds.start B.Kinds.answer_of) B.Kinds.admits E.net) hand.old.tasks → All (WasTaken (family_of B.Kinds.start B.Kinds.answer_of) B.Kinds.admits E.net) hand.new.tasks }
         ensures some { 0 < length hand.new.tasks }
-        ensures many { length hand.new.tasks ≤ wanted }
+        ensures many { (n : ℕ) → length hand.old.tasks ≤ n → wanted ≤ n → length hand.new.tasks ≤ n }
         ensures rest { (hand.new.called ≡ hand.old.called) × (hand.new.outcomes ≡ hand.old.outcomes) }
     {
-        for _i in 1..wanted {
+        for _i in hand.len()..wanted {
             if !self.deal_one(hand) {
                 break;
             }
@@ -469,42 +500,7 @@ fn publish<B: Body>(machine: &Machine<B>, publisher: &mut CountingPublisher, boa
 {
     let ended = machine.end();
     machine.net().assure_valid();
-    publisher.publish(board, machine.history(), ended);
-}
-
-/// Gives an answer to the machine that asked for it.
-#[inline(always)]
-pub(crate) fn give_one<B: Body>(machine: &mut Machine<B>, finished: Finished<B>) -> Outcome
-    requires { IsOut machine.old finished }
-    ensures commits { Commits (family_of B.Kinds.start B.Kinds.answer_of) machine.old finished result machine.new }
-    ensures appends { Appends (family_of B.Kinds.start B.Kinds.answer_of) machine.old machine.new (entries_appended result) }
-    ensures network { machine.new.network ≡ machine.old.network }
-    ensures committed { WasCommitted (family_of B.Kinds.start B.Kinds.answer_of) B.Kinds.admits machine.old.network finished result }
-{
-    machine.assure_faithful();
-    machine.commit_asked(finished)
-}
-
-/// Gives the answers of a hand to a machine, one after the other. Stops at an answer that the machine
-/// did not ask for, and returns it.
-pub(crate) fn give_all<B: Body>(machine: &mut Machine<B>, hand: &mut Hand<B>) -> Option<Finished<B>>
-    requires none { hand.old.outcomes ≡ [] }
-    requires few { length hand.old.tasks ≤ 64 }
-    requires within { hand.old.called ≤ length hand.old.tasks }
-    ensures machine { MatchOption result (CommitsAll (family_of B.Kinds.start B.Kinds.answer_of) machine.old hand.old.tasks hand.new.outcomes machine.new hand.new.tasks) (λ i. CommitsAll (family_of B.Kinds.start B.Kinds.answer_of) machine.old hand.old.tasks hand.new.outcomes machine.new (i ∷ hand.new.tasks)) }
-    ensures network { machine.new.network ≡ machine.old.network }
-    ensures committed { MatchOption result (WereCommitted (family_of B.Kinds.start B.Kinds.answer_of) B.Kinds.admits machine.old.network hand.old.tasks hand.new.outcomes hand.new.tasks) (λ i. WereCommitted (family_of B.Kinds.start B.Kinds.answer_of) B.Kinds.admits machine.old.network hand.old.tasks hand.new.outcomes (i ∷ hand.new.tasks)) }
-    ensures called { MatchOption result ((hand.new.called ≡ 0) × (length hand.new.outcomes ≡ hand.old.called)) (λ _. hand.new.called + 1 + length hand.new.outcomes ≡ hand.old.called) }
-    ensures count { MatchOption result (length hand.new.tasks + length hand.new.outcomes ≡ length hand.old.tasks) (λ _. length hand.new.tasks + 1 + length hand.new.outcomes ≡ length hand.old.tasks) }
-{
-    while let Some(task) = hand.first() {
-        if !machine.has_sent(task) {
-            return Some(hand.give());
-        }
-        let outcome = give_one(machine, hand.give());
-        hand.note(outcome);
-    }
-    None
+    publisher.publish_counted(board, machine.history(), machine.growths(), ended);
 }
 
 /// How many entries were appended.

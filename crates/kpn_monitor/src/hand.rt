@@ -1,17 +1,17 @@
 //! What a worker holds.
-ghost use Rattle.std.specs.Prelude.{◌≡◌, ◌+◌, ◌<◌, ◌≤◌, [], ◌∷◌, ◌++◌, Some, length, slice_get, IfOk, IfNone, IfSome};
-ghost use Rattle.circular_buffer.specs.Buffer.{buffer};
+ghost use Rattle.std.specs.Prelude.{◌≡◌, ◌≢◌, ◌+◌, ◌<◌, ◌≤◌, [], ◌∷◌, ◌++◌, Some, None, length, slice_get, IfOk, IfNone, IfSome, MatchOption};
+ghost use Rattle.std.specs.List.{All};
+ghost use Rattle.kpn_model.specs.Network.{family_of};
 ghost use Rattle.kpn_body.specs.Input.{Input};
+ghost use Rattle.kpn_monitor.specs.Kept.{WasTaken};
+ghost use Rattle.kpn_monitor.specs.Hands.{Gave, Gives, WereCommitted};
 
-use circular_buffer::HeapCircularBuffer;
+use crate::giving::{give_all, give_back};
+use crate::places::{MOST_TASKS, Places};
 use kpn_body::{Body, Finished, Task};
-use kpn_machine::Outcome;
-use kpn_model::Answer;
+use kpn_machine::{Machine, Outcome};
 use std::alloc::{AllocError, Global};
 use std::marker::Model;
-
-/// The greatest number of tasks in a hand.
-const MOST_TASKS: usize = 64;
 
 /// How the ready processes are shared out among the workers.
 #[derive(Clone, Copy)]
@@ -27,14 +27,10 @@ pub(crate) enum Sharing {
 
 /// The tasks that a worker holds, at most 64, and the outcomes of the answers that it gave last.
 ///
-/// The tasks stay in their place from the take to the commit, each with its answer beside it once it is
-/// called. All memory is taken at the start. No contract speaks of the number of workers that share the
-/// ready processes (`sharers`).
+/// No contract speaks of the number of workers that share the ready processes (`sharers`).
 #[derive(Drop)]
 pub struct Hand<B: Body> {
-    tasks: HeapCircularBuffer<Task<B>>,
-    answers: HeapCircularBuffer<Answer>,
-    outcomes: Vec<Outcome>,
+    places: Places<B>,
     sharers: usize,
     awake: usize,
     processors: usize,
@@ -42,16 +38,14 @@ pub struct Hand<B: Body> {
 }
 
 impl<B: Body> Model for Hand<B> {
-    ghost use Rattle.std.specs.Prelude.{◌≡◌, ◌≤◌, length, vec_capacity};
+    ghost use Rattle.std.specs.Prelude.{◌≡◌, []};
     ghost use Rattle.kpn_monitor.specs.Views.{Holding};
-    ghost use Rattle.kpn_monitor.specs.Hands.{AreAnswers};
-    ghost use Rattle.kpn_model.specs.Network.{family_of};
 
     ghost Value = { Holding };
 
-    ghost view = { λ h. record { tasks = h.tasks.items; called = length h.answers.items; outcomes = h.outcomes.items } };
+    ghost view = { λ h. record { tasks = h.places.tasks; called = h.places.called; outcomes = h.places.outcomes } };
 
-    ghost invariant = { λ h. (h.tasks.capacity ≡ 64) × (h.answers.capacity ≡ 64) × (64 ≤ vec_capacity h.outcomes) × (length h.tasks.items ≤ 64) × (length h.answers.items ≤ length h.tasks.items) × AreAnswers (family_of B.Kinds.start B.Kinds.answer_of) h.tasks.items h.answers.items };
+    ghost invariant = { λ h. (h.places.given ≡ 0) × (h.places.again ≡ []) };
 }
 
 impl<B: Body> Hand<B> {
@@ -61,9 +55,7 @@ impl<B: Body> Hand<B> {
         ensures { IfOk result (λ h. h ≡ record { tasks = []; called = 0; outcomes = [] }) }
     {
         Ok(Hand {
-            tasks: HeapCircularBuffer::with_capacity(alloc, MOST_TASKS)?,
-            answers: HeapCircularBuffer::with_capacity(alloc, MOST_TASKS)?,
-            outcomes: Vec::with_capacity(alloc, MOST_TASKS)?,
+            places: Places::new(alloc)?,
             sharers: sharers.max(1),
             awake: sharers.max(1),
             processors: sharers.max(1),
@@ -87,69 +79,47 @@ impl<B: Body> Hand<B> {
         ensures some { IfSome result (λ p. (i : Input) × (slice_get self.old.tasks self.old.called ≡ Some i) × (i.process ≡ p)) }
         ensures called { IfSome result (λ _. (self.new ≡ record self.old { called = self.old.called + 1 }) × (self.old.called < length self.old.tasks)) }
     {
-        let task = self.tasks.get(self.answers.len())?;
-        let process = task.process();
-        let answer = task.ask();
-        append(&mut self.answers, answer);
-        Some(process)
+        self.places.call()
     }
 
     /// Returns the outcomes of the answers that were given last, in the order of their tasks.
     pub fn outcomes(&self) -> &[Outcome]
         ensures { result.now ≡ self.now.outcomes }
     {
-        self.outcomes.as_slice()
+        self.places.outcomes()
     }
 
-    /// Forgets the outcomes of earlier answers.
-    pub(crate) fn forget(&mut self)
-        ensures forgotten { self.new ≡ record self.old { outcomes = [] } }
-        ensures few { length self.old.tasks ≤ 64 }
-        ensures within { self.old.called ≤ length self.old.tasks }
+    /// Returns how many tasks there are.
+    pub(crate) fn len(&self) -> usize
+        ensures len { result ≡ length self.now.tasks }
+        ensures few { result ≤ 64 }
     {
-        self.outcomes.clear();
+        self.places.len()
     }
 
-    /// Returns the first task, if it was called.
-    #[inline]
-    pub(crate) fn first(&self) -> Option<&Task<B>>
-        ensures none { IfNone result (self.now.called ≡ 0) }
-        ensures some { IfSome result (λ i. slice_get self.now.tasks 0 ≡ Some i.now) }
-        ensures called { IfSome result (λ _. 0 < self.now.called) }
+    /// Gives the answers of the tasks that were called to the machine, one after the other. At most `keep`
+    /// processes that can go on go out again at once, and their tasks are the hand's next ones. Stops at an
+    /// answer that the machine did not ask for, and returns it; then, and if the run has ended, none stays out.
+    pub(crate) fn give(&mut self, machine: &mut Machine<B>, keep: usize) -> Option<Finished<B>>
+        requires { self.old.called ≡ length self.old.tasks }
+        ensures gave { MatchOption result (Gave (family_of B.Kinds.start B.Kinds.answer_of) machine.old self.old.tasks self.new.outcomes machine.new []) (λ i. Gave (family_of B.Kinds.start B.Kinds.answer_of) machine.old self.old.tasks self.new.outcomes machine.new (i ∷ self.new.tasks)) }
+        ensures goes_on { IfNone result (machine.new.end ≡ None → Gives (family_of B.Kinds.start B.Kinds.answer_of) machine.old self.old.tasks self.new.outcomes self.new.tasks machine.new []) }
+        ensures ended { IfNone result (machine.new.end ≢ None → self.new.tasks ≡ []) }
+        ensures committed { MatchOption result (WereCommitted (family_of B.Kinds.start B.Kinds.answer_of) B.Kinds.admits machine.old.network self.old.tasks self.new.outcomes []) (λ i. WereCommitted (family_of B.Kinds.start B.Kinds.answer_of) B.Kinds.admits machine.old.network self.old.tasks self.new.outcomes (i ∷ self.new.tasks)) }
+        ensures taken { IfNone result (All (WasTaken (family_of B.Kinds.start B.Kinds.answer_of) B.Kinds.admits machine.old.network) self.new.tasks) }
+        ensures most { IfNone result (length self.new.tasks ≤ keep) }
+        ensures called { MatchOption result (self.new.called ≡ 0) (λ _. self.new.called ≡ length self.new.tasks) }
+        ensures network { machine.new.network ≡ machine.old.network }
     {
-        if self.answers.is_empty() {
-            return None;
+        self.places.forget();
+        let refused = give_all(machine, &mut self.places, keep);
+        if refused.is_some() || machine.end().is_some() {
+            give_back(machine, &mut self.places);
+            self.places.close_up();
+        } else {
+            self.places.settle();
         }
-        let Some(task) = self.tasks.front() else {
-            unreachable!()
-        };
-        Some(task)
-    }
-
-    /// Removes the first task, which must have been called, and returns it with its answer.
-    #[inline]
-    pub(crate) fn give(&mut self) -> Finished<B>
-        requires { 0 < self.old.called }
-        ensures first { self.old.tasks ≡ result ∷ self.new.tasks }
-        ensures called { self.old.called ≡ self.new.called + 1 }
-        ensures outcomes { self.new.outcomes ≡ self.old.outcomes }
-    {
-        let Some(answer) = self.answers.pop_front() else {
-            unreachable!()
-        };
-        let Some(task) = self.tasks.pop_front() else {
-            unreachable!()
-        };
-        task.answered(answer)
-    }
-
-    /// Keeps the outcome of an answer.
-    #[inline]
-    pub(crate) fn note(&mut self, outcome: Outcome)
-        requires { length self.old.outcomes < 64 }
-        ensures { self.new ≡ record self.old { outcomes = self.old.outcomes ++ outcome ∷ [] } }
-    {
-        self.outcomes.push_reserved(outcome);
+        refused
     }
 
     /// Appends a task.
@@ -158,7 +128,7 @@ impl<B: Body> Hand<B> {
         requires { length self.old.tasks < 64 }
         ensures { self.new ≡ record self.old { tasks = self.old.tasks ++ task ∷ [] } }
     {
-        append(&mut self.tasks, task);
+        self.places.put(task);
     }
 
     /// Whether fewer workers are awake than threads can run at once.
@@ -197,16 +167,5 @@ impl<B: Body> Hand<B> {
         let anew = !self.wanted_rest;
         self.wanted_rest = true;
         anew
-    }
-}
-
-// Appends an item, for which there is room.
-#[inline]
-fn append<T: Drop>(ring: &mut HeapCircularBuffer<T>, item: T)
-    requires { length ring.old.items < ring.old.capacity }
-    ensures { ring.new ≡ buffer (ring.old.items ++ item ∷ []) ring.old.capacity }
-{
-    if ring.try_push_back(item).is_err() {
-        unreachable!()
     }
 }

@@ -28,11 +28,13 @@
 #![tactic(auto)]
 
 mod closed;
+mod giving;
 mod guarded;
 mod hand;
 mod monitor;
 mod naming;
 mod opening;
+mod places;
 mod resting;
 mod seat;
 

@@ -1,5 +1,5 @@
 //! A machine under a lock.
-ghost use Rattle.std.specs.Prelude.{Bool, ◌≡◌, ◌≢◌, ◌+◌, ◌<◌, ◌≤◌, ◌↔◌, ℕ, [], ◌∷◌, Some, Ok, IfOk, IfErr, OnOk, OnErr, IsSome, IsOk, IsTrue, MatchResult, length, slice_get};
+ghost use Rattle.std.specs.Prelude.{Bool, ◌≡◌, ◌≢◌, ◌+◌, ◌<◌, ◌≤◌, ◌↔◌, ℕ, List, [], ◌∷◌, Some, Ok, IfOk, IfErr, OnOk, OnErr, IsSome, IsOk, IsTrue, MatchResult, length, slice_get};
 ghost use Rattle.kpn_model.specs.Network.{family_of};
 ghost use Rattle.std.specs.List.{All, sum_by};
 ghost use Rattle.kpn_model.specs.declared.history.End.{End as EndV};
@@ -9,10 +9,11 @@ ghost use mathlib.Core.List.{IsPrefix};
 ghost use Rattle.kpn_watch.specs.declared.progress.Phase.TheVariants.{Running};
 ghost use Rattle.kpn_watch.specs.Shown.{shows};
 ghost use Rattle.kpn_body.specs.Input.{Input};
+ghost use Rattle.kpn_commit.specs.declared.outcome.Outcome.{Outcome as OutcomeV};
 ghost use Rattle.kpn_machine.specs.Commits.{entries_appended};
 ghost use Rattle.kpn_monitor.specs.Views.{Shares};
-ghost use Rattle.kpn_monitor.specs.Kept.{FoundNothing, HasEnded, IsClosed, WasCommitted, WasTaken, WentOn};
-ghost use Rattle.kpn_monitor.specs.Hands.{WereCommitted};
+ghost use Rattle.kpn_monitor.specs.Kept.{AddUp, FoundNothing, HasEnded, IsClosed, WasCommitted, WasTaken, WentRounds};
+ghost use Rattle.kpn_monitor.specs.Hands.{WereCommitted, answers_of};
 
 use crate::closed::{Closed, Unclosed};
 use crate::guarded::{Guarded, Next, Taken, Wakes, Went};
@@ -154,7 +155,8 @@ impl<B: Body, E: EntryLedger, O: Ledger> Monitor<B, E, O> {
 
     /// Gives the answers of a hand to the machine, each as `commit` does, and then takes at most `most`
     /// tasks as `take` does, in one holding of the lock. All tasks of the hand must have been called.
-    /// Waits only for the lock.
+    /// Waits only for the lock. A process that can go on after its answer goes out again at once, so that
+    /// its next task is in the hand, as far as the hand's share has room beside the processes that are ready.
     ///
     /// The seat's share of entries grows by the number of entries that the answers appended. Afterwards
     /// the hand has at least one task; or it has none, since no process was ready or `most` is 0; or
@@ -200,12 +202,13 @@ impl<B: Body, E: EntryLedger, O: Ledger> Monitor<B, E, O> {
     /// the lock, in which the bodies are called. So it is for bodies that are quick, and that wait for
     /// nobody: one that waited for another body could wait for ever.
     ///
-    /// The seat's share of entries grows by the number of entries appended. If no answer was taken and the
-    /// run has ended, the seat has met its end: its share of overs is 1.
+    /// Each answer is taken with an outcome, as by `commit`, and the seat's share of entries grows by the
+    /// numbers of all of them together. `On` says how many answers were taken: at least one, and at most
+    /// `most`. If none was taken and the run has ended, the seat has met its end: its share of overs is 1.
     pub fn ask_in_place<R: Wait>(&self, rt: &R, seat: &mut Seat<E, O>, most: u64) -> Went
-        ensures went { (n : ℕ) × (seat.new.entries ≡ seat.old.entries + n) × WentOn (family_of B.Kinds.start B.Kinds.answer_of) B.Kinds.admits E.net n }
+        ensures went { (outcomes : List OutcomeV) × (length outcomes ≡ answers_of result) × (seat.new.entries ≡ seat.old.entries + sum_by entries_appended outcomes) × WentRounds (family_of B.Kinds.start B.Kinds.answer_of) B.Kinds.admits E.net outcomes }
         ensures parts { seat.new.parts ≡ seat.old.parts }
-        ensures on { (w : Bool) → result ≡ Went.On w → seat.new.overs ≡ seat.old.overs }
+        ensures on { (n : ℕ) (w : Bool) → result ≡ Went.On n w → (0 < n) × (n ≤ most) × (seat.new.overs ≡ seat.old.overs) }
         ensures nowhere { result ≡ Went.Nowhere → seat.new ≡ seat.old }
         ensures found { result ≡ Went.Nowhere → 0 < most → FoundNothing (family_of B.Kinds.start B.Kinds.answer_of) B.Kinds.admits E.net }
         ensures over { (e : EndV) → result ≡ Went.Over e → seat.new ≡ record seat.old { overs = 1 } }
@@ -389,13 +392,12 @@ impl<B: Body, E: EntryLedger, O: Ledger> Monitor<B, E, O> {
             board,
         } = self;
         let mut guarded = state.into_inner();
-        let (parts, entries, overs) = totals_of(seats.as_slice());
-        let (len, over_count) = guarded.counts();
-        if are_booked(entries, overs, len, over_count) {
+        let (receipts, _) = guarded.counts();
+        if are_booked(&guarded, seats.as_slice()) {
             let (chronicle, publisher) = guarded.into_chronicle();
-            return Ok(Closed::new(chronicle, len, board, publisher));
+            return Ok(Closed::new(chronicle, receipts, board, publisher));
         }
-        if are_all(parts) {
+        if are_all(seats.as_slice()) {
             if let Some((mut entry_share, mut over_share)) = merge(seats) {
                 guarded.audit(&mut entry_share, &mut over_share);
             }
@@ -413,16 +415,22 @@ impl<B: Body, E: EntryLedger, O: Ledger> Monitor<B, E, O> {
     }
 }
 
-/// Whether the books hold so many entries, and so many seats that met the end.
-fn are_booked(entries: u128, overs: u128, len: u64, over_count: u64) -> bool
-    ensures { IsTrue result ↔ ((entries ≡ len) × (overs ≡ over_count)) }
+/// Whether the shares of these seats add up to the books under the lock.
+fn are_booked<B: Body, E: EntryLedger, O: Ledger>(
+    guarded: &Guarded<B, E, O>,
+    seats: &[Seat<E, O>],
+) -> bool
+    ensures { IsTrue result ↔ AddUp guarded.now seats.now }
 {
+    let (_, entries, overs) = totals_of(seats);
+    let (len, over_count) = guarded.counts();
     entries == u128::from(len) && overs == u128::from(over_count)
 }
 
-/// Whether these are the parts of all seats.
-fn are_all(parts: u128) -> bool
-    ensures { IsTrue result ↔ (parts ≡ 65536) }
+/// Whether these seats have all parts.
+fn are_all<E: EntryLedger, O: Ledger>(seats: &[Seat<E, O>]) -> bool
+    ensures { IsTrue result ↔ (sum_by (λ (s : Shares). s.parts) seats.now ≡ 65536) }
 {
+    let (parts, _, _) = totals_of(seats);
     parts == u128::from(PARTS)
 }

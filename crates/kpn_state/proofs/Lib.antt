@@ -3,3 +3,4 @@ pub mod Placed
 pub mod Withdrawn
 pub mod Rostered
 pub mod Ordered
+pub mod Grown

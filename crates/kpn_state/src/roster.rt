@@ -12,9 +12,10 @@ use std::marker::Model;
 
 /// The standing of each process, in order.
 ///
-/// The numbers of the ready processes are in a queue, first in, first out, and how many processes are
-/// out and how many are live is kept, from which the parked ones follow; so no call except `new` goes
-/// through all processes. All memory is taken by `new`.
+/// The numbers of the ready processes are in a queue, first in, first out. How many processes are out
+/// and how many are live is kept, and how many are parked follows from these. So only two calls look at
+/// more than one process: `new` goes through all of them, and `update` through the queue, if a process
+/// that was ready no longer is and others were queued behind it. All memory is taken by `new`.
 pub struct Roster {
     standings: Vec<Standing>,
     // The two counts are kept apart: side by side they would be loaded and stored as one value of 16

@@ -1,6 +1,7 @@
 //! Processes, channels and the history, changed one entry at a time.
 ghost use Rattle.std.specs.Prelude.{◌≡◌, ◌<◌, ◌≤◌, ◌++◌, ◌∷◌, [], length, drop, Some, None, OnOk, OnErr};
 ghost use Rattle.std.specs.Vec.{vec_capacity};
+ghost use Rattle.kpn_model.specs.History.{growths as growths_of};
 ghost use Rattle.kpn_model.specs.Semantics.{status, tokens, capacity, with_status, with_channel};
 ghost use Rattle.kpn_model.specs.declared.history.Status.TheVariants.{Live, Done};
 ghost use Rattle.kpn_model.specs.declared.history.Entry.TheVariants.{Did, Grew};
@@ -19,6 +20,8 @@ pub struct Store {
     rings: Vec<Ring>,
     history: Vec<Entry>,
     limit: usize,
+    /// How many entries of the history are growths, so that nobody has to go through it to count them.
+    growths: usize,
 }
 
 // Written out, so that letting go of a store is a call, which is proved once, and not done field by field wherever
@@ -30,20 +33,22 @@ impl Drop for Store {
             rings: _,
             history: _,
             limit: _,
+            growths: _,
         } = self;
     }
 }
 
 impl Model for Store {
-    ghost use Rattle.std.specs.Prelude.{◌≤◌};
+    ghost use Rattle.std.specs.Prelude.{◌≡◌, ◌≤◌, length};
     ghost use Rattle.std.specs.Vec.{vec_capacity};
+    ghost use Rattle.kpn_model.specs.History.{growths as growths_of};
     ghost use Rattle.kpn_state.specs.StateAndHistory.{StateAndHistory, state_and_history, state};
 
     ghost Value = { StateAndHistory };
 
     ghost view = { λ s. state_and_history (state s.statuses.items s.rings.items) s.history.items s.limit };
 
-    ghost invariant = { λ s. s.limit ≤ vec_capacity s.history };
+    ghost invariant = { λ s. (s.limit ≤ vec_capacity s.history) × (s.growths ≡ length (growths_of s.history.items)) };
 }
 
 impl Store {
@@ -53,11 +58,13 @@ impl Store {
         requires { limit ≤ vec_capacity history }
         ensures { result ≡ state_and_history (state statuses.items rings.items) history.items limit }
     {
+        let growths = growths_in(history.as_slice());
         Store {
             statuses,
             rings,
             history,
             limit,
+            growths,
         }
     }
 
@@ -66,6 +73,14 @@ impl Store {
         ensures { result.now ≡ self.now.history }
     {
         self.history.as_slice()
+    }
+
+    /// Returns how many of the entries so far are growths.
+    #[inline(always)]
+    pub fn growths(&self) -> usize
+        ensures { result ≡ length (growths_of self.now.history) }
+    {
+        self.growths
     }
 
     /// Returns the status of a process: live with its local state and last token, or done.
@@ -93,13 +108,24 @@ impl Store {
         ensures { self.new ≡ state_and_history self.old.state [] self.old.limit }
     {
         self.history.clear();
+        self.growths = 0;
     }
 
-    fn note(&mut self, entry: Entry)
+    #[inline(always)]
+    fn note(&mut self, process: usize, deed: Deed)
         requires { length self.old.history < self.old.limit }
-        ensures { self.new ≡ more self.old self.old.state entry }
+        ensures { self.new ≡ more self.old self.old.state (Did process deed) }
     {
-        self.history.push_reserved(entry);
+        self.history.push_reserved(Entry::Did { process, deed });
+    }
+
+    fn note_growth(&mut self, channel: usize, to: usize)
+        requires { length self.old.history < self.old.limit }
+        ensures { self.new ≡ more self.old self.old.state (Grew channel to) }
+    {
+        let _entries = self.history.len();
+        self.history.push_reserved(Entry::Grew { channel, to });
+        self.growths += 1;
     }
 }
 
@@ -111,10 +137,7 @@ impl Store {
         ensures { self.new ≡ more self.old (with_status self.old.state process Done) (Did process Stopped) }
     {
         self.statuses[process] = Status::Done;
-        self.note(Entry::Did {
-            process,
-            deed: Deed::Stopped,
-        });
+        self.note(process, Deed::Stopped);
     }
 
     /// Removes the first token of a channel, gives it to the process that reads it, and appends the
@@ -135,10 +158,7 @@ impl Store {
             local: next,
             last: Some(token),
         };
-        self.note(Entry::Did {
-            process,
-            deed: Deed::Took { channel, token },
-        });
+        self.note(process, Deed::Took { channel, token });
         token
     }
 
@@ -159,10 +179,7 @@ impl Store {
             local: next,
             last: None,
         };
-        self.note(Entry::Did {
-            process,
-            deed: Deed::Put { channel, token },
-        });
+        self.note(process, Deed::Put { channel, token });
     }
 
     /// Appends a token to a channel, from outside of the network: no process wrote it, and no entry tells
@@ -200,7 +217,21 @@ impl Store {
     {
         let ring = &mut self.rings[channel];
         ring.grow(to)?;
-        self.note(Entry::Grew { channel, to });
+        self.note_growth(channel, to);
         Ok(())
     }
+}
+
+/// How many of these entries are growths.
+fn growths_in(history: &[Entry]) -> usize
+    ensures { result ≡ length (growths_of history.now) }
+{
+    let mut growths = 0;
+    for entry in history {
+        match entry {
+            Entry::Grew { .. } => growths += 1,
+            Entry::Did { .. } => {}
+        }
+    }
+    growths
 }

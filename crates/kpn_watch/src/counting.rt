@@ -1,6 +1,7 @@
 //! A publisher that counts.
 ghost use Rattle.std.specs.Prelude.{◌≡◌, ◌≢◌, ◌+◌, ◌^◌, ◌<◌, ◌↔◌, [], length, count_by, IfOk, IsErr, OnErr};
 ghost use mathlib.Core.List.{IsPrefix};
+ghost use Rattle.kpn_model.specs.History.{growths as growths_of};
 ghost use Rattle.kpn_watch.specs.Phases.{phase_of};
 ghost use Rattle.kpn_watch.specs.Shown.{shows, is_growth};
 
@@ -67,7 +68,27 @@ impl CountingPublisher {
         ensures { self.new ≡ record self.old { entries = history.now; phase = phase_of ended } }
     {
         let more = growths_in(&history[self.entries..]);
-        self.growths += more as u32;
+        let growths = self.growths as usize + more;
+        self.publish_counted(board, history, growths, ended);
+    }
+
+    /// Publishes a history as `publish` does, whose number of growths the caller knows: takes the same time
+    /// however many entries are new.
+    pub fn publish_counted(
+        &mut self,
+        board: &Board,
+        history: &[Entry],
+        growths: usize,
+        ended: Option<End>,
+    )
+        requires board { self.old.board ≡ board.now }
+        requires goes_on { IsPrefix self.old.entries history.now }
+        requires short { length history.now < 2 ^ 22 }
+        requires counted { growths ≡ length (growths_of history.now) }
+        requires ended { self.old.phase ≢ Phase.Running → (history.now ≡ self.old.entries) × (phase_of ended ≡ self.old.phase) }
+        ensures { self.new ≡ record self.old { entries = history.now; phase = phase_of ended } }
+    {
+        self.growths = growths as u32;
         self.entries = history.len();
         self.phase = Phase::of_end(ended);
         board.publish(&mut self.publisher, history, self.growths, self.phase);

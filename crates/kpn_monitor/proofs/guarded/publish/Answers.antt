@@ -2,11 +2,11 @@
 use Rattle.std.proofs.Common.{rules}
 use Rattle.kpn_monitor.proofs.guarded.publish.Goals as goal
 
-pub publish-requires-clause-ended : goal.publish-requires-clause-ended
-publish-requires-clause-ended g c = search rules
+pub publish_counted-requires-clause-ended : goal.publish_counted-requires-clause-ended
+publish_counted-requires-clause-ended g c = search rules
 
 pub returns-clause-published : goal.returns-clause-published
 returns-clause-published g c = search rules
 
-pub publish-requires-clause-goes_on : goal.publish-requires-clause-goes_on
-publish-requires-clause-goes_on g c = search rules
+pub publish_counted-requires-clause-goes_on : goal.publish_counted-requires-clause-goes_on
+publish_counted-requires-clause-goes_on g c = search rules

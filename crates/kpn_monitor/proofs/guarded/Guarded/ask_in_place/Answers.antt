@@ -1,21 +1,25 @@
 -- What the answers appended is booked.
-use Rattle.std.proofs.Common.{length, ap, arith, length-append}
+use Rattle.std.proofs.Common.{length, ap, arith}
 use Rattle.std.proofs.lemmas.Grind.{common_steps}
+use Rattle.kpn_model.specs.Network.{family_of}
 use Rattle.kpn_monitor.specs.Views.{Shares}
+use Rattle.kpn_monitor.proofs.Handing.{rounds_append}
 use Rattle.kpn_monitor.proofs.guarded.Guarded.ask_in_place.Goals as goal
 
 pub returns-clause-went : goal.returns-clause-went
 returns-clause-went g c =
-    let goes = c.ask_in_place.ensures.goes in (
-      length goes.entries,
-      omega (arith, ap (λ (s : Shares). s.entries) c.add_entries.ensures.seat, ap length goes.history, length-append c.self.inside.machine.history goes.entries, ap length c.history-before.ensures, ap length c.history-after.ensures),
+    let rounds = c.ask_in_place-answers.ensures.rounds in
+    let many = rounds_append (family_of g.B.Kinds.Kinds.start g.B.Kinds.Kinds.answer_of) c.self.inside.machine rounds.0 c.ask_in_place-answers.new.self rounds.2 in (
+      rounds.0,
+      rounds.1,
+      omega (arith, ap (λ (s : Shares). s.entries) c.add_entries.ensures.seat, many, ap length c.history-before.ensures, ap length c.history-after.ensures),
+      rw (← c.self.view_is) rounds.2,
       record {
         before = c.self.inside.machine;
-        after = c.ask_in_place.new.self;
+        after = c.ask_in_place-answers.new.self;
         network = c.self.invariant.0.network;
         faithful = c.assure_faithful.ensures.faithful;
-        goes = goes;
-        length = omega (arith, ap length goes.history, length-append c.self.inside.machine.history goes.entries);
+        rounds = rounds.2;
       },
     )
 

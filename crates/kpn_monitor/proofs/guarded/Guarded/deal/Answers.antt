@@ -1,29 +1,34 @@
 -- The first task went out, and then others; or none did.
-use Rattle.std.proofs.Common.{◌∙◌, ◌++◌, ◌∷◌, List, [], refl, ap, sym, subst}
+use Rattle.std.proofs.Common.{◌≡◌, ◌∙◌, ◌++◌, ◌∷◌, List, [], ap, sym, arith}
 use Rattle.kpn_model.specs.Network.{family_of}
 use Rattle.std.specs.Prelude.{Some}
 use Rattle.kpn_body.specs.Input.{Input}
 use Rattle.kpn_monitor.specs.Views.{Holding, Shares}
 use Rattle.kpn_monitor.specs.Kept.{WasTaken}
-use Rattle.kpn_monitor.specs.Hands.{TakesOutAll}
-use Rattle.kpn_monitor.proofs.Handing.{dealt_out, all_one}
+use Rattle.kpn_monitor.proofs.Handing.{all_one, no_item}
 use Rattle.kpn_monitor.proofs.guarded.Guarded.deal.Goals as goal
 
 pub returns-in-Some-Task-clause-out : goal.returns-in-Some-Task-clause-out
 returns-in-Some-Task-clause-out g c =
-    let s = c.args.self.now.machine in
     let t = c.in-Some-Task.first in
     let taken = c.in-Some-Task.ensures.task t (ap Some c.in-Some-Task.field-0-is) in
-    c.deal_more.ensures.out s (dealt_out s c.args.hand.now c.put.new.self s t c.take.new.self.machine c.put.ensures taken.1 (subst (λ (l : List Input). TakesOutAll s l s) (sym c.requires.tasks) refl))
+    let more = c.deal_more-in-Some-Task.ensures.out in
+    let none : c.args.hand.now.tasks ≡ [] = no_item c.args.hand.now.tasks (omega (arith, c.if-len-gt0.false, c.len.ensures.len)) in
+    let one = ap (λ (h : Holding). h.tasks) c.put.ensures in (
+      t ∷ more.0,
+      more.1 ∙ ap (λ (l : List Input). l ++ more.0) one ∙ ap (λ (l : List Input). (l ++ t ∷ []) ++ more.0) none ∙ ap (λ (l : List Input). l ++ t ∷ more.0) (sym none),
+      (c.take.new.self.machine, taken.1, more.2),
+    )
 
 pub returns-in-Some-Task-clause-taken : goal.returns-in-Some-Task-clause-taken
-returns-in-Some-Task-clause-taken g c =
+returns-in-Some-Task-clause-taken g c = λ all.
     let t = c.in-Some-Task.first in
-    let one = ap (λ (h : Holding). h.tasks) c.put.ensures ∙ ap (λ (l : List Input). l ++ t ∷ []) c.requires.tasks in
-    c.deal_more.ensures.taken (all_one (WasTaken (family_of g.B.Kinds.Kinds.start g.B.Kinds.Kinds.answer_of) g.B.Kinds.Kinds.admits g.E.EntryLedger.net) c.put.new.self.tasks t one (c.in-Some-Task.ensures.taken t (ap Some c.in-Some-Task.field-0-is)))
+    let none : c.args.hand.now.tasks ≡ [] = no_item c.args.hand.now.tasks (omega (arith, c.if-len-gt0.false, c.len.ensures.len)) in
+    let one = ap (λ (h : Holding). h.tasks) c.put.ensures ∙ ap (λ (l : List Input). l ++ t ∷ []) none in
+    c.deal_more-in-Some-Task.ensures.taken (all_one (WasTaken (family_of g.B.Kinds.Kinds.start g.B.Kinds.Kinds.answer_of) g.B.Kinds.Kinds.admits g.E.EntryLedger.net) c.put.new.self.tasks t one (c.in-Some-Task.ensures.taken t (ap Some c.in-Some-Task.field-0-is)))
 
 pub returns-in-Some-Task-clause-tasks : goal.returns-in-Some-Task-clause-tasks
-returns-in-Some-Task-clause-tasks g c = λ is. ((c.in-Some-Task.ensures.task c.in-Some-Task.first (ap Some c.in-Some-Task.field-0-is)).0, c.deal_more.ensures.some)
+returns-in-Some-Task-clause-tasks g c = λ is. ((c.in-Some-Task.ensures.task c.in-Some-Task.first (ap Some c.in-Some-Task.field-0-is)).0, c.deal_more-in-Some-Task.ensures.some)
 
 pub returns-in-Some-Task-clause-seat : goal.returns-in-Some-Task-clause-seat
 returns-in-Some-Task-clause-seat g c =

@@ -1,0 +1,127 @@
+-- A deed, and the deed that it enables, of a process that is left as it stands.
+use Rattle.std.proofs.Common.{◌≡◌, ◌<◌, arith, length, length-set, refl, sym, ◌∙◌, set, true}
+use Rattle.kpn_model.specs.Network.{family_of}
+use Rattle.kpn_state.specs.declared.standing.Standing.TheVariants.{Ready}
+use Rattle.kpn_state.specs.Standings.{standing, standing_after, is_busy}
+use Rattle.kpn_state.proofs.Placed.{standing_set_other}
+use Rattle.kpn_commit.proofs.Waits.{acted_waiting, busy_waiting, deed_waiting, has_mark, others_blocked}
+use Rattle.kpn_commit.proofs.Keeping.{keeps_sparing, keeps_all, keeps_handed, keeps_still, still_parked}
+use Rattle.kpn_commit.proofs.Working.{acted}
+use Rattle.kpn_commit.proofs.Onward.{keeps_left, apart, stays, swapped}
+use Rattle.kpn_commit.proofs.react.react_on.Goals as goal
+
+pub partner_waits-requires : goal.partner_waits-requires
+partner_waits-requires g c = has_mark c.requires.waiting.marks c.in_ok-deed.deed c.in_ok-deed.ensures.channel
+
+pub resume-requires-clause-keeps : goal.resume-requires-clause-keeps
+resume-requires-clause-keeps g c κs within =
+    let did = c.in_ok-deed.ensures in
+    keeps_left c.requires.process c.requires.busy (rw (← c.in-Some.ensures, did.ready) at did.keeps)
+
+pub resume-requires-clause-waiting : goal.resume-requires-clause-waiting
+resume-requires-clause-waiting g c κs within =
+    rw c.in_ok-deed.ensures.entry (deed_waiting (family_of g.K.Kinds.start g.K.Kinds.answer_of) c.requires.waiting c.args.process c.args.answer.next c.in_ok-deed.deed)
+
+pub returns-then-resume-clause-reacts : goal.returns-then-resume-clause-reacts
+returns-then-resume-clause-reacts g c =
+    let l = c.args.standings.now in
+    let p = c.args.process in
+    let did = c.in_ok-deed.ensures in
+    let r = c.if-resume.ensures.resumes refl in
+    let other = c.in-Some.other in
+    let ne = apart c.args.standings.now c.args.process c.requires.busy other r.wanted r.parked in
+    let fit = keeps_left c.requires.process c.requires.busy (rw (← c.in-Some.ensures, did.ready) at did.keeps) in
+    record {
+      deed = c.in_ok-deed.deed;
+      between = c.advance_on.new.store;
+      standings_between = set l p Ready;
+      first = acted _ l p c.args.answer c.in_ok-deed.deed c.requires.wants did.is_deed did.entry (rw did.ready refl);
+      other = other;
+      wanted = r.wanted;
+      at_other_end = sym c.in-Some.ensures;
+      parked = standing_set_other l p other Ready ne ∙ r.parked;
+      handed = r.deed;
+      second = acted _ (set l p Ready) other r.wanted r.deed (fit.wanted other r.wanted r.parked) r.is_deed r.entry (rw r.moves (swapped l p other (standing_after r.deed) ne));
+    }
+
+pub returns-then-resume-clause-stays : goal.returns-then-resume-clause-stays
+returns-then-resume-clause-stays g c =
+    let r = c.if-resume.ensures.resumes refl in
+    rw r.moves (stays c.args.standings.now c.args.process c.in-Some.other (standing_after r.deed) (apart c.args.standings.now c.args.process c.requires.busy c.in-Some.other r.wanted r.parked))
+
+pub returns-then-resume-clause-many : goal.returns-then-resume-clause-many
+returns-then-resume-clause-many g c =
+    let r = c.if-resume.ensures.resumes refl in
+    rw r.moves (length-set c.args.standings.now c.in-Some.other (standing_after r.deed))
+
+pub returns-then-resume-clause-keeps : goal.returns-then-resume-clause-keeps
+returns-then-resume-clause-keeps g c =
+    let l = c.args.standings.now in
+    let p = c.args.process in
+    let did = c.in_ok-deed.ensures in
+    let r = c.if-resume.ensures.resumes refl in
+    let other = c.in-Some.other in
+    let ne = apart c.args.standings.now c.args.process c.requires.busy other r.wanted r.parked in
+    let same = stays l p other (standing_after r.deed) ne in
+    let long = length-set l other (standing_after r.deed) in
+    let there : p < length (set l other (standing_after r.deed)) = omega (arith, long, c.requires.process) in
+    let busy : is_busy (standing (set l other (standing_after r.deed)) p) ≡ true = rw same c.requires.busy in
+    keeps_handed c.requires.keeps p c.args.answer c.in_ok-deed.deed other r.wanted r.deed (keeps_still r.keeps p Ready (rw r.moves there) (rw r.moves busy) refl) c.requires.process did.is_deed
+    (rw did.ready (standing_set_other l p other Ready ne ∙ r.parked)) (rw did.entry at r.is_deed) (rw (did.ready, r.moves) (swapped l p other (standing_after r.deed) ne))
+
+pub returns-then-resume-clause-waiting : goal.returns-then-resume-clause-waiting
+returns-then-resume-clause-waiting g c =
+    let l = c.args.standings.now in
+    let p = c.args.process in
+    let r = c.if-resume.ensures.resumes refl in
+    let other = c.in-Some.other in
+    let ne = apart c.args.standings.now c.args.process c.requires.busy other r.wanted r.parked in
+    let same = stays l p other (standing_after r.deed) ne in
+    let long = length-set l other (standing_after r.deed) in
+    let there : p < length (set l other (standing_after r.deed)) = omega (arith, long, c.requires.process) in
+    let busy : is_busy (standing (set l other (standing_after r.deed)) p) ≡ true = rw same c.requires.busy in
+    busy_waiting c.if-resume.ensures.waiting p Ready (rw r.moves there) (rw r.moves busy) refl
+
+pub returns-else-resume-clause-reacts : goal.returns-else-resume-clause-reacts
+returns-else-resume-clause-reacts g c =
+    let did = c.in_ok-deed.ensures in
+    rw (c.if-resume.ensures.same refl, c.if-resume.ensures.same_standings refl)
+    (c.in_ok-deed.deed, acted _ c.args.standings.now c.args.process c.args.answer c.in_ok-deed.deed c.requires.wants did.is_deed did.entry (rw did.ready refl))
+
+pub returns-else-resume-clause-keeps : goal.returns-else-resume-clause-keeps
+returns-else-resume-clause-keeps g c =
+    let did = c.in_ok-deed.ensures in
+    rw (c.if-resume.ensures.same refl, c.if-resume.ensures.same_standings refl, ← did.ready)
+    (keeps_all did.keeps
+    (λ q a e at can.
+    let is : q ≡ c.in-Some.other = cc (c.in-Some.ensures) in
+    c.if-resume.ensures.cannot refl a (rw is at (still_parked c.args.standings.now c.args.process c.in_ok-deed.deed a c.requires.process q at).1) (rw is at can)))
+
+pub returns-else-resume-clause-waiting : goal.returns-else-resume-clause-waiting
+returns-else-resume-clause-waiting g c =
+    busy_waiting c.if-resume.ensures.waiting c.args.process Ready (rw (c.if-resume.ensures.same_standings refl) c.requires.process) (rw (c.if-resume.ensures.same_standings refl) c.requires.busy) refl
+
+pub returns-then-not-partner_waits-clause-reacts : goal.returns-then-not-partner_waits-clause-reacts
+returns-then-not-partner_waits-clause-reacts g c =
+    let did = c.in_ok-deed.ensures in
+    (c.in_ok-deed.deed, acted _ c.args.standings.now c.args.process c.args.answer c.in_ok-deed.deed c.requires.wants did.is_deed did.entry (rw did.ready refl))
+
+pub returns-then-not-partner_waits-clause-keeps : goal.returns-then-not-partner_waits-clause-keeps
+returns-then-not-partner_waits-clause-keeps g c =
+    let did = c.in_ok-deed.ensures in
+    rw (← did.ready) (keeps_all did.keeps
+    (λ q a e at can.
+    others_blocked c.requires.waiting.marks (keeps_sparing c.requires.keeps c.args.process) c.args.answer c.in_ok-deed.deed c.requires.process did.is_deed (sym c.partner_waits.ensures ∙ c.if-not-partner_waits.true) q a at (rw did.entry at can)))
+
+pub returns-then-not-partner_waits-clause-waiting : goal.returns-then-not-partner_waits-clause-waiting
+returns-then-not-partner_waits-clause-waiting g c =
+    rw (c.in_ok-deed.ensures.entry, ← c.in_ok-deed.ensures.ready) (acted_waiting (family_of g.K.Kinds.start g.K.Kinds.answer_of) c.requires.waiting c.args.process c.args.answer.next c.in_ok-deed.deed c.requires.process c.requires.busy)
+
+pub returns-in_default-clause-reacts : goal.returns-in_default-clause-reacts
+returns-in_default-clause-reacts g c =
+    let did = c.in_ok-deed.ensures in
+    (c.in_ok-deed.deed, acted _ c.args.standings.now c.args.process c.args.answer c.in_ok-deed.deed c.requires.wants did.is_deed did.entry (rw did.ready refl))
+
+pub returns-in_default-clause-waiting : goal.returns-in_default-clause-waiting
+returns-in_default-clause-waiting g c =
+    rw (c.in_ok-deed.ensures.entry, ← c.in_ok-deed.ensures.ready) (acted_waiting (family_of g.K.Kinds.start g.K.Kinds.answer_of) c.requires.waiting c.args.process c.args.answer.next c.in_ok-deed.deed c.requires.process c.requires.busy)

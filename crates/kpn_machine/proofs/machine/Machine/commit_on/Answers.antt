@@ -1,0 +1,69 @@
+-- The answer of a process that is out is worked on, and the process goes out again.
+use Rattle.std.proofs.Common.{◌≡◌, arith, refl, sym, ◌∙◌}
+use Rattle.std.proofs.lemmas.List.{set-set, set-get_or}
+use Rattle.kpn_state.specs.declared.standing.Standing.TheVariants.{Ready, Out, Stopped}
+use Rattle.kpn_state.specs.Standings.{standing}
+use Rattle.kpn_state.proofs.Placed.{standing_set_same}
+use Rattle.kpn_machine.specs.MachineView.{IsOutAt}
+use Rattle.kpn_machine.proofs.Listed.{waiting_moved}
+use Rattle.kpn_machine.proofs.Sound.{commits_fit, out_within, none_of}
+use Rattle.kpn_machine.proofs.Onward.{went_on}
+use Rattle.kpn_machine.proofs.machine.Machine.commit_on.Goals as goal
+
+pub overflow_add-self : goal.overflow_add-self
+overflow_add-self g c =
+    let valid = c.assure_valid.ensures.valid in
+    let few = c.self.invariant.0.few in
+    let fit = commits_fit c.self.invariant.0 in
+    let some = valid.few_processes in
+    let small = valid.small_budget in
+    omega arith
+
+pub work_on-requires-clause-keeps : goal.work_on-requires-clause-keeps
+work_on-requires-clause-keeps g c κs within = c.self.invariant.0.keeps
+
+pub work_on-requires-clause-process : goal.work_on-requires-clause-process
+work_on-requires-clause-process g c κs within =
+    let out : IsOutAt c.self.inside.net c.self.inside.store.state c.self.inside.standings c.args.task.now = rw (← c.self.view_is) at c.requires.out in
+    rw c.process-process.ensures (out_within c.self.invariant.0 c.args.task.now out)
+
+pub work_on-requires-clause-busy : goal.work_on-requires-clause-busy
+work_on-requires-clause-busy g c κs within =
+    let out : IsOutAt c.self.inside.net c.self.inside.store.state c.self.inside.standings c.args.task.now = rw (← c.self.view_is) at c.requires.out in
+    rw (c.process-process.ensures, out.out) refl
+
+pub work_on-requires-clause-waiting : goal.work_on-requires-clause-waiting
+work_on-requires-clause-waiting g c κs within = c.self.invariant.2
+
+pub work_on-requires-clause-wants : goal.work_on-requires-clause-wants
+work_on-requires-clause-wants g c κs within =
+    let out : IsOutAt c.self.inside.net c.self.inside.store.state c.self.inside.standings c.args.task.now = rw (← c.self.view_is) at c.requires.out in
+    rw (c.process-process.ensures, c.requires.answer, out.live, out.card) refl
+
+pub invariant_of-self-2 : goal.invariant_of-self-2
+invariant_of-self-2 g c =
+    let out : IsOutAt c.self.inside.net c.self.inside.store.state c.self.inside.standings c.args.task.now = rw (← c.self.view_is) at c.requires.out in
+    let none = none_of _ (sym c.is_some.ensures ∙ c.if-is_some.false) in
+    let did = rw (c.process-process.ensures, c.requires.answer) at c.in_ok-outcome.ensures in
+    let w = went_on c.self.invariant.0 c.args.task.now out none c.in_ok-outcome.outcome _ _ _ _ did.stays did.many did.works did.keeps _ _ (rw c.process-process.ensures at (sym c.status.ensures ∙ c.in-Live.is)) in
+    let stand : standing c.work_on.new.standings c.args.task.now.process ≡ Out = did.stays ∙ out.out in (
+      w.sound,
+      c.self.invariant.1,
+      rw (set-set, ← stand, set-get_or c.work_on.new.standings c.args.task.now.process Stopped) at (waiting_moved did.waiting c.args.task.now.process Out (rw (standing_set_same c.work_on.new.standings c.args.task.now.process Ready (omega (arith, out_within c.self.invariant.0 c.args.task.now out, did.many))) refl) refl),
+    )
+
+pub returns-clause-goes : goal.returns-clause-goes
+returns-clause-goes g c =
+    let out : IsOutAt c.self.inside.net c.self.inside.store.state c.self.inside.standings c.args.task.now = rw (← c.self.view_is) at c.requires.out in
+    let none = none_of _ (sym c.is_some.ensures ∙ c.if-is_some.false) in
+    let did = rw (c.process-process.ensures, c.requires.answer) at c.in_ok-outcome.ensures in
+    let w = went_on c.self.invariant.0 c.args.task.now out none c.in_ok-outcome.outcome _ _ _ _ did.stays did.many did.works did.keeps _ _ (rw c.process-process.ensures at (sym c.status.ensures ∙ c.in-Live.is)) in
+    rw (← c.self.view_is, c.renew.ensures) w.goes
+
+pub unreachable-requires : goal.unreachable-requires
+unreachable-requires g c =
+    let out : IsOutAt c.self.inside.net c.self.inside.store.state c.self.inside.standings c.args.task.now = rw (← c.self.view_is) at c.requires.out in
+    let did = rw c.process-process.ensures at c.in_ok-outcome.ensures in
+    let here = standing_set_same c.work_on.new.standings c.args.task.now.process Ready (omega (arith, out_within c.self.invariant.0 c.args.task.now out, did.many)) in
+    let done = did.keeps.done c.args.task.now.process (rw c.process-process.ensures at (sym c.status.ensures ∙ c.in_default.is)) in
+    cc

@@ -1,0 +1,117 @@
+//! How the answers of a hand are given to a machine.
+ghost use Rattle.std.specs.Prelude.{◌≡◌, ◌+◌, ◌<◌, ◌≤◌, [], ◌∷◌, length, slice_get, Some, MatchOption};
+ghost use Rattle.std.specs.List.{All};
+ghost use Rattle.kpn_model.specs.Network.{family_of};
+ghost use Rattle.kpn_body.specs.Input.{Input};
+ghost use Rattle.kpn_machine.specs.MachineView.{IsOut};
+ghost use Rattle.kpn_machine.specs.Commits.{Commits, Appends, entries_appended};
+ghost use Rattle.kpn_monitor.specs.Kept.{WasCommitted, WasTaken};
+ghost use Rattle.kpn_monitor.specs.Hands.{Gives, StandsAs, WereCommitted};
+ghost use Rattle.kpn_monitor.specs.Places.{GivesFirst};
+
+use crate::places::Places;
+use kpn_body::{Body, Finished};
+use kpn_machine::{Machine, Outcome};
+
+/// Gives an answer to the machine that asked for it.
+#[inline(always)]
+pub(crate) fn give_one<B: Body>(machine: &mut Machine<B>, finished: Finished<B>) -> Outcome
+    requires { IsOut machine.old finished }
+    ensures commits { Commits (family_of B.Kinds.start B.Kinds.answer_of) machine.old finished result machine.new }
+    ensures appends { Appends (family_of B.Kinds.start B.Kinds.answer_of) machine.old machine.new (entries_appended result) }
+    ensures network { machine.new.network ≡ machine.old.network }
+    ensures committed { WasCommitted (family_of B.Kinds.start B.Kinds.answer_of) B.Kinds.admits machine.old.network finished result }
+{
+    machine.assure_faithful();
+    machine.commit_asked(finished)
+}
+
+/// Gives the first answer to the machine, which sent out its task; the process does not go out again. It is a
+/// function of its own, out of the way of answers after which processes do.
+#[inline(never)]
+fn give_up<B: Body>(machine: &mut Machine<B>, places: &mut Places<B>)
+    requires called { 0 < places.old.called }
+    requires out { (i : Input) → slice_get places.old.tasks 0 ≡ Some i → IsOut machine.old i }
+    requires room { length places.old.outcomes < 64 }
+    ensures gave { GivesFirst (family_of B.Kinds.start B.Kinds.answer_of) B.Kinds.admits machine.old places.old machine.new places.new }
+    ensures again { places.new.again ≡ places.old.again }
+{
+    let outcome = give_one(machine, places.leave());
+    places.note(outcome);
+}
+
+/// Gives the first answer to the machine, which sent out its task. The process goes out again at once if it can
+/// and fewer than `keep` did.
+#[inline(always)]
+fn give_first<B: Body>(machine: &mut Machine<B>, places: &mut Places<B>, keep: usize)
+    requires called { 0 < places.old.called }
+    requires out { (i : Input) → slice_get places.old.tasks 0 ≡ Some i → IsOut machine.old i }
+    requires room { length places.old.outcomes < 64 }
+    ensures gave { GivesFirst (family_of B.Kinds.start B.Kinds.answer_of) B.Kinds.admits machine.old places.old machine.new places.new }
+    ensures most { length places.old.again ≤ keep → length places.new.again ≤ keep }
+{
+    machine.assure_faithful();
+    if places.kept() < keep {
+        if places.stay(machine) {
+            machine.assure_faithful();
+            return;
+        }
+    }
+    give_up(machine, places);
+}
+
+/// Removes the first task, which was called, with its answer, which the machine did not ask for.
+#[cold]
+#[inline(never)]
+fn refuse<B: Body>(places: &mut Places<B>) -> Finished<B>
+    requires { 0 < places.old.called }
+    ensures first { places.old.tasks ≡ result ∷ places.new.tasks }
+    ensures called { places.old.called ≡ places.new.called + 1 }
+    ensures again { places.new.again ≡ places.old.again }
+    ensures outcomes { places.new.outcomes ≡ places.old.outcomes }
+{
+    places.leave()
+}
+
+/// Gives the answers in these places to a machine, one after the other. At most `keep` processes that can go
+/// on go out again at once. Stops at an answer that the machine did not ask for, and returns it.
+#[inline(always)]
+pub(crate) fn give_all<B: Body>(
+    machine: &mut Machine<B>,
+    places: &mut Places<B>,
+    keep: usize,
+) -> Option<Finished<B>>
+    requires none { places.old.outcomes ≡ [] }
+    requires kept { places.old.again ≡ [] }
+    requires few { length places.old.tasks ≤ 64 }
+    requires within { places.old.called ≤ length places.old.tasks }
+    ensures machine { MatchOption result (Gives (family_of B.Kinds.start B.Kinds.answer_of) machine.old places.old.tasks places.new.outcomes places.new.again machine.new places.new.tasks) (λ i. Gives (family_of B.Kinds.start B.Kinds.answer_of) machine.old places.old.tasks places.new.outcomes places.new.again machine.new (i ∷ places.new.tasks)) }
+    ensures network { machine.new.network ≡ machine.old.network }
+    ensures committed { MatchOption result (WereCommitted (family_of B.Kinds.start B.Kinds.answer_of) B.Kinds.admits machine.old.network places.old.tasks places.new.outcomes places.new.tasks) (λ i. WereCommitted (family_of B.Kinds.start B.Kinds.answer_of) B.Kinds.admits machine.old.network places.old.tasks places.new.outcomes (i ∷ places.new.tasks)) }
+    ensures taken { All (WasTaken (family_of B.Kinds.start B.Kinds.answer_of) B.Kinds.admits machine.old.network) places.new.again }
+    ensures most { length places.new.again ≤ keep }
+    ensures called { MatchOption result ((places.new.called ≡ 0) × (length places.new.outcomes ≡ places.old.called)) (λ _. places.new.called + 1 + length places.new.outcomes ≡ places.old.called) }
+    ensures count { MatchOption result (length places.new.tasks + length places.new.outcomes ≡ length places.old.tasks) (λ _. length places.new.tasks + 1 + length places.new.outcomes ≡ length places.old.tasks) }
+{
+    while places.has_answer() {
+        if !machine.has_sent(places.first()) {
+            return Some(refuse(places));
+        }
+        give_first(machine, places, keep);
+    }
+    None
+}
+
+/// Gives the tasks that went out again back to the machine, but one whose process came back by another answer.
+#[cold]
+#[inline(never)]
+pub(crate) fn give_back<B: Body>(machine: &mut Machine<B>, places: &mut Places<B>)
+    ensures machine { StandsAs machine.old machine.new }
+    ensures none { places.new ≡ record places.old { again = [] } }
+{
+    while let Some(task) = places.withdraw() {
+        if machine.has_sent(&task) {
+            machine.take_back(task);
+        }
+    }
+}

@@ -1,0 +1,249 @@
+//! The places of the tasks of a hand.
+ghost use Rattle.std.specs.Prelude.{◌≡◌, ◌+◌, ◌<◌, ◌≤◌, ℕ, List, [], ◌∷◌, ◌++◌, Some, true, false, length, take, drop, slice_get, slice_index_or, vec_capacity, IfOk, IfNone, IfSome, IsTrue, ◌↔◌};
+ghost use Rattle.kpn_model.specs.Network.{family_of};
+ghost use Rattle.kpn_body.specs.Input.{Input};
+ghost use Rattle.kpn_commit.specs.declared.outcome.Outcome.{Outcome as OutcomeV};
+ghost use Rattle.kpn_machine.specs.MachineView.{IsOut};
+ghost use Rattle.kpn_machine.specs.Commits.{CommitsOn};
+
+use kpn_body::{Body, Finished, Task};
+use kpn_machine::{Machine, Outcome};
+use kpn_model::Answer;
+use std::alloc::{AllocError, Global};
+use std::marker::Model;
+
+/// The greatest number of tasks in a hand.
+pub(crate) const MOST_TASKS: usize = 64;
+
+/// The tasks of a hand, each in a place of its own, and beside them the answers of those that were called.
+///
+/// Answers are given in the order of their tasks. While they are, the first places hold tasks that went out
+/// again, then come free places, and then tasks whose answers were not given; a task that goes out again stays
+/// in its place, unless a place before it is free. All memory is taken at the start.
+#[derive(Drop)]
+pub(crate) struct Places<B: Body> {
+    places: Vec<Option<Task<B>>>,
+    answers: Vec<Answer>,
+    given: usize,
+    kept: usize,
+    outcomes: Vec<Outcome>,
+}
+
+impl<B: Body> Model for Places<B> {
+    ghost use Rattle.std.specs.Prelude.{◌≡◌, ◌≤◌, ◌-◌, length, take, drop, vec_capacity};
+    ghost use Rattle.kpn_monitor.specs.Views.{Placed};
+    ghost use Rattle.kpn_monitor.specs.Places.{IsLaidOut, tasks_in};
+    ghost use Rattle.kpn_model.specs.Network.{family_of};
+
+    ghost Value = { Placed };
+
+    ghost view = { λ p. record { again = tasks_in (take p.kept p.places.items); tasks = tasks_in (drop p.given p.places.items); called = length p.answers.items - p.given; given = p.given; outcomes = p.outcomes.items } };
+
+    ghost invariant = { λ p. IsLaidOut (family_of B.Kinds.start B.Kinds.answer_of) p.places.items p.answers.items p.given p.kept × (64 ≤ vec_capacity p.places) × (64 ≤ vec_capacity p.answers) × (64 ≤ vec_capacity p.outcomes) };
+}
+
+impl<B: Body> Places<B> {
+    /// Places without a task. Fails if memory was refused.
+    pub(crate) fn new(alloc: Global) -> Result<Places<B>, AllocError>
+        ensures { IfOk result (λ p. p ≡ record { again = []; tasks = []; called = 0; given = 0; outcomes = [] }) }
+    {
+        Ok(Places {
+            places: Vec::with_capacity(alloc, MOST_TASKS)?,
+            answers: Vec::with_capacity(alloc, MOST_TASKS)?,
+            given: 0,
+            kept: 0,
+            outcomes: Vec::with_capacity(alloc, MOST_TASKS)?,
+        })
+    }
+
+    /// Returns how many tasks there are whose answers were not given.
+    #[inline(always)]
+    pub(crate) fn len(&self) -> usize
+        ensures len { result ≡ length self.now.tasks }
+        ensures few { result ≤ 64 }
+        ensures within { self.now.called ≤ result }
+    {
+        self.places.len() - self.given
+    }
+
+    /// Calls the first task that was not called yet, and returns the number of its process. `None` exactly if
+    /// all were called, and nothing changes then.
+    #[inline(always)]
+    pub(crate) fn call(&mut self) -> Option<usize>
+        ensures none { IfNone result ((self.old.called ≡ length self.old.tasks) × (self.new ≡ self.old)) }
+        ensures some { IfSome result (λ p. (i : Input) × (slice_get self.old.tasks self.old.called ≡ Some i) × (i.process ≡ p)) }
+        ensures called { IfSome result (λ _. (self.new ≡ record self.old { called = self.old.called + 1 }) × (self.old.called < length self.old.tasks)) }
+    {
+        let place = self.answers.len();
+        if place >= self.places.len() {
+            return None;
+        }
+        let Some(task) = &self.places[place] else {
+            unreachable!()
+        };
+        let process = task.process();
+        self.answers.push_reserved(task.ask());
+        Some(process)
+    }
+
+    /// Returns the outcomes of the answers that were given last, in the order of their tasks.
+    pub(crate) fn outcomes(&self) -> &[Outcome]
+        ensures { result.now ≡ self.now.outcomes }
+    {
+        self.outcomes.as_slice()
+    }
+
+    /// Forgets the outcomes of earlier answers.
+    pub(crate) fn forget(&mut self)
+        ensures forgotten { self.new ≡ record self.old { outcomes = [] } }
+        ensures few { length self.old.tasks ≤ 64 }
+        ensures within { self.old.called ≤ length self.old.tasks }
+    {
+        self.outcomes.clear();
+    }
+
+    /// Appends a task. No answer may have been given since the places were settled.
+    #[inline(always)]
+    pub(crate) fn put(&mut self, task: Task<B>)
+        requires settled { self.old.given ≡ 0 }
+        requires room { length self.old.tasks < 64 }
+        ensures { self.new ≡ record self.old { tasks = self.old.tasks ++ task ∷ [] } }
+    {
+        self.places.push_reserved(Some(task));
+    }
+
+    /// Whether a task was called whose answer was not given.
+    #[inline(always)]
+    pub(crate) fn has_answer(&self) -> bool
+        ensures { IsTrue result ↔ (0 < self.now.called) }
+    {
+        self.given < self.answers.len()
+    }
+
+    /// Returns how many tasks went out again.
+    #[inline(always)]
+    pub(crate) fn kept(&self) -> usize
+        ensures { result ≡ length self.now.again }
+    {
+        self.kept
+    }
+
+    /// Returns the first task whose answer was not given.
+    #[inline(always)]
+    pub(crate) fn first(&self) -> &Task<B>
+        requires { 0 < self.now.called }
+        ensures { slice_get self.now.tasks 0 ≡ Some result.now }
+    {
+        let Some(task) = &self.places[self.given] else {
+            unreachable!()
+        };
+        task
+    }
+
+    /// Removes the first task, which was called, and returns it with its answer.
+    #[inline(always)]
+    pub(crate) fn leave(&mut self) -> Finished<B>
+        requires { 0 < self.old.called }
+        ensures first { self.old.tasks ≡ result ∷ self.new.tasks }
+        ensures called { self.old.called ≡ self.new.called + 1 }
+        ensures again { self.new.again ≡ self.old.again }
+        ensures outcomes { self.new.outcomes ≡ self.old.outcomes }
+    {
+        let answer = self.answers[self.given];
+        let Some(task) = self.places[self.given].take() else {
+            unreachable!()
+        };
+        self.given += 1;
+        task.answered(answer)
+    }
+}
+
+impl<B: Body> Places<B> {
+    /// Gives the first answer to the machine, which must have sent out its task, and keeps the task as the
+    /// process's next one, if the process can go out again at once: if the answer is a read or a write that can
+    /// be done, and the run goes on. False if it is not so, and nothing changes then.
+    #[inline(always)]
+    pub(crate) fn stay(&mut self, machine: &mut Machine<B>) -> bool
+        requires called { 0 < self.old.called }
+        requires out { (i : Input) → slice_get self.old.tasks 0 ≡ Some i → IsOut machine.old i }
+        requires room { length self.old.outcomes < 64 }
+        ensures stays { result ≡ true → (i j : Input) × (o : OutcomeV) × (rest : List Input) × (self.old.tasks ≡ i ∷ rest) × (self.new ≡ record { again = self.old.again ++ j ∷ []; tasks = rest; called = self.new.called; given = self.new.given; outcomes = self.old.outcomes ++ o ∷ [] }) × (self.old.called ≡ self.new.called + 1) × CommitsOn (family_of B.Kinds.start B.Kinds.answer_of) machine.old i o j machine.new }
+        ensures same { result ≡ false → (self.new ≡ self.old) × (machine.new ≡ machine.old) }
+    {
+        let answer = self.answers[self.given];
+        let Some(task) = &mut self.places[self.given] else {
+            unreachable!()
+        };
+        let Some(outcome) = machine.commit_on(task, answer) else {
+            return false;
+        };
+        move_up(&mut self.places, self.kept, self.given);
+        self.kept += 1;
+        self.given += 1;
+        self.outcomes.push_reserved(outcome);
+        true
+    }
+
+    /// Keeps the outcome of an answer.
+    #[inline(always)]
+    pub(crate) fn note(&mut self, outcome: Outcome)
+        requires { length self.old.outcomes < 64 }
+        ensures { self.new ≡ record self.old { outcomes = self.old.outcomes ++ outcome ∷ [] } }
+    {
+        self.outcomes.push_reserved(outcome);
+    }
+
+    /// Once all answers were given, the tasks that went out again are those to be called next.
+    pub(crate) fn settle(&mut self)
+        requires { self.old.tasks ≡ [] }
+        ensures { self.new ≡ record { again = []; tasks = self.old.again; called = 0; given = 0; outcomes = self.old.outcomes } }
+    {
+        self.places.truncate(self.kept);
+        self.answers.clear();
+        self.given = 0;
+        self.kept = 0;
+    }
+
+    /// Removes the last task that went out again and returns it; `None` if there is none.
+    pub(crate) fn withdraw(&mut self) -> Option<Task<B>>
+        ensures none { IfNone result ((self.old.again ≡ []) × (self.new ≡ self.old)) }
+        ensures some { IfSome result (λ _. self.new ≡ record self.old { again = self.new.again }) }
+        ensures last { IfSome result (λ i. self.old.again ≡ self.new.again ++ i ∷ []) }
+    {
+        if self.kept == 0 {
+            return None;
+        }
+        self.kept -= 1;
+        self.places[self.kept].take()
+    }
+
+    /// Removes the free places before the tasks whose answers were not given. None may have gone out again.
+    pub(crate) fn close_up(&mut self)
+        requires { self.old.again ≡ [] }
+        ensures { self.new ≡ record self.old { given = 0 } }
+    {
+        let places = self.places.len() - self.given;
+        self.places.rotate_left(self.given);
+        self.places.truncate(places);
+        let answers = self.answers.len() - self.given;
+        self.answers.rotate_left(self.given);
+        self.answers.truncate(answers);
+        self.kept = 0;
+        self.given = 0;
+    }
+}
+
+/// Moves what lies in a place to one before it, unless that is the same, and what lay there back.
+#[inline(always)]
+fn move_up<T>(places: &mut Vec<T>, to: usize, from: usize)
+    requires order { to ≤ from }
+    requires within { from < length places.old.items }
+    ensures first { (d : T) → take (to + 1) places.new.items ≡ take to places.old.items ++ slice_index_or places.old.items from d ∷ [] }
+    ensures rest { drop (from + 1) places.new.items ≡ drop (from + 1) places.old.items }
+    ensures len { length places.new.items ≡ length places.old.items }
+    ensures capacity { vec_capacity places.new ≡ vec_capacity places.old }
+{
+    if to < from {
+        places.swap(to, from);
+    }
+}
