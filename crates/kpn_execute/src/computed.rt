@@ -3,11 +3,10 @@ ghost use Rattle.std.specs.Prelude.{◌≤◌, option_map};
 ghost use Rattle.kpn_model.specs.Network.{family_of};
 ghost use Rattle.kpn_execute.specs.Execution.{MakesAndExecutes};
 
-use crate::execution::{RunRequest, execute_request};
+use crate::execution::execute;
 use kpn_compute::{Computes, bodies_of};
 use kpn_front::{Sink, say_refused};
 use kpn_net::{Net, NetFault};
-use kpn_run::Prompt;
 use std::alloc::Global;
 use std::rt::Clock;
 use std::sync::Wait;
@@ -29,14 +28,7 @@ pub fn execute_net<K: Computes, S: Sink, R: Wait + Clock + Threads + Sync>(
     ensures { MakesAndExecutes (family_of K.start K.answer_of) net workers (option_map (λ s. s.now) show.entry) (S.seen sink.old) (S.seen sink.new) result }
 {
     match bodies_of(alloc, &net) {
-        Ok(bodies) => {
-            let request = RunRequest {
-                net,
-                bodies,
-                workers,
-            };
-            execute_request(rt, alloc, request, &Prompt, show, sink)
-        }
+        Ok(bodies) => execute(rt, alloc, net, bodies, workers, show, sink),
         Err(_) => say_refused(&NetFault::Memory, sink),
     }
 }

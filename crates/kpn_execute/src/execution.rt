@@ -10,7 +10,7 @@ use kpn_laws::{determinacy_of, least_room_of, least_solution_of};
 use kpn_machine::{Chronicle, Machine};
 use kpn_net::{End, Kinds, Net, NetFault};
 use kpn_report::{places_of, text_of};
-use kpn_run::{Gate, Open, RunFault, run};
+use kpn_run::{Open, RunFault, run};
 use std::alloc::{AllocError, Global};
 use std::rt::Clock;
 use std::sync::Wait;
@@ -25,15 +25,16 @@ struct Told {
 
 /// A network to be run by 1 to 16 workers, with a body for each process.
 #[derive(Drop)]
-pub(crate) struct RunRequest<B: Body> {
-    pub(crate) net: Net<B::Kinds>,
-    pub(crate) bodies: Vec<B>,
-    pub(crate) workers: usize,
+struct RunRequest<B: Body> {
+    net: Net<B::Kinds>,
+    bodies: Vec<B>,
+    workers: usize,
 }
 
 /// Runs a network by 1 to 16 workers, with a body for each process, and writes the report of the run,
 /// with the stream of the channel that `show` names. A single worker is the calling thread,
-/// which then takes no lock.
+/// which then takes no lock. Several call the bodies outside the lock, so a body may wait for another's
+/// call.
 ///
 /// If the run came to its own end, each run of the network that is over has the same text, whatever the
 /// schedule. If capacity b suffices for the network, no channel of capacity b or more grows in the run
@@ -62,29 +63,15 @@ pub fn execute<B: Body, S: Sink, R: Wait + Clock + Threads + Sync>(
     requires workers { (1 ≤ workers) × (workers ≤ 16) }
     ensures { Executes (family_of B.Kinds.start B.Kinds.answer_of) net workers (option_map (λ s. s.now) show.entry) (S.seen sink.old) (S.seen sink.new) result }
 {
-    let request = RunRequest {
-        net,
-        bodies,
-        workers,
-    };
-    execute_request(rt, alloc, request, &Open, show, sink)
-}
-
-/// As `execute`, where several workers pass this gate.
-pub(crate) fn execute_request<B: Body, S: Sink, R: Wait + Clock + Threads + Sync, G: Gate>(
-    rt: &R,
-    alloc: Global,
-    request: RunRequest<B>,
-    gate: &G,
-    show: Option<&str>,
-    sink: &mut S,
-) -> u8
-    requires cards { map B.card request.bodies.items ≡ cards_of request.net.processes }
-    requires workers { (1 ≤ request.workers) × (request.workers ≤ 16) }
-    ensures { Executes (family_of B.Kinds.start B.Kinds.answer_of) request.net request.workers (option_map (λ s. s.now) show.entry) (S.seen sink.old) (S.seen sink.new) result }
-{
-    match channel_to_show(&request.net, show) {
-        Ok(channel) => tell(rt, alloc, request, gate, channel, sink),
+    match channel_to_show(&net, show) {
+        Ok(channel) => {
+            let request = RunRequest {
+                net,
+                bodies,
+                workers,
+            };
+            tell(rt, alloc, request, channel, sink)
+        }
         Err(name) => say_no_channel(name, sink),
     }
 }
@@ -107,11 +94,10 @@ fn channel_to_show<'a, K: Kinds>(
 }
 
 /// Runs a network and writes the report, with the stream of a channel if one is given.
-fn tell<B: Body, S: Sink, R: Wait + Clock + Threads + Sync, G: Gate>(
+fn tell<B: Body, S: Sink, R: Wait + Clock + Threads + Sync>(
     rt: &R,
     alloc: Global,
     request: RunRequest<B>,
-    gate: &G,
     channel: Option<usize>,
     sink: &mut S,
 ) -> u8
@@ -122,7 +108,7 @@ fn tell<B: Body, S: Sink, R: Wait + Clock + Threads + Sync, G: Gate>(
     if request.workers == 1 {
         tell_alone(alloc, request.net, request.bodies, channel, sink)
     } else {
-        tell_by_workers(rt, alloc, request, gate, channel, sink)
+        tell_by_workers(rt, alloc, request, channel, sink)
     }
 }
 
@@ -147,11 +133,10 @@ fn tell_alone<B: Body, S: Sink>(
 
 /// The same, by several workers.
 #[inline(never)]
-fn tell_by_workers<B: Body, S: Sink, R: Wait + Clock + Threads + Sync, G: Gate>(
+fn tell_by_workers<B: Body, S: Sink, R: Wait + Clock + Threads + Sync>(
     rt: &R,
     alloc: Global,
     request: RunRequest<B>,
-    gate: &G,
     channel: Option<usize>,
     sink: &mut S,
 ) -> u8
@@ -164,7 +149,7 @@ fn tell_by_workers<B: Body, S: Sink, R: Wait + Clock + Threads + Sync, G: Gate>(
         bodies,
         workers,
     } = request;
-    match run(rt, alloc, net, bodies, workers, gate) {
+    match run(rt, alloc, net, bodies, workers, &Open) {
         Ok(finish) => say_told(alloc, finish.chronicle(), channel, sink),
         Err(RunFault::Memory { .. }) => say_refused(&NetFault::Memory, sink),
         Err(RunFault::Lost { .. }) => say_lost(sink),

@@ -5,12 +5,11 @@ ghost use Rattle.kpn_body.specs.StandardKinds.{signature, Admitted};
 ghost use Rattle.kpn_machine.specs.Opening.{cards_of};
 ghost use Rattle.kpn_execute.specs.Execution.{Executes, MakesAndExecutes};
 
-use crate::execution::{RunRequest, execute_request};
+use crate::execution::execute;
 use kpn_body::{Call, Standard, StandardBody, answer};
 use kpn_front::{Sink, say_refused};
 use kpn_machine::cards_of;
 use kpn_net::{Answer, Card, Local, Net, NetFault, Token};
-use kpn_run::Prompt;
 use std::alloc::{AllocError, Global};
 use std::rt::Clock;
 use std::sync::Wait;
@@ -73,12 +72,7 @@ fn make_and_execute<S: Sink, R: Wait + Clock + Threads + Sync>(
         bodies.push(StandardBody::new(card, call))?;
     }
     let Some(net) = net else { unreachable!() };
-    let request = RunRequest {
-        net,
-        bodies,
-        workers,
-    };
-    Ok(execute_request(rt, alloc, request, &Prompt, show, sink))
+    Ok(execute(rt, alloc, net, bodies, workers, show, sink))
 }
 
 /// A card of a list of cards that have signatures.

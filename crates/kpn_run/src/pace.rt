@@ -12,12 +12,15 @@ const FEW_EXCHANGES: u64 = 8;
 /// If they take longer than this many, it has half as many.
 const MANY_EXCHANGES: u64 = 16;
 /// After a round whose calls took less than `BRIEF`, `UNTIMED_ROUNDS` rounds go by without a look at the
-/// clock, if the rounds are worth it; and `ALONE_ROUNDS`, if they aren't but no other worker is awake.
+/// clock, if the rounds are worth it; and `ALONE_ROUNDS`, if they aren't but no other worker is awake, then twice
+/// as many each time that this is so again, and at most `MOST_ALONE_ROUNDS`.
 const BRIEF: u64 = 1_000;
 
 const UNTIMED_ROUNDS: u32 = 7;
 
 const ALONE_ROUNDS: u32 = 31;
+
+const MOST_ALONE_ROUNDS: u32 = 1_023;
 /// A worker is spare after this many more rounds that weren't worth it than rounds that were.
 const PATIENCE: u32 = 8;
 /// A worker goes over to asking bodies in place if the calls of a round took less than `SHORT_CALL`, one with
@@ -62,8 +65,9 @@ pub(crate) struct Pace {
     strain: u32,
     /// When the last calls, exchange or rest ended.
     then: u64,
-    /// How many rounds to come are not timed.
+    /// How many rounds to come are not timed; and how many are not, if the worker is spare but the last awake.
     untimed: u32,
+    alone: u32,
     /// Whether bodies may be asked in place; and how many are, in one holding of the lock, if any.
     may_ask: bool,
     in_place: u64,
@@ -80,6 +84,7 @@ impl Pace {
             strain: 0,
             then: now,
             untimed: 0,
+            alone: ALONE_ROUNDS,
             may_ask,
             in_place: u64::from(may_ask),
         }
@@ -210,8 +215,10 @@ impl Pace {
         self.then = now;
         if rested {
             self.strain = self.strain.min(PATIENCE / 2);
+            self.alone = ALONE_ROUNDS;
         } else if self.strain >= PATIENCE {
-            self.untimed = ALONE_ROUNDS;
+            self.untimed = self.alone;
+            self.alone = self.alone.saturating_mul(2).min(MOST_ALONE_ROUNDS);
             self.strain = PATIENCE - 2;
         } else {
             self.strain = 0;

@@ -98,7 +98,7 @@ fn ask_in_place<B: Body, E: EntryLedger, O: Ledger, R: Wait + Clock>(
 {
     for _ in rt.forever() {
         match monitor.ask_in_place(rt, seat, pace.in_place()) {
-            Went::On { waited } => pace.asked(waited, watch.nanos(rt)),
+            Went::On { answers: _, waited } => pace.asked(waited, watch.nanos(rt)),
             Went::Nowhere => pace.stop_asking(),
             Went::Over(_) => return true,
         }

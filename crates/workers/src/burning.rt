@@ -4,7 +4,7 @@ use crate::numbers::burn;
 use kpn_body::{Body, Standard, answer};
 use kpn_machine::Machine;
 use kpn_net::{Answer, Card, Kinds, Local, Net, Token};
-use kpn_run::{Prompt, run};
+use kpn_run::{Gate, Open, Prompt, run};
 use std::alloc::{AllocError, Global};
 use std::hint::spin_loop;
 use std::marker::Model;
@@ -50,11 +50,20 @@ impl Body for Burning {
     }
 }
 
-/// How many workers there are, and how many numbers a body computes before it answers.
+/// The gate of the workers: with `Open` they call every body outside the lock, with `Prompt` one of them asks bodies
+/// under the lock while calls are short.
+#[derive(Clone, Copy)]
+pub enum GateChoice {
+    Open,
+    Prompt,
+}
+
+/// How many workers there are, their gate, and how many numbers a body computes before it answers.
 #[derive(Clone, Copy)]
 pub struct Timing {
     pub workers: usize,
     pub numbers: u64,
+    pub gate: GateChoice,
 }
 
 /// Runs a network, and prints how many entries there were and how many nanoseconds it took.
@@ -68,7 +77,7 @@ pub fn run_timed<R: Threads + Wait + Clock + Sync + Print>(
     let Ok(start) = Instant::now(rt) else {
         return Err(AllocError);
     };
-    let entries = entries_of(rt, alloc, net, bodies, asked.workers)?;
+    let entries = entries_of(rt, alloc, net, bodies, asked)?;
     let Ok(took) = start.elapsed(rt) else {
         return Err(AllocError);
     };
@@ -88,28 +97,32 @@ fn bodies_of(alloc: Global, net: &Net<Standard>, numbers: u64) -> Result<Vec<Bur
     Ok(bodies)
 }
 
-/// Runs a network by so many workers, 0 being the calling thread, and returns how many entries there were.
+/// Runs a network as asked (0 workers are the calling thread without a lock), and returns how many entries there were.
 fn entries_of<R: Threads + Wait + Clock + Sync>(
     rt: &R,
     alloc: Global,
     net: Net<Standard>,
     bodies: Vec<Burning>,
-    workers: usize,
+    asked: Timing,
 ) -> Result<u64, AllocError> {
-    match workers {
-        0 => entries_alone(alloc, net, bodies),
-        _ => entries_by_workers(rt, alloc, net, bodies, workers),
+    match (asked.workers, asked.gate) {
+        (0, _) => entries_alone(alloc, net, bodies),
+        (workers, GateChoice::Open) => entries_by_workers(rt, alloc, net, bodies, workers, &Open),
+        (workers, GateChoice::Prompt) => {
+            entries_by_workers(rt, alloc, net, bodies, workers, &Prompt)
+        }
     }
 }
 
-fn entries_by_workers<R: Threads + Wait + Clock + Sync>(
+fn entries_by_workers<R: Threads + Wait + Clock + Sync, G: Gate>(
     rt: &R,
     alloc: Global,
     net: Net<Standard>,
     bodies: Vec<Burning>,
     workers: usize,
+    gate: &G,
 ) -> Result<u64, AllocError> {
-    match run(rt, alloc, net, bodies, workers, &Prompt) {
+    match run(rt, alloc, net, bodies, workers, gate) {
         Ok(finish) => Ok(finish.receipts()),
         Err(_) => Err(AllocError),
     }

@@ -1,7 +1,7 @@
 //! Runs a network that is described on standard input by several workers. The words are
 //!
-//! - `time WORKERS NUMBERS`: times the run, whose bodies compute that many random numbers before each
-//!   answer (0 workers are the calling thread without a lock);
+//! - `time WORKERS NUMBERS GATE`: times the run, whose bodies compute that many random numbers before each
+//!   answer, with the gate `open` or `prompt` (0 workers are the calling thread without a lock);
 //! - `stress WORKERS MOST SEED HELD OTHER`: bodies compute for random times, up to that many random
 //!   numbers (2^n - 1), one process is held up for another, and the report of the run is written.
 //!
@@ -13,7 +13,7 @@ mod burning;
 mod numbers;
 mod straying;
 
-use burning::{Timing, run_timed};
+use burning::{GateChoice, Timing, run_timed};
 use kpn_body::Standard;
 use kpn_front::{Fallible, load};
 use kpn_net::Net;
@@ -53,6 +53,7 @@ fn asked_of<R: Env + AllocGlobal>(rt: &R) -> Option<Asked> {
         "time" => Some(Asked::Time(Timing {
             workers: size_of(&words, 2)?,
             numbers: number_of(&words, 3)?,
+            gate: gate_of(words.get(4)?.as_str())?,
         })),
         "stress" => Some(Asked::Stress(Stress {
             workers: size_of(&words, 2)?,
@@ -61,6 +62,14 @@ fn asked_of<R: Env + AllocGlobal>(rt: &R) -> Option<Asked> {
             held: size_of(&words, 5)?,
             other: size_of(&words, 6)?,
         })),
+        _ => None,
+    }
+}
+
+fn gate_of(word: &str) -> Option<GateChoice> {
+    match word {
+        "open" => Some(GateChoice::Open),
+        "prompt" => Some(GateChoice::Prompt),
         _ => None,
     }
 }

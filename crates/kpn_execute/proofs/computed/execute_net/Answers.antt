@@ -4,7 +4,7 @@ use Rattle.kpn_execute.proofs.Written.{written, written_of, no_memory}
 use Rattle.kpn_execute.proofs.computed.execute_net.Goals as goal
 
 pub returns-in-Ok : goal.returns-in-Ok
-returns-in-Ok g c = written_of (λ s t told. inr told) c.execute_request.ensures
+returns-in-Ok g c = written_of (λ s t told. inr told) c.execute.ensures
 
 pub returns-in-Err : goal.returns-in-Err
 returns-in-Err g c = written c.say_refused.ensures (inl no_memory)

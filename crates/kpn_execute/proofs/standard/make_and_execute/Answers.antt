@@ -15,8 +15,8 @@ unreachable-requires g c =
     let some = rw none at c.requires.some in
     cc
 
-pub execute_request-requires-clause-cards : goal.execute_request-requires-clause-cards
-execute_request-requires-clause-cards g c κs within =
+pub execute-requires-clause-cards : goal.execute-requires-clause-cards
+execute-requires-clause-cards g c κs within =
     let some = sym c.loop-process.invariant.same ∙ c.in-Some.is in
     let cards = rw some at c.requires.cards in
     of_all (λ b. b.card) _ _ _ c.loop-process.invariant.first c.loop-process-test.false ∙ cards
@@ -24,4 +24,4 @@ execute_request-requires-clause-cards g c κs within =
 pub returns-clause-ok : goal.returns-clause-ok
 returns-clause-ok g c =
     let some = sym c.loop-process.invariant.same ∙ c.in-Some.is in
-    rw some c.execute_request.ensures
+    rw some c.execute.ensures

@@ -1,7 +1,7 @@
 -- The channel to show is known, or `no channel` is written.
 use Rattle.std.proofs.Common.{inl, inr, refl}
 use Rattle.kpn_execute.proofs.Written.{written, written_of}
-use Rattle.kpn_execute.proofs.execution.execute_request.Goals as goal
+use Rattle.kpn_execute.proofs.execution.execute.Goals as goal
 
 pub returns-in-Ok : goal.returns-in-Ok
 returns-in-Ok g c = written_of (λ s t told. inr (c.in-Ok.channel, c.in-Ok.ensures.channel, told)) c.tell.ensures
