@@ -27,6 +27,9 @@
 #ifndef MEET
 #define MEET 0          /* 1: two of the processes wait in each call for a call of the other */
 #endif
+#ifndef LEAVING
+#define LEAVING 0       /* 1: a thread in `work` may leave after a commit, as one of a crew may */
+#endif
 #ifndef PROMPT
 #define PROMPT 0        /* 1: workers of a run may ask bodies in place, under the lock */
 #endif
@@ -63,6 +66,7 @@ byte at[MOST];
 byte state, resters;                        /* the locks: free, or of which thread */
 byte ready, out, parked; bit ended;         /* the machine */
 byte waiting;                               /* Guarded */
+byte share, keep, kept;                     /* in one exchange; else 0 */
 byte known, resting, looking_out; bit over; /* Resters */
 byte awake;                                 /* Monitor::awake */
 byte lost;                                  /* threads that never come back */
@@ -232,12 +236,35 @@ inline guarded_take() {
     fi
 }
 
-/* Guarded::give: each answer of the hand is committed. */
+/* Places::stay: the deed is done and lets one that was parked go on, or nobody; the process stays out. */
+inline machine_commit_on() {
+    if
+    :: true
+    :: parked > 0 -> parked = parked - 1; ready = ready + 1
+    fi;
+#if PASS == 2
+    news[0] = 1; news[1] = 1; news[2] = 1; news[3] = 1
+#endif
+}
+
+/* Guarded::give: each answer of the hand is committed; a process that can go on may go out again, if fewer than
+   `keep` did. If the run has ended none of these stays out. */
 inline give() {
     do
-    :: hand > 0 -> machine_commit(); hand = hand - 1
+    :: hand > 0 ->
+        if
+        :: kept < keep && !ended -> machine_commit_on(); kept = kept + 1
+        :: machine_commit()
+        fi;
+        hand = hand - 1
     :: else -> break
-    od
+    od;
+    if
+    :: ended -> out = out - kept; ready = ready + kept
+    :: else -> hand = kept
+    fi;
+    keep = 0;
+    kept = 0
 }
 
 /* Guarded::deal_more: more tasks are taken, while there are any. */
@@ -261,19 +288,26 @@ inline deal() {
     if
     :: most == 0 -> guarded_meet_end()
     :: else ->
-        hand_wanted(ready_all);
-        guarded_take();
         if
-        :: taken == TASKS -> hand = 1; deal_more(); taken = TASKS
-        :: else
-        fi;
-        wanted = 0
+        :: hand > 0 -> deal_more(); taken = TASKS
+        :: else ->
+            guarded_take();
+            if
+            :: taken == TASKS -> hand = 1; deal_more(); taken = TASKS
+            :: else
+            fi
+        fi
     fi
 }
 
+/* guarded.rt: Guarded::wanted */
+inline guarded_wanted() { share = ready_all + hand; hand_wanted(share); share = 0 }
+
+#define less(a, b) (a > b -> a - b : 0)
+
 /* guarded.rt: Guarded::exchange */
 inline guarded_exchange() {
-    atomic { give(); deal() }
+    atomic { guarded_wanted(); keep = (most > 0 -> less(wanted, ready_all) : 0); give(); deal(); wanted = 0 }
 }
 
 /* Guarded::ask_in_place: one answer or two are taken, while a process is ready and the run goes on; if none
@@ -658,7 +692,13 @@ proctype in_work(byte i) {
         if
         :: taken == OVER -> break
         :: else -> taken = 0; answer()
+        fi;
+#if LEAVING
+        if
+        :: break
+        :: true
         fi
+#endif
     od;
     atomic { at[i] = LEFT; look_round() }
 }
