@@ -1,12 +1,9 @@
 """Runs the program with arguments and a text, with little overhead."""
-import fcntl
 import os
 import select
-import shutil
 import signal
 import subprocess
 import sys
-import tempfile
 
 TOP = os.path.dirname(os.path.dirname(os.path.abspath(__file__)))
 PROGRAM = f"{TOP}/crates/kpn/out/kpn"
@@ -21,17 +18,15 @@ def need(path, first):
         sys.exit(f"{os.path.basename(sys.argv[0])}: {os.path.relpath(path)} isn't there: first run {first}")
 
 
-def need_sox():
-    """Installs sox where it is missing, for one test at a time, and ends where that fails."""
-    with open(os.path.join(tempfile.gettempdir(), f"hoxburen-sox-{os.getuid()}"), "w") as lock:
-        fcntl.flock(lock, fcntl.LOCK_EX)
-        if shutil.which("sox"):
-            return
-        name = os.path.basename(sys.argv[0])
-        print(f"{name}: installing the package sox", flush=True)
-        for words in (["apt-get", "update"], ["apt-get", "install", "-y", "sox"]):
-            if subprocess.run(words, stdout=subprocess.DEVNULL).returncode:
-                sys.exit(f"{name}: the package sox could not be installed, and without it this test fails")
+def need_tool(tool, *packages):
+    """Installs the packages if the tool is missing, and fails the test if they can't be installed (tests/need.sh)."""
+    words = ["bash", "-c", '. "$1/tests/need.sh"; shift; need_tool "$@"', sys.argv[0], TOP, tool, *packages]
+    if subprocess.run(words).returncode:
+        sys.exit(1)
+
+
+def need_cc():
+    need_tool("cc", "gcc", "libc6-dev")
 
 
 class Program:

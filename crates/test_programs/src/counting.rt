@@ -53,7 +53,7 @@ fn counting(card: Card, calls: &Arc<AtomicU64>) -> Result<CountingBody, AllocErr
 }
 
 /// The card of a process.
-fn signed_card(net: &Net<Standard>, process: usize) -> Card
+pub(crate) fn signed_card(net: &Net<Standard>, process: usize) -> Card
     requires valid { IsValid signature net.now }
     requires within { process < length net.now.processes }
     ensures signed { IsSome (signature result) }
@@ -77,7 +77,7 @@ fn bodies_of(
     Ok(bodies)
 }
 
-fn network_of(alloc: Global, text: &str) -> Result<Net<Standard>, NetFault> {
+pub(crate) fn network_of(alloc: Global, text: &str) -> Result<Net<Standard>, NetFault> {
     let mut source = text.as_bytes();
     load(alloc, &mut source)
 }

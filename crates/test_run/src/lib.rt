@@ -14,6 +14,8 @@ mod large;
 #[cfg(test)]
 mod library;
 #[cfg(test)]
+mod limit;
+#[cfg(test)]
 mod meeting;
 #[cfg(test)]
 mod monitor;

@@ -5,10 +5,12 @@ ghost use Rattle.kpn_body.specs.StandardKinds.{signature, Admitted};
 
 use crate::checks::same;
 use crate::due::{COUNTER_ENDS, Due, READY_CHAIN_ENDS};
+use crate::limit::in_time;
 use crate::networks::network;
-use crate::runs::run_bodies;
+use crate::runs::{finish_of, run_bodies};
 use kpn_body::{Call, Standard, StandardBody, answer};
-use kpn_net::{Answer, Card, Kinds, Local, Net, Token};
+use kpn_net::{Answer, Card, End, Kinds, Local, Net, Token};
+use kpn_run::Open;
 use std::alloc::{AllocError, Global};
 use std::process::Abort;
 use std::rt::Clock;
@@ -18,47 +20,64 @@ use std::thread;
 use std::thread::Threads;
 use test_texts::{COUNTER_INTO_SINK, READY_CHAIN};
 
-/// A network, by how many workers it is run, and its two processes whose closures wait for each other at
-/// their call of the number `at`.
+/// A network, how many workers run it, its two processes whose closures wait for each other, and when they do.
 #[derive(Clone, Copy)]
 struct Meeting {
     text: &'static str,
     workers: usize,
     left: usize,
     right: usize,
-    at: u64,
+    times: Times,
+}
+
+/// At which of its calls a closure waits for the other.
+#[derive(Clone, Copy)]
+pub(crate) enum Times {
+    /// At the call of this number.
+    Call(u64),
+    /// At the first three calls, and at each whose number is a multiple of ten thousand.
+    Rarely,
+}
+
+impl Times {
+    fn has(self, call: u64) -> bool {
+        match self {
+            Times::Call(number) => call == number,
+            Times::Rarely => call <= 3 || call % 10_000 == 0,
+        }
+    }
 }
 
 /// Which of the two a closure is, or neither.
 #[derive(Clone, Copy)]
-enum Side {
+pub(crate) enum Side {
     Left,
     Right,
     Neither,
 }
 
-/// How often each of two closures was called, and how many have seen that the other was called for
-/// the time at which they meet.
+/// How often each of two closures was called, and how often one has seen that the other had come as far.
 #[derive(Drop)]
-struct Calls {
+pub(crate) struct Calls {
     left: AtomicU64,
     right: AtomicU64,
     seen: AtomicU64,
 }
 
-/// Counts a call, and waits at the call of the number `at` until the other has come as far. Between
-/// two looks other threads may go on, so that a busy machine doesn't end the wait too soon.
-fn meet(at: u64, side: Side, calls: &Calls) {
+/// Counts a call, and if it is time waits until the other has come as far. Between two looks other threads may go on.
+/// The time limit of the test ends a wait that is in vain.
+pub(crate) fn meet(times: Times, side: Side, calls: &Calls) {
     let (mine, other) = match side {
         Side::Left => (&calls.left, &calls.right),
         Side::Right => (&calls.right, &calls.left),
         Side::Neither => return,
     };
-    if mine.fetch_add(1, Ordering::SeqCst).wrapping_add(1) != at {
+    let call = mine.fetch_add(1, Ordering::SeqCst).wrapping_add(1);
+    if !times.has(call) {
         return;
     }
-    for _ in 0..100_000_000u32 {
-        if other.load(Ordering::SeqCst) >= at {
+    for _ in 0..u64::MAX {
+        if other.load(Ordering::SeqCst) >= call {
             calls.seen.fetch_add(1, Ordering::SeqCst);
             return;
         }
@@ -66,19 +85,26 @@ fn meet(at: u64, side: Side, calls: &Calls) {
     }
 }
 
-fn no_calls() -> Calls {
-    Calls {
-        left: AtomicU64::new(0),
-        right: AtomicU64::new(0),
-        seen: AtomicU64::new(0),
+impl Calls {
+    pub(crate) fn new() -> Calls {
+        Calls {
+            left: AtomicU64::new(0),
+            right: AtomicU64::new(0),
+            seen: AtomicU64::new(0),
+        }
+    }
+
+    /// How often one has seen that the other had come as far: twice for each time that they meet.
+    pub(crate) fn seen(&self) -> u64 {
+        self.seen.load(Ordering::SeqCst)
     }
 }
 
-/// A body that, if it is one of the two, waits for the other at its call of the number `at`.
+/// A body that, if it is one of the two, waits for the other at these times.
 fn meeting_body(
     alloc: Global,
     card: Card,
-    at: u64,
+    times: Times,
     side: Side,
     calls: Arc<Calls>,
 ) -> Result<StandardBody, AllocError>
@@ -91,7 +117,7 @@ fn meeting_body(
             requires admitted { Admitted card local last }
             ensures { result ≡ standard.answer card local last }
         {
-            meet(at, side, &calls);
+            meet(times, side, &calls);
             answer(card, local, last)
         },
     )?;
@@ -123,7 +149,7 @@ fn meeting_bodies<R: Abort>(
         let side = side_of(meeting, process);
         if Standard::signature(&card).is_some() {
             let calls = Arc::try_clone(calls).expect(rt, "no memory");
-            let body = meeting_body(alloc, card, meeting.at, side, calls);
+            let body = meeting_body(alloc, card, meeting.times, side, calls);
             let body = body.expect(rt, "no memory");
             bodies.push(body).expect(rt, "no memory");
         }
@@ -139,11 +165,11 @@ fn meets<R: Threads + Wait + Clock + Abort + Sync>(
     meeting: Meeting,
     due: &Due,
 ) {
-    let calls = Arc::new(alloc, no_calls()).expect(rt, "no memory");
+    let calls = Arc::new(alloc, Calls::new()).expect(rt, "no memory");
     let net = network(rt, alloc, meeting.text);
     let bodies = meeting_bodies(rt, alloc, &net, meeting, &calls);
     run_bodies(rt, alloc, net, bodies, meeting.workers, due);
-    same(rt, "seen", calls.seen.load(Ordering::SeqCst), 2);
+    same(rt, "seen", calls.seen(), 2);
 }
 
 /// A counter and its sink, by two workers.
@@ -152,7 +178,7 @@ static COUNTER_MEETS: Meeting = Meeting {
     workers: 2,
     left: 0,
     right: 1,
-    at: 1,
+    times: Times::Call(1),
 };
 
 /// Five processes, all of which can go on at first, by three workers. The two are next to each other:
@@ -162,7 +188,34 @@ static CHAIN_MEETS: Meeting = Meeting {
     workers: 3,
     left: 3,
     right: 4,
-    at: 1,
+    times: Times::Call(1),
+};
+
+/// A counter of thirty thousand and its sink, by two workers. At the first calls both are at work; then calls are
+/// quick, so that one does better without the other, which rests; and where the two meet again it must have come back.
+static SPARE_MEETS: Meeting = Meeting {
+    text: "version = 1
+budget = 100000
+
+[[process]]
+name = \"src\"
+kind = \"count\"
+args = [1, 30000]
+
+[[process]]
+name = \"snk\"
+kind = \"sink\"
+args = [30000]
+
+[[channel]]
+name = \"c0\"
+from = \"src\"
+to = \"snk\"
+",
+    workers: 2,
+    left: 0,
+    right: 1,
+    times: Times::Rarely,
 };
 
 #[test]
@@ -176,7 +229,7 @@ fn two_workers_meet_at_the_second_call(rt: HostRuntime) {
         &rt,
         rt.alloc(),
         Meeting {
-            at: 2,
+            times: Times::Call(2),
             ..COUNTER_MEETS
         },
         &COUNTER_ENDS,
@@ -194,9 +247,24 @@ fn two_of_five_processes_meet_at_the_second_call(rt: HostRuntime) {
         &rt,
         rt.alloc(),
         Meeting {
-            at: 2,
+            times: Times::Call(2),
             ..CHAIN_MEETS
         },
         &READY_CHAIN_ENDS,
     );
+}
+
+/// A worker that rests, since the other does better without it, works again once the other waits for it.
+#[test]
+fn a_spare_worker_works_again(rt: HostRuntime) {
+    let alloc = rt.alloc();
+    let calls = Arc::new(alloc, Calls::new()).expect(&rt, "no memory");
+    let net = network(&rt, alloc, SPARE_MEETS.text);
+    let bodies = meeting_bodies(&rt, alloc, &net, SPARE_MEETS, &calls);
+    let finish = in_time(&rt, "a spare worker", || {
+        finish_of(&rt, alloc, net, bodies, SPARE_MEETS.workers, &Open)
+    });
+    let found = (finish.end(), finish.history().len(), calls.seen());
+    same(&rt, "ended", found, (End::Terminated, 60_002, 12));
+    drop(finish);
 }

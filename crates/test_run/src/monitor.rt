@@ -5,4 +5,5 @@ mod monitors;
 mod refusals;
 mod scenes;
 mod strangers;
+mod waking;
 mod watchers;

@@ -3,7 +3,8 @@
 //! Each test passes whichever request is refused, and prints which one was. What can be tried again is
 //! tried again with what was handed back, and succeeds.
 use crate::checks::same;
-use crate::due::{WOVEN_ENDS, compare};
+use crate::due::{Due, RUNNING_SUMS_END, WOVEN_ENDS, compare};
+use crate::limit::in_time;
 use crate::runs::{Refusal, finish_of, handed_back};
 use kpn_body::{Body, Standard};
 use kpn_compute::bodies_of;
@@ -17,7 +18,7 @@ use std::rt::Clock;
 use std::sync::Wait;
 use std::test::Fail;
 use std::thread::Threads;
-use test_texts::COPIED_AND_WOVEN;
+use test_texts::{COPIED_AND_WOVEN, RUNNING_SUMS};
 
 /// Which request for memory was refused, of those after which the test goes on.
 #[derive(Clone, Copy, PartialEq, Eq)]
@@ -63,30 +64,33 @@ fn load_text(alloc: Global, text: &str) -> Result<Net<Standard>, NetFault> {
     load(alloc, &mut source)
 }
 
-/// Runs Parks's case, and tries again with what was handed back if memory was refused.
+/// Runs a network, and tries again with what was handed back if memory was refused.
 fn finish_again<B: Body, R: Threads + Wait + Clock + Abort + Sync>(
     rt: &R,
     alloc: Global,
     net: Net<B::Kinds>,
     bodies: Vec<B>,
     workers: usize,
+    due: &Due,
 ) -> (Finish<B::Kinds>, Refused) {
     match run(rt, alloc, net, bodies, workers, &Open) {
         Ok(finish) => (finish, Refused::Nothing),
-        Err(fault) => (finish_at_last(rt, alloc, fault, workers), Refused::Run),
+        Err(fault) => (finish_at_last(rt, alloc, fault, workers, due), Refused::Run),
     }
 }
 
-/// Runs Parks's case with what was handed back when memory was refused.
+/// Runs a network with what was handed back when memory was refused.
 fn finish_at_last<B: Body, R: Threads + Wait + Clock + Abort + Sync>(
     rt: &R,
     alloc: Global,
     fault: RunFault<B>,
     workers: usize,
+    due: &Due,
 ) -> Finish<B::Kinds> {
     let (net, bodies, refusal) = handed_back(rt, fault);
     let found = (refusal, net.processes(), bodies.len());
-    same(rt, "refused", found, (Refusal::Memory, 4, 4));
+    let all = due.processes;
+    same(rt, "refused", found, (Refusal::Memory, all, all));
     finish_of(rt, alloc, net, bodies, workers, &Open)
 }
 
@@ -110,17 +114,18 @@ fn report_again<K: Kinds, R: Abort>(
     }
 }
 
-/// Makes the stream of the last channel, and tries again if memory was refused.
+/// Makes the stream of a channel, and tries again if memory was refused.
 fn stream_again<K: Kinds, R: Abort>(
     rt: &R,
     alloc: Global,
     net: &Net<K>,
     history: &[Entry],
+    channel: usize,
 ) -> (Vec<Token>, Refused) {
-    if let Ok(stream) = stream_of(alloc, net, history, 3) {
+    if let Ok(stream) = stream_of(alloc, net, history, channel) {
         return (stream, Refused::Nothing);
     }
-    let Ok(stream) = stream_of(alloc, net, history, 3) else {
+    let Ok(stream) = stream_of(alloc, net, history, channel) else {
         panic!(rt; "refused again");
     };
     (stream, Refused::Stream)
@@ -166,60 +171,75 @@ fn first_refused(all: &[Refused]) -> Refused {
     Refused::Nothing
 }
 
-/// The report and a stream of a run of Parks's case that wasn't refused its growth.
+/// The report and a stream of a run that wasn't refused a growth.
 fn tell_again<K: Kinds, R: Abort>(
     rt: &R,
     alloc: Global,
     finish: &Finish<K>,
+    due: &Due,
 ) -> Result<Refused, AllocError> {
-    let report = tell_report(rt, alloc, finish);
-    let stream = tell_stream(rt, alloc, finish);
-    compare(rt, alloc, finish, &WOVEN_ENDS)?;
+    let report = tell_report(rt, alloc, finish, due);
+    let stream = tell_stream(rt, alloc, finish, due);
+    compare(rt, alloc, finish, due)?;
     Ok(first_refused(&[report, stream]))
 }
 
 /// The report of such a run.
-fn tell_report<K: Kinds, R: Abort>(rt: &R, alloc: Global, finish: &Finish<K>) -> Refused {
+fn tell_report<K: Kinds, R: Abort>(
+    rt: &R,
+    alloc: Global,
+    finish: &Finish<K>,
+    due: &Due,
+) -> Refused {
     let (told, refused) = report_again(rt, alloc, finish);
-    same(rt, "end", told.end, End::Deadlock);
+    same(rt, "end", told.end, due.end);
     same(rt, "detail", told.detail.is_some(), true);
     refused
 }
 
 /// The stream of such a run.
-fn tell_stream<K: Kinds, R: Abort>(rt: &R, alloc: Global, finish: &Finish<K>) -> Refused {
-    let (tokens, refused) = stream_again(rt, alloc, finish.net(), finish.history());
-    same(rt, "stream", tokens.as_slice(), WOVEN_ENDS.stream);
+fn tell_stream<K: Kinds, R: Abort>(
+    rt: &R,
+    alloc: Global,
+    finish: &Finish<K>,
+    due: &Due,
+) -> Refused {
+    let (net, history) = (finish.net(), finish.history());
+    let (tokens, refused) = stream_again(rt, alloc, net, history, due.show);
+    same(rt, "stream", tokens.as_slice(), due.stream);
     refused
 }
 
-/// Loads and runs Parks's case, with its report and a stream. Fails if memory for the test itself was
+/// Loads and runs a network, with its report and a stream. Fails if memory for the test itself was
 /// refused.
 fn run_refused<R: Threads + Wait + Clock + Abort + Sync>(
     rt: &R,
     alloc: Global,
+    text: &str,
     workers: usize,
+    due: &Due,
 ) -> Result<Refused, AllocError> {
-    let (net, load) = load_again(rt, alloc, COPIED_AND_WOVEN);
+    let (net, load) = load_again(rt, alloc, text);
     let bodies = bodies_of(alloc, &net)?;
-    let (finish, run) = finish_again(rt, alloc, net, bodies, workers);
-    let told = tell_refused(rt, alloc, &finish, first_refused(&[load, run]));
+    let (finish, run) = finish_again(rt, alloc, net, bodies, workers, due);
+    let told = tell_refused(rt, alloc, &finish, first_refused(&[load, run]), due);
     drop(finish);
     told
 }
 
-/// Tells of a run of Parks's case before which this was refused.
+/// Tells of a run before which this was refused.
 fn tell_refused<K: Kinds, R: Abort>(
     rt: &R,
     alloc: Global,
     finish: &Finish<K>,
     before: Refused,
+    due: &Due,
 ) -> Result<Refused, AllocError> {
     if finish.end() == End::Memory {
         ends_for_memory(rt, alloc, finish)?;
         return Ok(Refused::Growth);
     }
-    let told = tell_again(rt, alloc, finish)?;
+    let told = tell_again(rt, alloc, finish, due)?;
     Ok(first_refused(&[before, told]))
 }
 
@@ -230,14 +250,36 @@ fn told(refused: Result<Refused, AllocError>) -> &'static str {
 
 #[test]
 fn a_run_by_one_worker(rt: HostRuntime) -> Result<(), Fail> {
-    let word = told(run_refused(&rt, rt.alloc(), 1));
+    let word = in_time(&rt, "a run by one worker", || {
+        told(run_refused(&rt, rt.alloc(), COPIED_AND_WOVEN, 1, &WOVEN_ENDS))
+    });
     println!(rt; "refused: {word}")?;
     Ok(())
 }
 
 #[test]
 fn a_run_by_two_workers(rt: HostRuntime) -> Result<(), Fail> {
-    let word = told(run_refused(&rt, rt.alloc(), 2));
+    let word = in_time(&rt, "a run by two workers", || {
+        told(run_refused(&rt, rt.alloc(), COPIED_AND_WOVEN, 2, &WOVEN_ENDS))
+    });
+    println!(rt; "refused: {word}")?;
+    Ok(())
+}
+
+#[test]
+fn running_sums_by_one_worker(rt: HostRuntime) -> Result<(), Fail> {
+    let word = in_time(&rt, "running sums by one worker", || {
+        told(run_refused(&rt, rt.alloc(), RUNNING_SUMS, 1, &RUNNING_SUMS_END))
+    });
+    println!(rt; "refused: {word}")?;
+    Ok(())
+}
+
+#[test]
+fn running_sums_by_two_workers(rt: HostRuntime) -> Result<(), Fail> {
+    let word = in_time(&rt, "running sums by two workers", || {
+        told(run_refused(&rt, rt.alloc(), RUNNING_SUMS, 2, &RUNNING_SUMS_END))
+    });
     println!(rt; "refused: {word}")?;
     Ok(())
 }

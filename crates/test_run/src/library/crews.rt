@@ -1,6 +1,7 @@
 //! Runs by threads of a caller's own.
 use crate::checks::same;
 use crate::library::watched::{counter, tells_counter};
+use crate::limit::in_time;
 use kpn_body::Finished;
 use kpn_compute::{CardBody, bodies_of};
 use kpn_net::End;
@@ -11,6 +12,7 @@ use kpn_run::Open;
 use kpn_standard::Standard;
 use std::alloc::Global;
 use std::process::Abort;
+use std::rt::Clock;
 use std::sync::Wait;
 use std::sync::atomic::{AtomicU64, Ordering};
 use std::sync::ledger::Ledger;
@@ -21,6 +23,15 @@ use std::thread::Threads;
 struct All<'a, R> {
     rt: &'a R,
     met: AtomicU64,
+}
+
+impl<'a, R> All<'a, R> {
+    fn new(rt: &'a R) -> All<'a, R> {
+        All {
+            rt,
+            met: AtomicU64::new(0),
+        }
+    }
 }
 
 impl<'a, R: Wait + Sync> Crew<CardBody<Standard>> for All<'a, R> {
@@ -36,13 +47,15 @@ impl<'a, R: Wait + Sync> Crew<CardBody<Standard>> for All<'a, R> {
     }
 }
 
-/// Looks at one run of a counter to three by so many seats.
-fn shows_crew<R: Threads + Wait + Sync + Abort>(rt: &R, alloc: Global, seats: u16) {
+/// Looks at one run of a counter to three by a crew with this many seats.
+fn shows_crew<R: Threads + Wait + Clock + Sync + Abort>(rt: &R, alloc: Global, seats: u16) {
     let net = counter(rt, alloc, 3);
-    let bodies = bodies_of(alloc, &net).expect(rt, "memory");
-    let met = AtomicU64::new(0);
-    let crew = All { rt, met };
-    let Ok(run) = run_by_crew(rt, alloc, net, bodies, seats, &crew) else {
+    let bodies: Vec<CardBody<Standard>> = bodies_of(alloc, &net).expect(rt, "memory");
+    let crew = All::new(rt);
+    let ran = in_time(rt, "a crew", || {
+        run_by_crew(rt, alloc, net, bodies, seats, &crew)
+    });
+    let Ok(run) = ran else {
         panic!(rt; "no run");
     };
     let met = crew.met.load(Ordering::SeqCst);
@@ -87,11 +100,14 @@ fn a_crew_leaves_before_the_end(rt: HostRuntime) {
     }
 }
 
-/// Looks at one run of a counter to three by so many seats, which leave after one commit.
-fn shows_leaving<R: Threads + Wait + Sync + Abort>(rt: &R, alloc: Global, seats: u16) {
+/// Looks at one run of a counter to three by a crew with this many seats, which leaves after one commit each.
+fn shows_leaving<R: Threads + Wait + Clock + Sync + Abort>(rt: &R, alloc: Global, seats: u16) {
     let net = counter(rt, alloc, 3);
     let bodies = bodies_of(alloc, &net).expect(rt, "memory");
-    let Ok(run) = run_by_crew(rt, alloc, net, bodies, seats, &Leaving { rt }) else {
+    let ran = in_time(rt, "a crew that leaves", || {
+        run_by_crew(rt, alloc, net, bodies, seats, &Leaving { rt })
+    });
+    let Ok(run) = ran else {
         panic!(rt; "no run");
     };
     same(rt, "end", run.end(), None);
@@ -104,9 +120,11 @@ fn shows_leaving<R: Threads + Wait + Sync + Abort>(rt: &R, alloc: Global, seats:
 fn a_crew_without_bodies_is_refused(rt: HostRuntime) {
     let alloc = rt.alloc();
     let net = counter(&rt, alloc, 3);
-    let met = AtomicU64::new(0);
-    let crew = All { rt: &rt, met };
-    let ran = run_by_crew(&rt, alloc, net, Vec::new(alloc), 2, &crew);
+    let crew = All::new(&rt);
+    let bodies: Vec<CardBody<Standard>> = Vec::new(alloc);
+    let ran = in_time(&rt, "a crew without bodies", || {
+        run_by_crew(&rt, alloc, net, bodies, 2, &crew)
+    });
     let Err(OpenRefused { net, fault, .. }) = ran else {
         panic!(rt; "not refused");
     };

@@ -1,8 +1,9 @@
 //! Runs that are watched, and runs that are stopped.
 use crate::checks::same;
+use crate::limit::in_time;
 use kpn_body::{Body, answer};
 use kpn_builder::{Builder, NewChannel};
-use kpn_compute::bodies_of;
+use kpn_compute::{CardBody, bodies_of};
 use kpn_machine::Standing;
 use kpn_model::{Answer, Card, Kinds, Local, Token};
 use kpn_net::{End, Net};
@@ -30,14 +31,14 @@ entries 8
 stream c0 1 2 3
 ";
 
-fn often() -> Duration {
+pub(crate) fn often() -> Duration {
     Duration::from_millis(1)
 }
 
 /// Keeps what it was shown: how often it was asked, the entries of the last time, and whether the run
 /// had ended then; stops once it has seen so many entries.
 #[derive(Drop)]
-struct Witness {
+pub(crate) struct Witness {
     stops_at: u64,
     asked: AtomicU64,
     entries: AtomicU64,
@@ -45,7 +46,7 @@ struct Witness {
 }
 
 impl Witness {
-    fn new(stops_at: u64) -> Witness {
+    pub(crate) fn new(stops_at: u64) -> Witness {
         Witness {
             stops_at,
             asked: AtomicU64::new(0),
@@ -88,13 +89,24 @@ fn add_counter<R: Abort>(rt: &R, made: &mut Builder, numbers: i64) {
     made.channel(wire).expect(rt, "memory");
 }
 
-/// Looks at one watched run of a counter to three: both processes write or read thrice and stop.
-fn shows_counter<R: Wait + Clock + Threads + Sync + Abort>(rt: &R, alloc: Global, workers: usize) {
+/// Runs a counter to three with this many workers, beside a witness, within the time limit.
+fn watch<R: Wait + Clock + Threads + Sync + Abort>(
+    rt: &R,
+    alloc: Global,
+    workers: usize,
+    witness: &Witness,
+) -> Result<WatchedRun<Standard>, WatchedFault<CardBody<Standard>>> {
     let net = counter(rt, alloc, 3);
     let bodies = bodies_of(alloc, &net).expect(rt, "memory");
+    in_time(rt, "a watched run", || {
+        run_watched(rt, alloc, net, bodies, workers, &Open, often(), witness)
+    })
+}
+
+/// Looks at one watched run of a counter to three: both processes write or read thrice and stop.
+fn shows_counter<R: Wait + Clock + Threads + Sync + Abort>(rt: &R, alloc: Global, workers: usize) {
     let witness = Witness::new(u64::MAX);
-    let ran = run_watched(rt, alloc, net, bodies, workers, &Open, often(), &witness);
-    let Ok(run) = ran else {
+    let Ok(run) = watch(rt, alloc, workers, &witness) else {
         panic!(rt; "no run");
     };
     compare_counter(rt, alloc, &run);
@@ -104,7 +116,7 @@ fn shows_counter<R: Wait + Clock + Threads + Sync + Abort>(rt: &R, alloc: Global
 }
 
 /// Compares the end, the numbers and the stream of a run of a counter to three.
-fn compare_counter<R: Abort>(rt: &R, alloc: Global, run: &WatchedRun<Standard>) {
+pub(crate) fn compare_counter<R: Abort>(rt: &R, alloc: Global, run: &WatchedRun<Standard>) {
     same(rt, "end", run.end(), Some(End::Terminated));
     same(rt, "entries", run.history().len(), 8);
     same(rt, "receipts", run.receipts(), 8);
@@ -142,11 +154,8 @@ fn a_watched_run_comes_to_its_end(rt: HostRuntime) {
 /// A run that is stopped before its start hands all back.
 #[test]
 fn nothing_runs_if_the_observer_stops_at_once(rt: HostRuntime) {
-    let alloc = rt.alloc();
-    let net = counter(&rt, alloc, 3);
-    let bodies = bodies_of(alloc, &net).expect(&rt, "memory");
     let witness = Witness::new(0);
-    let ran = run_watched(&rt, alloc, net, bodies, 2, &Open, often(), &witness);
+    let ran = watch(&rt, rt.alloc(), 2, &witness);
     let Err(WatchedFault::Stopped { net, bodies }) = ran else {
         panic!(rt; "not stopped");
     };
@@ -159,11 +168,8 @@ fn nothing_runs_if_the_observer_stops_at_once(rt: HostRuntime) {
 /// A number of workers that is too great is refused before the observer is asked.
 #[test]
 fn seventeen_workers_are_refused(rt: HostRuntime) {
-    let alloc = rt.alloc();
-    let net = counter(&rt, alloc, 3);
-    let bodies = bodies_of(alloc, &net).expect(&rt, "memory");
     let witness = Witness::new(0);
-    let ran = run_watched(&rt, alloc, net, bodies, 17, &Open, often(), &witness);
+    let ran = watch(&rt, rt.alloc(), 17, &witness);
     let Err(WatchedFault::Workers { .. }) = ran else {
         panic!(rt; "not refused");
     };
@@ -250,7 +256,9 @@ fn shows_stopped<R: Wait + Clock + Threads + Sync + Abort>(rt: &R, alloc: Global
     let net = counter(rt, alloc, 500_000);
     let bodies = slow_bodies(rt, alloc, &net);
     let witness = Witness::new(100);
-    let ran = run_watched(rt, alloc, net, bodies, workers, &Slowly, often(), &witness);
+    let ran = in_time(rt, "a run that is stopped", || {
+        run_watched(rt, alloc, net, bodies, workers, &Slowly, often(), &witness)
+    });
     let Ok(run) = ran else {
         panic!(rt; "no run");
     };

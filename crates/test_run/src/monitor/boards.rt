@@ -5,7 +5,7 @@ ghost use Rattle.kpn_model.specs.declared.history.Entry.TheVariants.{Did, Grew};
 ghost use Rattle.kpn_model.specs.declared.token.Token.TheVariants.{Word};
 ghost use Rattle.kpn_watch.specs.Phases.{phase_of};
 ghost use Rattle.kpn_watch.specs.Shown.{word_of};
-ghost use Rattle.kpn_watch.specs.declared.progress.Phase.TheVariants.{Running, Terminated};
+ghost use Rattle.kpn_watch.specs.declared.progress.Phase.TheVariants.{Memory, Running, Terminated};
 
 use crate::checks::same;
 use kpn_model::{Deed, End, Entry, Token};
@@ -96,12 +96,14 @@ struct Display {
     ghost watched: { watcher.board ≡ board },
 }
 
-/// Ghost lemma: the words in which the board publishes the histories of a counter of three into a sink of one.
+/// Ghost lemma: the words in which the board publishes the histories of a counter of three into a sink of one,
+/// among them the one after a growth that was refused its memory.
 fn worked_words()
     ensures one { word_of (Did 0 (Put 0 (Word 1)) ∷ []) Running ≡ 33554432 }
     ensures two { word_of (Did 0 (Put 0 (Word 1)) ∷ Did 1 (Took 0 (Word 1)) ∷ []) Running ≡ 67108864 }
     ensures three { word_of (Did 0 (Put 0 (Word 1)) ∷ Did 1 (Took 0 (Word 1)) ∷ Did 0 (Put 0 (Word 2)) ∷ []) Running ≡ 100663296 }
     ensures four { word_of (Did 0 (Put 0 (Word 1)) ∷ Did 1 (Took 0 (Word 1)) ∷ Did 0 (Put 0 (Word 2)) ∷ Did 1 Stopped ∷ []) Running ≡ 134217728 }
+    ensures refused { word_of (Did 0 (Put 0 (Word 1)) ∷ Did 1 (Took 0 (Word 1)) ∷ Did 0 (Put 0 (Word 2)) ∷ Did 1 Stopped ∷ []) Memory ≡ 134217733 }
     ensures six { word_of (Did 0 (Put 0 (Word 1)) ∷ Did 1 (Took 0 (Word 1)) ∷ Did 0 (Put 0 (Word 2)) ∷ Did 1 Stopped ∷ Grew 0 2 ∷ Did 0 (Put 0 (Word 3)) ∷ []) Running ≡ 201326600 }
     ensures seven { word_of (Did 0 (Put 0 (Word 1)) ∷ Did 1 (Took 0 (Word 1)) ∷ Did 0 (Put 0 (Word 2)) ∷ Did 1 Stopped ∷ Grew 0 2 ∷ Did 0 (Put 0 (Word 3)) ∷ Did 0 Stopped ∷ []) Terminated ≡ 234881033 }
 {}
@@ -159,6 +161,16 @@ fn stopped(process: usize) -> Entry {
     }
 }
 
+fn took(number: u64) -> Entry {
+    Entry::Did {
+        process: 1,
+        deed: Deed::Took {
+            channel: 0,
+            token: Token::Word(number),
+        },
+    }
+}
+
 /// A counter of three into a sink of one: the channel of capacity one grows to two. The words are those of
 /// `worked_words`.
 #[test]
@@ -167,15 +179,8 @@ fn each_commit_is_shown(rt: HostRuntime) {
     let mut display = Display::new(&rt, rt.alloc());
     let running = Phase::Running;
     same(&rt, "nothing", display.look(), progress(0, 0, running));
-    let took = Entry::Did {
-        process: 1,
-        deed: Deed::Took {
-            channel: 0,
-            token: Token::Word(1),
-        },
-    };
     display.append(&rt, &[put(1)], None, progress(1, 0, running));
-    display.append(&rt, &[took], None, progress(2, 0, running));
+    display.append(&rt, &[took(1)], None, progress(2, 0, running));
     display.append(&rt, &[put(2)], None, progress(3, 0, running));
     display.append(&rt, &[stopped(1)], None, progress(4, 0, running));
     let grew = Entry::Grew { channel: 0, to: 2 };
@@ -189,4 +194,16 @@ fn each_commit_is_shown(rt: HostRuntime) {
         history: _,
     } = display;
     same(&rt, "left", publisher.join(&board, watcher), last);
+}
+
+/// The same, but the growth is refused its memory: the history stays, and the word is `refused` of `worked_words`.
+#[test]
+fn a_refused_growth_is_shown(rt: HostRuntime) {
+    worked_words();
+    let mut display = Display::new(&rt, rt.alloc());
+    let before = [put(1), took(1), put(2), stopped(1)];
+    display.append(&rt, &before, None, progress(4, 0, Phase::Running));
+    let last = progress(4, 0, Phase::Memory);
+    display.append(&rt, &[], Some(End::Memory), last);
+    drop(display);
 }

@@ -125,6 +125,14 @@ pub(crate) fn exchanged<B: Body, E: EntryLedger, O: Ledger, R: Wait + Clock + Ab
     same(rt, "ended", ended, COUNTER_ENDED);
 }
 
+/// This many answers were taken, and the lock was free at once.
+fn on(answers: u64) -> Went {
+    Went::On {
+        answers,
+        waited: false,
+    }
+}
+
 /// The bodies of a counter of three and a sink of three are asked in place to their end.
 pub(crate) fn asked_in_place<B: Body, E: EntryLedger, O: Ledger, R: Wait + Clock + Abort>(
     rt: &R,
@@ -135,8 +143,8 @@ pub(crate) fn asked_in_place<B: Body, E: EntryLedger, O: Ledger, R: Wait + Clock
     let mut watcher = watcher_of(rt, &monitor);
     let due = [
         (0, Went::Nowhere),
-        (3, Went::On { waited: false }),
-        (1000, Went::On { waited: false }),
+        (3, on(3)),
+        (1000, on(5)),
         (1000, Went::Over(End::Terminated)),
     ];
     for (most, went) in due {

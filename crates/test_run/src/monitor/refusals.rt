@@ -1,11 +1,12 @@
 //! One request for memory is refused, whichever it is.
 //!
-//! The test passes whichever request is refused, and prints which one was. What can be tried again is
+//! Each test passes whichever request is refused, and prints which one was. What can be tried again is
 //! tried again with what was handed back, and succeeds.
 ghost use Rattle.std.specs.Prelude.{◌≡◌};
 ghost use Rattle.kpn_machine.specs.MachineView.{IsFresh};
 
 use crate::checks::same;
+use crate::limit::in_time;
 use crate::monitor::monitors::{
     Ended, close_with, ended_of, locked, opened, seen_by, watcher_of, work_alone,
 };
@@ -21,7 +22,7 @@ use std::process::Abort;
 use std::sync::Wait;
 use std::sync::ledger::Ledger;
 use std::test::Fail;
-use test_texts::COUNTER_INTO_SMALL_SINK;
+use test_texts::{COUNTER_INTO_SMALL_SINK, RUNNING_SUMS};
 
 /// Which request for memory was refused, of those after which the test goes on.
 #[derive(Clone, Copy, PartialEq, Eq)]
@@ -54,33 +55,38 @@ impl Refused {
     }
 }
 
-/// Opens a machine of a counter and a sink, and tries again with what was handed back if memory was
-/// refused.
+/// Opens a machine of this number of processes, and tries again with what was handed back if memory was refused.
 fn machine_again<B: Body, R: Abort>(
     rt: &R,
     alloc: Global,
     net: Net<B::Kinds>,
     bodies: Vec<B>,
+    processes: usize,
 ) -> (Machine<B>, Refused)
     ensures { IsFresh result.0 }
 {
     match Machine::open(alloc, net, bodies) {
         Ok(machine) => (machine, Refused::Nothing),
-        Err(refused) => (open_refused_parts(rt, alloc, refused), Refused::Machine),
+        Err(refused) => {
+            let machine = open_refused_parts(rt, alloc, refused, processes);
+            (machine, Refused::Machine)
+        }
     }
 }
 
-/// Opens a machine of a counter and a sink with what was handed back.
+/// Opens a machine with what was handed back, which has this number of processes.
 fn open_refused_parts<B: Body, R: Abort>(
     rt: &R,
     alloc: Global,
     refused: OpenRefused<B>,
+    processes: usize,
 ) -> Machine<B>
     ensures { IsFresh result }
 {
     let OpenRefused { net, bodies, fault } = refused;
     let found = (fault, net.processes(), bodies.len());
-    same(rt, "refused", found, (OpenFault::Memory, 2, 2));
+    let due = (OpenFault::Memory, processes, processes);
+    same(rt, "refused", found, due);
     opened(rt, alloc, net, bodies)
 }
 
@@ -107,11 +113,15 @@ fn open_refused_machine<B: Body, R: Abort>(rt: &R, alloc: Global, machine: Machi
     locked(rt, alloc, machine)
 }
 
-/// Works alone to the end of a counter of three into a sink of one, and looks at the result.
+/// The result of a run, and what a watcher sees after it.
+type Shown = (Ended, Progress);
+
+/// Works alone to the end of a run, and looks at the result.
 fn work_to_the_end<B: Body, E: EntryLedger, O: Ledger, R: Wait + Abort>(
     rt: &R,
     alloc: Global,
     opening: Opening<B>,
+    due: Shown,
 ) -> Result<Refused, AllocError>
     requires network { opening.machine.network ≡ E.net }
     requires board { opening.board ≡ E.board }
@@ -124,13 +134,13 @@ fn work_to_the_end<B: Body, E: EntryLedger, O: Ledger, R: Wait + Abort>(
     let seen = seen_by(&monitor, &mut watcher);
     let seats = Vec::from_array(alloc, [seat])?;
     let closed = close_with(rt, monitor, seats);
-    let refused = growth_refused(rt, ended_of(&closed), seen);
+    let refused = growth_refused(rt, (ended_of(&closed), seen), due);
     drop(closed);
     Ok(refused)
 }
 
-/// The result, and what is seen, if the growth was refused its memory: two puts, a take and a stop.
-static BEFORE_THE_GROWTH: (Ended, Progress) = (
+/// A counter of three into a sink of one, if the growth was refused its memory: two puts, a take and a stop.
+static BEFORE_THE_GROWTH: Shown = (
     Ended {
         end: Some(End::Memory),
         receipts: 4,
@@ -144,8 +154,8 @@ static BEFORE_THE_GROWTH: (Ended, Progress) = (
     },
 );
 
-/// The result, and what is seen, if it was not refused.
-static AFTER_ALL: (Ended, Progress) = (
+/// The same, if the growth was not refused.
+static AFTER_THE_GROWTH: Shown = (
     Ended {
         end: Some(End::Terminated),
         receipts: 7,
@@ -159,14 +169,40 @@ static AFTER_ALL: (Ended, Progress) = (
     },
 );
 
-/// Whether the growth was refused its memory, given that the run has ended.
-fn growth_refused<R: Abort>(rt: &R, ended: Ended, seen: Progress) -> Refused {
-    let (due, refused) = match seen.phase {
-        Phase::Memory => (BEFORE_THE_GROWTH, Refused::Growth),
-        _ => (AFTER_ALL, Refused::Nothing),
-    };
-    same(rt, "ended", (ended, seen), due);
-    refused
+/// Running sums, of which no channel grows.
+static RUNNING_SUMS_SHOWN: Shown = (
+    Ended {
+        end: Some(End::Deadlock),
+        receipts: 26,
+        entries: 26,
+        processes: 4,
+    },
+    Progress {
+        entries: 26,
+        growths: 0,
+        phase: Phase::Deadlock,
+    },
+);
+
+/// The word that the board holds if the growth was refused its memory: 4 * 2^25 + 0 * 8 + 5.
+const WORD_BEFORE_THE_GROWTH: u64 = 134_217_733;
+
+/// Whether the growth was refused its memory, given that the run has ended; if not, the result is the one that is
+/// due.
+fn growth_refused<R: Abort>(rt: &R, shown: Shown, due: Shown) -> Refused {
+    if shown.1.phase != Phase::Memory {
+        same(rt, "ended", shown, due);
+        return Refused::Nothing;
+    }
+    same(rt, "ended", shown, BEFORE_THE_GROWTH);
+    same(rt, "word", word_of(shown.1), WORD_BEFORE_THE_GROWTH);
+    Refused::Growth
+}
+
+/// The word that shows this (docs/threads.md).
+fn word_of(seen: Progress) -> u64 {
+    let (entries, growths) = (u64::from(seen.entries), u64::from(seen.growths));
+    (entries << 25) | (growths << 3) | seen.phase.number()
 }
 
 /// Opens a monitor, and works on it to its end.
@@ -175,24 +211,37 @@ fn open_refused<B: Body, R: Wait + Abort>(
     alloc: Global,
     net: Net<B::Kinds>,
     bodies: Vec<B>,
+    due: Shown,
 ) -> Result<Refused, AllocError> {
-    let (machine, first) = machine_again(rt, alloc, net, bodies);
+    let (machine, first) = machine_again(rt, alloc, net, bodies, due.0.processes);
     let (opening, second) = opening_again(rt, alloc, machine);
-    let third = work_to_the_end::<B, Brand, Brand, R>(rt, alloc, opening)?;
+    let third = work_to_the_end::<B, Brand, Brand, R>(rt, alloc, opening, due)?;
     Ok(first.or(second).or(third))
 }
 
-/// Opens a monitor of a counter of three and a sink of one, and works on it to its end. Fails if memory
-/// for the test itself was refused.
-fn monitor_refused<R: Wait + Abort>(rt: &R, alloc: Global) -> Result<Refused, AllocError> {
-    let Parts { net, bodies } = parts_or_refused(rt, alloc, COUNTER_INTO_SMALL_SINK)?;
-    open_refused(rt, alloc, net, bodies)
+/// Opens a monitor of the network of a text, and works on it to its end. Returns the word for what was refused.
+fn monitor_refused<R: Wait + Abort>(rt: &R, alloc: Global, text: &str, due: Shown) -> &'static str {
+    let refused = match parts_or_refused(rt, alloc, text) {
+        Ok(Parts { net, bodies }) => open_refused(rt, alloc, net, bodies, due),
+        Err(AllocError) => Err(AllocError),
+    };
+    refused.unwrap_or(Refused::Elsewhere).word()
 }
 
 #[test]
 fn a_monitor_of_one_seat(rt: HostRuntime) -> Result<(), Fail> {
-    let refused = monitor_refused(&rt, rt.alloc()).unwrap_or(Refused::Elsewhere);
-    let word = refused.word();
+    let word = in_time(&rt, "a monitor", || {
+        monitor_refused(&rt, rt.alloc(), COUNTER_INTO_SMALL_SINK, AFTER_THE_GROWTH)
+    });
+    println!(rt; "refused: {word}")?;
+    Ok(())
+}
+
+#[test]
+fn a_monitor_of_running_sums(rt: HostRuntime) -> Result<(), Fail> {
+    let word = in_time(&rt, "a monitor", || {
+        monitor_refused(&rt, rt.alloc(), RUNNING_SUMS, RUNNING_SUMS_SHOWN)
+    });
     println!(rt; "refused: {word}")?;
     Ok(())
 }

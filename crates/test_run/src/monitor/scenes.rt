@@ -5,11 +5,13 @@
 ghost use Rattle.std.specs.Prelude.{◌≡◌, ◌<◌, ◌++◌, ◌∷◌, [], All, IfSome};
 
 use crate::checks::same;
+use crate::limit::in_time;
 use crate::monitor::exchanges::{SHOWN, asked_in_place, exchanged};
 use crate::monitor::monitors::{
     Ended, close_alone, close_with, ended_alone, ended_of, list_of, next_task, opening_of,
     outcome_of, seen_by, shown_to, two_seats, watcher_of, work_alone, work_counted,
 };
+use crate::monitor::waking::{ONE_TOKEN, woken};
 use kpn_body::Body;
 use kpn_machine::{End, Outcome};
 use kpn_monitor::{CloseFault, Closed, EntryLedger, Monitor, Opening, Seat, Taken, Unclosed};
@@ -34,6 +36,8 @@ enum Scene {
     /// One seat works to the end, with a gate that is asked once for each of eight answers, and the
     /// monitor is closed without the other, whose shares are empty.
     EmptySeat,
+    /// One seat works to the end, and the monitor is first closed with the idle one alone, which is refused.
+    IdleSeat,
     /// One seat commits one answer, or drops its task, and the monitor is closed with no end.
     OneTask { dropped: bool },
     /// As many watchers as there may be, of Parks's case.
@@ -42,6 +46,8 @@ enum Scene {
     Exchanged,
     /// One seat has the bodies of the same network asked in place.
     InPlace,
+    /// A thread that waits is woken by one that commits and leaves.
+    Woken,
 }
 
 static NOTHING: Progress = Progress {
@@ -105,10 +111,12 @@ fn play_opened<
         Scene::Watched => watched(rt, alloc, monitor, seat),
         Scene::MissingSeat => missing_seat(rt, alloc, monitor, seat),
         Scene::EmptySeat => empty_seat(rt, alloc, monitor, seat),
+        Scene::IdleSeat => idle_seat(rt, alloc, monitor, seat),
         Scene::OneTask { dropped } => one_task(rt, alloc, monitor, seat, dropped),
         Scene::MostWatchers => most_watchers(rt, alloc, monitor, seat),
         Scene::Exchanged => exchanged(rt, alloc, monitor, seat),
         Scene::InPlace => asked_in_place(rt, alloc, monitor, seat),
+        Scene::Woken => woken(rt, alloc, monitor, seat),
     }
 }
 
@@ -285,6 +293,19 @@ fn empty_seat<B: Body, E: EntryLedger, O: Ledger, R: Wait + Abort>(
     same(rt, "ended", ended, COUNTER_ENDED);
 }
 
+fn idle_seat<B: Body, E: EntryLedger, O: Ledger, R: Wait + Abort>(
+    rt: &R,
+    alloc: Global,
+    monitor: Monitor<B, E, O>,
+    seat: Seat<E, O>,
+) {
+    let (idle, seat) = two_seats(rt, seat);
+    let seat = work_counted(rt, &monitor, seat, 8);
+    let closed = close_at_last(rt, alloc, monitor, seat, idle);
+    same(rt, "ended", ended_of(&closed), COUNTER_ENDED);
+    drop(closed);
+}
+
 fn one_task<B: Body, E: EntryLedger, O: Ledger, R: Wait + Abort>(
     rt: &R,
     alloc: Global,
@@ -407,13 +428,31 @@ fn scenes_on_monitors(rt: HostRuntime) {
         (COPIED_AND_WOVEN, Scene::Watched),
         (COUNTER_INTO_SINK, Scene::MissingSeat),
         (COUNTER_INTO_SINK, Scene::EmptySeat),
+        (COUNTER_INTO_SINK, Scene::IdleSeat),
         (COUNTER_INTO_SINK, Scene::OneTask { dropped: false }),
         (COUNTER_INTO_SINK, Scene::OneTask { dropped: true }),
         (COPIED_AND_WOVEN, Scene::MostWatchers),
         (COUNTER_INTO_SINK, Scene::Exchanged),
         (COUNTER_INTO_SINK, Scene::InPlace),
     ] {
-        let opening = opening_of(&rt, rt.alloc(), text);
-        play(&rt, rt.alloc(), opening, scene);
+        shows_scene(&rt, rt.alloc(), "a scene", text, scene);
     }
+}
+
+/// Opens a monitor of the network of a text, and plays a scene on it, within the time limit.
+fn shows_scene<R: Threads + Wait + Clock + Abort + Sync>(
+    rt: &R,
+    alloc: Global,
+    what: &str,
+    text: &str,
+    scene: Scene,
+) {
+    let opening = opening_of(rt, alloc, text);
+    in_time(rt, what, || play(rt, alloc, opening, scene));
+}
+
+#[test]
+fn a_waiter_is_woken_by_one_that_leaves(rt: HostRuntime) {
+    let what = "a thread that waits in take";
+    shows_scene(&rt, rt.alloc(), what, ONE_TOKEN, Scene::Woken);
 }

@@ -1,0 +1,160 @@
+//! Two bodies that wait for each other, in watched runs and in runs by a crew.
+use crate::checks::same;
+use crate::library::watched::{Witness, compare_counter, counter, often};
+use crate::limit::in_time;
+use crate::meeting::{Calls, Side, Times, meet};
+use kpn_body::{Body, answer};
+use kpn_model::{Answer, Card, Kinds, Local, Token};
+use kpn_net::Net;
+use kpn_observe::{Crew, CrewSeat, EntryLedger, Monitor, WatchedRun, run_by_crew, run_watched};
+use kpn_run::Open;
+use kpn_standard::Standard;
+use std::alloc::Global;
+use std::marker::Model;
+use std::process::Abort;
+use std::rt::Clock;
+use std::sync::ledger::Ledger;
+use std::sync::{Arc, Wait};
+use std::thread::Threads;
+
+/// The counter's body or the sink's, which wait for each other at their first calls.
+#[derive(Drop)]
+struct Meeter {
+    card: Card,
+    side: Side,
+    calls: Arc<Calls>,
+}
+
+impl Model for Meeter {
+    ghost use Rattle.std.specs.Prelude.{IsSome};
+    ghost use Rattle.kpn_model.specs.declared.kinds.Card.{Card};
+    ghost use Rattle.kpn_body.specs.StandardKinds.{signature};
+
+    ghost Value = { Card };
+
+    ghost view = { λ b. b.card };
+
+    ghost invariant = { λ b. IsSome (signature b.card) };
+}
+
+impl Body for Meeter {
+    type Kinds = Standard;
+
+    ghost card = { λ body. body };
+
+    fn card(&self) -> Card {
+        self.card
+    }
+
+    fn answer(&self, local: Local, last: Option<Token>) -> Answer {
+        meet(Times::Call(1), self.side, &self.calls);
+        answer(self.card, local, last)
+    }
+}
+
+/// The bodies of a counter and its sink, in order.
+fn meeters<R: Abort>(
+    rt: &R,
+    alloc: Global,
+    net: &Net<Standard>,
+    calls: &Arc<Calls>,
+) -> Vec<Meeter> {
+    let mut bodies = Vec::new(alloc);
+    for process in 0..net.processes() {
+        let side = if process == 0 {
+            Side::Left
+        } else {
+            Side::Right
+        };
+        push_meeter(rt, &mut bodies, net.card(process), side, calls);
+    }
+    bodies
+}
+
+fn push_meeter<R: Abort>(
+    rt: &R,
+    bodies: &mut Vec<Meeter>,
+    card: Card,
+    side: Side,
+    calls: &Arc<Calls>,
+) {
+    if Standard::signature(&card).is_some() {
+        let calls = Arc::try_clone(calls).expect(rt, "memory");
+        let body = Meeter { card, side, calls };
+        bodies.push(body).expect(rt, "memory");
+    }
+}
+
+/// Runs a counter to three with this many workers, beside an observer.
+fn watched<R: Wait + Clock + Threads + Sync + Abort>(
+    rt: &R,
+    alloc: Global,
+    workers: usize,
+    calls: &Arc<Calls>,
+) -> WatchedRun<Standard> {
+    let net = counter(rt, alloc, 3);
+    let bodies = meeters(rt, alloc, &net, calls);
+    let witness = Witness::new(u64::MAX);
+    let ran = run_watched(rt, alloc, net, bodies, workers, &Open, often(), &witness);
+    let Ok(run) = ran else {
+        panic!(rt; "no run");
+    };
+    run
+}
+
+/// Works with each seat to the end.
+#[derive(Drop)]
+struct ToTheEnd<'a, R> {
+    rt: &'a R,
+}
+
+impl<'a, R: Wait + Sync> Crew<Meeter> for ToTheEnd<'a, R> {
+    fn work<E: EntryLedger, O: Ledger>(
+        &self,
+        monitor: &Monitor<Meeter, E, O>,
+        seat: &mut CrewSeat<E, O>,
+    ) {
+        let _ = seat.work(self.rt, monitor, &Open);
+    }
+}
+
+/// Runs a counter to three by a crew with this many seats.
+fn crewed<R: Wait + Threads + Sync + Abort>(
+    rt: &R,
+    alloc: Global,
+    seats: u16,
+    calls: &Arc<Calls>,
+) -> WatchedRun<Standard> {
+    let net = counter(rt, alloc, 3);
+    let bodies = meeters(rt, alloc, &net, calls);
+    let Ok(run) = run_by_crew(rt, alloc, net, bodies, seats, &ToTheEnd { rt }) else {
+        panic!(rt; "no run");
+    };
+    run
+}
+
+#[test]
+fn two_workers_of_a_watched_run_meet(rt: HostRuntime) {
+    let alloc = rt.alloc();
+    for workers in [2, 16] {
+        let calls = Arc::new(alloc, Calls::new()).expect(&rt, "memory");
+        let run = in_time(&rt, "a watched run", || {
+            watched(&rt, alloc, workers, &calls)
+        });
+        compare_counter(&rt, alloc, &run);
+        same(&rt, "seen", calls.seen(), 2);
+        drop(run);
+    }
+}
+
+#[test]
+fn two_seats_of_a_crew_meet(rt: HostRuntime) {
+    let alloc = rt.alloc();
+    for seats in [2, 5] {
+        let calls = Arc::new(alloc, Calls::new()).expect(&rt, "memory");
+        let run = in_time(&rt, "a crew", || crewed(&rt, alloc, seats, &calls));
+        compare_counter(&rt, alloc, &run);
+        same(&rt, "seen", calls.seen(), 2);
+        drop(run);
+    }
+}
