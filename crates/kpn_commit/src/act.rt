@@ -1,9 +1,10 @@
 //! Does what a process wants, if it can be done.
-ghost use Rattle.std.specs.Prelude.{◌≡◌, ◌<◌, ℕ, List, Option, length, set, Some, IfSome, IfNone, IsSome};
+ghost use Rattle.std.specs.Prelude.{◌≡◌, ◌≢◌, ◌<◌, ℕ, List, Option, length, set, Some, IfSome, IfNone, IsSome};
 ghost use Rattle.kpn_model.specs.declared.token.Token.{Token as TokenV};
 ghost use Rattle.kpn_model.specs.Network.{card_of, family_of};
 ghost use Rattle.kpn_model.specs.Lawful.{NamesPort, LeadsOn};
 ghost use Rattle.kpn_model.specs.Semantics.{wants, IsPossible, IsDeed, after_deed};
+ghost use Rattle.kpn_model.specs.declared.kinds.Act.TheVariants.{Stop};
 ghost use Rattle.kpn_model.specs.declared.history.Entry.TheVariants.{Did};
 ghost use Rattle.kpn_state.specs.StateAndHistory.{more};
 ghost use Rattle.kpn_state.specs.declared.standing.Standing.TheVariants.{Ready};
@@ -149,6 +150,7 @@ fn perform_on<K: Kinds>(
     ensures is_deed { IfSome result (IsDeed (family_of K.start K.answer_of) net.now store.old.state process answer.act) }
     ensures entry { IfSome result (λ deed. store.new ≡ more store.old (after_deed (family_of K.start K.answer_of) net.now store.old.state process answer.next deed) (Did process deed)) }
     ensures ready { IfSome result (λ deed. standing_after deed ≡ Ready) }
+    ensures cannot { IfNone result (answer.act ≢ Stop → IsPossible (family_of K.start K.answer_of) net.now store.old.state process answer.act → ⊥) }
     ensures same { IfNone result (store.new ≡ store.old) }
 {
     match answer.act {
@@ -177,6 +179,7 @@ pub(crate) fn advance_on<K: Kinds>(
     ensures ready { IfSome result (λ deed. standing_after deed ≡ Ready) }
     ensures channel { IfSome result (HasChannel net.now) }
     ensures keeps { IfSome result (λ deed. StandingsFit (family_of K.start K.answer_of) K.admits net.now (partner net.now deed) store.new.state (set standings.now process (standing_after deed))) }
+    ensures cannot { IfNone result (answer.act ≢ Stop → IsPossible (family_of K.start K.answer_of) net.now store.old.state process answer.act → ⊥) }
     ensures same { IfNone result (store.new ≡ store.old) }
 {
     net.assure_valid();

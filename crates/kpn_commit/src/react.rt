@@ -4,6 +4,7 @@ ghost use Rattle.std.specs.Prelude.{◌≡◌, ◌≢◌, ◌↔◌, ◌<◌, �
 ghost use Rattle.kpn_model.specs.Network.{family_of};
 ghost use Rattle.kpn_model.specs.declared.kinds.Answer.{Answer as AnswerV};
 ghost use Rattle.kpn_model.specs.Semantics.{wants, status, capacity, IsPossible};
+ghost use Rattle.kpn_model.specs.declared.kinds.Act.TheVariants.{Stop};
 ghost use Rattle.kpn_model.specs.declared.history.Status.TheVariants.{Done};
 ghost use Rattle.kpn_state.specs.declared.standing.Standing.TheVariants.{Parked, Ready};
 ghost use Rattle.kpn_state.specs.Marks.{mark_lists};
@@ -137,6 +138,7 @@ pub(crate) fn react_on<K: Kinds>(
     ensures many { length standings.new ≡ length standings.old }
     ensures keeps { IfSome result (λ _. StandingsFit (family_of K.start K.answer_of) K.admits net.now None store.new.state (set standings.new process Ready)) }
     ensures waiting { IfSome result (λ _. AreWaiting net.now store.new.state (set standings.new process Ready) waiting.new) }
+    ensures cannot { IfNone result (answer.act ≢ Stop → IsPossible (family_of K.start K.answer_of) net.now store.old.state process answer.act → ⊥) }
     ensures same { IfNone result ((store.new ≡ store.old) × (standings.new ≡ standings.old) × (waiting.new ≡ waiting.old)) }
 {
     let deed = advance_on(net, store, standings, process, answer)?;

@@ -1,7 +1,8 @@
 //! The work of a commit.
-ghost use Rattle.std.specs.Prelude.{◌≡◌, ◌<◌, ◌≤◌, ◌+◌, length, set, Some, None, true, IfSome, IfNone};
+ghost use Rattle.std.specs.Prelude.{◌≡◌, ◌≢◌, ◌<◌, ◌≤◌, ◌+◌, length, set, Some, None, true, IfSome, IfNone};
 ghost use Rattle.kpn_model.specs.Network.{family_of};
-ghost use Rattle.kpn_model.specs.Semantics.{wants};
+ghost use Rattle.kpn_model.specs.Semantics.{wants, IsPossible};
+ghost use Rattle.kpn_model.specs.declared.kinds.Act.TheVariants.{Stop};
 ghost use Rattle.kpn_state.specs.declared.standing.Standing.TheVariants.{Ready};
 ghost use Rattle.kpn_state.specs.Standings.{StandingsFit, standing, is_busy};
 ghost use Rattle.kpn_commit.specs.Waiting.{AreWaiting};
@@ -104,6 +105,7 @@ pub fn work_on<K: Kinds>(
     ensures many { length standings.new ≡ length standings.old }
     ensures keeps { IfSome result (λ _. StandingsFit (family_of K.start K.answer_of) K.admits net.now None store.new.state (set standings.new process Ready)) }
     ensures waiting { IfSome result (λ _. AreWaiting net.now store.new.state (set standings.new process Ready) waiting.new) }
+    ensures cannot { IfNone result (length store.old.history + 2 < net.now.budget → answer.act ≢ Stop → IsPossible (family_of K.start K.answer_of) net.now store.old.state process answer.act → ⊥) }
     ensures same { IfNone result ((store.new ≡ store.old) × (standings.new ≡ standings.old) × (waiting.new ≡ waiting.old)) }
 {
     let entries = store.history().len() as u64;

@@ -2,7 +2,8 @@
 ghost use Rattle.std.specs.Prelude.{count_by, ◌≡◌, ◌≢◌, ℕ, List, ◌<◌, ◌≤◌, ◌+◌, ◌↔◌, [], replicate, length, get_or, set, map, option_map, Some, None, IfSome, IfNone, IfErr, IfOk, OnOk, IsTrue, IsSome};
 ghost use Rattle.kpn_model.specs.Network.{card_of, family_of};
 ghost use Rattle.kpn_model.specs.History.{growths as growths_of};
-ghost use Rattle.kpn_model.specs.Semantics.{status, start};
+ghost use Rattle.kpn_model.specs.Semantics.{status, start, IsPossible};
+ghost use Rattle.kpn_model.specs.declared.kinds.Act.TheVariants.{Stop};
 ghost use Rattle.kpn_machine.specs.Opening.{cards_of, IsOpenFault};
 ghost use Rattle.kpn_model.specs.declared.history.Status.TheVariants.{Done, Live};
 ghost use Rattle.kpn_model.specs.Valid.{IsWellTyped};
@@ -410,6 +411,7 @@ impl<B: Body> Machine<B> {
         requires out { IsOut self.old task.old }
         requires answer { answer ≡ answer_to (family_of B.Kinds.start B.Kinds.answer_of) task.old }
         ensures goes { IfSome result (λ outcome. CommitsOn (family_of B.Kinds.start B.Kinds.answer_of) self.old task.old outcome task.new self.new) }
+        ensures cannot { IfNone result (self.old.end ≡ None → length self.old.history + 2 < self.old.network.budget → answer.act ≢ Stop → IsPossible (family_of B.Kinds.start B.Kinds.answer_of) self.old.network self.old.state task.old.process answer.act → ⊥) }
         ensures same { IfNone result ((self.new ≡ self.old) × (task.new ≡ task.old)) }
     {
         self.net.assure_valid();
