@@ -1,11 +1,12 @@
 -- A hand's tasks and answers, with one more and one less.
 use Rattle.std.proofs.Common.{◌≡◌, inl, inr, ℕ, ◌+◌, ◌<◌, zero, suc, List, [], ◌∷◌, ◌++◌, length, refl, ap, sym, subst, ◌∙◌, arith, length-append}
-use Rattle.std.specs.Prelude.{◌≢◌, Option, Some, None, IsSome, MatchOption, slice_get, slice_index_or}
+use Rattle.std.specs.Prelude.{◌≢◌, Option, Some, None, IsSome, IfSome, IfNone, slice_get, slice_index_or}
 use mathlib.Core.List.{IsPrefix}
 use Rattle.kpn_watch.proofs.Fronts.{prefix_self, prefix_trans}
 use Rattle.std.specs.List.{All, sum_by}
 use Rattle.std.proofs.lemmas.List.Sums.{sum_by-cons}
 use Rattle.std.proofs.lemmas.List.Elements.{All-append}
+use Rattle.kpn_model.specs.declared.history.End.{End}
 use Rattle.kpn_model.specs.declared.token.Token.{Token}
 use Rattle.kpn_model.specs.declared.kinds.Card.{Card}
 use Rattle.kpn_model.specs.declared.kinds.Answer.{Answer}
@@ -16,7 +17,7 @@ use Rattle.kpn_commit.specs.declared.outcome.Outcome.TheVariants.{Done, Parked, 
 use Rattle.kpn_machine.specs.MachineView.{MachineView, TakesOut}
 use Rattle.kpn_machine.specs.Commits.{Commits, Appends, GoesRounds, entries_appended}
 use Rattle.kpn_monitor.specs.Kept.{WasCommitted}
-use Rattle.kpn_monitor.specs.Hands.{AreAnswers, TakesOutAll, GoesOutAgain, Gives, Gave, WereCommitted}
+use Rattle.kpn_monitor.specs.Hands.{AreAnswers, TakesOutAll, GoesOutAgain, Gives, TakesBack, TakesBackAll, GivesBack, WereCommitted}
 
 -- one more task
 pub answers_put : (kinds : Family) (tasks : List Input) (answers : List Answer) (i : Input) → AreAnswers kinds tasks answers → AreAnswers kinds (tasks ++ i ∷ []) answers
@@ -117,18 +118,30 @@ went_on kinds s (i ∷ tasks) (o ∷ outcomes) again t left all =
     let first = went_out all.0 again all.3 all.4 s (entries_appended o) all.5 (went_on_once kinds s i o all.0 all.1 all.2) in
     subst (λ n. WentOn s t n) (sym (sum_by-cons entries_appended o outcomes)) (went_on_again s all.3 t (entries_appended o) (sum_by entries_appended outcomes) first (went_on kinds all.3 tasks outcomes all.4 t left all.6))
 
--- also if some were taken back
-pub gave_on : (kinds : Family) (s : MachineView) (tasks : List Input) (outcomes : List Outcome) (t : MachineView) (left : List Input) → Gave kinds s tasks outcomes t left → WentOn s t (sum_by entries_appended outcomes)
-gave_on kinds s tasks outcomes t left all =
-    let on = went_on kinds s tasks outcomes all.1 all.0 left all.2 in
-    let same = all.3 in
-    record { history = rw same.history on.history; count = rw same.history on.count; ended = λ stands. let e = on.ended stands in (same.history ∙ e.0, same.end ∙ e.1) }
+-- a process that comes back appends nothing
+came_one : (s : MachineView) (i : Input) (t : MachineView) → TakesBack s i t → (r : MachineView) (n : ℕ) → WentOn r s n → WentOn r t n
+came_one s i t (inl back) r n on = subst (λ (x : MachineView). WentOn r x n) (sym back.1) (record { history = on.history; count = on.count; ended = on.ended })
+came_one s i t (inr same) r n on = subst (λ (x : MachineView). WentOn r x n) (sym same.1) on
 
--- also if one was refused
+-- processes that come back append nothing
+came_back : (s : MachineView) (tasks : List Input) (t : MachineView) → TakesBackAll s tasks t → (r : MachineView) (n : ℕ) → WentOn r s n → WentOn r t n
+came_back s [] t same r n on = subst (λ (x : MachineView). WentOn r x n) (sym same) on
+came_back s (i ∷ tasks) t back r n on = came_one back.0 i t back.2 r n (came_back s tasks back.0 back.1 r n on)
+
+-- also if those that went out again came back
+gave_on : (kinds : Family) (s : MachineView) (tasks : List Input) (outcomes : List Outcome) (t : MachineView) (left : List Input) → GivesBack kinds s tasks outcomes t left → WentOn s t (sum_by entries_appended outcomes)
+gave_on kinds s tasks outcomes t left all = came_back all.0 all.1 t all.3 s (sum_by entries_appended outcomes) (went_on kinds s tasks outcomes all.1 all.0 left all.2)
+
+gave_all : (kinds : Family) (s : MachineView) (tasks : List Input) (outcomes : List Outcome) (t : MachineView) (left : List Input) (end : Option End) → t.end ≡ end
+    → (t.end ≡ None → Gives kinds s tasks outcomes left t []) → (t.end ≢ None → (left ≡ []) × GivesBack kinds s tasks outcomes t []) → WentOn s t (sum_by entries_appended outcomes)
+gave_all kinds s tasks outcomes t left None is goes_on ended = went_on kinds s tasks outcomes left t [] (goes_on is)
+gave_all kinds s tasks outcomes t left (Some e) is goes_on ended = gave_on kinds s tasks outcomes t [] (ended (λ none. cc)).1
+
+-- whether the run goes on, has ended or an answer was refused
 pub gave : (kinds : Family) (s : MachineView) (tasks : List Input) (outcomes : List Outcome) (t : MachineView) (left : List Input) (refused : Option Input)
-    → MatchOption refused (Gave kinds s tasks outcomes t []) (λ i. Gave kinds s tasks outcomes t (i ∷ left)) → WentOn s t (sum_by entries_appended outcomes)
-gave kinds s tasks outcomes t left None all = gave_on kinds s tasks outcomes t [] all
-gave kinds s tasks outcomes t left (Some i) all = gave_on kinds s tasks outcomes t (i ∷ left) all
+    → IfNone refused (t.end ≡ None → Gives kinds s tasks outcomes left t []) → IfNone refused (t.end ≢ None → (left ≡ []) × GivesBack kinds s tasks outcomes t []) → IfSome refused (λ i. GivesBack kinds s tasks outcomes t (i ∷ left)) → WentOn s t (sum_by entries_appended outcomes)
+gave kinds s tasks outcomes t left None goes_on ended refused = gave_all kinds s tasks outcomes t left t.end refl goes_on ended
+gave kinds s tasks outcomes t left (Some i) goes_on ended refused = gave_on kinds s tasks outcomes t (i ∷ left) refused
 
 pub some_end : {X : Type 0} (e : Option X) → IsSome e → e ≢ None
 some_end None some is = absurd (cc)

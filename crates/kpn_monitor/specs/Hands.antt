@@ -1,12 +1,13 @@
 -- What several tasks and their answers do, one after the other.
-use Rattle.std.specs.Prelude.{◌≡◌, ◌⊎◌, ℕ, List, [], ◌∷◌, Option}
+use Rattle.std.specs.Prelude.{◌≡◌, ◌⊎◌, ℕ, List, [], ◌∷◌, Option, set}
 use Rattle.kpn_model.specs.declared.token.Token.{Token}
 use Rattle.kpn_model.specs.declared.kinds.Card.{Card}
 use Rattle.kpn_model.specs.declared.kinds.Answer.{Answer}
 use Rattle.kpn_model.specs.Network.{Family, Network}
 use Rattle.kpn_body.specs.Input.{Input, answer_to}
+use Rattle.kpn_state.specs.declared.standing.Standing.TheVariants.{Ready}
 use Rattle.kpn_commit.specs.declared.outcome.Outcome.{Outcome}
-use Rattle.kpn_machine.specs.MachineView.{MachineView, TakesOut}
+use Rattle.kpn_machine.specs.MachineView.{MachineView, IsOut, TakesOut}
 use Rattle.kpn_machine.specs.Commits.{Commits, Appends, entries_appended}
 use Rattle.kpn_monitor.specs.declared.guarded.Went.{Went}
 use Rattle.kpn_monitor.specs.declared.guarded.Went.TheVariants.{On, Nowhere, Over}
@@ -34,16 +35,18 @@ Gives kinds s tasks [] again t left = (t ≡ s) × (left ≡ tasks) × (again �
 Gives kinds s [] (o ∷ outcomes) again t left = ⊥
 Gives kinds s (i ∷ tasks) (o ∷ outcomes) again t left = (m : MachineView) × Commits kinds s i o m × Appends kinds s m (entries_appended o) × (n : MachineView) × (rest : List Input) × GoesOutAgain m again n rest × Gives kinds n tasks outcomes rest t left
 
--- the run stands where it stood, though other processes may be out
-pub record StandsAs (s t : MachineView) : Type 0 where
-  pub network : t.network ≡ s.network
-  pub state : t.state ≡ s.state
-  pub history : t.history ≡ s.history
-  pub end : t.end ≡ s.end
+-- a process that is out with this task is ready again; if none is, nothing changes
+abbrev pub TakesBack : MachineView → Input → MachineView → Type 0
+TakesBack s i t = (IsOut s i × (t ≡ record s { standings = set s.standings i.process Ready })) ⊎ ((IsOut s i → ⊥) × (t ≡ s))
 
--- answers were given as above, and of those that went out again some may have been taken back
-abbrev pub Gave : Family → MachineView → List Input → List Outcome → MachineView → List Input → Type 0
-Gave kinds s tasks outcomes t left = (m : MachineView) × (again : List Input) × Gives kinds s tasks outcomes again m left × StandsAs m t
+-- the processes that are out with these tasks are ready again, from the last one on
+abbrev pub TakesBackAll : MachineView → List Input → MachineView → Type 0
+TakesBackAll s [] t = t ≡ s
+TakesBackAll s (i ∷ tasks) t = (m : MachineView) × TakesBackAll s tasks m × TakesBack m i t
+
+-- answers were given as above, and then those that went out again came back
+abbrev pub GivesBack : Family → MachineView → List Input → List Outcome → MachineView → List Input → Type 0
+GivesBack kinds s tasks outcomes t left = (m : MachineView) × (again : List Input) × Gives kinds s tasks outcomes again m left × TakesBackAll m again t
 
 -- the answers to the first of the tasks were committed, each with the corresponding outcome; the tasks `left` remain
 abbrev pub WereCommitted : Family → (Card → List ℕ → Option Token → Type 0) → Network → List Input → List Outcome → List Input → Type 0

@@ -6,7 +6,7 @@ ghost use Rattle.kpn_body.specs.Input.{Input};
 ghost use Rattle.kpn_machine.specs.MachineView.{IsOut};
 ghost use Rattle.kpn_machine.specs.Commits.{Commits, Appends, entries_appended};
 ghost use Rattle.kpn_monitor.specs.Kept.{WasCommitted, WasTaken};
-ghost use Rattle.kpn_monitor.specs.Hands.{Gives, StandsAs, WereCommitted};
+ghost use Rattle.kpn_monitor.specs.Hands.{Gives, TakesBackAll, WereCommitted};
 ghost use Rattle.kpn_monitor.specs.Places.{GivesFirst};
 
 use crate::places::Places;
@@ -106,7 +106,9 @@ pub(crate) fn give_all<B: Body>(
 #[cold]
 #[inline(never)]
 pub(crate) fn give_back<B: Body>(machine: &mut Machine<B>, places: &mut Places<B>)
-    ensures machine { StandsAs machine.old machine.new }
+    ensures machine { TakesBackAll machine.old places.old.again machine.new }
+    ensures network { machine.new.network ≡ machine.old.network }
+    ensures end { machine.new.end ≡ machine.old.end }
     ensures none { places.new ≡ record places.old { again = [] } }
 {
     while let Some(task) = places.withdraw() {

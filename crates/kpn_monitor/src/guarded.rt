@@ -13,7 +13,7 @@ ghost use Rattle.kpn_model.specs.Determinacy.{IsRun};
 ghost use Rattle.kpn_watch.specs.declared.progress.Phase.TheVariants.{Running};
 ghost use Rattle.kpn_watch.specs.Phases.{phase_of};
 ghost use Rattle.kpn_monitor.specs.Kept.{IsShown, HasEnded, WasCommitted, WasTaken, WentRounds, FoundNothing};
-ghost use Rattle.kpn_monitor.specs.Hands.{TakesOutAll, Gave, Gives, WereCommitted, answers_of};
+ghost use Rattle.kpn_monitor.specs.Hands.{TakesOutAll, GivesBack, Gives, WereCommitted, answers_of};
 ghost use Rattle.kpn_body.specs.Input.{Input};
 ghost use Rattle.kpn_commit.specs.declared.outcome.Outcome.{Outcome as OutcomeV};
 ghost use Rattle.kpn_machine.specs.MachineView.{MachineView, IsFaithful, IsFresh, IsOut, TakesOut};
@@ -186,9 +186,9 @@ impl<B: Body, E: EntryLedger, O: Ledger> Guarded<B, E, O> {
     ) -> Option<Finished<B>>
         requires board { board.now ≡ E.board }
         requires called { hand.old.called ≡ length hand.old.tasks }
-        ensures gave { MatchOption result (Gave (family_of B.Kinds.start B.Kinds.answer_of) self.old.machine hand.old.tasks hand.new.outcomes self.new.machine []) (λ i. Gave (family_of B.Kinds.start B.Kinds.answer_of) self.old.machine hand.old.tasks hand.new.outcomes self.new.machine (i ∷ hand.new.tasks)) }
+        ensures refused { IfSome result (λ i. GivesBack (family_of B.Kinds.start B.Kinds.answer_of) self.old.machine hand.old.tasks hand.new.outcomes self.new.machine (i ∷ hand.new.tasks)) }
         ensures goes_on { IfNone result (self.new.machine.end ≡ None → Gives (family_of B.Kinds.start B.Kinds.answer_of) self.old.machine hand.old.tasks hand.new.outcomes hand.new.tasks self.new.machine []) }
-        ensures ended { IfNone result (self.new.machine.end ≢ None → hand.new.tasks ≡ []) }
+        ensures ended { IfNone result (self.new.machine.end ≢ None → (hand.new.tasks ≡ []) × GivesBack (family_of B.Kinds.start B.Kinds.answer_of) self.old.machine hand.old.tasks hand.new.outcomes self.new.machine []) }
         ensures committed { MatchOption result (WereCommitted (family_of B.Kinds.start B.Kinds.answer_of) B.Kinds.admits E.net hand.old.tasks hand.new.outcomes []) (λ i. WereCommitted (family_of B.Kinds.start B.Kinds.answer_of) B.Kinds.admits E.net hand.old.tasks hand.new.outcomes (i ∷ hand.new.tasks)) }
         ensures taken { IfNone result (All (WasTaken (family_of B.Kinds.start B.Kinds.answer_of) B.Kinds.admits E.net) hand.new.tasks) }
         ensures most { IfNone result (length hand.new.tasks ≤ keep) }
@@ -274,9 +274,9 @@ impl<B: Body, E: EntryLedger, O: Ledger> Guarded<B, E, O> {
     ) -> Result<Next, Stranger<B>>
         requires board { board.now ≡ E.board }
         requires called { hand.old.called ≡ length hand.old.tasks }
-        ensures machine { IfOk result (λ _. (m : MachineView) × (again : List Input) × (more : List Input) × (hand.new.tasks ≡ again ++ more) × Gave (family_of B.Kinds.start B.Kinds.answer_of) self.old.machine hand.old.tasks hand.new.outcomes m [] × (m.end ≡ None → Gives (family_of B.Kinds.start B.Kinds.answer_of) self.old.machine hand.old.tasks hand.new.outcomes again m []) × TakesOutAll m more self.new.machine) }
+        ensures machine { IfOk result (λ _. (m : MachineView) × (again : List Input) × (more : List Input) × (hand.new.tasks ≡ again ++ more) × (m.end ≡ None → Gives (family_of B.Kinds.start B.Kinds.answer_of) self.old.machine hand.old.tasks hand.new.outcomes again m []) × (m.end ≢ None → (again ≡ []) × GivesBack (family_of B.Kinds.start B.Kinds.answer_of) self.old.machine hand.old.tasks hand.new.outcomes m []) × TakesOutAll m more self.new.machine) }
         ensures committed { OnOk result (WereCommitted (family_of B.Kinds.start B.Kinds.answer_of) B.Kinds.admits E.net hand.old.tasks hand.new.outcomes []) }
-        ensures stranger { IfErr result (λ s. WereCommitted (family_of B.Kinds.start B.Kinds.answer_of) B.Kinds.admits E.net hand.old.tasks hand.new.outcomes (s.finished ∷ hand.new.tasks) × Gave (family_of B.Kinds.start B.Kinds.answer_of) self.old.machine hand.old.tasks hand.new.outcomes self.new.machine (s.finished ∷ hand.new.tasks)) }
+        ensures stranger { IfErr result (λ s. WereCommitted (family_of B.Kinds.start B.Kinds.answer_of) B.Kinds.admits E.net hand.old.tasks hand.new.outcomes (s.finished ∷ hand.new.tasks) × GivesBack (family_of B.Kinds.start B.Kinds.answer_of) self.old.machine hand.old.tasks hand.new.outcomes self.new.machine (s.finished ∷ hand.new.tasks)) }
         ensures kept { OnErr result ((seat.new.overs ≡ seat.old.overs) × (hand.new.called ≡ length hand.new.tasks)) }
         ensures seat { (seat.new.parts ≡ seat.old.parts) × (seat.new.entries ≡ seat.old.entries + sum_by entries_appended hand.new.outcomes) }
         ensures taken { OnOk result (All (WasTaken (family_of B.Kinds.start B.Kinds.answer_of) B.Kinds.admits E.net) hand.new.tasks × (hand.new.called ≡ 0)) }

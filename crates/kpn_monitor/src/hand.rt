@@ -4,7 +4,7 @@ ghost use Rattle.std.specs.List.{All};
 ghost use Rattle.kpn_model.specs.Network.{family_of};
 ghost use Rattle.kpn_body.specs.Input.{Input};
 ghost use Rattle.kpn_monitor.specs.Kept.{WasTaken};
-ghost use Rattle.kpn_monitor.specs.Hands.{Gave, Gives, WereCommitted};
+ghost use Rattle.kpn_monitor.specs.Hands.{GivesBack, Gives, WereCommitted};
 
 use crate::giving::{give_all, give_back};
 use crate::places::{MOST_TASKS, Places};
@@ -102,9 +102,9 @@ impl<B: Body> Hand<B> {
     /// answer that the machine did not ask for, and returns it; then, and if the run has ended, none stays out.
     pub(crate) fn give(&mut self, machine: &mut Machine<B>, keep: usize) -> Option<Finished<B>>
         requires { self.old.called ≡ length self.old.tasks }
-        ensures gave { MatchOption result (Gave (family_of B.Kinds.start B.Kinds.answer_of) machine.old self.old.tasks self.new.outcomes machine.new []) (λ i. Gave (family_of B.Kinds.start B.Kinds.answer_of) machine.old self.old.tasks self.new.outcomes machine.new (i ∷ self.new.tasks)) }
+        ensures refused { IfSome result (λ i. GivesBack (family_of B.Kinds.start B.Kinds.answer_of) machine.old self.old.tasks self.new.outcomes machine.new (i ∷ self.new.tasks)) }
         ensures goes_on { IfNone result (machine.new.end ≡ None → Gives (family_of B.Kinds.start B.Kinds.answer_of) machine.old self.old.tasks self.new.outcomes self.new.tasks machine.new []) }
-        ensures ended { IfNone result (machine.new.end ≢ None → self.new.tasks ≡ []) }
+        ensures ended { IfNone result (machine.new.end ≢ None → (self.new.tasks ≡ []) × GivesBack (family_of B.Kinds.start B.Kinds.answer_of) machine.old self.old.tasks self.new.outcomes machine.new []) }
         ensures committed { MatchOption result (WereCommitted (family_of B.Kinds.start B.Kinds.answer_of) B.Kinds.admits machine.old.network self.old.tasks self.new.outcomes []) (λ i. WereCommitted (family_of B.Kinds.start B.Kinds.answer_of) B.Kinds.admits machine.old.network self.old.tasks self.new.outcomes (i ∷ self.new.tasks)) }
         ensures taken { IfNone result (All (WasTaken (family_of B.Kinds.start B.Kinds.answer_of) B.Kinds.admits machine.old.network) self.new.tasks) }
         ensures most { IfNone result (length self.new.tasks ≤ keep) }

@@ -9,7 +9,7 @@ returns-in-None-clause-machine g c =
       c.give.new.hand.tasks,
       dealt.out.0,
       dealt.out.1,
-      rw dealt.rest.1 given.gave,
       rw dealt.rest.1 given.goes_on,
+      rw dealt.rest.1 given.ended,
       dealt.out.2,
     )

@@ -10,24 +10,24 @@ use Rattle.kpn_monitor.proofs.guarded.Guarded.give.Goals as goal
 
 pub publish-requires-clause-goes_on : goal.publish-requires-clause-goes_on
 publish-requires-clause-goes_on g c κs within =
-    let gone = gave (family_of g.B.Kinds.Kinds.start g.B.Kinds.Kinds.answer_of) _ _ _ _ _ _ c.give-refused.ensures.gave in
+    let gone = gave (family_of g.B.Kinds.Kinds.start g.B.Kinds.Kinds.answer_of) _ _ _ _ _ _ c.give-refused.ensures.goes_on c.give-refused.ensures.ended c.give-refused.ensures.refused in
     subst (λ l. IsPrefix l c.give-refused.new.machine.history) (sym c.self.invariant.1.entries) gone.history
 
 pub publish-requires-clause-ended : goal.publish-requires-clause-ended
 publish-requires-clause-ended g c κs within = λ ended.
-    let gone = gave (family_of g.B.Kinds.Kinds.start g.B.Kinds.Kinds.answer_of) _ _ _ _ _ _ c.give-refused.ensures.gave in
+    let gone = gave (family_of g.B.Kinds.Kinds.start g.B.Kinds.Kinds.answer_of) _ _ _ _ _ _ c.give-refused.ensures.goes_on c.give-refused.ensures.ended c.give-refused.ensures.refused in
     let shown = c.self.invariant.1 in
     let same = gone.ended (λ none. ended (shown.phase ∙ ap phase_of none)) in
     (same.0 ∙ sym shown.entries, ap phase_of same.1 ∙ sym shown.phase)
 
 pub overflow_sub-history : goal.overflow_sub-history
 overflow_sub-history g c =
-    let gone = gave (family_of g.B.Kinds.Kinds.start g.B.Kinds.Kinds.answer_of) _ _ _ _ _ _ c.give-refused.ensures.gave in
+    let gone = gave (family_of g.B.Kinds.Kinds.start g.B.Kinds.Kinds.answer_of) _ _ _ _ _ _ c.give-refused.ensures.goes_on c.give-refused.ensures.ended c.give-refused.ensures.refused in
     omega (arith, gone.count, ap length c.history-before.ensures, ap length c.history-history.ensures)
 
 pub invariant_of-self : goal.invariant_of-self
 invariant_of-self g c =
-    let gone = gave (family_of g.B.Kinds.Kinds.start g.B.Kinds.Kinds.answer_of) _ _ _ _ _ _ c.give-refused.ensures.gave in
+    let gone = gave (family_of g.B.Kinds.Kinds.start g.B.Kinds.Kinds.answer_of) _ _ _ _ _ _ c.give-refused.ensures.goes_on c.give-refused.ensures.ended c.give-refused.ensures.refused in
     let kept = c.self.invariant.0 in (
       record {
         network = c.give-refused.ensures.network ∙ kept.network;
@@ -47,5 +47,5 @@ invariant_of-self g c =
 
 pub returns-clause-seat : goal.returns-clause-seat
 returns-clause-seat g c =
-    let gone = gave (family_of g.B.Kinds.Kinds.start g.B.Kinds.Kinds.answer_of) _ _ _ _ _ _ c.give-refused.ensures.gave in
+    let gone = gave (family_of g.B.Kinds.Kinds.start g.B.Kinds.Kinds.answer_of) _ _ _ _ _ _ c.give-refused.ensures.goes_on c.give-refused.ensures.ended c.give-refused.ensures.refused in
     c.add_entries.ensures.seat ∙ ap (λ k. record c.args.seat.now { entries = c.args.seat.now.entries + k }) (omega (arith, gone.count, ap length c.history-before.ensures, ap length c.history-history.ensures))
