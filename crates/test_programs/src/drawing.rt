@@ -53,7 +53,8 @@ fn told<R: AllocGlobal + Wait + Clock + Threads + Abort + Sync>(
 {
     let mut source = text.as_bytes();
     let direction = Direction::Right;
-    match draw::<AllKinds, _, _>(rt, rt.alloc(), request, direction, is_run, &mut source) {
+    let told = draw::<AllKinds, _, _>(rt, rt.alloc(), request, direction, is_run, &mut source);
+    match told {
         Ok(picture) => picture,
         Err(fault) => refusal(rt, &fault),
     }

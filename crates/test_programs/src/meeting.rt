@@ -19,10 +19,6 @@ use std::thread;
 use std::thread::Threads;
 use test_texts::{COUNTER, reports};
 
-/// How often a body that waits looks whether the other was called, some seconds in all: so a run in which the two
-/// don't meet ends, and the test fails.
-const LOOKS: u32 = 5_000_000;
-
 /// How often the counter's body and its sink's were called, and how many of the two have seen at their first call
 /// that the other was called.
 #[derive(Drop)]
@@ -57,7 +53,7 @@ impl Body for MeetingBody {
 }
 
 /// Counts a call, and waits at the first until the other body was called. Between two looks other threads may go
-/// on.
+/// on. A wait that is in vain ends with the test, after a minute.
 fn meet(is_counter: bool, calls: &Calls) {
     let (mine, other) = if is_counter {
         (&calls.counter, &calls.sink)
@@ -67,7 +63,7 @@ fn meet(is_counter: bool, calls: &Calls) {
     if mine.fetch_add(1, Ordering::SeqCst) != 0 {
         return;
     }
-    for _ in 0..LOOKS {
+    for _ in 0..u64::MAX {
         if other.load(Ordering::SeqCst) > 0 {
             calls.seen.fetch_add(1, Ordering::SeqCst);
             return;

@@ -324,7 +324,8 @@ fn a_network_is_run_by_two(rt: HostRuntime) {
     };
     let names = channel_names(rt.alloc(), &net).expect(&rt, "no memory");
     are_x_and_y(&rt, "channels", names.as_slice());
-    let Ok(told) = execute(&rt, rt.alloc(), net, 2, &[], &[], &Silent) else {
+    let told = execute(&rt, rt.alloc(), net, 2, &[], &[], &Silent);
+    let Ok(told) = told else {
         panic!(rt; "no memory");
     };
     same(&rt, "status", told.status.code(), 0);

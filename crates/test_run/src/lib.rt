@@ -14,8 +14,6 @@ mod large;
 #[cfg(test)]
 mod library;
 #[cfg(test)]
-mod limit;
-#[cfg(test)]
 mod meeting;
 #[cfg(test)]
 mod monitor;

@@ -5,7 +5,6 @@ ghost use Rattle.kpn_body.specs.StandardKinds.{signature, Admitted};
 
 use crate::checks::same;
 use crate::due::{COUNTER_ENDS, Due, READY_CHAIN_ENDS};
-use crate::limit::in_time;
 use crate::networks::network;
 use crate::runs::{finish_of, run_bodies};
 use kpn_body::{Call, Standard, StandardBody, answer};
@@ -65,7 +64,7 @@ pub(crate) struct Calls {
 }
 
 /// Counts a call, and if it is time waits until the other has come as far. Between two looks other threads may go on.
-/// The time limit of the test ends a wait that is in vain.
+/// A wait that is in vain ends with the test, after a minute.
 pub(crate) fn meet(times: Times, side: Side, calls: &Calls) {
     let (mine, other) = match side {
         Side::Left => (&calls.left, &calls.right),
@@ -261,9 +260,7 @@ fn a_spare_worker_works_again(rt: HostRuntime) {
     let calls = Arc::new(alloc, Calls::new()).expect(&rt, "no memory");
     let net = network(&rt, alloc, SPARE_MEETS.text);
     let bodies = meeting_bodies(&rt, alloc, &net, SPARE_MEETS, &calls);
-    let finish = in_time(&rt, "a spare worker", || {
-        finish_of(&rt, alloc, net, bodies, SPARE_MEETS.workers, &Open)
-    });
+    let finish = finish_of(&rt, alloc, net, bodies, SPARE_MEETS.workers, &Open);
     let found = (finish.end(), finish.history().len(), calls.seen());
     same(&rt, "ended", found, (End::Terminated, 60_002, 12));
     drop(finish);

@@ -4,6 +4,7 @@ mod exchanges;
 mod monitors;
 mod refusals;
 mod scenes;
+mod staying;
 mod strangers;
 mod waking;
 mod watchers;

@@ -4,7 +4,6 @@
 //! tried again with what was handed back, and succeeds.
 use crate::checks::same;
 use crate::due::{Due, RUNNING_SUMS_END, WOVEN_ENDS, compare};
-use crate::limit::in_time;
 use crate::runs::{Refusal, finish_of, handed_back};
 use kpn_body::{Body, Standard};
 use kpn_compute::bodies_of;
@@ -250,36 +249,28 @@ fn told(refused: Result<Refused, AllocError>) -> &'static str {
 
 #[test]
 fn a_run_by_one_worker(rt: HostRuntime) -> Result<(), Fail> {
-    let word = in_time(&rt, "a run by one worker", || {
-        told(run_refused(&rt, rt.alloc(), COPIED_AND_WOVEN, 1, &WOVEN_ENDS))
-    });
+    let word = told(run_refused(&rt, rt.alloc(), COPIED_AND_WOVEN, 1, &WOVEN_ENDS));
     println!(rt; "refused: {word}")?;
     Ok(())
 }
 
 #[test]
 fn a_run_by_two_workers(rt: HostRuntime) -> Result<(), Fail> {
-    let word = in_time(&rt, "a run by two workers", || {
-        told(run_refused(&rt, rt.alloc(), COPIED_AND_WOVEN, 2, &WOVEN_ENDS))
-    });
+    let word = told(run_refused(&rt, rt.alloc(), COPIED_AND_WOVEN, 2, &WOVEN_ENDS));
     println!(rt; "refused: {word}")?;
     Ok(())
 }
 
 #[test]
 fn running_sums_by_one_worker(rt: HostRuntime) -> Result<(), Fail> {
-    let word = in_time(&rt, "running sums by one worker", || {
-        told(run_refused(&rt, rt.alloc(), RUNNING_SUMS, 1, &RUNNING_SUMS_END))
-    });
+    let word = told(run_refused(&rt, rt.alloc(), RUNNING_SUMS, 1, &RUNNING_SUMS_END));
     println!(rt; "refused: {word}")?;
     Ok(())
 }
 
 #[test]
 fn running_sums_by_two_workers(rt: HostRuntime) -> Result<(), Fail> {
-    let word = in_time(&rt, "running sums by two workers", || {
-        told(run_refused(&rt, rt.alloc(), RUNNING_SUMS, 2, &RUNNING_SUMS_END))
-    });
+    let word = told(run_refused(&rt, rt.alloc(), RUNNING_SUMS, 2, &RUNNING_SUMS_END));
     println!(rt; "refused: {word}")?;
     Ok(())
 }

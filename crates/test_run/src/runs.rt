@@ -3,7 +3,6 @@ use crate::checks::same;
 use crate::due::{
     COUNTER_ENDS, Due, RUNNING_SUMS_END, SMALL_SINK_ENDS, TWO_FULL_END, WOVEN_ENDS, compare,
 };
-use crate::limit::in_time;
 use crate::networks::{Parts, parts_of};
 use kpn_body::{Body, Standard};
 use kpn_machine::OpenFault;
@@ -67,7 +66,7 @@ pub(crate) fn finish_of<B: Body, R: Threads + Wait + Clock + Abort + Sync, G: Ga
     finish
 }
 
-/// Runs the network of a text, within the time limit.
+/// Runs the network of a text.
 pub(crate) fn finish_text<R: Threads + Wait + Clock + Abort + Sync, G: Gate>(
     rt: &R,
     alloc: Global,
@@ -76,9 +75,7 @@ pub(crate) fn finish_text<R: Threads + Wait + Clock + Abort + Sync, G: Gate>(
     gate: &G,
 ) -> Finish<Standard> {
     let Parts { net, bodies } = parts_of(rt, alloc, text);
-    in_time(rt, "a run", || {
-        finish_of(rt, alloc, net, bodies, workers, gate)
-    })
+    finish_of(rt, alloc, net, bodies, workers, gate)
 }
 
 /// Runs the network of a text, and compares the run with its expected result.
@@ -104,9 +101,7 @@ fn refused<B: Body, R: Threads + Wait + Clock + Abort + Sync>(
     workers: usize,
     due: (Refusal, u8),
 ) -> (Net<B::Kinds>, Vec<B>) {
-    let ran = in_time(rt, "a refused run", || {
-        run(rt, alloc, net, bodies, workers, &Open)
-    });
+    let ran = run(rt, alloc, net, bodies, workers, &Open);
     let Err(fault) = ran else {
         panic!(rt; "not refused");
     };
@@ -128,9 +123,7 @@ fn run_counted<B: Body, R: Threads + Wait + Clock + Abort + Sync>(
     let counts = Counts {
         asked: AtomicU64::new(0),
     };
-    let finish = in_time(rt, "a run", || {
-        finish_of(rt, alloc, net, bodies, workers, &counts)
-    });
+    let finish = finish_of(rt, alloc, net, bodies, workers, &counts);
     compare_asked(rt, counts.asked.load(Ordering::SeqCst), due);
     compare(rt, alloc, &finish, due).expect(rt, "no memory");
     drop(finish);

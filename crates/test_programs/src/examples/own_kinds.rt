@@ -113,8 +113,8 @@ fn compare_loop<R: Threads + Wait + Clock + Abort + Sync>(
     out: &mut Vec<u8>,
 ) {
     let net: Net<Flips> = network(rt, alloc, FLIP_LOOP);
-    let status = run_flips(rt, alloc, net, 2, Some("c0"), out).expect(rt, "no memory");
-    same(rt, "status", status, 5);
+    let ran = run_flips(rt, alloc, net, 2, Some("c0"), out);
+    same(rt, "status", ran.expect(rt, "no memory"), 5);
     same(rt, "lines", out.as_slice(), FLIP_LINES.as_bytes());
 }
 

@@ -1,7 +1,6 @@
 //! Runs by threads of a caller's own.
 use crate::checks::same;
 use crate::library::watched::{counter, tells_counter};
-use crate::limit::in_time;
 use kpn_body::Finished;
 use kpn_compute::{CardBody, bodies_of};
 use kpn_net::End;
@@ -52,9 +51,7 @@ fn shows_crew<R: Threads + Wait + Clock + Sync + Abort>(rt: &R, alloc: Global, s
     let net = counter(rt, alloc, 3);
     let bodies: Vec<CardBody<Standard>> = bodies_of(alloc, &net).expect(rt, "memory");
     let crew = All::new(rt);
-    let ran = in_time(rt, "a crew", || {
-        run_by_crew(rt, alloc, net, bodies, seats, &crew)
-    });
+    let ran = run_by_crew(rt, alloc, net, bodies, seats, &crew);
     let Ok(run) = ran else {
         panic!(rt; "no run");
     };
@@ -104,9 +101,7 @@ fn a_crew_leaves_before_the_end(rt: HostRuntime) {
 fn shows_leaving<R: Threads + Wait + Clock + Sync + Abort>(rt: &R, alloc: Global, seats: u16) {
     let net = counter(rt, alloc, 3);
     let bodies = bodies_of(alloc, &net).expect(rt, "memory");
-    let ran = in_time(rt, "a crew that leaves", || {
-        run_by_crew(rt, alloc, net, bodies, seats, &Leaving { rt })
-    });
+    let ran = run_by_crew(rt, alloc, net, bodies, seats, &Leaving { rt });
     let Ok(run) = ran else {
         panic!(rt; "no run");
     };
@@ -122,9 +117,7 @@ fn a_crew_without_bodies_is_refused(rt: HostRuntime) {
     let net = counter(&rt, alloc, 3);
     let crew = All::new(&rt);
     let bodies: Vec<CardBody<Standard>> = Vec::new(alloc);
-    let ran = in_time(&rt, "a crew without bodies", || {
-        run_by_crew(&rt, alloc, net, bodies, 2, &crew)
-    });
+    let ran = run_by_crew(&rt, alloc, net, bodies, 2, &crew);
     let Err(OpenRefused { net, fault, .. }) = ran else {
         panic!(rt; "not refused");
     };

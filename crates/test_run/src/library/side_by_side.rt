@@ -1,7 +1,6 @@
 //! Two bodies that wait for each other, in watched runs and in runs by a crew.
 use crate::checks::same;
 use crate::library::watched::{Witness, compare_counter, counter, often};
-use crate::limit::in_time;
 use crate::meeting::{Calls, Side, Times, meet};
 use kpn_body::{Body, answer};
 use kpn_model::{Answer, Card, Kinds, Local, Token};
@@ -138,9 +137,7 @@ fn two_workers_of_a_watched_run_meet(rt: HostRuntime) {
     let alloc = rt.alloc();
     for workers in [2, 16] {
         let calls = Arc::new(alloc, Calls::new()).expect(&rt, "memory");
-        let run = in_time(&rt, "a watched run", || {
-            watched(&rt, alloc, workers, &calls)
-        });
+        let run = watched(&rt, alloc, workers, &calls);
         compare_counter(&rt, alloc, &run);
         same(&rt, "seen", calls.seen(), 2);
         drop(run);
@@ -152,7 +149,7 @@ fn two_seats_of_a_crew_meet(rt: HostRuntime) {
     let alloc = rt.alloc();
     for seats in [2, 5] {
         let calls = Arc::new(alloc, Calls::new()).expect(&rt, "memory");
-        let run = in_time(&rt, "a crew", || crewed(&rt, alloc, seats, &calls));
+        let run = crewed(&rt, alloc, seats, &calls);
         compare_counter(&rt, alloc, &run);
         same(&rt, "seen", calls.seen(), 2);
         drop(run);

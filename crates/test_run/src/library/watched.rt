@@ -1,6 +1,5 @@
 //! Runs that are watched, and runs that are stopped.
 use crate::checks::same;
-use crate::limit::in_time;
 use kpn_body::{Body, answer};
 use kpn_builder::{Builder, NewChannel};
 use kpn_compute::{CardBody, bodies_of};
@@ -89,7 +88,7 @@ fn add_counter<R: Abort>(rt: &R, made: &mut Builder, numbers: i64) {
     made.channel(wire).expect(rt, "memory");
 }
 
-/// Runs a counter to three with this many workers, beside a witness, within the time limit.
+/// Runs a counter to three with this many workers, beside a witness.
 fn watch<R: Wait + Clock + Threads + Sync + Abort>(
     rt: &R,
     alloc: Global,
@@ -98,9 +97,7 @@ fn watch<R: Wait + Clock + Threads + Sync + Abort>(
 ) -> Result<WatchedRun<Standard>, WatchedFault<CardBody<Standard>>> {
     let net = counter(rt, alloc, 3);
     let bodies = bodies_of(alloc, &net).expect(rt, "memory");
-    in_time(rt, "a watched run", || {
-        run_watched(rt, alloc, net, bodies, workers, &Open, often(), witness)
-    })
+    run_watched(rt, alloc, net, bodies, workers, &Open, often(), witness)
 }
 
 /// Looks at one watched run of a counter to three: both processes write or read thrice and stop.
@@ -256,9 +253,7 @@ fn shows_stopped<R: Wait + Clock + Threads + Sync + Abort>(rt: &R, alloc: Global
     let net = counter(rt, alloc, 500_000);
     let bodies = slow_bodies(rt, alloc, &net);
     let witness = Witness::new(100);
-    let ran = in_time(rt, "a run that is stopped", || {
-        run_watched(rt, alloc, net, bodies, workers, &Slowly, often(), &witness)
-    });
+    let ran = run_watched(rt, alloc, net, bodies, workers, &Slowly, often(), &witness);
     let Ok(run) = ran else {
         panic!(rt; "no run");
     };

@@ -33,7 +33,7 @@ pub(crate) static SHOWN: Progress = Progress {
 };
 
 /// Calls all tasks of a hand, and returns how many there were.
-fn call_all<B: Body, R: Wait>(rt: &R, hand: &mut Hand<B>) -> usize
+pub(crate) fn call_all<B: Body, R: Wait>(rt: &R, hand: &mut Hand<B>) -> usize
     ensures { hand.new.called ≡ length hand.new.tasks }
 {
     let mut count = 0usize;

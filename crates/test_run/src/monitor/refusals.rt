@@ -6,7 +6,6 @@ ghost use Rattle.std.specs.Prelude.{◌≡◌};
 ghost use Rattle.kpn_machine.specs.MachineView.{IsFresh};
 
 use crate::checks::same;
-use crate::limit::in_time;
 use crate::monitor::monitors::{
     Ended, close_with, ended_of, locked, opened, seen_by, watcher_of, work_alone,
 };
@@ -230,18 +229,14 @@ fn monitor_refused<R: Wait + Abort>(rt: &R, alloc: Global, text: &str, due: Show
 
 #[test]
 fn a_monitor_of_one_seat(rt: HostRuntime) -> Result<(), Fail> {
-    let word = in_time(&rt, "a monitor", || {
-        monitor_refused(&rt, rt.alloc(), COUNTER_INTO_SMALL_SINK, AFTER_THE_GROWTH)
-    });
+    let word = monitor_refused(&rt, rt.alloc(), COUNTER_INTO_SMALL_SINK, AFTER_THE_GROWTH);
     println!(rt; "refused: {word}")?;
     Ok(())
 }
 
 #[test]
 fn a_monitor_of_running_sums(rt: HostRuntime) -> Result<(), Fail> {
-    let word = in_time(&rt, "a monitor", || {
-        monitor_refused(&rt, rt.alloc(), RUNNING_SUMS, RUNNING_SUMS_SHOWN)
-    });
+    let word = monitor_refused(&rt, rt.alloc(), RUNNING_SUMS, RUNNING_SUMS_SHOWN);
     println!(rt; "refused: {word}")?;
     Ok(())
 }

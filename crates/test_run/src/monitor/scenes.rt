@@ -5,7 +5,6 @@
 ghost use Rattle.std.specs.Prelude.{◌≡◌, ◌<◌, ◌++◌, ◌∷◌, [], All, IfSome};
 
 use crate::checks::same;
-use crate::limit::in_time;
 use crate::monitor::exchanges::{SHOWN, asked_in_place, exchanged};
 use crate::monitor::monitors::{
     Ended, close_alone, close_with, ended_alone, ended_of, list_of, next_task, opening_of,
@@ -439,7 +438,7 @@ fn scenes_on_monitors(rt: HostRuntime) {
     }
 }
 
-/// Opens a monitor of the network of a text, and plays a scene on it, within the time limit.
+/// Opens a monitor of the network of a text, and plays a scene on it.
 fn shows_scene<R: Threads + Wait + Clock + Abort + Sync>(
     rt: &R,
     alloc: Global,
@@ -448,7 +447,7 @@ fn shows_scene<R: Threads + Wait + Clock + Abort + Sync>(
     scene: Scene,
 ) {
     let opening = opening_of(rt, alloc, text);
-    in_time(rt, what, || play(rt, alloc, opening, scene));
+    play(rt, alloc, opening, scene);
 }
 
 #[test]

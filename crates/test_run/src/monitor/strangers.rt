@@ -2,7 +2,6 @@
 ghost use Rattle.std.specs.Prelude.{◌≡◌};
 
 use crate::checks::same;
-use crate::limit::in_time;
 use crate::monitor::monitors::{
     Ended, close_alone, ended_alone, ended_of, handed_back, next_task, opening_of, outcome_of,
     seen_by, shown_to, watcher_of,
@@ -240,9 +239,7 @@ fn an_answer_of_another_monitor(rt: HostRuntime) {
     let alloc = rt.alloc();
     let first = opening_of(&rt, alloc, COUNTER_INTO_SINK);
     let second = opening_of(&rt, alloc, COUNTER_INTO_SINK);
-    in_time(&rt, "two monitors", || {
-        two_monitors(&rt, alloc, first, second);
-    });
+    two_monitors(&rt, alloc, first, second);
 }
 
 #[test]
@@ -252,7 +249,5 @@ fn an_answer_comes_a_second_time(rt: HostRuntime) {
     let Parts { net: _, mut bodies } = parts_of(&rt, alloc, COUNTER_INTO_SINK);
     bodies.pop();
     let counter = bodies.pop().expect(&rt, "no counter");
-    in_time(&rt, "one monitor", || {
-        one_monitor(&rt, alloc, opening, unasked(counter));
-    });
+    one_monitor(&rt, alloc, opening, unasked(counter));
 }

@@ -1,0 +1,389 @@
+//! A process that can go on stays in its hand.
+ghost use Rattle.std.specs.Prelude.{◌≡◌, length};
+
+use crate::checks::same;
+use crate::monitor::exchanges::call_all;
+use crate::monitor::monitors::{Ended, ended_alone, next_task, opening_of, outcome_of, work_alone};
+use crate::monitor::scenes::COUNTER_ENDED;
+use kpn_body::Body;
+use kpn_machine::{Outcome, Stranger};
+use kpn_monitor::{EntryLedger, Hand, Monitor, Next, Opening, Seat};
+use kpn_net::End;
+use std::alloc::Global;
+use std::marker::Brand;
+use std::process::Abort;
+use std::sync::Wait;
+use std::sync::ledger::Ledger;
+use test_texts::{COUNTER_INTO_SINK, READY_CHAIN};
+
+/// An exchange by a hand of at most three tasks: how many it asks for at most; the processes that were called
+/// before it, in order; the outcomes of their answers; and what the hand was given.
+#[derive(Clone, Copy)]
+struct Round {
+    most: usize,
+    called: [Option<usize>; 3],
+    outcomes: [Option<Outcome>; 3],
+    next: Next,
+}
+
+/// A counter of three and its sink, whose channel has room for one token.
+///
+/// The hand has the counter alone at first, while the sink is ready. The counter writes, stays in its place and is
+/// the first to be called again, before the sink, which has waited longer. It can't write twice, so it is parked and
+/// leaves its place to the sink, whose read lets it write; now the sink is the first. From then on both can always go
+/// on, until each stops.
+static COUNTER_STAYS: [Round; 6] = [
+    Round {
+        most: 1,
+        called: [None, None, None],
+        outcomes: [None, None, None],
+        next: Next::Tasks,
+    },
+    Round {
+        most: 16,
+        called: [Some(0), None, None],
+        outcomes: [Some(Outcome::Done(1)), None, None],
+        next: Next::Tasks,
+    },
+    Round {
+        most: 16,
+        called: [Some(0), Some(1), None],
+        outcomes: [Some(Outcome::Parked(0)), Some(Outcome::Done(2)), None],
+        next: Next::Tasks,
+    },
+    Round {
+        most: 16,
+        called: [Some(1), Some(0), None],
+        outcomes: [Some(Outcome::Done(1)), Some(Outcome::Done(1)), None],
+        next: Next::Tasks,
+    },
+    Round {
+        most: 16,
+        called: [Some(1), Some(0), None],
+        outcomes: [Some(Outcome::Done(1)), Some(Outcome::Done(1)), None],
+        next: Next::Tasks,
+    },
+    Round {
+        most: 16,
+        called: [Some(1), None, None],
+        outcomes: [Some(Outcome::Done(1)), None, None],
+        next: Next::Over(End::Terminated),
+    },
+];
+
+/// A hand of one task never has the counter twice in turn: the sink is ready, and comes first.
+static READY_COME_FIRST: [Round; 4] = [
+    Round {
+        most: 1,
+        called: [None, None, None],
+        outcomes: [None, None, None],
+        next: Next::Tasks,
+    },
+    Round {
+        most: 1,
+        called: [Some(0), None, None],
+        outcomes: [Some(Outcome::Done(1)), None, None],
+        next: Next::Tasks,
+    },
+    Round {
+        most: 1,
+        called: [Some(1), None, None],
+        outcomes: [Some(Outcome::Done(1)), None, None],
+        next: Next::Tasks,
+    },
+    Round {
+        most: 0,
+        called: [Some(0), None, None],
+        outcomes: [Some(Outcome::Done(1)), None, None],
+        next: Next::Nothing,
+    },
+];
+
+/// An empty hand is given tasks.
+static FILLED: [Round; 1] = [Round {
+    most: 16,
+    called: [None, None, None],
+    outcomes: [None, None, None],
+    next: Next::Tasks,
+}];
+
+/// What a second hand is given after an answer was refused: the process that was ready, and the two that had gone
+/// out again before the refusal.
+static GIVEN_BACK: [Round; 2] = [
+    Round {
+        most: 16,
+        called: [None, None, None],
+        outcomes: [None, None, None],
+        next: Next::Tasks,
+    },
+    Round {
+        most: 0,
+        called: [Some(2), Some(1), Some(0)],
+        outcomes: [
+            Some(Outcome::Done(1)),
+            Some(Outcome::Done(1)),
+            Some(Outcome::Done(1)),
+        ],
+        next: Next::Nothing,
+    },
+];
+
+/// The answers after the refused one were left in the hand, and are taken.
+static LEFT_IN_HAND: [Round; 1] = [Round {
+    most: 0,
+    called: [None, None, None],
+    outcomes: [Some(Outcome::Done(1)), Some(Outcome::Done(1)), None],
+    next: Next::Nothing,
+}];
+
+/// The result of the monitor whose tasks are answered elsewhere.
+static NOTHING_DONE: Ended = Ended {
+    end: None,
+    receipts: 0,
+    entries: 0,
+    processes: 5,
+};
+
+/// The result of the chain.
+static CHAIN_ENDED: Ended = Ended {
+    end: Some(End::Deadlock),
+    receipts: 42,
+    entries: 42,
+    processes: 5,
+};
+
+/// Calls the tasks of a hand, of which there are at most three, and returns the numbers of their processes.
+fn call_three<B: Body, R: Abort>(rt: &R, hand: &mut Hand<B>) -> [Option<usize>; 3]
+    ensures { hand.new.called ≡ length hand.new.tasks }
+{
+    let called = [hand.call(), hand.call(), hand.call()];
+    let None = hand.call() else {
+        panic!(rt; "four tasks");
+    };
+    called
+}
+
+/// The first three outcomes of a hand.
+fn outcomes_of<B: Body>(hand: &Hand<B>) -> [Option<Outcome>; 3] {
+    let outcomes = hand.outcomes();
+    [
+        outcomes.first().copied(),
+        outcomes.get(1).copied(),
+        outcomes.get(2).copied(),
+    ]
+}
+
+/// Calls the tasks of a hand, exchanges them, and compares what came of it.
+fn play_round<B: Body, E: EntryLedger, O: Ledger, R: Wait + Abort>(
+    rt: &R,
+    monitor: &Monitor<B, E, O>,
+    hand: &mut Hand<B>,
+    seat: &mut Seat<E, O>,
+    due: &Round,
+) {
+    let called = call_three(rt, hand);
+    let Ok(next) = monitor.exchange(rt, hand, seat, due.most) else {
+        panic!(rt; "a stranger");
+    };
+    same(rt, "called", called, due.called);
+    same(rt, "outcomes", outcomes_of(hand), due.outcomes);
+    same(rt, "next", next, due.next);
+}
+
+/// Plays these rounds, one after the other.
+fn play_rounds<B: Body, E: EntryLedger, O: Ledger, R: Wait + Abort>(
+    rt: &R,
+    monitor: &Monitor<B, E, O>,
+    hand: &mut Hand<B>,
+    seat: &mut Seat<E, O>,
+    rounds: &[Round],
+) {
+    for round in rounds {
+        play_round(rt, monitor, hand, seat, round);
+    }
+}
+
+/// A hand of its own plays these rounds.
+fn play_alone<B: Body, E: EntryLedger, O: Ledger, R: Wait + Abort>(
+    rt: &R,
+    alloc: Global,
+    monitor: &Monitor<B, E, O>,
+    seat: &mut Seat<E, O>,
+    rounds: &[Round],
+) {
+    let mut hand = Hand::new(alloc, 1).expect(rt, "no memory");
+    play_rounds(rt, monitor, &mut hand, seat, rounds);
+    drop(hand);
+}
+
+/// Opens a monitor of the counter of three and its sink, on which one hand plays these rounds.
+fn counter_plays<B: Body, R: Wait + Abort>(
+    rt: &R,
+    alloc: Global,
+    opening: Opening<B>,
+    rounds: &[Round],
+) {
+    counter_opened::<B, Brand, Brand, R>(rt, alloc, opening, rounds)
+}
+
+/// One hand plays these rounds on the monitor of an opening, whose run then comes to its end.
+fn counter_opened<B: Body, E: EntryLedger, O: Ledger, R: Wait + Abort>(
+    rt: &R,
+    alloc: Global,
+    opening: Opening<B>,
+    rounds: &[Round],
+)
+    requires network { opening.machine.network ≡ E.net }
+    requires board { opening.board ≡ E.board }
+    requires entries { (opening.entries.name ≡ E.name) × (opening.entries.parts ≡ E.parts) }
+    requires overs { (opening.overs.name ≡ O.name) × (opening.overs.parts ≡ O.parts) }
+{
+    let (monitor, mut seat) = Monitor::<B, E, O>::open(opening);
+    play_alone(rt, alloc, &monitor, &mut seat, rounds);
+    let seat = work_alone(rt, &monitor, seat);
+    same(
+        rt,
+        "ended",
+        ended_alone(rt, alloc, monitor, seat),
+        COUNTER_ENDED,
+    );
+}
+
+/// Opens two monitors.
+fn two_monitors<B: Body, R: Wait + Abort>(
+    rt: &R,
+    alloc: Global,
+    first: Opening<B>,
+    second: Opening<B>,
+) {
+    refused_between::<B, Brand, Brand, Brand, Brand, R>(rt, alloc, first, second)
+}
+
+/// A hand with all five processes of the chain, which were called.
+fn full_hand<B: Body, E: EntryLedger, O: Ledger, R: Wait + Abort>(
+    rt: &R,
+    alloc: Global,
+    monitor: &Monitor<B, E, O>,
+    seat: &mut Seat<E, O>,
+) -> Hand<B>
+    ensures { result.called ≡ length result.tasks }
+{
+    let filled = FILLED;
+    let mut hand = Hand::new(alloc, 1).expect(rt, "no memory");
+    play_rounds(rt, monitor, &mut hand, seat, &filled);
+    same(rt, "tasks", call_all(rt, &mut hand), 5);
+    hand
+}
+
+/// Sends all five processes of the chain out and drops their tasks, but of the third commits the answer: so it is
+/// ready.
+fn send_out<B: Body, E: EntryLedger, O: Ledger, R: Wait + Abort>(
+    rt: &R,
+    monitor: &Monitor<B, E, O>,
+    seat: &mut Seat<E, O>,
+) {
+    for process in 0..5usize {
+        let task = next_task(rt, monitor, seat);
+        same(rt, "process", task.process(), process);
+        if process == 2 {
+            let outcome = outcome_of(rt, monitor, task.call(), seat);
+            same(rt, "third", outcome, Outcome::Done(1));
+        }
+    }
+}
+
+/// Exchanges a hand in which the third answer was not asked for: the two before it are committed.
+fn refuse_third<B: Body, E: EntryLedger, O: Ledger, R: Wait + Abort>(
+    rt: &R,
+    monitor: &Monitor<B, E, O>,
+    hand: &mut Hand<B>,
+    seat: &mut Seat<E, O>,
+)
+    requires { hand.old.called ≡ length hand.old.tasks }
+    ensures { hand.new.called ≡ length hand.new.tasks }
+{
+    let Err(Stranger { finished }) = monitor.exchange(rt, hand, seat, 16) else {
+        panic!(rt; "not a stranger");
+    };
+    same(rt, "refused", finished.process(), 2);
+    let done = Some(Outcome::Done(1));
+    same(rt, "outcomes", outcomes_of(hand), [done, done, None]);
+}
+
+/// A hand that was filled at one monitor is exchanged at another of the same network, where all but the third of its
+/// processes are out too. The first two go out again, and after the refusal they are ready: a second hand has them.
+fn refused_between<B: Body, E: EntryLedger, O: Ledger, F: EntryLedger, P: Ledger, R: Wait + Abort>(
+    rt: &R,
+    alloc: Global,
+    first: Opening<B>,
+    second: Opening<B>,
+)
+    requires network { first.machine.network ≡ E.net }
+    requires board { first.board ≡ E.board }
+    requires entries { (first.entries.name ≡ E.name) × (first.entries.parts ≡ E.parts) }
+    requires overs { (first.overs.name ≡ O.name) × (first.overs.parts ≡ O.parts) }
+    requires second_network { second.machine.network ≡ F.net }
+    requires second_board { second.board ≡ F.board }
+    requires second_entries { (second.entries.name ≡ F.name) × (second.entries.parts ≡ F.parts) }
+    requires second_overs { (second.overs.name ≡ P.name) × (second.overs.parts ≡ P.parts) }
+{
+    let (monitor, mut seat) = Monitor::<B, E, O>::open(first);
+    let (other, mut other_seat) = Monitor::<B, F, P>::open(second);
+    let hand = full_hand(rt, alloc, &other, &mut other_seat);
+    same(
+        rt,
+        "other",
+        ended_alone(rt, alloc, other, other_seat),
+        NOTHING_DONE,
+    );
+    refuse_and_go_on(rt, alloc, &monitor, &mut seat, hand);
+    let seat = work_alone(rt, &monitor, seat);
+    same(
+        rt,
+        "ended",
+        ended_alone(rt, alloc, monitor, seat),
+        CHAIN_ENDED,
+    );
+}
+
+/// Refuses the third answer of a hand; a second hand goes on, and then the first.
+fn refuse_and_go_on<B: Body, E: EntryLedger, O: Ledger, R: Wait + Abort>(
+    rt: &R,
+    alloc: Global,
+    monitor: &Monitor<B, E, O>,
+    seat: &mut Seat<E, O>,
+    mut hand: Hand<B>,
+)
+    requires { hand.called ≡ length hand.tasks }
+{
+    let (given_back, left_in_hand) = (GIVEN_BACK, LEFT_IN_HAND);
+    send_out(rt, monitor, seat);
+    refuse_third(rt, monitor, &mut hand, seat);
+    play_alone(rt, alloc, monitor, seat, &given_back);
+    play_rounds(rt, monitor, &mut hand, seat, &left_in_hand);
+    drop(hand);
+}
+
+#[test]
+fn a_process_that_can_go_on_stays(rt: HostRuntime) {
+    let alloc = rt.alloc();
+    let opening = opening_of(&rt, alloc, COUNTER_INTO_SINK);
+    let rounds = COUNTER_STAYS;
+    counter_plays(&rt, alloc, opening, &rounds);
+}
+
+#[test]
+fn ready_ones_come_before_those_that_could_stay(rt: HostRuntime) {
+    let alloc = rt.alloc();
+    let opening = opening_of(&rt, alloc, COUNTER_INTO_SINK);
+    let rounds = READY_COME_FIRST;
+    counter_plays(&rt, alloc, opening, &rounds);
+}
+
+#[test]
+fn a_refused_answer_leaves_those_before_it_ready(rt: HostRuntime) {
+    let alloc = rt.alloc();
+    let first = opening_of(&rt, alloc, READY_CHAIN);
+    let second = opening_of(&rt, alloc, READY_CHAIN);
+    two_monitors(&rt, alloc, first, second);
+}
