@@ -42,6 +42,8 @@ mod rosters;
 #[cfg(test)]
 mod standings;
 #[cfg(test)]
+mod staying;
+#[cfg(test)]
 mod strangers;
 #[cfg(test)]
 mod tokens;

@@ -133,3 +133,40 @@ fn count_from_its_start_writes_one(rt: HostRuntime) -> Result<(), Fail> {
     };
     asks_first(&rt, body, expected)
 }
+
+/// A task for the start of its process is renewed: it asks the same body anew, and the body comes back from it.
+fn asked_anew<B: Body>(
+    rt: &impl Abort,
+    body: B,
+    local: Local,
+    last: Option<Token>,
+    expected: Answer,
+)
+    requires { B.Kinds.admits (B.card body) local last }
+{
+    let card = body.card();
+    let start = B::Kinds::start(&card);
+    B::Kinds::starts(card);
+    let mut task = Task::new(5, body, start, None);
+    task.renew(local, last);
+    same(rt, "process", task.process(), 5);
+    same(rt, "local", task.local(), local);
+    same(rt, "last", task.last(), last);
+    same(rt, "answer", task.ask(), expected);
+    same(rt, "card", task.into_body().card(), card);
+}
+
+#[test]
+fn a_renewed_copy_writes_what_it_read(rt: HostRuntime) -> Result<(), Fail> {
+    let card = Card {
+        kind: 3,
+        args: [0; 3],
+    };
+    let made = body_of(rt.alloc(), card)?;
+    let expected = Answer {
+        next: [2, 7, 0, 0],
+        act: Write(0, Word(7)),
+    };
+    asked_anew(&rt, made, [1, 0, 0, 0], Some(Word(7)), expected);
+    Ok(())
+}

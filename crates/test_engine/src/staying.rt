@@ -1,0 +1,72 @@
+//! A task whose process goes out again where it lies, and one that comes back without an answer.
+ghost use Rattle.kpn_machine.specs.MachineView.{IsOut};
+
+use crate::checks::same;
+use crate::entries::PUT_1;
+use crate::machines::{CardMachine, CardTask, machine_of, take};
+use crate::networks::{COUNTER, SINK_OF_ONE, SINK_OF_THREE};
+use kpn_machine::Outcome;
+use kpn_net::End;
+use std::process::Abort;
+
+/// A task that the machine sent out.
+fn assert_sent<R: Abort>(rt: &R, machine: &CardMachine, task: &CardTask)
+    ensures { IsOut machine.now task.now }
+{
+    assert!(rt; machine.has_sent(task));
+}
+
+/// Asks a task that is out, and commits its answer where it lies.
+fn go_on<R: Abort>(rt: &R, machine: &mut CardMachine, task: &mut CardTask, due: Option<Outcome>) {
+    assert_sent(rt, machine, task);
+    let answer = task.ask();
+    same(rt, "outcome", machine.commit_on(task, answer), due);
+}
+
+/// Compares a machine whose counter is out with its second task, after its first answer.
+fn assert_second<R: Abort>(rt: &R, machine: &CardMachine, task: &CardTask) {
+    let held = (task.process(), task.local(), task.last());
+    same(rt, "held", held, (0, [1, 0, 0, 0], None));
+    same(rt, "card", task.card(), COUNTER);
+    same(rt, "history", machine.history(), [PUT_1].as_slice());
+    let counts = (machine.commits(), machine.ready(), machine.out());
+    same(rt, "counts", counts, (1, 1, 1));
+}
+
+/// The task comes back without an answer, and the run goes to its end.
+fn come_back<R: Abort>(rt: &R, machine: &mut CardMachine, task: CardTask) {
+    assert_sent(rt, machine, &task);
+    machine.take_back(task);
+    let counts = (machine.commits(), machine.ready(), machine.out());
+    same(rt, "counts", counts, (1, 2, 0));
+    same(rt, "history", machine.history(), [PUT_1].as_slice());
+    machine.ask_in_place(1000);
+    same(rt, "end", machine.end(), Some(End::Terminated));
+    same(rt, "entries", machine.history().len(), 8);
+}
+
+/// A counter puts its first word and goes out again at once. Its channel has room for one, so its second answer
+/// can't be done, and nothing changes.
+#[test]
+fn a_counter_goes_on_until_its_channel_is_full(rt: HostRuntime) {
+    let mut machine = machine_of(&rt, rt.alloc(), SINK_OF_THREE);
+    let mut task = take(&rt, &mut machine);
+    go_on(&rt, &mut machine, &mut task, Some(Outcome::Done(1)));
+    assert_second(&rt, &machine, &task);
+    go_on(&rt, &mut machine, &mut task, None);
+    assert_second(&rt, &machine, &task);
+    come_back(&rt, &mut machine, task);
+    drop(machine);
+}
+
+/// A sink of one leaves two of three words to a channel of one place, which grows once: three puts, one read, two
+/// stops and the growth.
+#[test]
+fn growths_are_counted(rt: HostRuntime) {
+    let mut machine = machine_of(&rt, rt.alloc(), SINK_OF_ONE);
+    same(&rt, "at first", machine.growths(), 0);
+    machine.ask_in_place(1000);
+    same(&rt, "entries", machine.history().len(), 7);
+    same(&rt, "growths", machine.growths(), 1);
+    drop(machine);
+}
