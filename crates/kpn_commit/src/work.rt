@@ -81,9 +81,9 @@ pub fn work<K: Kinds>(
     (outcome_of(reaction, resolution), end)
 }
 
-/// Works on the answer of a process that is ready or out, as `work` does, where it is a read or a write that can be done
-/// and the run goes on; but it leaves the standing of the process to the caller, who makes it ready, or sends it out
-/// again. Returns the outcome; `None` if it is not so, and nothing changes then. The history must have room for three
+/// Works on the answer of a process that is ready or out, as `work` does, but leaves the standing of the process to the
+/// caller, who makes it ready, or sends it out again. Returns the outcome; `None`, and nothing changes then, if the answer
+/// is a stop or can't be done, or if the budget has no room for three more entries. The history must have room for three
 /// entries.
 #[inline(always)]
 pub fn work_on<K: Kinds>(

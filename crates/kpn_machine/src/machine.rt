@@ -402,10 +402,10 @@ impl<B: Body> Machine<B> {
 }
 
 impl<B: Body> Machine<B> {
-    /// Takes the answer of a task, as `commit_asked` does, and then sends its process out again with the same body, as the
-    /// next task, if the answer is a read or a write that can be done and the run goes on. Returns the outcome; `None` if it
-    /// is not so, and nothing changes then. The process must be out with the task's card, local state and last token, as
-    /// `has_sent` tests.
+    /// Takes the answer of a task, as `commit_asked` does, and sends its process out again with the same body, as the next
+    /// task. Returns the outcome; `None`, and nothing changes then, if the answer is a stop or can't be done, if the run has
+    /// ended, or if the budget has no room for three more entries. The process must be out with the task's card, local
+    /// state and last token, as `has_sent` tests.
     #[inline(always)]
     pub fn commit_on(&mut self, task: &mut Task<B>, answer: Answer) -> Option<Outcome>
         requires out { IsOut self.old task.old }
