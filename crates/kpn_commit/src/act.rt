@@ -13,13 +13,13 @@ ghost use Rattle.kpn_state.specs.Standings.{StandingsFit, standing, standing_aft
 use kpn_model::{Act, Answer, Card, Deed, Kinds, Local, Token};
 use kpn_network::Net;
 use kpn_state::standing::standing_after;
-use kpn_state::{Roster, Store};
+use kpn_state::{Keeper, Roster, Store};
 
 /// Reads, if the channel holds a token; otherwise returns `None`, and nothing changes.
 #[inline(always)]
-fn read<K: Kinds>(
+fn read<K: Kinds, H: Keeper>(
     net: &Net<K>,
-    store: &mut Store,
+    store: &mut Store<H>,
     process: usize,
     port: u8,
     next: Local,
@@ -44,9 +44,9 @@ fn read<K: Kinds>(
 /// Writes, if the channel holds fewer tokens than its capacity; otherwise returns `None`, and nothing
 /// changes.
 #[inline(always)]
-fn write<K: Kinds>(
+fn write<K: Kinds, H: Keeper>(
     net: &Net<K>,
-    store: &mut Store,
+    store: &mut Store<H>,
     process: usize,
     port: u8,
     token: Token,
@@ -71,9 +71,9 @@ fn write<K: Kinds>(
 
 /// Does what a process answered, if it can be done; otherwise returns `None`, and nothing changes.
 #[inline(always)]
-fn perform<K: Kinds>(
+fn perform<K: Kinds, H: Keeper>(
     net: &Net<K>,
-    store: &mut Store,
+    store: &mut Store<H>,
     process: usize,
     answer: Answer,
 ) -> Option<Deed>
@@ -109,9 +109,9 @@ fn obey<K: Kinds>(card: Card)
 /// Does what a process answered and moves the process on, if it can be done; otherwise returns `None`,
 /// and nothing changes.
 #[inline(always)]
-pub fn advance<K: Kinds>(
+pub fn advance<K: Kinds, H: Keeper>(
     net: &Net<K>,
-    store: &mut Store,
+    store: &mut Store<H>,
     standings: &mut Roster,
     process: usize,
     answer: Answer,
@@ -138,9 +138,9 @@ pub fn advance<K: Kinds>(
 
 /// Reads or writes, if that can be done; otherwise returns `None`, and nothing changes.
 #[inline(always)]
-fn perform_on<K: Kinds>(
+fn perform_on<K: Kinds, H: Keeper>(
     net: &Net<K>,
-    store: &mut Store,
+    store: &mut Store<H>,
     process: usize,
     answer: Answer,
 ) -> Option<Deed>
@@ -163,9 +163,9 @@ fn perform_on<K: Kinds>(
 /// Does what a process answered, if that is a read or a write and can be done; otherwise returns `None`, and nothing
 /// changes. That the process is ready then is left to the caller.
 #[inline(always)]
-pub(crate) fn advance_on<K: Kinds>(
+pub(crate) fn advance_on<K: Kinds, H: Keeper>(
     net: &Net<K>,
-    store: &mut Store,
+    store: &mut Store<H>,
     standings: &Roster,
     process: usize,
     answer: Answer,

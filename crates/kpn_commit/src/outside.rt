@@ -14,10 +14,10 @@ use crate::parking::unpark;
 use kpn_model::{Act, Kinds, Token};
 use kpn_network::Net;
 use kpn_state::standing::parked;
-use kpn_state::{Roster, Store, Waiting};
+use kpn_state::{Keeper, Roster, Store, Waiting};
 
 /// Whether a process can read at a port: its channel holds a token.
-fn can_read<K: Kinds>(net: &Net<K>, store: &Store, process: usize, port: u8) -> bool
+fn can_read<K: Kinds, H: Keeper>(net: &Net<K>, store: &Store<H>, process: usize, port: u8) -> bool
     requires channels { length store.now.state.channels ≡ length net.now.channels }
     ensures can { IsTrue result → IsPossible (family_of K.start K.answer_of) net.now store.now.state process (ActV.Read port) }
     ensures cannot { result ≡ false → IsPossible (family_of K.start K.answer_of) net.now store.now.state process (ActV.Read port) → ⊥ }
@@ -30,7 +30,13 @@ fn can_read<K: Kinds>(net: &Net<K>, store: &Store, process: usize, port: u8) -> 
 }
 
 /// Whether a process can write at a port: its channel holds fewer tokens than its capacity.
-fn can_write<K: Kinds>(net: &Net<K>, store: &Store, process: usize, port: u8, token: Token) -> bool
+fn can_write<K: Kinds, H: Keeper>(
+    net: &Net<K>,
+    store: &Store<H>,
+    process: usize,
+    port: u8,
+    token: Token,
+) -> bool
     requires channels { length store.now.state.channels ≡ length net.now.channels }
     ensures can { IsTrue result → IsPossible (family_of K.start K.answer_of) net.now store.now.state process (ActV.Write port token) }
     ensures cannot { result ≡ false → IsPossible (family_of K.start K.answer_of) net.now store.now.state process (ActV.Write port token) → ⊥ }
@@ -43,7 +49,7 @@ fn can_write<K: Kinds>(net: &Net<K>, store: &Store, process: usize, port: u8, to
 }
 
 /// Whether a process can do this act.
-fn can_do<K: Kinds>(net: &Net<K>, store: &Store, process: usize, act: Act) -> bool
+fn can_do<K: Kinds, H: Keeper>(net: &Net<K>, store: &Store<H>, process: usize, act: Act) -> bool
     requires channels { length store.now.state.channels ≡ length net.now.channels }
     ensures can { IsTrue result → IsPossible (family_of K.start K.answer_of) net.now store.now.state process act }
     ensures cannot { result ≡ false → IsPossible (family_of K.start K.answer_of) net.now store.now.state process act → ⊥ }
@@ -57,9 +63,9 @@ fn can_do<K: Kinds>(net: &Net<K>, store: &Store, process: usize, act: Act) -> bo
 
 /// Makes a process ready if it is parked and can go on. Nothing is known of it before, while each other
 /// parked process can't go on.
-fn wake<K: Kinds>(
+fn wake<K: Kinds, H: Keeper>(
     net: &Net<K>,
-    store: &Store,
+    store: &Store<H>,
     standings: &mut Roster,
     waiting: &mut Waiting,
     process: usize,
@@ -82,9 +88,9 @@ fn wake<K: Kinds>(
 /// Appends a token to a channel, from outside of the network, and makes the reader of the channel ready
 /// if it is parked and can go on. No entry tells of it. The channel must hold fewer tokens than its
 /// capacity, and the token must be of its sort.
-pub fn feed<K: Kinds>(
+pub fn feed<K: Kinds, H: Keeper>(
     net: &Net<K>,
-    store: &mut Store,
+    store: &mut Store<H>,
     standings: &mut Roster,
     waiting: &mut Waiting,
     channel: usize,
@@ -108,9 +114,9 @@ pub fn feed<K: Kinds>(
 /// Removes the first token of a channel and returns it to the outside of the network, and makes the
 /// writer of the channel ready if it is parked and can go on. No entry tells of it. The channel must
 /// hold a token.
-pub fn drain<K: Kinds>(
+pub fn drain<K: Kinds, H: Keeper>(
     net: &Net<K>,
-    store: &mut Store,
+    store: &mut Store<H>,
     standings: &mut Roster,
     waiting: &mut Waiting,
     channel: usize,

@@ -8,16 +8,16 @@ ghost use Rattle.kpn_commit.specs.Waiting.{AreWaiting};
 
 use kpn_model::{Act, Answer, Kinds};
 use kpn_network::Net;
-use kpn_state::{Roster, Standing, Store, Waiting};
+use kpn_state::{Keeper, Roster, Standing, Store, Waiting};
 
 /// Parks a process that was ready or out with its answer, and marks the channel at which it waits. If it
 /// waits to write, the channel becomes a candidate. It is a function of its own, out of the way of a commit
 /// that parks nobody.
 #[cold]
 #[inline(never)]
-pub fn park<K: Kinds>(
+pub fn park<K: Kinds, H: Keeper>(
     net: &Net<K>,
-    store: &Store,
+    store: &Store<H>,
     standings: &mut Roster,
     waiting: &mut Waiting,
     process: usize,
@@ -51,9 +51,9 @@ pub fn park<K: Kinds>(
 /// Makes a parked process ready that can do what it answered. Its mark at the channel is removed
 /// then, and a channel to which it waited to write is no candidate any more.
 #[inline(always)]
-pub fn unpark<K: Kinds>(
+pub fn unpark<K: Kinds, H: Keeper>(
     net: &Net<K>,
-    store: &Store,
+    store: &Store<H>,
     standings: &mut Roster,
     waiting: &mut Waiting,
     process: usize,

@@ -17,7 +17,7 @@ use crate::parking::park;
 use kpn_model::{Act, Answer, Deed, Kinds, Token};
 use kpn_network::Net;
 use kpn_state::standing::parked;
-use kpn_state::{Marks, Roster, Store, Waiting};
+use kpn_state::{Keeper, Marks, Roster, Store, Waiting};
 
 /// What a process's answer led to. `Waits`: it could not be done, and the process is parked. `Acts`: it
 /// was done. `HandsOn`: it was done, and then the parked process at the other end of the channel did
@@ -32,9 +32,9 @@ pub enum Reaction {
 /// Does the act of the answer of a process that is ready or out, or parks the process with the answer; then
 /// does the deed of the parked process that this enables. The history must have room for two entries.
 #[inline(always)]
-pub fn react<K: Kinds>(
+pub fn react<K: Kinds, H: Keeper>(
     net: &Net<K>,
-    store: &mut Store,
+    store: &mut Store<H>,
     standings: &mut Roster,
     waiting: &mut Waiting,
     process: usize,
@@ -79,9 +79,9 @@ pub fn react<K: Kinds>(
 /// The body of `react`, which calls it from three places, one for each act, so that once it is inlined the
 /// act is tested only once.
 #[inline(always)]
-fn react_to<K: Kinds>(
+fn react_to<K: Kinds, H: Keeper>(
     net: &Net<K>,
-    store: &mut Store,
+    store: &mut Store<H>,
     standings: &mut Roster,
     waiting: &mut Waiting,
     process: usize,
@@ -119,9 +119,9 @@ fn react_to<K: Kinds>(
 /// again. `None` if the act is a stop or can't be done, and nothing changes then. The history must have room for two
 /// entries.
 #[inline(always)]
-pub(crate) fn react_on<K: Kinds>(
+pub(crate) fn react_on<K: Kinds, H: Keeper>(
     net: &Net<K>,
-    store: &mut Store,
+    store: &mut Store<H>,
     standings: &mut Roster,
     waiting: &mut Waiting,
     process: usize,
@@ -160,9 +160,9 @@ pub(crate) fn react_on<K: Kinds>(
 /// write is no candidate any more. It is a function of its own, out of the way of a commit after which no parked
 /// process goes on.
 #[inline(never)]
-fn resume<K: Kinds>(
+fn resume<K: Kinds, H: Keeper>(
     net: &Net<K>,
-    store: &mut Store,
+    store: &mut Store<H>,
     standings: &mut Roster,
     waiting: &mut Waiting,
     process: usize,
@@ -192,7 +192,7 @@ fn resume<K: Kinds>(
 
 /// Once its writer was served, a channel is no candidate any more, and the writer has no mark there.
 #[inline(always)]
-fn unlist(store: &Store, waiting: &mut Waiting, channel: usize)
+fn unlist<H: Keeper>(store: &Store<H>, waiting: &mut Waiting, channel: usize)
     requires channels { channel < length store.now.state.channels }
     requires marks { channel < length waiting.old.marks.writers }
     ensures pairs { (x : ℕ × ℕ) → Contains waiting.new.candidates.pairs x ↔ ((x ≢ (capacity store.now.state channel, channel)) × Contains waiting.old.candidates.pairs x) }

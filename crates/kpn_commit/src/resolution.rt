@@ -12,7 +12,7 @@ use crate::choose::choose;
 use kpn_model::{End, Kinds};
 use kpn_network::Net;
 use kpn_state::standing::parked;
-use kpn_state::{Roster, Store, Waiting};
+use kpn_state::{Keeper, Roster, Store, Waiting};
 
 /// How the run goes on. `Busy`: some process is ready or out. `Ended`: none is, and the run ended.
 /// `Enlarged`: none was, a channel grew, and its writer's token was put.
@@ -51,9 +51,9 @@ fn unlist(waiting: &mut Waiting, capacity: usize, channel: usize)
 /// growth is refused memory.
 #[cold]
 #[inline(never)]
-fn resolve_idle<K: Kinds>(
+fn resolve_idle<K: Kinds, H: Keeper>(
     net: &Net<K>,
-    store: &mut Store,
+    store: &mut Store<H>,
     standings: &mut Roster,
     waiting: &mut Waiting,
 ) -> Resolution
@@ -94,9 +94,9 @@ fn resolve_idle<K: Kinds>(
 /// token (Parks 1995). The run also ends if the growth is refused memory. In this case the history must
 /// have room for two entries.
 #[inline(always)]
-pub fn resolve<K: Kinds>(
+pub fn resolve<K: Kinds, H: Keeper>(
     net: &Net<K>,
-    store: &mut Store,
+    store: &mut Store<H>,
     standings: &mut Roster,
     waiting: &mut Waiting,
 ) -> Resolution

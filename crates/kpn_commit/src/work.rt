@@ -1,19 +1,21 @@
 //! The work of a commit.
-ghost use Rattle.std.specs.Prelude.{◌≡◌, ◌≢◌, ◌<◌, ◌≤◌, ◌+◌, length, set, Some, None, true, IfSome, IfNone};
+ghost use Rattle.std.specs.Prelude.{◌≡◌, ◌≢◌, ◌<◌, ◌≤◌, ◌+◌, length, set, Some, None, true, false, IfSome, IfNone};
 ghost use Rattle.kpn_model.specs.Network.{family_of};
 ghost use Rattle.kpn_model.specs.Semantics.{wants, IsPossible};
 ghost use Rattle.kpn_model.specs.declared.kinds.Act.TheVariants.{Stop};
 ghost use Rattle.kpn_state.specs.declared.standing.Standing.TheVariants.{Ready};
 ghost use Rattle.kpn_state.specs.Standings.{StandingsFit, standing, is_busy};
 ghost use Rattle.kpn_commit.specs.Waiting.{AreWaiting};
+ghost use Rattle.kpn_commit.specs.Resolving.{Resolves};
 ghost use Rattle.kpn_commit.specs.Works.{Works, outcome_of, end_after, resolution_entries};
+ghost use Rattle.std.specs.List.{list_any};
 
 use crate::outcome::Outcome;
 use crate::react::{Reaction, react, react_on};
 use crate::resolution::{Resolution, resolve};
 use kpn_model::{Answer, End, Kinds};
 use kpn_network::Net;
-use kpn_state::{Roster, Store, Waiting};
+use kpn_state::{Keeper, Roster, Store, Waiting};
 
 /// How many entries were appended after the reaction.
 fn resolution_entries(resolution: Resolution) -> usize
@@ -54,12 +56,35 @@ fn end_after(resolution: Resolution, budget: u64, entries: u64) -> Option<End>
     }
 }
 
+/// Sees how a run goes on that has not ended: if no process is ready or out it ends, or the chosen channel grows and its
+/// writer's token is put. Returns which, and how the run ended, if it did; by its budget, if that is spent. The history must
+/// have room for two entries if no process is ready or out.
+#[inline(always)]
+pub fn settle<K: Kinds, H: Keeper>(
+    net: &Net<K>,
+    store: &mut Store<H>,
+    standings: &mut Roster,
+    waiting: &mut Waiting,
+) -> (Resolution, Option<End>)
+    requires keeps { StandingsFit (family_of K.start K.answer_of) K.admits net.now None store.old.state standings.old }
+    requires room { list_any is_busy standings.old ≡ false → length store.old.history + 2 ≤ store.old.limit }
+    requires waiting { AreWaiting net.now store.old.state standings.old waiting.old }
+    ensures resolves { Resolves (family_of K.start K.answer_of) net.now store.old standings.old result.0 store.new standings.new }
+    ensures ended { result.1 ≡ end_after result.0 net.now.budget (length store.new.history) }
+    ensures keeps { StandingsFit (family_of K.start K.answer_of) K.admits net.now None store.new.state standings.new }
+    ensures waiting { AreWaiting net.now store.new.state standings.new waiting.new }
+{
+    let resolution = resolve(net, store, standings, waiting);
+    let ended = end_after(resolution, net.budget(), store.entries() as u64);
+    (resolution, ended)
+}
+
 /// Works on the answer of a process that is ready or out, in a run that has not ended. Returns the outcome, and
 /// how the run ended, if it did. The history must have room for three entries.
 #[inline(always)]
-pub fn work<K: Kinds>(
+pub fn work<K: Kinds, H: Keeper>(
     net: &Net<K>,
-    store: &mut Store,
+    store: &mut Store<H>,
     standings: &mut Roster,
     waiting: &mut Waiting,
     process: usize,
@@ -76,8 +101,7 @@ pub fn work<K: Kinds>(
     ensures waiting { AreWaiting net.now store.new.state standings.new waiting.new }
 {
     let reaction = react(net, store, standings, waiting, process, answer);
-    let resolution = resolve(net, store, standings, waiting);
-    let end = end_after(resolution, net.budget(), store.history().len() as u64);
+    let (resolution, end) = settle(net, store, standings, waiting);
     (outcome_of(reaction, resolution), end)
 }
 
@@ -86,9 +110,9 @@ pub fn work<K: Kinds>(
 /// is a stop or can't be done, or if the budget has no room for three more entries. The history must have room for three
 /// entries.
 #[inline(always)]
-pub fn work_on<K: Kinds>(
+pub fn work_on<K: Kinds, H: Keeper>(
     net: &Net<K>,
-    store: &mut Store,
+    store: &mut Store<H>,
     standings: &mut Roster,
     waiting: &mut Waiting,
     process: usize,
@@ -108,7 +132,7 @@ pub fn work_on<K: Kinds>(
     ensures cannot { IfNone result (length store.old.history + 2 < net.now.budget → answer.act ≢ Stop → IsPossible (family_of K.start K.answer_of) net.now store.old.state process answer.act → ⊥) }
     ensures same { IfNone result ((store.new ≡ store.old) × (standings.new ≡ standings.old) × (waiting.new ≡ waiting.old)) }
 {
-    let entries = store.history().len() as u64;
+    let entries = store.entries() as u64;
     if net.budget().saturating_sub(2) <= entries {
         return None;
     }

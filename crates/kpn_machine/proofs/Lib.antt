@@ -1,5 +1,7 @@
 pub mod Moves
 pub mod Sound
+pub mod AskedInTurn
+pub mod Rounds
 pub mod Onward
 pub mod Seats
 pub mod Opened

@@ -279,33 +279,3 @@ goes_round {kinds = kinds} {net = net} {M = M} {E = E} {l = l} {end = end} {comm
       sound = rw seated at w.sound;
       goes = record { input = i; between = machine_view net M E (set l p Out) end commits; outcome = o; takes = record { ready = ready; card = refl; live = live.1.1; after = refl }; commits = w.commits; appends = w.appends; tells = w.tells; back = w.back; others = w.others };
     }
-
--- what the body of a ready process answers is what the process wants
-pub body_wants :
-    {kinds : Family} {admits : Card → List ℕ → Option Token → Type 0} {X : Type 0} (card : X → Card) {net : Network} {M : State} {E : List Entry} {l : List Standing} {end : Option End} {commits limit : ℕ} (bodies : List (Option X))
-    → IsSound kinds admits (machine_view net M E l end commits) limit (map (option_map card) bodies) → (p : ℕ) → p < length l → standing l p ≡ Ready
-    → (slot : Option X) (b : X) → slot ≡ get_or bodies p slot → slot ≡ Some b → (s : Status) (local : List ℕ) (last : Option Token) → s ≡ status M p → s ≡ Live local last
-    → (a : Answer) → a ≡ kinds.answer (card b) local last → wants kinds net M p ≡ Some a
-body_wants card {net = net} bodies h p below ready slot b at some s local last is live a e =
-    let many = h.keeps.one_each in
-    let slots = h.many_bodies in
-    let all = length-map bodies (option_map card) in
-    let has = h.has_bodies p (omega arith) (λ f. cc) in
-    let here = slot_at card bodies p slot (omega arith) at in
-    let same : card_of net p ≡ card b = cc in
-    rw (← is, live, same, e)
-
--- and that it may be asked
-pub body_admits :
-    {kinds : Family} {admits : Card → List ℕ → Option Token → Type 0} {X : Type 0} (card : X → Card) {net : Network} {M : State} {E : List Entry} {l : List Standing} {end : Option End} {commits limit : ℕ} (bodies : List (Option X))
-    → IsSound kinds admits (machine_view net M E l end commits) limit (map (option_map card) bodies) → (p : ℕ) → p < length l → standing l p ≡ Ready
-    → (slot : Option X) (b : X) → slot ≡ get_or bodies p slot → slot ≡ Some b → (s : Status) (local : List ℕ) (last : Option Token) → s ≡ status M p → s ≡ Live local last
-    → admits (card b) local last
-body_admits card {net = net} bodies h p below ready slot b at some s local last is live =
-    let many = h.keeps.one_each in
-    let slots = h.many_bodies in
-    let all = length-map bodies (option_map card) in
-    let has = h.has_bodies p (omega arith) (λ f. cc) in
-    let here = slot_at card bodies p slot (omega arith) at in
-    let same : card_of net p ≡ card b = cc in
-    rw same at (h.keeps.well_typed.locals p local last (sym is ∙ live))

@@ -1,4 +1,5 @@
 pub mod Opening
 pub mod MachineView
 pub mod Commits
+pub mod Asking
 pub mod OpenFaults

@@ -5,7 +5,7 @@ ghost use Rattle.kpn_machine.specs.MachineView.{machine_view, IsFaithful};
 
 use kpn_model::{End, Entry, Kinds};
 use kpn_network::Net;
-use kpn_state::{Roster, Standing, Store};
+use kpn_state::{Keeper, Roster, Standing, Store, Wide};
 use std::marker::Model;
 
 /// A machine without its bodies: its network, its history, the standing of each process, and how the
@@ -13,9 +13,9 @@ use std::marker::Model;
 /// they can't.
 ///
 /// Only `Machine::into_chronicle` makes one. Contracts see what they see of the machine.
-pub struct Chronicle<K: Kinds> {
+pub struct Chronicle<K: Kinds, H: Keeper = Wide> {
     net: Net<K>,
-    store: Store,
+    store: Store<H>,
     standings: Roster,
     end: Option<End>,
     commits: u64,
@@ -23,7 +23,7 @@ pub struct Chronicle<K: Kinds> {
 
 // Written out, so that letting go of a chronicle is a call, which is proved once, and not done field by field wherever
 // one ends: that would be most of what it takes to prove who owns one.
-impl<K: Kinds> Drop for Chronicle<K> {
+impl<K: Kinds, H: Keeper> Drop for Chronicle<K, H> {
     fn drop(self) {
         let Chronicle {
             net: _,
@@ -35,7 +35,7 @@ impl<K: Kinds> Drop for Chronicle<K> {
     }
 }
 
-impl<K: Kinds> Model for Chronicle<K> {
+impl<K: Kinds, H: Keeper> Model for Chronicle<K, H> {
     ghost use Rattle.kpn_machine.specs.MachineView.{MachineView, machine_view, IsFaithful};
     ghost use Rattle.kpn_model.specs.Network.{family_of};
 
@@ -46,10 +46,10 @@ impl<K: Kinds> Model for Chronicle<K> {
     ghost invariant = { λ m. IsFaithful (family_of K.start K.answer_of) K.admits (machine_view m.net m.store.state m.store.history m.standings m.end m.commits) };
 }
 
-impl<K: Kinds> Chronicle<K> {
+impl<K: Kinds, H: Keeper> Chronicle<K, H> {
     pub(crate) fn new(
         net: Net<K>,
-        store: Store,
+        store: Store<H>,
         standings: Roster,
         ended: Option<End>,
         commits: u64,
@@ -73,11 +73,11 @@ impl<K: Kinds> Chronicle<K> {
         &self.net
     }
 
-    /// Returns the entries, in order.
-    pub fn history(&self) -> &[Entry]
-        ensures { result.now ≡ self.now.history }
+    /// Returns what keeps the entries.
+    pub fn keeper(&self) -> &H
+        ensures { H.entries result.now ≡ self.now.history }
     {
-        self.store.history()
+        self.store.keeper()
     }
 
     /// Returns the standing of each process, in order.
@@ -93,5 +93,14 @@ impl<K: Kinds> Chronicle<K> {
         ensures faithful { IsFaithful (family_of K.start K.answer_of) K.admits self.now }
     {
         self.end
+    }
+}
+
+impl<K: Kinds> Chronicle<K> {
+    /// Returns the entries, in order.
+    pub fn history(&self) -> &[Entry]
+        ensures { result.now ≡ self.now.history }
+    {
+        self.store.history()
     }
 }

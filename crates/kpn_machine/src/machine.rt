@@ -16,25 +16,26 @@ ghost use Rattle.kpn_machine.specs.Commits.{Commits, CommitsOn, Appends, EndsAs,
 ghost use Rattle.kpn_laws.specs.RoomOfRun.{TakesLeastRoom};
 ghost use Rattle.kpn_laws.specs.StreamsOfRun.{ApproachLeastSolution};
 
+use crate::asking::ask_ready;
 use crate::chronicle::Chronicle;
 use crate::equality::{same_card, same_last, same_local};
 use crate::opening::{OpenFault, Start, misfit, prepare, seat_all};
 use kpn_body::{Body, Finished, Task};
 use kpn_commit::Outcome;
-use kpn_commit::work::{work, work_on};
+use kpn_commit::work::{settle, work, work_on};
 use kpn_laws::{least_room_of, least_solution_of, typed_runs, valid_runs};
-use kpn_model::{Act, Answer, Card, End, Entry, Kinds, Local, Status, Token};
+use kpn_model::{Answer, Card, End, Entry, Kinds, Local, Status, Token};
 use kpn_network::Net;
 use kpn_state::standing::all_ready;
-use kpn_state::{Roster, Standing, Store, Waiting};
+use kpn_state::{Keeper, Roster, Standing, Store, Waiting, Wide};
 use std::alloc::Global;
 use std::marker::Model;
 
 /// A network at work: its processes are taken one at a time, called outside the machine, and their
-/// answers committed.
-pub struct Machine<B: Body> {
+/// answers committed. Its entries are kept as they are handed out, unless it is opened with another keeper.
+pub struct Machine<B: Body, H: Keeper = Wide> {
     net: Net<B::Kinds>,
-    store: Store,
+    store: Store<H>,
     standings: Roster,
     /// The candidates for a growth, and the marks of parked processes at their channels.
     waiting: Waiting,
@@ -50,7 +51,7 @@ pub struct Machine<B: Body> {
 
 // Written out, so that letting go of a machine is a call, which is proved once, and not done field by field wherever
 // one ends: that would be most of what it takes to prove who owns one.
-impl<B: Body> Drop for Machine<B> {
+impl<B: Body, H: Keeper> Drop for Machine<B, H> {
     fn drop(self) {
         let Machine {
             net: _,
@@ -66,7 +67,7 @@ impl<B: Body> Drop for Machine<B> {
     }
 }
 
-impl<B: Body> Model for Machine<B> {
+impl<B: Body, H: Keeper> Model for Machine<B, H> {
     ghost use Rattle.std.specs.Prelude.{map, option_map};
     ghost use Rattle.std.specs.Vec.{vec_capacity};
     ghost use Rattle.kpn_commit.specs.Waiting.{AreWaiting};
@@ -110,8 +111,39 @@ impl<B: Body> Machine<B> {
     pub fn open(
         alloc: Global,
         net: Net<B::Kinds>,
-        mut bodies: Vec<B>,
+        bodies: Vec<B>,
     ) -> Result<Machine<B>, OpenRefused<B>>
+        ensures opened { IfOk result (λ m. m ≡ machine_view net (start (family_of B.Kinds.start B.Kinds.answer_of) net) [] (replicate (length net.processes) Ready) None 0) }
+        ensures fresh { IfOk result IsFresh }
+        ensures cards { OnOk result (map B.card bodies.items ≡ cards_of net.processes) }
+        ensures net_back { IfErr result (λ refused. refused.net ≡ net) }
+        ensures bodies_back { IfErr result (λ refused. refused.bodies.items ≡ bodies.items) }
+        ensures fault { IfErr result (λ refused. IsOpenFault net.processes (map B.card bodies.items) refused.fault) }
+    {
+        Machine::<B, Wide>::open_with_keeper(alloc, net, bodies)
+    }
+
+    /// Returns the entries so far, in order.
+    pub fn history(&self) -> &[Entry]
+        ensures { result.now ≡ self.now.history }
+    {
+        self.store.history()
+    }
+}
+
+impl<B: Body, H: Keeper> Machine<B, H> {
+    /// Opens a machine as `open` does, whose entries are kept by `H`.
+    ///
+    /// ```text
+    /// let Ok(mut machine) = Machine::<B, Packed>::open_with_keeper(alloc, net, bodies) else {
+    ///     return Err(AllocError);
+    /// };
+    /// ```
+    pub fn open_with_keeper(
+        alloc: Global,
+        net: Net<B::Kinds>,
+        mut bodies: Vec<B>,
+    ) -> Result<Machine<B, H>, OpenRefused<B>>
         ensures opened { IfOk result (λ m. m ≡ machine_view net (start (family_of B.Kinds.start B.Kinds.answer_of) net) [] (replicate (length net.processes) Ready) None 0) }
         ensures fresh { IfOk result IsFresh }
         ensures cards { OnOk result (map B.card bodies.items ≡ cards_of net.processes) }
@@ -122,7 +154,7 @@ impl<B: Body> Machine<B> {
         if let Some(fault) = misfit(&net, bodies.as_slice()) {
             return Err(OpenRefused { net, bodies, fault });
         }
-        let Ok(start) = prepare(alloc, &net) else {
+        let Ok(start) = prepare::<B, H>(alloc, &net) else {
             return Err(OpenRefused {
                 net,
                 bodies,
@@ -168,11 +200,12 @@ impl<B: Body> Machine<B> {
         typed_runs::<B::Kinds>();
     }
 
-    /// Returns the entries so far, in order.
-    pub fn history(&self) -> &[Entry]
-        ensures { result.now ≡ self.now.history }
+    /// Returns how many entries there are so far.
+    #[inline(always)]
+    pub fn entries(&self) -> usize
+        ensures { result ≡ length self.now.history }
     {
-        self.store.history()
+        self.store.entries()
     }
 
     /// Returns how many of the entries so far are growths.
@@ -216,7 +249,7 @@ impl<B: Body> Machine<B> {
     pub fn is_fresh(&self) -> bool
         ensures { IsTrue result ↔ IsFresh self.now }
     {
-        self.store.history().is_empty()
+        self.store.entries() == 0
             && self.commits == 0
             && self.end.is_none()
             && all_ready(self.standings.as_slice())
@@ -230,7 +263,7 @@ impl<B: Body> Machine<B> {
     }
 }
 
-impl<B: Body> Machine<B> {
+impl<B: Body, H: Keeper> Machine<B, H> {
     /// Sends a ready process out and returns its task; `None` if the run has ended or no process is
     /// ready, and nothing changes then. No contract says which ready process is taken.
     #[inline(always)]
@@ -248,9 +281,9 @@ impl<B: Body> Machine<B> {
 }
 
 /// The task of a live process, with its body.
-fn take_out<B: Body>(
+fn take_out<B: Body, H: Keeper>(
     net: &Net<B::Kinds>,
-    store: &Store,
+    store: &Store<H>,
     bodies: &mut Vec<Option<B>>,
     process: usize,
 ) -> Task<B>
@@ -275,9 +308,9 @@ fn take_out<B: Body>(
 
 /// Whether a process is out, with this card, local state and last token: that of an answer or a task.
 #[inline(always)]
-fn is_out_with<K: Kinds>(
+fn is_out_with<K: Kinds, H: Keeper>(
     net: &Net<K>,
-    store: &Store,
+    store: &Store<H>,
     standings: &[Standing],
     process: usize,
     card: Card,
@@ -306,7 +339,7 @@ fn is_out_with<K: Kinds>(
     }
 }
 
-impl<B: Body> Machine<B> {
+impl<B: Body, H: Keeper> Machine<B, H> {
     /// Returns whether the process of an answer is out, with this card, local state and last token.
     #[inline(always)]
     pub fn has_asked(&self, finished: &Finished<B>) -> bool
@@ -401,7 +434,7 @@ impl<B: Body> Machine<B> {
     }
 }
 
-impl<B: Body> Machine<B> {
+impl<B: Body, H: Keeper> Machine<B, H> {
     /// Takes the answer of a task, as `commit_asked` does, and sends its process out again with the same body, as the next
     /// task. Returns the outcome; `None`, and nothing changes then, if the answer is a stop or can't be done, if the run has
     /// ended, or if the budget has no room for three more entries. The process must be out with the task's card, local
@@ -436,7 +469,7 @@ impl<B: Body> Machine<B> {
     }
 }
 
-impl<B: Body> Machine<B> {
+impl<B: Body, H: Keeper> Machine<B, H> {
     /// Takes back a task that was not answered: its process is ready again, as it was. The process must be
     /// out with the task's card, local state and last token, as `has_sent` tests.
     pub fn take_back(&mut self, task: Task<B>)
@@ -458,7 +491,7 @@ fn lay_back(standings: &mut Roster, process: usize)
     standings.update(process, Standing::Ready);
 }
 
-impl<B: Body> Machine<B> {
+impl<B: Body, H: Keeper> Machine<B, H> {
     /// Returns the network and, in order, bodies of the right cards, of a machine that is as it was
     /// opened. Takes no memory.
     pub fn into_parts(self) -> (Net<B::Kinds>, Vec<B>)
@@ -487,9 +520,9 @@ impl<B: Body> Machine<B> {
     }
 }
 
-impl<B: Body> Machine<B> {
+impl<B: Body, H: Keeper> Machine<B, H> {
     /// Returns the machine without its bodies. Takes no memory.
-    pub fn into_chronicle(self) -> Chronicle<B::Kinds>
+    pub fn into_chronicle(self) -> Chronicle<B::Kinds, H>
         ensures { result ≡ self }
     {
         self.assure_faithful();
@@ -519,57 +552,39 @@ fn note_end(end: &mut Option<End>, found: Option<End>)
     }
 }
 
-impl<B: Body> Machine<B> {
-    // Returns the process to be asked next: this one, or if none is given the one that has been ready the
-    // longest; `None` if no process is ready.
-    #[inline(always)]
-    fn turn(&mut self, again: Option<usize>) -> Option<usize>
-        requires { IfSome again (λ p. standing self.old.standings p ≡ Ready) }
-        ensures some { IfSome result (λ p. standing self.old.standings p ≡ Ready) }
-        ensures within { IfSome result (λ p. p < length self.old.standings) }
-        ensures none { IfNone result ((p : ℕ) → standing self.old.standings p ≢ Ready) }
-        ensures same { self.new ≡ self.old }
-    {
-        self.standings.turn(again)
-    }
-
-    /// Asks a ready process, and takes its answer: what `take`, `Task::call` and `commit` do, but no body
-    /// leaves the machine, and the process is not sent out. The run must not have ended.
-    ///
-    /// Returns the process if it has read and is ready: it is asked again at once, since mostly it then
-    /// writes, while one that has written has to wait for its reader.
-    #[inline(always)]
-    fn ask(&mut self, process: usize) -> Option<usize>
-        requires on { self.old.end ≡ None }
-        requires ready { standing self.old.standings process ≡ Ready }
-        requires within { process < length self.old.standings }
-        ensures round { GoesRound (family_of B.Kinds.start B.Kinds.answer_of) self.old self.new }
-        ensures again { IfSome result (λ p. standing self.new.standings p ≡ Ready) }
+impl<B: Body, H: Keeper> Machine<B, H> {
+    /// Asks ready processes in place, one after the other, until `most` answers were taken, the budget is spent or no
+    /// process is ready; and then sees how the run goes on. Returns how many answers were taken. The run must not have
+    /// ended.
+    fn go_on(&mut self, most: u64) -> u64
+        requires { self.old.end ≡ None }
+        ensures rounds { (outcomes : List OutcomeV) × (length outcomes ≡ result) × GoesRounds (family_of B.Kinds.start B.Kinds.answer_of) self.old outcomes self.new }
+        ensures most { result ≤ most }
+        ensures stuck { result ≡ 0 → 0 < most → (p : ℕ) → standing self.old.standings p ≢ Ready }
     {
         self.net.assure_valid();
-        let Status::Live { local, last } = self.store.status(process) else {
-            unreachable!()
-        };
-        let Some(body) = &self.bodies[process] else {
-            unreachable!()
-        };
-        let answer = body.answer(*local, *last);
-        let has_read = matches!(answer.act, Act::Read(_));
-        self.commits += 1;
-        let (_, ended) = work(
+        let budget = self.net.budget();
+        let mut again = self.asked_last();
+        let asked = ask_ready(
             &self.net,
             &mut self.store,
             &mut self.standings,
             &mut self.waiting,
-            process,
-            answer,
+            self.bodies.as_slice(),
+            &mut again,
+            most,
+            budget as usize,
         );
+        let (_, ended) = settle(
+            &self.net,
+            &mut self.store,
+            &mut self.standings,
+            &mut self.waiting,
+        );
+        self.commits += asked;
         note_end(&mut self.end, ended);
-        if has_read {
-            self.standings.if_ready(process)
-        } else {
-            None
-        }
+        self.again = again;
+        asked
     }
 
     /// Runs to an end in the calling thread. No process may be out. If capacity b suffices for the
@@ -589,12 +604,8 @@ impl<B: Body> Machine<B> {
         ensures room { TakesLeastRoom (family_of B.Kinds.start B.Kinds.answer_of) self.new.network self.new.history self.new.state }
         ensures streams { ApproachLeastSolution (family_of B.Kinds.start B.Kinds.answer_of) self.new.network self.new.history self.new.state }
     {
-        let mut again = None;
         while self.end().is_none() {
-            let Some(process) = self.turn(again) else {
-                unreachable!()
-            };
-            again = self.ask(process);
+            self.go_on(u64::MAX);
         }
         least_room_of::<B::Kinds>();
         least_solution_of::<B::Kinds>();
@@ -630,16 +641,14 @@ impl<B: Body> Machine<B> {
         ensures none { result ≡ 0 → self.new ≡ self.old }
         ensures faithful { IsFaithful (family_of B.Kinds.start B.Kinds.answer_of) B.Kinds.admits self.new }
     {
-        let mut again = self.asked_last();
         let mut taken = 0;
         while self.is_to_go_on(taken, most) {
-            let Some(process) = self.turn(again) else {
+            let asked = self.go_on(most - taken);
+            if asked == 0 {
                 break;
-            };
-            again = self.ask(process);
-            taken += 1;
+            }
+            taken += asked;
         }
-        self.again = again;
         self.assure_faithful();
         taken
     }

@@ -14,7 +14,7 @@ use crate::equality::same_card;
 use kpn_body::Body;
 use kpn_model::{Card, Kinds, Status};
 use kpn_network::Net;
-use kpn_state::{Ring, Roster, Store, Waiting};
+use kpn_state::{Keeper, Ring, Roster, Store, Waiting};
 use std::alloc::{AllocError, Global};
 
 /// Why a machine was not opened. `Bodies`: there are not as many bodies as processes. `Card`: a body
@@ -100,7 +100,7 @@ pub fn start_rings<K: Kinds>(alloc: Global, net: &Net<K>) -> Result<Vec<Ring>, A
 }
 
 /// The start of a network, with room for two entries more than its budget.
-fn start_store<K: Kinds>(alloc: Global, net: &Net<K>) -> Result<Store, AllocError>
+fn start_store<K: Kinds, H: Keeper>(alloc: Global, net: &Net<K>) -> Result<Store<H>, AllocError>
     ensures store { IfOk result (λ s. s ≡ state_and_history (start (family_of K.start K.answer_of) net.now) [] (net.now.budget + 2)) }
     ensures admitted { OnOk result ((p : ℕ) → p < length net.now.processes → K.admits (card_of net.now p) (K.start (card_of net.now p)) None) }
 {
@@ -108,8 +108,7 @@ fn start_store<K: Kinds>(alloc: Global, net: &Net<K>) -> Result<Store, AllocErro
     let limit = net.budget() as usize + 2;
     let statuses = start_statuses(alloc, net)?;
     let rings = start_rings(alloc, net)?;
-    let history = Vec::with_capacity(alloc, limit)?;
-    Ok(Store::new(statuses, rings, history, limit))
+    Store::new(alloc, statuses, rings, limit)
 }
 
 /// An empty slot for each body.
@@ -126,15 +125,18 @@ fn empty_slots<B: Body>(alloc: Global, count: usize) -> Result<Vec<Option<B>>, A
 /// What a machine begins with, except its network and its bodies: the state, the standings of the
 /// processes, nobody who waits, and a slot for each body.
 #[derive(Drop)]
-pub(crate) struct Start<B: Body> {
-    pub(crate) store: Store,
+pub(crate) struct Start<B: Body, H: Keeper> {
+    pub(crate) store: Store<H>,
     pub(crate) standings: Roster,
     pub(crate) waiting: Waiting,
     pub(crate) slots: Vec<Option<B>>,
 }
 
 /// The start of a network.
-pub(crate) fn prepare<B: Body>(alloc: Global, net: &Net<B::Kinds>) -> Result<Start<B>, AllocError>
+pub(crate) fn prepare<B: Body, H: Keeper>(
+    alloc: Global,
+    net: &Net<B::Kinds>,
+) -> Result<Start<B, H>, AllocError>
     ensures store { IfOk result (λ r. r.store ≡ state_and_history (start (family_of B.Kinds.start B.Kinds.answer_of) net.now) [] (net.now.budget + 2)) }
     ensures standings { IfOk result (λ r. r.standings ≡ replicate (length net.now.processes) Ready) }
     ensures candidates { IfOk result (λ r. r.waiting.candidates ≡ candidate_list [] (length net.now.processes)) }

@@ -3,3 +3,4 @@ pub mod Standings
 pub mod Rosters
 pub mod Candidates
 pub mod Marks
+pub mod Packed

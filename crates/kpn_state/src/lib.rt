@@ -3,7 +3,9 @@
 #![tactic(auto)]
 
 pub mod candidates;
+pub mod keeper;
 pub mod marks;
+pub mod packed;
 pub mod ring;
 pub mod roster;
 pub mod standing;
@@ -11,7 +13,9 @@ pub mod store;
 pub mod waiting;
 
 pub use candidates::Candidates;
+pub use keeper::{Keeper, Recall, Unkept, Wide};
 pub use marks::Marks;
+pub use packed::Packed;
 pub use ring::Ring;
 pub use roster::Roster;
 pub use standing::Standing;

@@ -1,24 +1,25 @@
 //! Processes, channels and the history, changed one entry at a time.
-ghost use Rattle.std.specs.Prelude.{◌≡◌, ◌<◌, ◌≤◌, ◌++◌, ◌∷◌, [], length, drop, Some, None, OnOk, OnErr};
-ghost use Rattle.std.specs.Vec.{vec_capacity};
+ghost use Rattle.std.specs.Prelude.{◌≡◌, ◌<◌, ◌≤◌, ◌^◌, ◌++◌, ◌∷◌, [], length, drop, Some, None, IfOk, OnOk, OnErr};
 ghost use Rattle.kpn_model.specs.History.{growths as growths_of};
 ghost use Rattle.kpn_model.specs.Semantics.{status, tokens, capacity, with_status, with_channel};
 ghost use Rattle.kpn_model.specs.declared.history.Status.TheVariants.{Live, Done};
 ghost use Rattle.kpn_model.specs.declared.history.Entry.TheVariants.{Did, Grew};
 ghost use Rattle.kpn_model.specs.declared.history.Deed.TheVariants.{Took, Put, Stopped};
 ghost use Rattle.kpn_state.specs.StateAndHistory.{state, state_and_history, more};
+ghost use Rattle.kpn_state.specs.Packed.{IsSmall};
 
+use crate::keeper::{Keeper, Unkept, Wide};
 use crate::ring::Ring;
 use kpn_model::{Deed, Entry, Local, Status, Token};
-use std::alloc::AllocError;
+use std::alloc::{AllocError, Global};
 use std::marker::Model;
 
-/// The status of each process, each channel, and the history, which has room for a fixed number of
-/// entries.
-pub struct Store {
+/// The status of each process, each channel, and the history, which has room for a fixed number of entries, as its
+/// keeper has them.
+pub struct Store<H: Keeper = Wide> {
     statuses: Vec<Status>,
     rings: Vec<Ring>,
-    history: Vec<Entry>,
+    history: H,
     limit: usize,
     /// How many entries of the history are growths, so that nobody has to go through it to count them.
     growths: usize,
@@ -26,7 +27,7 @@ pub struct Store {
 
 // Written out, so that letting go of a store is a call, which is proved once, and not done field by field wherever
 // one ends.
-impl Drop for Store {
+impl<H: Keeper> Drop for Store<H> {
     fn drop(self) {
         let Store {
             statuses: _,
@@ -38,41 +39,54 @@ impl Drop for Store {
     }
 }
 
-impl Model for Store {
-    ghost use Rattle.std.specs.Prelude.{◌≡◌, ◌≤◌, length};
-    ghost use Rattle.std.specs.Vec.{vec_capacity};
-    ghost use Rattle.kpn_model.specs.History.{growths as growths_of};
-    ghost use Rattle.kpn_state.specs.StateAndHistory.{StateAndHistory, state_and_history, state};
+impl<H: Keeper> Model for Store<H> {
+    ghost use Rattle.kpn_state.specs.StateAndHistory.{StateAndHistory, state_and_history, state, IsStored};
 
     ghost Value = { StateAndHistory };
 
-    ghost view = { λ s. state_and_history (state s.statuses.items s.rings.items) s.history.items s.limit };
+    ghost view = { λ s. state_and_history (state s.statuses.items s.rings.items) (H.entries s.history) s.limit };
 
-    ghost invariant = { λ s. (s.limit ≤ vec_capacity s.history) × (s.growths ≡ length (growths_of s.history.items)) };
+    ghost invariant = { λ s. IsStored (state_and_history (state s.statuses.items s.rings.items) (H.entries s.history) s.limit) (H.room s.history) s.growths };
 }
 
-impl Store {
-    /// Makes a store of these processes, channels and entries. The history may have up to `limit`
-    /// entries, and its vector must have that capacity.
-    pub fn new(statuses: Vec<Status>, rings: Vec<Ring>, history: Vec<Entry>, limit: usize) -> Self
-        requires { limit ≤ vec_capacity history }
-        ensures { result ≡ state_and_history (state statuses.items rings.items) history.items limit }
+impl<H: Keeper> Store<H> {
+    /// Makes a store of these processes and channels, at most 65,536 of each, with no entry yet and with room for
+    /// `limit` entries.
+    ///
+    /// Errors: memory was refused.
+    pub fn new(
+        alloc: Global,
+        statuses: Vec<Status>,
+        rings: Vec<Ring>,
+        limit: usize,
+    ) -> Result<Self, AllocError>
+        requires processes { length statuses.items ≤ 2 ^ 16 }
+        requires channels { length rings.items ≤ 2 ^ 16 }
+        ensures { IfOk result (λ s. s ≡ state_and_history (state statuses.items rings.items) [] limit) }
     {
-        let growths = growths_in(history.as_slice());
-        Store {
+        let history = H::with_room(alloc, limit)?;
+        Ok(Store {
             statuses,
             rings,
             history,
             limit,
-            growths,
-        }
+            growths: 0,
+        })
     }
 
-    /// Returns the entries so far.
-    pub fn history(&self) -> &[Entry]
-        ensures { result.now ≡ self.now.history }
+    /// Returns what keeps the entries.
+    pub fn keeper(&self) -> &H
+        ensures { H.entries result.now ≡ self.now.history }
     {
-        self.history.as_slice()
+        &self.history
+    }
+
+    /// Returns how many entries there are so far.
+    #[inline(always)]
+    pub fn entries(&self) -> usize
+        ensures { result ≡ length self.now.history }
+    {
+        self.history.count()
     }
 
     /// Returns how many of the entries so far are growths.
@@ -102,34 +116,47 @@ impl Store {
         ring.tokens_and_capacity()
     }
 
+    #[inline(always)]
+    fn note(&mut self, process: usize, deed: Deed)
+        requires room { length self.old.history < self.old.limit }
+        requires small { IsSmall (Did process deed) }
+        ensures { self.new ≡ more self.old self.old.state (Did process deed) }
+    {
+        self.history.keep(Entry::Did { process, deed });
+    }
+
+    fn note_growth(&mut self, channel: usize, to: usize)
+        requires room { length self.old.history < self.old.limit }
+        requires small { IsSmall (Grew channel to) }
+        ensures { self.new ≡ more self.old self.old.state (Grew channel to) }
+    {
+        let _entries = self.history.count();
+        self.history.keep(Entry::Grew { channel, to });
+        self.growths += 1;
+    }
+}
+
+impl Store<Wide> {
+    /// Returns the entries so far.
+    pub fn history(&self) -> &[Entry]
+        ensures { result.now ≡ self.now.history }
+    {
+        self.history.as_slice()
+    }
+}
+
+impl Store<Unkept> {
     /// Forgets the entries so far: what is told goes on from the state that they led to, and there is room
     /// for as many entries as at the start.
     pub fn forget(&mut self)
         ensures { self.new ≡ state_and_history self.old.state [] self.old.limit }
     {
-        self.history.clear();
+        self.history.forget();
         self.growths = 0;
-    }
-
-    #[inline(always)]
-    fn note(&mut self, process: usize, deed: Deed)
-        requires { length self.old.history < self.old.limit }
-        ensures { self.new ≡ more self.old self.old.state (Did process deed) }
-    {
-        self.history.push_reserved(Entry::Did { process, deed });
-    }
-
-    fn note_growth(&mut self, channel: usize, to: usize)
-        requires { length self.old.history < self.old.limit }
-        ensures { self.new ≡ more self.old self.old.state (Grew channel to) }
-    {
-        let _entries = self.history.len();
-        self.history.push_reserved(Entry::Grew { channel, to });
-        self.growths += 1;
     }
 }
 
-impl Store {
+impl<H: Keeper> Store<H> {
     /// Stops a process, and appends the entry. There must be room for it.
     pub fn stop(&mut self, process: usize)
         requires process { process < length self.old.state.processes }
@@ -220,18 +247,4 @@ impl Store {
         self.note_growth(channel, to);
         Ok(())
     }
-}
-
-/// How many of these entries are growths.
-fn growths_in(history: &[Entry]) -> usize
-    ensures { result ≡ length (growths_of history.now) }
-{
-    let mut growths = 0;
-    for entry in history {
-        match entry {
-            Entry::Grew { .. } => growths += 1,
-            Entry::Did { .. } => {}
-        }
-    }
-    growths
 }

@@ -2,13 +2,13 @@
 use Rattle.kpn_commit.proofs.react.unlist.Goals as goal
 
 pub returns-clause-pairs : goal.returns-clause-pairs
-returns-clause-pairs c = rw c.tokens_and_capacity-capacity.ensures.capacity at c.remove.ensures.pairs
+returns-clause-pairs g c = rw c.tokens_and_capacity-capacity.ensures.capacity at c.remove.ensures.pairs
 
 pub returns-clause-many : goal.returns-clause-many
-returns-clause-many c = rw c.tokens_and_capacity-capacity.ensures.capacity at c.remove.ensures.many
+returns-clause-many g c = rw c.tokens_and_capacity-capacity.ensures.capacity at c.remove.ensures.many
 
 pub returns-clause-limit : goal.returns-clause-limit
-returns-clause-limit c = c.remove.ensures.limit
+returns-clause-limit g c = c.remove.ensures.limit
 
 pub returns-clause-marks : goal.returns-clause-marks
-returns-clause-marks c = c.note_writer.ensures
+returns-clause-marks g c = c.note_writer.ensures

@@ -1,5 +1,5 @@
 -- A read or a write, with the deed that it enables, after which the run goes on.
-use Rattle.std.proofs.Common.{◌<◌, ◌+◌, ap, arith, length, refl, set}
+use Rattle.std.proofs.Common.{◌<◌, ◌+◌, arith, length, refl, set}
 use Rattle.kpn_model.specs.Network.{family_of}
 use Rattle.kpn_state.specs.declared.standing.Standing.TheVariants.{Ready}
 use Rattle.kpn_state.proofs.Placed.{standing_set_same, busy_at}
@@ -14,7 +14,7 @@ returns-clause-works g c =
     let l = c.react_on.new.standings in
     let p = c.args.process in
     let there : p < length l = omega (arith, c.requires.process, c.react_on.ensures.many) in
-    let left : length s.history + 2 < c.args.net.now.budget = omega (arith, c.if-saturating_sub-entries.false, c.saturating_sub.ensures, c.budget.ensures, ap (λ h. length h) c.history.ensures) in
+    let left : length s.history + 2 < c.args.net.now.budget = omega (arith, c.if-saturating_sub-entries.false, c.saturating_sub.ensures, c.budget.ensures, c.entries-entries.ensures) in
     record {
       reaction = c.in_ok-reaction.reaction;
       between = c.react_on.new.store;

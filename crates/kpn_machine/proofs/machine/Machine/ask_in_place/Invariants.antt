@@ -1,6 +1,6 @@
-use Rattle.std.proofs.Common.{◌≡◌, ◌≢◌, ◌↔◌, ◌+◌, ◌-◌, ◌≤◌, ℕ, List, length, None, IfSome}
+use Rattle.std.proofs.Common.{◌≡◌, ◌≢◌, ◌↔◌, ◌+◌, ◌-◌, ◌≤◌, ℕ, List, length, None}
 use Rattle.kpn_model.specs.Network.{family_of}
-use Rattle.kpn_state.specs.declared.standing.Standing.TheVariants.{Ready, Out}
+use Rattle.kpn_state.specs.declared.standing.Standing.TheVariants.{Out}
 use Rattle.kpn_state.specs.Standings.{standing}
 use Rattle.kpn_commit.specs.declared.outcome.Outcome.{Outcome}
 use Rattle.kpn_machine.specs.Commits.{ContinuesRun, GoesRounds}
@@ -8,7 +8,6 @@ use Rattle.kpn_machine.proofs.machine.Machine.ask_in_place.Given as goal
 
 abbrev pub invariant-loop-self : goal.invariant-loop-self
 invariant-loop-self g l = record {
-  again : IfSome l.again (λ p. standing l.self.standings p ≡ Ready);
   rounds : (outcomes : List Outcome) × (length outcomes ≡ l.taken) × GoesRounds (family_of g.B.Kinds.Kinds.start g.B.Kinds.Kinds.answer_of) l.initial.self outcomes l.self;
   goes : ContinuesRun (family_of g.B.Kinds.Kinds.start g.B.Kinds.Kinds.answer_of) l.initial.self l.self;
   commits : l.self.commits ≡ l.initial.self.commits + l.taken;

@@ -1,18 +1,27 @@
 -- While the run has not ended and no process is out, a ready process goes on.
-use Rattle.kpn_machine.proofs.Finishing.{none_is_out, none_counted, round_goes, round_keeps_out, some_ready}
-use Rattle.std.proofs.Common.{◌≡◌, None, arith}
+use Rattle.std.proofs.Common.{◌≡◌, ◌≢◌, None, arith}
+use Rattle.kpn_model.specs.Network.{family_of}
+use Rattle.kpn_machine.proofs.Finishing.{none_is_out, none_counted, some_ready}
+use Rattle.kpn_machine.proofs.Rounds.{goes_nowhere, rounds_go, rounds_keep_out, rounds_commits}
 use Rattle.kpn_machine.proofs.machine.Machine.finish_alone.Goals as goal
 
-pub loop-again-preserved : goal.loop-again-preserved
-loop-again-preserved g c =
-    let r = rw c.turn.ensures.same at c.ask-again.ensures.round in
+pub loop-self-preserved : goal.loop-self-preserved
+loop-self-preserved g c =
+    let kinds = family_of g.B.Kinds.Kinds.start g.B.Kinds.Kinds.answer_of in
+    let rounds = c.go_on.ensures.rounds in
+    let before = c.loop-self.invariant in
     record {
-      none_out = none_counted _ (λ p e. none_is_out _ c.loop-again.invariant.none_out p ((round_keeps_out r p).0 e));
-      goes = round_goes r c.loop-again.invariant.goes;
-      again = c.ask-again.ensures.again;
+      none_out = none_counted _ (λ p e. none_is_out _ before.none_out p ((rounds_keep_out kinds _ _ rounds.0 rounds.2 p).0 e));
+      goes = rounds_go kinds _ _ _ rounds.0 rounds.2 before.goes;
     }
 
-pub unreachable-requires : goal.unreachable-requires
-unreachable-requires g c =
-    let none : c.loop-again.self.end ≡ None = grind arith in
-    some_ready _ (c.end.ensures.faithful.some_busy none) (none_is_out _ c.loop-again.invariant.none_out) c.in_default.ensures.none
+pub loop-self-smaller : goal.loop-self-smaller
+loop-self-smaller g c =
+    let kinds = family_of g.B.Kinds.Kinds.start g.B.Kinds.Kinds.answer_of in
+    let rounds = c.go_on.ensures.rounds in
+    let goes = rounds_go kinds _ _ _ rounds.0 rounds.2 (goes_nowhere kinds c.loop-self.self) in
+    let more = rounds_commits kinds _ _ rounds.0 rounds.2 in
+    let faithful = c.end.ensures.faithful in
+    let none : c.loop-self.self.end ≡ None = grind arith in
+    let some : c.go_on.result ≢ 0 = λ zero. some_ready _ (faithful.some_busy none) (none_is_out _ c.loop-self.invariant.none_out) (c.go_on.ensures.stuck zero (omega arith)) in
+    rw goes.network (omega (arith, more, rounds.1, faithful.few_commits, faithful.few_entries))

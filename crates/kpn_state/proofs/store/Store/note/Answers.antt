@@ -4,7 +4,9 @@ use Rattle.kpn_state.proofs.Grown.{growths_deed}
 use Rattle.kpn_state.proofs.store.Store.note.Goals as goal
 
 pub invariant_of-self : goal.invariant_of-self
-invariant_of-self c = (
-  omega (arith, c.push_reserved.ensures.capacity, c.self.invariant.0),
-  rw c.push_reserved.ensures.items (c.self.invariant.1 ∙ sym (growths_deed c.self.inside.history.items c.args.process c.args.deed)),
-)
+invariant_of-self g c = record {
+  enough = omega (arith, c.keep.ensures.room, c.self.invariant.enough);
+  counted = rw c.keep.ensures.entries (c.self.invariant.counted ∙ sym (growths_deed (g.H.Keeper.entries c.self.inside.history) c.args.process c.args.deed));
+  processes = c.self.invariant.processes;
+  channels = c.self.invariant.channels;
+}

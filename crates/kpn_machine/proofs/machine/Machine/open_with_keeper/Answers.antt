@@ -8,7 +8,7 @@ use Rattle.kpn_machine.specs.Opening.{cards_of}
 use Rattle.kpn_machine.proofs.Listed.{waiting_none}
 use Rattle.kpn_machine.proofs.Opened.{sound_opened}
 use Rattle.kpn_machine.proofs.Opened.{opened_fresh}
-use Rattle.kpn_machine.proofs.machine.Machine.open.Goals as goal
+use Rattle.kpn_machine.proofs.machine.Machine.open_with_keeper.Goals as goal
 
 pub invariant_of-result : goal.invariant_of-result
 invariant_of-result g c =

@@ -1,0 +1,25 @@
+use Rattle.std.proofs.Common.{◌≡◌, ◌-◌, ◌≤◌, ℕ, List, length, map, None}
+use Rattle.std.specs.Prelude.{IfSome}
+use Rattle.std.specs.Option.{option_map}
+use Rattle.kpn_model.specs.Network.{family_of}
+use Rattle.kpn_state.specs.declared.standing.Standing.TheVariants.{Ready}
+use Rattle.kpn_state.specs.Standings.{standing, StandingsFit}
+use Rattle.kpn_commit.specs.declared.react.Reaction.{Reaction}
+use Rattle.kpn_commit.specs.Waiting.{AreWaiting}
+use Rattle.kpn_machine.specs.MachineView.{HasBodies}
+use Rattle.kpn_machine.specs.Asking.{AreAsked}
+use Rattle.kpn_machine.proofs.asking.ask_ready.Given as goal
+
+abbrev pub invariant-loop-asked : goal.invariant-loop-asked
+invariant-loop-asked g l = record {
+  keeps : StandingsFit (family_of g.B.Kinds.Kinds.start g.B.Kinds.Kinds.answer_of) g.B.Kinds.Kinds.admits l.net None l.store.state l.standings;
+  waiting : AreWaiting l.net l.store.state l.standings l.waiting;
+  bodies : HasBodies l.net l.standings (map (option_map g.B.Body.card) l.bodies);
+  limit : l.store.limit ≡ l.initial.store.limit;
+  again : IfSome l.again (λ p. standing l.standings p ≡ Ready);
+  few : l.asked ≤ l.most;
+  so_far : (reactions : List Reaction) × (length reactions ≡ l.asked) × AreAsked (family_of g.B.Kinds.Kinds.start g.B.Kinds.Kinds.answer_of) g.B.Kinds.Kinds.admits l.net l.until l.initial.store l.initial.standings reactions l.store l.standings;
+}
+
+abbrev pub decreases-loop-asked : goal.decreases-loop-asked
+decreases-loop-asked g l = l.most - l.asked

@@ -1,0 +1,44 @@
+-- Ready processes that are asked one after the other, and what follows, are rounds of the machine.
+use Rattle.std.proofs.Common.{◌≡◌, ◌<◌, None, arith, length, map}
+use Rattle.std.specs.Option.{option_map}
+use Rattle.kpn_model.specs.Network.{family_of}
+use Rattle.kpn_machine.proofs.Rounds.{gone, room_after}
+use Rattle.kpn_machine.proofs.Sound.{commits_fit}
+use Rattle.kpn_machine.proofs.machine.Machine.go_on.Goals as goal
+
+pub settle-ended-requires-clause-room : goal.settle-ended-requires-clause-room
+settle-ended-requires-clause-room g c κs within =
+    let asked = rw c.budget-budget.ensures at c.ask_ready-asked.ensures.asked in
+    let none : c.self.inside.end ≡ None = rw (← c.self.view_is) at c.requires in
+    let less : length c.self.inside.store.history < c.self.inside.net.budget = rw none at c.self.invariant.0.ends in
+    room_after (family_of g.B.Kinds.Kinds.start g.B.Kinds.Kinds.answer_of) g.B.Kinds.Kinds.admits c.self.inside.net asked.0 c.self.inside.store c.ask_ready-asked.new.store c.self.inside.standings c.ask_ready-asked.new.standings
+    (omega (arith, c.self.invariant.0.limit_is)) (λ idle. omega (arith, c.self.invariant.0.limit_is)) asked.2
+
+pub overflow_add-self : goal.overflow_add-self
+overflow_add-self g c =
+    let asked = rw c.budget-budget.ensures at c.ask_ready-asked.ensures.asked in
+    let none : c.self.inside.end ≡ None = rw (← c.self.view_is) at c.requires in
+    let all = gone (family_of g.B.Kinds.Kinds.start g.B.Kinds.Kinds.answer_of) g.B.Kinds.Kinds.admits c.self.inside.net (map (option_map g.B.Body.card) c.self.inside.bodies.items) c.self.inside.store c.ask_ready-asked.new.store c.settle-ended.new.store
+        c.self.inside.standings c.ask_ready-asked.new.standings c.settle-ended.new.standings c.self.inside.end c.self.inside.commits c.ask_ready-asked.result c.self.invariant.0 none asked c.settle-ended.result.0 c.settle-ended.ensures.resolves c.settle-ended.ensures.keeps c.settle-ended.result.1 c.settle-ended.ensures.ended in
+    let valid = c.assure_valid.ensures.valid in
+    let few = all.sound.few in
+    let fit = commits_fit all.sound in
+    let some = valid.few_processes in
+    let small = valid.small_budget in
+    omega arith
+
+pub invariant_of-self : goal.invariant_of-self
+invariant_of-self g c =
+    let asked = rw c.budget-budget.ensures at c.ask_ready-asked.ensures.asked in
+    let none : c.self.inside.end ≡ None = rw (← c.self.view_is) at c.requires in
+    let all = gone (family_of g.B.Kinds.Kinds.start g.B.Kinds.Kinds.answer_of) g.B.Kinds.Kinds.admits c.self.inside.net (map (option_map g.B.Body.card) c.self.inside.bodies.items) c.self.inside.store c.ask_ready-asked.new.store c.settle-ended.new.store
+        c.self.inside.standings c.ask_ready-asked.new.standings c.settle-ended.new.standings c.self.inside.end c.self.inside.commits c.ask_ready-asked.result c.self.invariant.0 none asked c.settle-ended.result.0 c.settle-ended.ensures.resolves c.settle-ended.ensures.keeps c.settle-ended.result.1 c.settle-ended.ensures.ended in
+    (rw c.note_end.ensures all.sound, c.self.invariant.1, c.settle-ended.ensures.waiting)
+
+pub returns-clause-rounds : goal.returns-clause-rounds
+returns-clause-rounds g c =
+    let asked = rw c.budget-budget.ensures at c.ask_ready-asked.ensures.asked in
+    let none : c.self.inside.end ≡ None = rw (← c.self.view_is) at c.requires in
+    let all = gone (family_of g.B.Kinds.Kinds.start g.B.Kinds.Kinds.answer_of) g.B.Kinds.Kinds.admits c.self.inside.net (map (option_map g.B.Body.card) c.self.inside.bodies.items) c.self.inside.store c.ask_ready-asked.new.store c.settle-ended.new.store
+        c.self.inside.standings c.ask_ready-asked.new.standings c.settle-ended.new.standings c.self.inside.end c.self.inside.commits c.ask_ready-asked.result c.self.invariant.0 none asked c.settle-ended.result.0 c.settle-ended.ensures.resolves c.settle-ended.ensures.keeps c.settle-ended.result.1 c.settle-ended.ensures.ended in
+    (all.outcomes, all.count, rw (← c.self.view_is, c.note_end.ensures) all.rounds)

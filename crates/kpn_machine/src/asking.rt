@@ -1,0 +1,97 @@
+//! Ready processes are asked where their bodies lie: the one loop of machines and of flows.
+ghost use Rattle.std.specs.Prelude.{◌≡◌, ◌≢◌, ℕ, List, ◌<◌, ◌≤◌, ◌+◌, length, get_or, map, option_map, Some, None, IfSome};
+ghost use Rattle.kpn_model.specs.Network.{card_of, family_of};
+ghost use Rattle.kpn_commit.specs.declared.react.Reaction.{Reaction as ReactionV};
+ghost use Rattle.kpn_commit.specs.Waiting.{AreWaiting};
+ghost use Rattle.kpn_machine.specs.Asking.{IsAsked, AreAsked};
+ghost use Rattle.kpn_machine.specs.MachineView.{HasBodies};
+ghost use Rattle.kpn_state.specs.declared.standing.Standing.TheVariants.{Ready};
+ghost use Rattle.kpn_state.specs.Standings.{StandingsFit, standing};
+
+use kpn_body::Body;
+use kpn_commit::react::react;
+use kpn_model::{Act, Status};
+use kpn_network::Net;
+use kpn_state::{Keeper, Roster, Store, Waiting};
+
+/// Asks ready processes where their bodies lie, one after the other, and does what each answers or parks it, until
+/// `most` were asked, there are `until` entries or no process is ready. Returns how many were asked.
+///
+/// `again` is a process to be asked first, and afterwards the one that would be asked next, since it has just read:
+/// mostly it then writes, while one that has written has to wait for its reader. The history must have room for one
+/// entry more than `until`.
+#[inline(always)]
+pub fn ask_ready<B: Body, H: Keeper>(
+    net: &Net<B::Kinds>,
+    store: &mut Store<H>,
+    standings: &mut Roster,
+    waiting: &mut Waiting,
+    bodies: &[Option<B>],
+    again: &mut Option<usize>,
+    most: u64,
+    until: usize,
+) -> u64
+    requires keeps { StandingsFit (family_of B.Kinds.start B.Kinds.answer_of) B.Kinds.admits net.now None store.old.state standings.old }
+    requires waiting { AreWaiting net.now store.old.state standings.old waiting.old }
+    requires slots { length bodies.now ≡ length net.now.processes }
+    requires bodies { HasBodies net.now standings.old (map (option_map B.card) bodies.now) }
+    requires again { IfSome again.old (λ p. standing standings.old p ≡ Ready) }
+    requires room { until + 1 ≤ store.old.limit }
+    ensures asked { (reactions : List ReactionV) × (length reactions ≡ result) × AreAsked (family_of B.Kinds.start B.Kinds.answer_of) B.Kinds.admits net.now until store.old standings.old reactions store.new standings.new }
+    ensures keeps { StandingsFit (family_of B.Kinds.start B.Kinds.answer_of) B.Kinds.admits net.now None store.new.state standings.new }
+    ensures waiting { AreWaiting net.now store.new.state standings.new waiting.new }
+    ensures again { IfSome again.new (λ p. standing standings.new p ≡ Ready) }
+    ensures most { result ≤ most }
+    ensures fewer { result < most → length store.new.history < until → (p : ℕ) → standing standings.new p ≢ Ready }
+{
+    let mut asked = 0;
+    while asked < most {
+        if store.entries() >= until {
+            return asked;
+        }
+        let Some(process) = standings.turn(*again) else {
+            return asked;
+        };
+        *again = ask(net, store, standings, waiting, bodies, process);
+        asked += 1;
+    }
+    asked
+}
+
+/// Asks a ready process, and does what it answers or parks it. Returns the process if it has read and is ready.
+#[inline(always)]
+fn ask<B: Body, H: Keeper>(
+    net: &Net<B::Kinds>,
+    store: &mut Store<H>,
+    standings: &mut Roster,
+    waiting: &mut Waiting,
+    bodies: &[Option<B>],
+    process: usize,
+) -> Option<usize>
+    requires keeps { StandingsFit (family_of B.Kinds.start B.Kinds.answer_of) B.Kinds.admits net.now None store.old.state standings.old }
+    requires waiting { AreWaiting net.now store.old.state standings.old waiting.old }
+    requires slot { process < length bodies.now }
+    requires body { get_or (map (option_map B.card) bodies.now) process None ≡ Some (card_of net.now process) }
+    requires ready { standing standings.old process ≡ Ready }
+    requires within { process < length standings.old }
+    requires room { length store.old.history + 2 ≤ store.old.limit }
+    ensures asked { (reaction : ReactionV) × IsAsked (family_of B.Kinds.start B.Kinds.answer_of) B.Kinds.admits net.now store.old standings.old reaction store.new standings.new }
+    ensures waiting { AreWaiting net.now store.new.state standings.new waiting.new }
+    ensures again { IfSome result (λ p. standing standings.new p ≡ Ready) }
+{
+    net.assure_valid();
+    let Status::Live { local, last } = store.status(process) else {
+        unreachable!()
+    };
+    let Some(body) = &bodies[process] else {
+        unreachable!()
+    };
+    let answer = body.answer(*local, *last);
+    let has_read = matches!(answer.act, Act::Read(_));
+    let _ = react(net, store, standings, waiting, process, answer);
+    if has_read {
+        standings.if_ready(process)
+    } else {
+        None
+    }
+}
