@@ -1,18 +1,17 @@
 -- What contracts see of a flow, and what holds of each at each time.
-use Rattle.std.specs.Prelude.{◌≡◌, ◌≢◌, ℕ, ◌<◌, ◌+◌, ◌==◌, Bool, true, not, List, Option, None, length}
+use Rattle.std.specs.Prelude.{◌≡◌, ◌≢◌, ℕ, ◌<◌, ◌+◌, ◌==◌, Bool, true, not, List, Option, Some, None, length, get_or}
 use Rattle.std.specs.List.{list_any, filter, All}
 use Rattle.std.specs.Io.Iter.{u64_saturate}
 use Rattle.kpn_model.specs.declared.token.Token.{Token}
 use Rattle.kpn_model.specs.declared.kinds.Card.{Card}
 use Rattle.kpn_model.specs.declared.history.Entry.{Entry}
-use Rattle.kpn_model.specs.Network.{Family, Network, channel_of}
+use Rattle.kpn_model.specs.Network.{Family, Network, card_of, channel_of}
 use Rattle.kpn_model.specs.Semantics.{State, start}
 use Rattle.kpn_model.specs.History.{growths}
 use Rattle.kpn_model.specs.Valid.{IsOfSort}
 use Rattle.kpn_state.specs.declared.standing.Standing.{Standing}
 use Rattle.kpn_state.specs.declared.standing.Standing.TheVariants.{Out}
 use Rattle.kpn_state.specs.Standings.{standing, StandingsFit}
-use Rattle.kpn_machine.specs.Opening.{cards_of}
 use Rattle.kpn_flow.specs.declared.counts.Counts.{Counts}
 use Rattle.kpn_flow.specs.Events.{Event, Flows, entries_of}
 use Rattle.kpn_flow.specs.Preloaded.{StopsAtOnce, IsAtEnds}
@@ -68,13 +67,18 @@ pub record IsSettledIn (kinds : Family) (admits : Card → List ℕ → Option T
   pub keeps : StandingsFit kinds admits net None M standings
   pub none_out : (p : ℕ) → standing standings p ≢ Out
 
-pub record IsFlowing (kinds : Family) (admits : Card → List ℕ → Option Token → Type 0) (s : FlowView) (cards : List Card) (limit : ℕ) : Type 0 where
+-- each process has a body of its card
+pub record HasAllBodies (net : Network) (bodies : List (Option Card)) : Type 0 where
+  pub many : length bodies ≡ length net.processes
+  pub each : (p : ℕ) → p < length net.processes → get_or bodies p None ≡ Some (card_of net p)
+
+pub record IsFlowing (kinds : Family) (admits : Card → List ℕ → Option Token → Type 0) (s : FlowView) (bodies : List (Option Card)) (limit : ℕ) : Type 0 where
   pub ends : AreEnds kinds s.network s.inputs s.outputs
   pub unended : (c : ℕ) → is_among s.unended c ≡ true → is_among s.inputs c ≡ true
   pub reached : IsReached kinds s.network s.inputs s.outputs s.counts s.state
   pub fits : IsSettledIn kinds admits s.network s.state s.standings
-  pub bodies : cards ≡ cards_of s.network.processes
-  pub limit_is : limit ≡ 2
+  pub seated : HasAllBodies s.network bodies
+  pub limit_is : limit ≡ 1048576
 
 -- the channel is an input that has not ended, and the token has its sort
 pub record MayFeed (s : FlowView) (c : ℕ) (t : Token) : Type 0 where

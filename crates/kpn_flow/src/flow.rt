@@ -15,15 +15,16 @@ ghost use Rattle.kpn_flow.specs.Waits.{starves, holds_up, waits_to_read};
 
 use crate::counts::Counts;
 use crate::ends::{FlowFault, fault_of, is_among, remove};
-use crate::going::go_on;
-use crate::opening::{Lists, Start, prepare};
+use crate::going::{ROOM, go_on};
+use crate::opening::{Lists, lists_of};
 use crate::pause::Pause;
 use crate::waits::{all_wait_to_read, holds_up, starves};
 use kpn_body::Body;
 use kpn_commit::outside;
+use kpn_machine::opening::{Start, prepare, seat_all};
 use kpn_model::{Sort, Token};
 use kpn_network::Net;
-use kpn_state::{Roster, Standing, Store, Waiting};
+use kpn_state::{Roster, Standing, Store, Unkept, Waiting};
 use std::alloc::Global;
 use std::marker::Model;
 
@@ -35,10 +36,10 @@ use std::marker::Model;
 /// all tokens from the start, as `assure_one_run` says (docs/endless.md).
 pub struct Flow<B: Body> {
     net: Net<B::Kinds>,
-    store: Store,
+    store: Store<Unkept>,
     standings: Roster,
     waiting: Waiting,
-    bodies: Vec<B>,
+    bodies: Vec<Option<B>>,
     inputs: Vec<usize>,
     unended: Vec<usize>,
     outputs: Vec<usize>,
@@ -64,7 +65,7 @@ impl<B: Body> Drop for Flow<B> {
 }
 
 impl<B: Body> Model for Flow<B> {
-    ghost use Rattle.std.specs.Prelude.{map};
+    ghost use Rattle.std.specs.Prelude.{map, option_map};
     ghost use Rattle.kpn_model.specs.Network.{family_of};
     ghost use Rattle.kpn_commit.specs.Waiting.{AreWaiting};
     ghost use Rattle.kpn_flow.specs.Flows.{FlowView, flow_view, IsFlowing};
@@ -73,7 +74,7 @@ impl<B: Body> Model for Flow<B> {
 
     ghost view = { λ m. flow_view m.net m.store.state m.standings m.inputs.items m.unended.items m.outputs.items m.counts };
 
-    ghost invariant = { λ m. IsFlowing (family_of B.Kinds.start B.Kinds.answer_of) B.Kinds.admits (flow_view m.net m.store.state m.standings m.inputs.items m.unended.items m.outputs.items m.counts) (map B.card m.bodies.items) m.store.limit × AreWaiting m.net m.store.state m.standings m.waiting };
+    ghost invariant = { λ m. IsFlowing (family_of B.Kinds.start B.Kinds.answer_of) B.Kinds.admits (flow_view m.net m.store.state m.standings m.inputs.items m.unended.items m.outputs.items m.counts) (map (option_map B.card) m.bodies.items) m.store.limit × AreWaiting m.net m.store.state m.standings m.waiting };
 }
 
 /// Why a flow was not opened, with the network and the bodies handed back.
@@ -101,7 +102,7 @@ impl<B: Body> Flow<B> {
     pub fn open(
         alloc: Global,
         net: Net<B::Kinds>,
-        bodies: Vec<B>,
+        mut bodies: Vec<B>,
         inputs: &[usize],
         outputs: &[usize],
     ) -> Result<Flow<B>, FlowRefused<B>>
@@ -116,7 +117,10 @@ impl<B: Body> Flow<B> {
         if let Some(fault) = fault_of(&net, bodies.as_slice(), inputs, outputs) {
             return Err(FlowRefused { net, bodies, fault });
         }
-        let Ok(begun) = prepare(alloc, &net, inputs, outputs) else {
+        let (Ok(begun), Ok(lists)) = (
+            prepare::<B, Unkept>(alloc, &net, ROOM),
+            lists_of(alloc, inputs, outputs),
+        ) else {
             return Err(FlowRefused {
                 net,
                 bodies,
@@ -128,19 +132,20 @@ impl<B: Body> Flow<B> {
             store,
             standings,
             waiting,
-            lists,
+            mut slots,
         } = begun;
         let Lists {
             inputs,
             unended,
             outputs,
         } = lists;
+        seat_all(&mut bodies, &mut slots);
         Ok(Flow {
             net,
             store,
             standings,
             waiting,
-            bodies,
+            bodies: slots,
             inputs,
             unended,
             outputs,

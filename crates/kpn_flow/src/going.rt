@@ -1,34 +1,50 @@
-//! Turn after turn.
-ghost use Rattle.std.specs.Prelude.{◌≡◌, ◌≤◌, map};
+//! Stretch after stretch.
+ghost use Rattle.std.specs.Prelude.{◌≡◌, ◌≤◌, ◌+◌, map, option_map};
 ghost use Rattle.kpn_model.specs.Network.{family_of};
 ghost use Rattle.kpn_commit.specs.Waiting.{AreWaiting};
-ghost use Rattle.kpn_machine.specs.Opening.{cards_of};
-ghost use Rattle.kpn_flow.specs.Flows.{IsSettledIn};
+ghost use Rattle.kpn_flow.specs.Flows.{IsSettledIn, HasAllBodies};
 ghost use Rattle.kpn_flow.specs.Pauses.{Advances, TellWants};
 
 use crate::counts::Counts;
 use crate::pause::Pause;
-use crate::turn::turn;
+use crate::stretch::stretch;
 use kpn_body::Body;
 use kpn_network::Net;
-use kpn_state::{Roster, Store, Waiting};
+use kpn_state::{Roster, Store, Unkept, Waiting};
 
-/// Goes on, turn after turn, while two more entries are allowed and something goes on, and counts the
+/// How many entries a flow has room for; after a stretch of fewer it forgets them.
+pub(crate) const ROOM: usize = 1 << 20;
+
+/// At how many entries a stretch ends, if this many are left: an answer may add two.
+fn entries_of_stretch(left: u64) -> usize
+    requires { 2 ≤ left }
+    ensures some { 1 ≤ result }
+    ensures few { result + 1 ≤ left }
+    ensures room { result + 1 ≤ 1048576 }
+{
+    if left < ROOM as u64 {
+        left as usize - 1
+    } else {
+        ROOM - 1
+    }
+}
+
+/// Goes on, stretch after stretch, while two more entries are allowed and something goes on, and counts the
 /// entries.
 pub(crate) fn go_on<B: Body>(
     net: &Net<B::Kinds>,
-    store: &mut Store,
+    store: &mut Store<Unkept>,
     standings: &mut Roster,
     waiting: &mut Waiting,
-    bodies: &[B],
+    bodies: &[Option<B>],
     inputs: &[usize],
     outputs: &[usize],
     counts: &mut Counts,
     most: u64,
 ) -> Pause
     requires fits { IsSettledIn (family_of B.Kinds.start B.Kinds.answer_of) B.Kinds.admits net.now store.old.state standings.old }
-    requires cards { map B.card bodies.now ≡ cards_of net.now.processes }
-    requires room { 2 ≤ store.old.limit }
+    requires bodies { HasAllBodies net.now (map (option_map B.card) bodies.now) }
+    requires room { 1048576 ≤ store.old.limit }
     requires waiting { AreWaiting net.now store.old.state standings.old waiting.old }
     ensures fits { IsSettledIn (family_of B.Kinds.start B.Kinds.answer_of) B.Kinds.admits net.now store.new.state standings.new }
     ensures waiting { AreWaiting net.now store.new.state standings.new waiting.new }
@@ -40,13 +56,23 @@ pub(crate) fn go_on<B: Body>(
     let mut grown = 0;
     let mut again = None;
     while most - done >= 2 {
-        if let Some(pause) = turn(
-            net, store, standings, waiting, bodies, inputs, outputs, &mut again, &mut grown,
-        ) {
+        let pause = stretch(
+            net,
+            store,
+            standings,
+            waiting,
+            bodies,
+            inputs,
+            outputs,
+            &mut again,
+            entries_of_stretch(most - done),
+        );
+        if let Some(pause) = pause {
             counts.add(done, grown);
             return pause;
         }
-        done += store.history().len() as u64;
+        done += store.entries() as u64;
+        grown += store.growths() as u64;
     }
     counts.add(done, grown);
     Pause::Cut

@@ -21,7 +21,7 @@ mod going;
 pub mod law;
 mod opening;
 pub mod pause;
-mod turn;
+mod stretch;
 mod waits;
 
 pub use counts::Counts;

@@ -1,5 +1,5 @@
 -- Ready processes that are asked one after the other, and what then follows, are as many rounds of a machine.
-use Rattle.std.proofs.Common.{◌≡◌, ◌≢◌, ◌↔◌, List, [], ◌∷◌, ◌++◌, append-nil, length, refl, sym, ap, subst, ◌∙◌, arith, ℕ, ◌+◌, ◌<◌, ◌≤◌, true, false, Option, Some, None}
+use Rattle.std.proofs.Common.{◌≡◌, ◌↔◌, List, [], ◌∷◌, ◌++◌, append-nil, length, refl, sym, ap, subst, ◌∙◌, arith, ℕ, ◌+◌, ◌<◌, ◌≤◌, true, false, Option, None}
 use Rattle.std.proofs.lemmas.Grind.{common_steps}
 use Rattle.std.specs.List.{list_any}
 use Rattle.kpn_model.specs.declared.token.Token.{Token}
@@ -8,7 +8,7 @@ use Rattle.kpn_model.specs.declared.history.End.{End}
 use Rattle.kpn_model.specs.Network.{Network, Family}
 use Rattle.kpn_state.specs.StateAndHistory.{StateAndHistory}
 use Rattle.kpn_state.specs.declared.standing.Standing.{Standing}
-use Rattle.kpn_state.specs.declared.standing.Standing.TheVariants.{Ready, Out}
+use Rattle.kpn_state.specs.declared.standing.Standing.TheVariants.{Out}
 use Rattle.kpn_state.specs.Standings.{standing, is_busy, StandingsFit}
 use Rattle.kpn_state.proofs.Placed.{busy_at}
 use Rattle.kpn_commit.specs.declared.react.Reaction.{Reaction}
@@ -19,7 +19,7 @@ use Rattle.kpn_commit.specs.Resolving.{Resolves}
 use Rattle.kpn_commit.specs.Works.{Works, end_after, outcome_of}
 use Rattle.kpn_commit.proofs.Working.{reaction_room}
 use Rattle.kpn_machine.specs.MachineView.{MachineView, machine_view, IsSound}
-use Rattle.kpn_machine.specs.Commits.{ContinuesRun, GoesRound, GoesRounds}
+use Rattle.kpn_machine.specs.Commits.{ContinuesRun, GoesRounds}
 use Rattle.kpn_machine.specs.Asking.{IsAsked, AreAsked}
 use Rattle.kpn_machine.proofs.AskedInTurn.{asked_moves, asked_within}
 use Rattle.kpn_machine.proofs.Finishing.{round_goes, round_commits, round_keeps_out}

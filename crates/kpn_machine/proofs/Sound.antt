@@ -1,6 +1,6 @@
 -- The machine's invariant is kept while processes go out and come back, and while they are asked where they stand.
-use Rattle.std.proofs.Common.{◌≡◌, ◌≢◌, ◌⊎◌, ◌↔◌, ⊎_elim, inl, inr, List, length, length-append, refl, sym, ap, ◌∙◌, arith, ℕ, ◌+◌, ◌<◌, ◌≤◌, true, false, Some, None, Option, set, length-set, map, get_or}
-use Rattle.std.specs.Option.{is_some, option_map}
+use Rattle.std.proofs.Common.{◌≡◌, ◌≢◌, ◌⊎◌, ◌↔◌, ⊎_elim, inl, inr, List, length, length-append, refl, ap, ◌∙◌, arith, ℕ, ◌+◌, ◌<◌, ◌≤◌, true, false, Some, None, Option, set, length-set}
+use Rattle.std.specs.Option.{is_some}
 use Rattle.std.specs.List.{list_any}
 use Rattle.kpn_model.specs.declared.token.Token.{Token}
 use Rattle.kpn_model.specs.declared.kinds.Card.{Card}
@@ -35,12 +35,9 @@ use Rattle.kpn_machine.specs.MachineView.{MachineView, machine_view, IsOutAt, Ha
 use Rattle.kpn_machine.specs.Commits.{entries_appended, Appends, WorksOn, Commits, TellsEnabled, GoesRound}
 use Rattle.kpn_machine.proofs.Ends.{left, left_stands, left_busy, left_idle}
 use Rattle.kpn_machine.proofs.Moves.{run_both, moved_count, waiting_in, in_within, out_or_not, works}
-use Rattle.std.proofs.lemmas.List.{set-set, set-get_or, length-map}
+use Rattle.std.proofs.lemmas.List.{set-set, set-get_or}
 use Rattle.kpn_model.specs.declared.history.Deed.{Deed}
-use Rattle.kpn_model.specs.declared.history.Status.{Status}
-use Rattle.kpn_model.specs.declared.history.Status.TheVariants.{Live}
 use Rattle.kpn_laws.proofs.WellTypedDeeds.{live_of}
-use Rattle.kpn_machine.proofs.Seats.{slot_at}
 
 module _ (kinds : Family) (net : Network) where
   -- what follows a reaction appends no entry, or two if no process was ready or out

@@ -154,14 +154,14 @@ impl<B: Body, H: Keeper> Machine<B, H> {
         if let Some(fault) = misfit(&net, bodies.as_slice()) {
             return Err(OpenRefused { net, bodies, fault });
         }
-        let Ok(start) = prepare::<B, H>(alloc, &net) else {
+        net.assure_valid();
+        let Ok(start) = prepare::<B, H>(alloc, &net, net.budget() as usize + 2) else {
             return Err(OpenRefused {
                 net,
                 bodies,
                 fault: OpenFault::Memory,
             });
         };
-        net.assure_valid();
         let Start {
             store,
             standings,

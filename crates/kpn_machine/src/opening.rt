@@ -99,13 +99,16 @@ pub fn start_rings<K: Kinds>(alloc: Global, net: &Net<K>) -> Result<Vec<Ring>, A
     Ok(rings)
 }
 
-/// The start of a network, with room for two entries more than its budget.
-fn start_store<K: Kinds, H: Keeper>(alloc: Global, net: &Net<K>) -> Result<Store<H>, AllocError>
-    ensures store { IfOk result (λ s. s ≡ state_and_history (start (family_of K.start K.answer_of) net.now) [] (net.now.budget + 2)) }
+/// The start of a network, with room for `limit` entries.
+fn start_store<K: Kinds, H: Keeper>(
+    alloc: Global,
+    net: &Net<K>,
+    limit: usize,
+) -> Result<Store<H>, AllocError>
+    ensures store { IfOk result (λ s. s ≡ state_and_history (start (family_of K.start K.answer_of) net.now) [] limit) }
     ensures admitted { OnOk result ((p : ℕ) → p < length net.now.processes → K.admits (card_of net.now p) (K.start (card_of net.now p)) None) }
 {
     net.assure_valid();
-    let limit = net.budget() as usize + 2;
     let statuses = start_statuses(alloc, net)?;
     let rings = start_rings(alloc, net)?;
     Store::new(alloc, statuses, rings, limit)
@@ -122,22 +125,25 @@ fn empty_slots<B: Body>(alloc: Global, count: usize) -> Result<Vec<Option<B>>, A
     Ok(slots)
 }
 
-/// What a machine begins with, except its network and its bodies: the state, the standings of the
-/// processes, nobody who waits, and a slot for each body.
+/// What a machine or a flow begins with, except its network and its bodies: the state, the standings of the
+/// processes, nobody who waits, and an empty slot for each body.
 #[derive(Drop)]
-pub(crate) struct Start<B: Body, H: Keeper> {
-    pub(crate) store: Store<H>,
-    pub(crate) standings: Roster,
-    pub(crate) waiting: Waiting,
-    pub(crate) slots: Vec<Option<B>>,
+pub struct Start<B: Body, H: Keeper> {
+    pub store: Store<H>,
+    pub standings: Roster,
+    pub waiting: Waiting,
+    pub slots: Vec<Option<B>>,
 }
 
-/// The start of a network.
-pub(crate) fn prepare<B: Body, H: Keeper>(
+/// Makes what a machine or a flow of this network begins with, with room for `limit` entries.
+///
+/// Errors: memory was refused.
+pub fn prepare<B: Body, H: Keeper>(
     alloc: Global,
     net: &Net<B::Kinds>,
+    limit: usize,
 ) -> Result<Start<B, H>, AllocError>
-    ensures store { IfOk result (λ r. r.store ≡ state_and_history (start (family_of B.Kinds.start B.Kinds.answer_of) net.now) [] (net.now.budget + 2)) }
+    ensures store { IfOk result (λ r. r.store ≡ state_and_history (start (family_of B.Kinds.start B.Kinds.answer_of) net.now) [] limit) }
     ensures standings { IfOk result (λ r. r.standings ≡ replicate (length net.now.processes) Ready) }
     ensures candidates { IfOk result (λ r. r.waiting.candidates ≡ candidate_list [] (length net.now.processes)) }
     ensures marks { IfOk result (λ r. r.waiting.marks ≡ mark_lists (replicate (length net.now.channels) false) (replicate (length net.now.channels) false)) }
@@ -145,15 +151,15 @@ pub(crate) fn prepare<B: Body, H: Keeper>(
     ensures admitted { OnOk result ((p : ℕ) → p < length net.now.processes → B.Kinds.admits (card_of net.now p) (B.Kinds.start (card_of net.now p)) None) }
 {
     Ok(Start {
-        store: start_store(alloc, net)?,
+        store: start_store(alloc, net, limit)?,
         standings: Roster::new(alloc, net.processes())?,
         waiting: Waiting::new(alloc, net.processes(), net.channels())?,
         slots: empty_slots(alloc, net.processes())?,
     })
 }
 
-/// Moves each body into the slot of its number.
-pub(crate) fn seat_all<B: Body>(bodies: &mut Vec<B>, slots: &mut Vec<Option<B>>)
+/// Moves each body into the slot of its number. There must be as many slots as bodies.
+pub fn seat_all<B: Body>(bodies: &mut Vec<B>, slots: &mut Vec<Option<B>>)
     requires { length slots.old.items ≡ length bodies.old.items }
     ensures seated { AreSeated (map B.card bodies.old.items) (map (option_map B.card) slots.new.items) }
     ensures slots { length slots.new.items ≡ length slots.old.items }

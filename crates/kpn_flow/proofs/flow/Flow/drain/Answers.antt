@@ -1,5 +1,6 @@
 -- A token that goes out is an event.
 use Rattle.std.proofs.Common.{◌≡◌, drop, map, refl, ap, true, arith}
+use Rattle.std.specs.Option.{option_map}
 use Rattle.kpn_model.specs.Network.{family_of}
 use Rattle.kpn_model.specs.Semantics.{tokens, capacity, with_channel}
 use Rattle.kpn_state.specs.StateAndHistory.{StateAndHistory}
@@ -17,7 +18,7 @@ invariant_of-self g c =
     let flow = c.self.invariant.0 in
     let output : is_among outputs c.args.channel ≡ true = rw (← c.self.view_is) at c.requires in
     let leaves : c.drain-token.new.store.state ≡ with_channel M c.args.channel (drop 1 (tokens M c.args.channel)) (capacity M c.args.channel) = ap (λ (x : StateAndHistory). x.state) c.drain-token.ensures.rest in (
-      flowing_on kinds g.B.Kinds.Kinds.admits net c.self.inside.inputs.items c.self.inside.unended.items outputs M c.drain-token.new.store.state c.self.inside.standings c.drain-token.new.standings (map g.B.Body.card c.self.inside.bodies.items) c.self.inside.store.limit c.drain-token.new.store.limit c.self.inside.counts (Drained c.args.channel c.drain-token.result) flow
+      flowing_on kinds g.B.Kinds.Kinds.admits net c.self.inside.inputs.items c.self.inside.unended.items outputs M c.drain-token.new.store.state c.self.inside.standings c.drain-token.new.standings (map (option_map g.B.Body.card) c.self.inside.bodies.items) c.self.inside.store.limit c.drain-token.new.store.limit c.self.inside.counts (Drained c.args.channel c.drain-token.result) flow
           ((drop 1 (tokens M c.args.channel), c.drain-token.ensures.token), leaves) (output, tt) refl (record { keeps = c.drain-token.ensures.keeps; none_out = λ q e. flow.fits.none_out q (c.drain-token.ensures.none_sent q e) }) (ap (λ (x : StateAndHistory). x.limit) c.drain-token.ensures.rest),
       c.drain-token.ensures.waiting,
     )

@@ -10,7 +10,7 @@ invariant_of-self g c =
         unended = rw c.remove.ensures (λ d e. f.unended d (among_all c.self.inside.unended.items c.args.channel d e));
         reached = f.reached;
         fits = f.fits;
-        bodies = f.bodies;
+        seated = f.seated;
         limit_is = f.limit_is;
       },
       c.self.invariant.1,

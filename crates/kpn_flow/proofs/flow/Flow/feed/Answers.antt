@@ -1,5 +1,6 @@
 -- A token that comes in is an event.
 use Rattle.std.proofs.Common.{◌≡◌, ◌<◌, ◌++◌, ◌∷◌, [], length, map, refl, ap, arith, true}
+use Rattle.std.specs.Option.{option_map}
 use Rattle.kpn_model.specs.Network.{family_of}
 use Rattle.kpn_model.specs.Semantics.{tokens, capacity, with_channel}
 use Rattle.kpn_state.specs.StateAndHistory.{StateAndHistory}
@@ -22,7 +23,7 @@ invariant_of-self g c =
     let within : c.args.channel < length M.channels = omega (arith, there, flow.fits.keeps.channels) in
     let leaves : c.feed.new.store.state ≡ with_channel M c.args.channel (tokens M c.args.channel ++ c.args.token ∷ []) (capacity M c.args.channel) = ap (λ (x : StateAndHistory). x.state) c.feed.ensures.fed in
     let space : length (tokens M c.args.channel) < capacity M c.args.channel = omega (arith, c.tokens_and_capacity-held.ensures.tokens, c.tokens_and_capacity-held.ensures.capacity, c.if-held-capacity.false) in (
-      flowing_on kinds g.B.Kinds.Kinds.admits net inputs unended c.self.inside.outputs.items M c.feed.new.store.state c.self.inside.standings c.feed.new.standings (map g.B.Body.card c.self.inside.bodies.items) c.self.inside.store.limit c.feed.new.store.limit c.self.inside.counts (Fed c.args.channel c.args.token) flow
+      flowing_on kinds g.B.Kinds.Kinds.admits net inputs unended c.self.inside.outputs.items M c.feed.new.store.state c.self.inside.standings c.feed.new.standings (map (option_map g.B.Body.card) c.self.inside.bodies.items) c.self.inside.store.limit c.feed.new.store.limit c.self.inside.counts (Fed c.args.channel c.args.token) flow
           (within, space, leaves) (input, tt) refl (record { keeps = c.feed.ensures.keeps; none_out = λ q e. flow.fits.none_out q (c.feed.ensures.none_sent q e) }) (ap (λ (x : StateAndHistory). x.limit) c.feed.ensures.fed),
       c.feed.ensures.waiting,
     )

@@ -19,7 +19,7 @@ overflow_add-self g c =
     let asked = rw c.budget-budget.ensures at c.ask_ready-asked.ensures.asked in
     let none : c.self.inside.end ≡ None = rw (← c.self.view_is) at c.requires in
     let all = gone (family_of g.B.Kinds.Kinds.start g.B.Kinds.Kinds.answer_of) g.B.Kinds.Kinds.admits c.self.inside.net (map (option_map g.B.Body.card) c.self.inside.bodies.items) c.self.inside.store c.ask_ready-asked.new.store c.settle-ended.new.store
-        c.self.inside.standings c.ask_ready-asked.new.standings c.settle-ended.new.standings c.self.inside.end c.self.inside.commits c.ask_ready-asked.result c.self.invariant.0 none asked c.settle-ended.result.0 c.settle-ended.ensures.resolves c.settle-ended.ensures.keeps c.settle-ended.result.1 c.settle-ended.ensures.ended in
+    c.self.inside.standings c.ask_ready-asked.new.standings c.settle-ended.new.standings c.self.inside.end c.self.inside.commits c.ask_ready-asked.result c.self.invariant.0 none asked c.settle-ended.result.0 c.settle-ended.ensures.resolves c.settle-ended.ensures.keeps c.settle-ended.result.1 c.settle-ended.ensures.ended in
     let valid = c.assure_valid.ensures.valid in
     let few = all.sound.few in
     let fit = commits_fit all.sound in
@@ -32,7 +32,7 @@ invariant_of-self g c =
     let asked = rw c.budget-budget.ensures at c.ask_ready-asked.ensures.asked in
     let none : c.self.inside.end ≡ None = rw (← c.self.view_is) at c.requires in
     let all = gone (family_of g.B.Kinds.Kinds.start g.B.Kinds.Kinds.answer_of) g.B.Kinds.Kinds.admits c.self.inside.net (map (option_map g.B.Body.card) c.self.inside.bodies.items) c.self.inside.store c.ask_ready-asked.new.store c.settle-ended.new.store
-        c.self.inside.standings c.ask_ready-asked.new.standings c.settle-ended.new.standings c.self.inside.end c.self.inside.commits c.ask_ready-asked.result c.self.invariant.0 none asked c.settle-ended.result.0 c.settle-ended.ensures.resolves c.settle-ended.ensures.keeps c.settle-ended.result.1 c.settle-ended.ensures.ended in
+    c.self.inside.standings c.ask_ready-asked.new.standings c.settle-ended.new.standings c.self.inside.end c.self.inside.commits c.ask_ready-asked.result c.self.invariant.0 none asked c.settle-ended.result.0 c.settle-ended.ensures.resolves c.settle-ended.ensures.keeps c.settle-ended.result.1 c.settle-ended.ensures.ended in
     (rw c.note_end.ensures all.sound, c.self.invariant.1, c.settle-ended.ensures.waiting)
 
 pub returns-clause-rounds : goal.returns-clause-rounds
@@ -40,5 +40,5 @@ returns-clause-rounds g c =
     let asked = rw c.budget-budget.ensures at c.ask_ready-asked.ensures.asked in
     let none : c.self.inside.end ≡ None = rw (← c.self.view_is) at c.requires in
     let all = gone (family_of g.B.Kinds.Kinds.start g.B.Kinds.Kinds.answer_of) g.B.Kinds.Kinds.admits c.self.inside.net (map (option_map g.B.Body.card) c.self.inside.bodies.items) c.self.inside.store c.ask_ready-asked.new.store c.settle-ended.new.store
-        c.self.inside.standings c.ask_ready-asked.new.standings c.settle-ended.new.standings c.self.inside.end c.self.inside.commits c.ask_ready-asked.result c.self.invariant.0 none asked c.settle-ended.result.0 c.settle-ended.ensures.resolves c.settle-ended.ensures.keeps c.settle-ended.result.1 c.settle-ended.ensures.ended in
+    c.self.inside.standings c.ask_ready-asked.new.standings c.settle-ended.new.standings c.self.inside.end c.self.inside.commits c.ask_ready-asked.result c.self.invariant.0 none asked c.settle-ended.result.0 c.settle-ended.ensures.resolves c.settle-ended.ensures.keeps c.settle-ended.result.1 c.settle-ended.ensures.ended in
     (all.outcomes, all.count, rw (← c.self.view_is, c.note_end.ensures) all.rounds)

@@ -16,7 +16,7 @@ invariant_of-result g c =
     let all = length-map c.args.net.processes (λ (p : Process). p.card) in
     let many = length-map c.args.bodies.items g.B.Body.card in
     let same = ap length cards in (
-      rw (c.in-Ok.ensures.store, c.in-Ok.ensures.standings)
+      rw (c.in-Ok.ensures.store, c.in-Ok.ensures.standings, c.budget.ensures)
           (sound_opened g.B.Kinds.Kinds.signature g.B.Kinds.Kinds.admits (family_of g.B.Kinds.Kinds.start g.B.Kinds.Kinds.answer_of) c.args.net c.assure_valid.ensures.valid c.in-Ok.ensures.admitted (map g.B.Body.card c.args.bodies.items) _ cards c.seat_all.ensures.seated
           (length-map c.seat_all.new.slots.items _ ∙ c.seat_all.ensures.slots ∙ c.in-Ok.ensures.slots)),
       record { emptied = c.seat_all.ensures.emptied; enough = omega (arith, c.seat_all.ensures.room, c.args.bodies.ok.0, c.args.bodies.ok.1) },

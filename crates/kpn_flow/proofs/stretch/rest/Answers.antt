@@ -1,11 +1,10 @@
 -- Where no process is ready, the outside can help, or a growth, or nothing.
-use Rattle.std.proofs.Common.{sym, ap, ◌+◌, arith}
 use Rattle.kpn_model.specs.Network.{family_of}
 use Rattle.kpn_commit.specs.declared.resolution.Resolution.TheVariants.{Enlarged}
 use Rattle.kpn_flow.specs.declared.pause.Pause.TheVariants.{Over}
-use Rattle.kpn_flow.proofs.Turning.{resolved_settled, enlarged_turned}
+use Rattle.kpn_flow.proofs.Turning.{alone, resolved_settled, enlarged_turned}
 use Rattle.kpn_flow.proofs.Waiting.{awaited_rests, none_can_help, told}
-use Rattle.kpn_flow.proofs.turn.rest.Goals as goal
+use Rattle.kpn_flow.proofs.stretch.rest.Goals as goal
 
 pub returns-in-Some-clause-rests : goal.returns-in-Some-clause-rests
 returns-in-Some-clause-rests g c =
@@ -37,14 +36,4 @@ returns-in-Enlarged-clause-run g c =
     let kinds = family_of g.K.Kinds.start g.K.Kinds.answer_of in
     let none = none_can_help kinds g.K.Kinds.admits c.args.net.now c.args.store.now.state c.args.standings.now c.requires.fits.keeps c.requires.idle c.args.inputs.now c.args.outputs.now
     (rw c.as_slice.ensures.value at c.in_default.ensures.not_fed) (rw c.as_slice.ensures.value at c.in_default.ensures.not_drained) in
-    (enlarged_turned kinds c.args.net.now c.args.inputs.now c.args.outputs.now c.args.store.now c.requires.emptied c.args.standings.now c.resolve.new.store c.resolve.new.standings none c.in-Enlarged.ensures.resolves.1).run
-
-pub returns-in-Enlarged-clause-grown : goal.returns-in-Enlarged-clause-grown
-returns-in-Enlarged-clause-grown g c =
-    let kinds = family_of g.K.Kinds.start g.K.Kinds.answer_of in
-    let none = none_can_help kinds g.K.Kinds.admits c.args.net.now c.args.store.now.state c.args.standings.now c.requires.fits.keeps c.requires.idle c.args.inputs.now c.args.outputs.now
-    (rw c.as_slice.ensures.value at c.in_default.ensures.not_fed) (rw c.as_slice.ensures.value at c.in_default.ensures.not_drained) in
-    ap (λ n. c.args.grown.now + n) (sym (enlarged_turned kinds c.args.net.now c.args.inputs.now c.args.outputs.now c.args.store.now c.requires.emptied c.args.standings.now c.resolve.new.store c.resolve.new.standings none c.in-Enlarged.ensures.resolves.1).grows)
-
-pub overflow_add-grown : goal.overflow_add-grown
-overflow_add-grown g c = omega (arith, c.requires.counts)
+    (alone kinds c.args.net.now c.args.inputs.now c.args.outputs.now c.args.store.now c.resolve.new.store c.args.standings.now c.resolve.new.standings 1 1 c.requires.emptied (enlarged_turned kinds c.args.net.now c.args.inputs.now c.args.outputs.now c.args.store.now c.args.standings.now c.resolve.new.store c.resolve.new.standings none c.in-Enlarged.ensures.resolves.1)).run

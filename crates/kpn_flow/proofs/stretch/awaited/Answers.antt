@@ -1,6 +1,6 @@
 -- Found without an answer too; with it a wrong body is refused at once.
 use Rattle.std.proofs.Common.{rules}
-use Rattle.kpn_flow.proofs.turn.awaited.Goals as goal
+use Rattle.kpn_flow.proofs.stretch.awaited.Goals as goal
 
 pub returns-then-any_starves-clause-some : goal.returns-then-any_starves-clause-some
 returns-then-any_starves-clause-some g c = search rules
