@@ -1,3 +1,4 @@
 pub mod Tables
 pub mod Tallies
 pub mod Counts
+pub mod Counting

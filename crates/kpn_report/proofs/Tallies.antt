@@ -14,19 +14,20 @@ use Rattle.kpn_report.specs.Tally.{counts_of, no_counts, counts_at, Tabulates, C
 use Rattle.kpn_report.proofs.Tables.{changed, unchanged, at_most}
 
 -- what is read off a history with one more entry
-ruleset pushes = (put_on-append, taken-append, growths-append, grown_push, length-append, append_assoc, append-nil, add-zero)
+pub ruleset pushes = (put_on-append, taken-append, growths-append, grown_push, length-append, append_assoc, append-nil, add-zero)
 
-flip : (b c : ℕ) → b ≢ c → (c == b) ≡ false
+pub flip : (b c : ℕ) → b ≢ c → (c == b) ≡ false
 flip b c ne = ne_eqb c b (λ e. ne (sym e))
 
-same : (c : ℕ) → (c == c) ≡ true
+pub same : (c : ℕ) → (c == c) ≡ true
 same c = eq-eqb c c refl
 
-module _ (net : Network) (E : List Entry) where
-  steps_kept : (steps : List ℕ) → CountsSteps net E steps → (e : Entry) → CountsSteps net (E ++ e ∷ []) (steps_after steps e)
-  steps_kept steps k (Did p d) = changed 0 (length net.processes) (λ q. length (deeds E q)) steps k (λ q. length (deeds (E ++ Did p d ∷ []) q)) p (get_or steps p 0 + 1) (λ l. rw (k.each p l, deeds_push_same E p d, length-append)) (λ q ne. ap length (deeds_push_other E p q d (flip q p ne)))
-  steps_kept steps k (Grew c to) = unchanged 0 (length net.processes) (λ q. length (deeds E q)) steps k (λ q. length (deeds (E ++ Grew c to ∷ []) q)) (λ q. ap length (deeds_push_grew E c to q))
+-- the number of deeds of each of n processes
+pub steps_kept : (E : List Entry) (n : ℕ) (steps : List ℕ) → Tabulates 0 n (λ q. length (deeds E q)) steps → (e : Entry) → Tabulates 0 n (λ q. length (deeds (E ++ e ∷ []) q)) (steps_after steps e)
+steps_kept E n steps k (Did p d) = changed 0 n (λ q. length (deeds E q)) steps k (λ q. length (deeds (E ++ Did p d ∷ []) q)) p (get_or steps p 0 + 1) (λ l. rw (k.each p l, deeds_push_same E p d, length-append)) (λ q ne. ap length (deeds_push_other E p q d (flip q p ne)))
+steps_kept E n steps k (Grew c to) = unchanged 0 n (λ q. length (deeds E q)) steps k (λ q. length (deeds (E ++ Grew c to ∷ []) q)) (λ q. ap length (deeds_push_grew E c to q))
 
+module _ (net : Network) (E : List Entry) where
   module _ (channel_counts : List ChannelCounts) (k : KeepsCounts net E channel_counts) where
     set_to : (e : Entry) (c : ℕ) (x : ChannelCounts) → (c < length net.channels → x ≡ counts_of net (E ++ e ∷ []) c) → ((b : ℕ) → b ≢ c → counts_of net (E ++ e ∷ []) b ≡ counts_of net E b) → KeepsCounts net (E ++ e ∷ []) (set channel_counts c x)
     set_to e c x = changed no_counts (length net.channels) (counts_of net E) channel_counts k (counts_of net (E ++ e ∷ [])) c x
@@ -58,13 +59,13 @@ fewer_of_choice true x xs n h = omega arith
 fewer_of_choice false x xs n h = omega arith
 
 -- a process does at most as many deeds as there are entries
-deeds_fewer : (E : List Entry) (p : ℕ) → length (deeds E p) ≤ length E
+pub deeds_fewer : (E : List Entry) (p : ℕ) → length (deeds E p) ≤ length E
 deeds_fewer [] p = omega arith
 deeds_fewer (Did q d ∷ es) p = fewer_of_choice (q == p) d (deeds es p) (length es) (deeds_fewer es p)
 deeds_fewer (Grew c to ∷ es) p = omega (arith, deeds_fewer es p)
 
 -- at most as many tokens are taken from a channel as there are entries
-taken_fewer : (E : List Entry) (c : ℕ) → length (taken E c) ≤ length E
+pub taken_fewer : (E : List Entry) (c : ℕ) → length (taken E c) ≤ length E
 taken_fewer [] c = omega arith
 taken_fewer (Did p (Took b t) ∷ es) c = fewer_of_choice (b == c) t (taken es c) (length es) (taken_fewer es c)
 taken_fewer (Did p (Put b t) ∷ es) c = omega (arith, taken_fewer es c)
@@ -72,7 +73,7 @@ taken_fewer (Did p Stopped ∷ es) c = omega (arith, taken_fewer es c)
 taken_fewer (Grew b to ∷ es) c = omega (arith, taken_fewer es c)
 
 -- and at most as many are put on it
-put_fewer : (E : List Entry) (c : ℕ) → length (put_on E c) ≤ length E
+pub put_fewer : (E : List Entry) (c : ℕ) → length (put_on E c) ≤ length E
 put_fewer [] c = omega arith
 put_fewer (Did p (Put b t) ∷ es) c = fewer_of_choice (b == c) t (put_on es c) (length es) (put_fewer es c)
 put_fewer (Did p (Took b t) ∷ es) c = omega (arith, put_fewer es c)
@@ -93,7 +94,7 @@ module _ (net : Network) (E : List Entry) where
 -- the next entry of a history
 module _ (net : Network) (history : List Entry) (i : ℕ) (d : Entry) (within : i < length history) where
   pub steps_next : (old new : List ℕ) → CountsSteps net (take i history) old → new ≡ steps_after old (get_or history i d) → CountsSteps net (take (i + 1) history) new
-  steps_next old new k is = rw (take_more history i d within, is) (steps_kept net (take i history) old k (get_or history i d))
+  steps_next old new k is = rw (take_more history i d within, is) (steps_kept (take i history) (length net.processes) old k (get_or history i d))
 
   pub counts_next : (old new : List ChannelCounts) → KeepsCounts net (take i history) old → new ≡ counts_after old (get_or history i d) → KeepsCounts net (take (i + 1) history) new
   counts_next old new k is = rw (take_more history i d within, is) (counts_kept net (take i history) old k (get_or history i d))

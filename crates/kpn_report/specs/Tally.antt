@@ -46,9 +46,13 @@ with_taken a = record a { taken = a.taken + 1 }
 abbrev pub with_capacity : ChannelCounts → ℕ → ChannelCounts
 with_capacity a n = record a { capacity = n }
 
+-- one more at place k; the same if the list has no such place
+abbrev pub one_more_at : List ℕ → ℕ → List ℕ
+one_more_at counts k = set counts k (get_or counts k 0 + 1)
+
 -- the steps and the counts of the channels after one more entry
 abbrev pub steps_after : List ℕ → Entry → List ℕ
-steps_after steps (Did p d) = set steps p (get_or steps p 0 + 1)
+steps_after steps (Did p d) = one_more_at steps p
 steps_after steps (Grew c to) = steps
 
 abbrev pub counts_after_deed : List ChannelCounts → Deed → List ChannelCounts

@@ -9,6 +9,7 @@ ghost use Rattle.kpn_model.specs.Endings.{has_report};
 ghost use Rattle.kpn_report.specs.Tally.{Tabulates, counts_at};
 
 use crate::channel_counts::ChannelCounts;
+use crate::entries::Slice;
 use crate::streams::{Stream, Streams, streams_of};
 use crate::tally::tally_of;
 use kpn_model::{End, Entry, Kinds, Listed, Place, Token};
@@ -86,8 +87,9 @@ pub fn detail_of<K: Kinds>(
 ) -> Result<Detail, AllocError>
     ensures { IfOk result (λ d. (kinds : Family) (M : State) (cause : EndV) → places.items ≡ each_process net.now (λ p. place_of net.now p (wants kinds net.now M p)) → digest_with cause d ≡ digest kinds net.now cause history.now M) }
 {
-    let tally = tally_of(alloc, net, history)?;
-    let streams = streams_of(alloc, net, history)?;
+    let slice = Slice { history };
+    let tally = tally_of(alloc, net, &slice)?;
+    let streams = streams_of(alloc, net, &slice)?;
     let capacities = capacities(alloc, tally.channel_counts.as_slice())?;
     let rests = rests(alloc, streams.as_slice(), tally.channel_counts.as_slice())?;
     Ok(Detail {

@@ -9,14 +9,19 @@
 #![tactic(auto)]
 
 mod channel_counts;
+mod counted;
 mod detail;
+mod entries;
 mod lines;
 mod places;
 mod streams;
+mod tallied;
 mod tally;
 mod text;
 
 pub use detail::{Detail, Growths, Places, Report, Sizes, Steps, detail_of, report_of};
+pub use entries::Entries;
 pub use places::places_of;
 pub use streams::{Stream, Streams, stream_of};
-pub use text::text_of;
+pub use tallied::Tallied;
+pub use text::{text_of, text_of_entries};

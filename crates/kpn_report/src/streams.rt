@@ -3,6 +3,7 @@ ghost use Rattle.std.specs.Prelude.{◌≡◌, ◌<◌, ◌≤◌, ◌++◌, ◌
 ghost use Rattle.kpn_model.specs.History.{stream, put_on};
 ghost use Rattle.kpn_report.specs.Tally.{KeepsStreams, streams_after};
 
+use crate::entries::{Entries, Slice};
 use kpn_model::{Deed, Entry, Kinds, Listed, Token};
 use kpn_network::Net;
 use std::alloc::{AllocError, Global};
@@ -50,16 +51,16 @@ fn push_put(streams: &mut Vec<Stream>, entry: Entry) -> Result<(), AllocError>
 }
 
 /// The streams of a history, which is read once. Fails if memory was refused.
-pub(crate) fn streams_of<K: Kinds>(
+pub(crate) fn streams_of<K: Kinds, E: Entries>(
     alloc: Global,
     net: &Net<K>,
-    history: &[Entry],
+    history: &E,
 ) -> Result<Vec<Stream>, AllocError>
-    ensures { IfOk result (λ v. KeepsStreams net.now history.now v.items) }
+    ensures { IfOk result (λ v. KeepsStreams net.now (E.entries history.now) v.items) }
 {
     let mut streams = first_streams(alloc, net)?;
-    for entry in history {
-        push_put(&mut streams, *entry)?;
+    for k in 0..history.count() {
+        push_put(&mut streams, history.entry(k))?;
     }
     Ok(streams)
 }
@@ -81,15 +82,15 @@ fn push_put_on(tokens: &mut Vec<Token>, channel: usize, entry: Entry) -> Result<
 }
 
 /// Appends what the entries of a history put on this channel.
-fn push_all_put_on(
+fn push_all_put_on<E: Entries>(
     tokens: &mut Vec<Token>,
     channel: usize,
-    history: &[Entry],
+    history: &E,
 ) -> Result<(), AllocError>
-    ensures { OnOk result (tokens.new.items ≡ tokens.old.items ++ put_on history.now channel) }
+    ensures { OnOk result (tokens.new.items ≡ tokens.old.items ++ put_on (E.entries history.now) channel) }
 {
-    for entry in history {
-        push_put_on(tokens, channel, *entry)?;
+    for k in 0..history.count() {
+        push_put_on(tokens, channel, history.entry(k))?;
     }
     Ok(())
 }
@@ -111,6 +112,19 @@ pub fn stream_of<K: Kinds>(
     channel: usize,
 ) -> Result<Vec<Token>, AllocError>
     ensures tokens { channel < length net.now.channels → IfOk result (λ v. v.items ≡ stream net.now history.now channel) }
+    ensures none { length net.now.channels ≤ channel → IfOk result (λ v. v.items ≡ []) }
+{
+    stream_of_entries(alloc, net, &Slice { history }, channel)
+}
+
+/// As [`stream_of`], whatever has the entries.
+pub(crate) fn stream_of_entries<K: Kinds, E: Entries>(
+    alloc: Global,
+    net: &Net<K>,
+    history: &E,
+    channel: usize,
+) -> Result<Vec<Token>, AllocError>
+    ensures tokens { channel < length net.now.channels → IfOk result (λ v. v.items ≡ stream net.now (E.entries history.now) channel) }
     ensures none { length net.now.channels ≤ channel → IfOk result (λ v. v.items ≡ []) }
 {
     if channel >= net.channels() {

@@ -1,9 +1,11 @@
 //! What is counted of a history, entry by entry.
 ghost use Rattle.std.specs.Prelude.{◌≡◌, ◌<◌, ◌+◌, ◌^◌, ◌++◌, ◌∷◌, [], ℕ, set, get_or, length, IfOk, OnOk};
 ghost use Rattle.kpn_model.specs.History.{growths as growths_of};
-ghost use Rattle.kpn_report.specs.Tally.{CountsSteps, KeepsCounts, with_put, with_taken, with_capacity, counts_at, steps_after, counts_after_deed, counts_after, counts_of};
+ghost use Rattle.kpn_report.specs.Tally.{CountsSteps, KeepsCounts, one_more_at, with_put, with_taken, with_capacity, counts_at, steps_after, counts_after_deed, counts_after, counts_of};
 
 use crate::channel_counts::ChannelCounts;
+use crate::counted::counted_tally;
+use crate::entries::Entries;
 use kpn_model::{Deed, Entry, Kinds};
 use kpn_network::Net;
 use std::alloc::{AllocError, Global};
@@ -17,13 +19,14 @@ pub(crate) struct Tally {
     pub(crate) growths: Vec<(usize, usize)>,
 }
 
-/// Counts one more deed of a process.
-fn count_deed(steps: &mut Vec<u64>, process: usize)
-    requires { get_or steps.old.items process 0 + 1 < 2 ^ 64 }
-    ensures { steps.new.items ≡ set steps.old.items process (get_or steps.old.items process 0 + 1) }
+/// Counts one more at this place, if there is such a place.
+#[inline(always)]
+pub(crate) fn count_at(counts: &mut Vec<u64>, place: usize)
+    requires { get_or counts.old.items place 0 + 1 < 2 ^ 64 }
+    ensures { counts.new.items ≡ one_more_at counts.old.items place }
 {
-    if process < steps.len() {
-        steps[process] += 1;
+    if place < counts.len() {
+        counts[place] += 1;
     }
 }
 
@@ -88,7 +91,7 @@ fn note(
 {
     match entry {
         Entry::Did { process, deed } => {
-            count_deed(steps, process);
+            count_at(steps, process);
             note_deed(channel_counts, deed);
             Ok(())
         }
@@ -130,21 +133,39 @@ fn first_counts<K: Kinds>(alloc: Global, net: &Net<K>) -> Result<Vec<ChannelCoun
     Ok(channel_counts)
 }
 
-/// Counts a history, which is read once. Fails if memory was refused.
-pub(crate) fn tally_of<K: Kinds>(
+/// Counts a history. It is read once, unless it was counted while it was kept and no channel grew. Fails if memory was
+/// refused.
+pub(crate) fn tally_of<K: Kinds, E: Entries>(
     alloc: Global,
     net: &Net<K>,
-    history: &[Entry],
+    history: &E,
 ) -> Result<Tally, AllocError>
-    ensures steps { IfOk result (λ t. CountsSteps net.now history.now t.steps.items) }
-    ensures channel_counts { IfOk result (λ t. KeepsCounts net.now history.now t.channel_counts.items) }
-    ensures growths { IfOk result (λ t. t.growths.items ≡ growths_of history.now) }
+    ensures steps { IfOk result (λ t. CountsSteps net.now (E.entries history.now) t.steps.items) }
+    ensures channel_counts { IfOk result (λ t. KeepsCounts net.now (E.entries history.now) t.channel_counts.items) }
+    ensures growths { IfOk result (λ t. t.growths.items ≡ growths_of (E.entries history.now)) }
+{
+    match history.tallied() {
+        Some(tallied) if !tallied.has_growths() => counted_tally(alloc, net, tallied),
+        _ => read_tally(alloc, net, history),
+    }
+}
+
+/// Counts a history, which is read once. Fails if memory was refused.
+fn read_tally<K: Kinds, E: Entries>(
+    alloc: Global,
+    net: &Net<K>,
+    history: &E,
+) -> Result<Tally, AllocError>
+    ensures steps { IfOk result (λ t. CountsSteps net.now (E.entries history.now) t.steps.items) }
+    ensures channel_counts { IfOk result (λ t. KeepsCounts net.now (E.entries history.now) t.channel_counts.items) }
+    ensures growths { IfOk result (λ t. t.growths.items ≡ growths_of (E.entries history.now)) }
 {
     let mut steps = no_steps(alloc, net)?;
     let mut channel_counts = first_counts(alloc, net)?;
     let mut growths = Vec::new(alloc);
-    for entry in history {
-        note(&mut steps, &mut channel_counts, &mut growths, *entry)?;
+    for k in 0..history.count() {
+        let entry = history.entry(k);
+        note(&mut steps, &mut channel_counts, &mut growths, entry)?;
     }
     Ok(Tally {
         steps,

@@ -12,8 +12,9 @@ ghost use Rattle.kpn_model.specs.Endings.{has_report};
 
 use crate::channel_counts::ChannelCounts;
 use crate::detail::has_report;
+use crate::entries::{Entries, Slice};
 use crate::lines::{end_line, push_channel, push_growths, push_processes, push_stream};
-use crate::streams::stream_of;
+use crate::streams::stream_of_entries;
 use crate::tally::{Tally, tally_of};
 use kpn_model::{End, Entry, Kinds, Place};
 use kpn_network::Net;
@@ -54,18 +55,18 @@ fn push_channels<K: Kinds>(
 }
 
 /// Appends the line of the channel to show, if there is one.
-fn push_shown<K: Kinds>(
+fn push_shown<K: Kinds, E: Entries>(
     alloc: Global,
     out: &mut String,
     net: &Net<K>,
-    history: &[Entry],
+    history: &E,
     show: Option<usize>,
 ) -> Result<(), AllocError>
-    ensures { OnOk result (string_bytes out.new ≡ string_bytes out.old ++ shown_of net.now history.now show) }
+    ensures { OnOk result (string_bytes out.new ≡ string_bytes out.old ++ shown_of net.now (E.entries history.now) show) }
 {
     match show {
         Some(c) => {
-            let tokens = stream_of(alloc, net, history, c)?;
+            let tokens = stream_of_entries(alloc, net, history, c)?;
             push_stream(out, net, tokens.as_slice(), c)
         }
         None => Ok(()),
@@ -98,17 +99,17 @@ fn push_tally<K: Kinds>(
 }
 
 /// Appends the lines of a history after the first line.
-fn push_history<K: Kinds>(
+fn push_history<K: Kinds, E: Entries>(
     alloc: Global,
     out: &mut String,
     net: &Net<K>,
-    history: &[Entry],
+    history: &E,
     places: &[Place],
     show: Option<usize>,
 ) -> Result<(), AllocError>
-    ensures { OnOk result ((kinds : Family) (M : State) → places.now ≡ each_process net.now (λ p. place_of net.now p (wants kinds net.now M p)) → string_bytes out.new ≡ string_bytes out.old ++ digest_text net.now (digest kinds net.now Terminated history.now M) show) }
+    ensures { OnOk result ((kinds : Family) (M : State) → places.now ≡ each_process net.now (λ p. place_of net.now p (wants kinds net.now M p)) → string_bytes out.new ≡ string_bytes out.old ++ digest_text net.now (digest kinds net.now Terminated (E.entries history.now) M) show) }
 {
-    let entries = history.len();
+    let entries = history.count();
     let tally = tally_of(alloc, net, history)?;
     push_tally(out, net, places, &tally, entries)?;
     push_shown(alloc, out, net, history, show)?;
@@ -133,6 +134,21 @@ pub fn text_of<K: Kinds>(
     show: Option<usize>,
 ) -> Result<String, AllocError>
     ensures { IfOk result (λ t. (kinds : Family) (M : State) → (has_report end ≡ true → places.now ≡ each_process net.now (λ p. place_of net.now p (wants kinds net.now M p))) → string_bytes t ≡ report_text kinds net.now end history.now M show) }
+{
+    text_of_entries(alloc, net, &Slice { history }, places, end, show)
+}
+
+/// As [`text_of`], whatever has the entries. Entries that were counted while they were kept are counted again only if
+/// a channel grew.
+pub fn text_of_entries<K: Kinds, E: Entries>(
+    alloc: Global,
+    net: &Net<K>,
+    history: &E,
+    places: &[Place],
+    end: End,
+    show: Option<usize>,
+) -> Result<String, AllocError>
+    ensures { IfOk result (λ t. (kinds : Family) (M : State) → (has_report end ≡ true → places.now ≡ each_process net.now (λ p. place_of net.now p (wants kinds net.now M p))) → string_bytes t ≡ report_text kinds net.now end (E.entries history.now) M show) }
 {
     let mut out = end_line(alloc, end)?;
     if !has_report(end) {

@@ -1,0 +1,75 @@
+//! The tally of entries that were counted while they were kept.
+ghost use Rattle.std.specs.Prelude.{◌≡◌, ◌<◌, [], length, IfOk};
+ghost use Rattle.kpn_model.specs.History.{growths as growths_of};
+ghost use Rattle.kpn_report.specs.Tally.{CountsSteps, KeepsCounts, counts_of};
+
+use crate::channel_counts::ChannelCounts;
+use crate::tallied::Tallied;
+use crate::tally::Tally;
+use kpn_model::Kinds;
+use kpn_network::Net;
+use std::alloc::{AllocError, Global};
+
+/// The tally of counted entries among which is no growth. Fails if memory was refused.
+pub(crate) fn counted_tally<K: Kinds>(
+    alloc: Global,
+    net: &Net<K>,
+    tallied: &Tallied,
+) -> Result<Tally, AllocError>
+    requires none { growths_of tallied.now.entries ≡ [] }
+    ensures steps { IfOk result (λ t. CountsSteps net.now tallied.now.entries t.steps.items) }
+    ensures channel_counts { IfOk result (λ t. KeepsCounts net.now tallied.now.entries t.channel_counts.items) }
+    ensures growths { IfOk result (λ t. t.growths.items ≡ growths_of tallied.now.entries) }
+{
+    Ok(Tally {
+        steps: counted_steps(alloc, net, tallied)?,
+        channel_counts: counted_channels(alloc, net, tallied)?,
+        growths: Vec::new(alloc),
+    })
+}
+
+/// The number of deeds of each process.
+fn counted_steps<K: Kinds>(
+    alloc: Global,
+    net: &Net<K>,
+    tallied: &Tallied,
+) -> Result<Vec<u64>, AllocError>
+    ensures { IfOk result (λ v. CountsSteps net.now tallied.now.entries v.items) }
+{
+    net.assure_valid();
+    let mut steps = Vec::with_capacity(alloc, net.processes())?;
+    for p in 0..net.processes() {
+        steps.push(tallied.steps(p))?;
+    }
+    Ok(steps)
+}
+
+/// The counts of a channel that didn't grow.
+fn counted_channel<K: Kinds>(net: &Net<K>, tallied: &Tallied, c: usize) -> ChannelCounts
+    requires channel { c < length net.now.channels }
+    requires none { growths_of tallied.now.entries ≡ [] }
+    ensures { result ≡ counts_of net.now tallied.now.entries c }
+{
+    net.assure_valid();
+    ChannelCounts {
+        put: tallied.puts(c) as usize,
+        taken: tallied.takes(c) as usize,
+        capacity: net.capacity(c),
+    }
+}
+
+/// The counts of each channel, if none grew.
+fn counted_channels<K: Kinds>(
+    alloc: Global,
+    net: &Net<K>,
+    tallied: &Tallied,
+) -> Result<Vec<ChannelCounts>, AllocError>
+    requires none { growths_of tallied.now.entries ≡ [] }
+    ensures { IfOk result (λ v. KeepsCounts net.now tallied.now.entries v.items) }
+{
+    let mut channel_counts = Vec::with_capacity(alloc, net.channels())?;
+    for c in 0..net.channels() {
+        channel_counts.push(counted_channel(net, tallied, c))?;
+    }
+    Ok(channel_counts)
+}

@@ -1,0 +1,69 @@
+//! The entries of a history, as a report reads them.
+ghost use Rattle.std.specs.Prelude.{◌≡◌, ◌<◌, ◌^◌, IfSome, List, get_or, length};
+
+use crate::tallied::Tallied;
+use kpn_model::Entry;
+use kpn_state::Wide;
+
+/// The entries of a history: how many there are, each at its place, and their counts if they were counted while they
+/// were kept.
+pub trait Entries {
+    ghost use Rattle.std.specs.Prelude.{List};
+    ghost use Rattle.kpn_model.specs.declared.history.Entry.{Entry};
+
+    ghost entries: { Self → List Entry };
+
+    /// Returns how many entries there are.
+    fn count(&self) -> usize
+        ensures count { result ≡ length (entries self.now) }
+        ensures few { length (entries self.now) < 2 ^ 63 };
+
+    /// Returns the entry at a place, counted from 0.
+    fn entry(&self, place: usize) -> Entry
+        requires { place < length (entries self.now) }
+        ensures { (d : Entry) → get_or (entries self.now) place d ≡ result };
+
+    /// Returns the same entries with their counts; `None` if they were not counted.
+    fn tallied(&self) -> Option<&Tallied>
+        ensures { IfSome result (λ t. t.now.entries ≡ entries self.now) };
+}
+
+/// A history in a slice.
+#[derive(Clone, Copy)]
+pub(crate) struct Slice<'a> {
+    pub(crate) history: &'a [Entry],
+}
+
+impl<'a> Entries for Slice<'a> {
+    ghost entries = { λ s. s.history.now };
+
+    fn count(&self) -> usize {
+        self.history.len()
+    }
+
+    #[inline(always)]
+    fn entry(&self, place: usize) -> Entry {
+        self.history[place]
+    }
+
+    fn tallied(&self) -> Option<&Tallied> {
+        None
+    }
+}
+
+impl Entries for Wide {
+    ghost entries = { λ w. w.items.items };
+
+    fn count(&self) -> usize {
+        self.as_slice().len()
+    }
+
+    #[inline(always)]
+    fn entry(&self, place: usize) -> Entry {
+        self.as_slice()[place]
+    }
+
+    fn tallied(&self) -> Option<&Tallied> {
+        None
+    }
+}
