@@ -9,8 +9,9 @@ use kpn_front::{Sink, Status, say, say_lost, say_no_channel, say_refused};
 use kpn_laws::{determinacy_of, least_room_of, least_solution_of};
 use kpn_machine::{Chronicle, Machine};
 use kpn_net::{End, Kinds, Net, NetFault};
-use kpn_report::{places_of, text_of};
+use kpn_report::{Entries, Tallied, places_of, text_of_entries};
 use kpn_run::{Open, RunFault, run};
+use kpn_state::Keeper;
 use std::alloc::{AllocError, Global};
 use std::rt::Clock;
 use std::sync::Wait;
@@ -124,11 +125,12 @@ fn tell_alone<B: Body, S: Sink>(
 ) -> u8
     ensures { Writes (TellsEnded (family_of B.Kinds.start B.Kinds.answer_of) net channel) (S.seen sink.old) (S.seen sink.new) result }
 {
-    let Ok(mut machine) = Machine::open(alloc, net, bodies) else {
+    let Ok(mut machine) = Machine::<B, Tallied>::open_with_keeper(alloc, net, bodies) else {
         return say_refused(&NetFault::Memory, sink);
     };
     machine.finish_alone();
-    say_told(alloc, &machine.into_chronicle(), channel, sink)
+    let chronicle = machine.into_chronicle();
+    say_told(alloc, &chronicle, chronicle.keeper(), channel, sink)
 }
 
 /// The same, by several workers.
@@ -150,7 +152,10 @@ fn tell_by_workers<B: Body, S: Sink, R: Wait + Clock + Threads + Sync>(
         workers,
     } = request;
     match run(rt, alloc, net, bodies, workers, &Open) {
-        Ok(finish) => say_told(alloc, finish.chronicle(), channel, sink),
+        Ok(finish) => {
+            let chronicle = finish.chronicle();
+            say_told(alloc, chronicle, chronicle.keeper(), channel, sink)
+        }
         Err(RunFault::Memory { .. }) => say_refused(&NetFault::Memory, sink),
         Err(RunFault::Lost { .. }) => say_lost(sink),
         Err(RunFault::Workers { .. }) => unreachable!(),
@@ -158,29 +163,33 @@ fn tell_by_workers<B: Body, S: Sink, R: Wait + Clock + Threads + Sync>(
     }
 }
 
-/// Writes what there is to write of a run that ended.
-fn say_told<K: Kinds, S: Sink>(
+/// Writes what there is to write of a run that ended, whose entries are these.
+fn say_told<K: Kinds, H: Keeper, E: Entries, S: Sink>(
     alloc: Global,
-    chronicle: &Chronicle<K>,
+    chronicle: &Chronicle<K, H>,
+    entries: &E,
     channel: Option<usize>,
     sink: &mut S,
 ) -> u8
-    requires { IsSome chronicle.now.end }
+    requires ended { IsSome chronicle.now.end }
+    requires entries { E.entries entries.now ≡ chronicle.now.history }
     ensures { Writes (TellsEnded (family_of K.start K.answer_of) chronicle.now.network channel) (S.seen sink.old) (S.seen sink.new) result }
 {
-    match told_of(alloc, chronicle, channel) {
+    match told_of(alloc, chronicle, entries, channel) {
         Ok(told) => say(sink, told.text.as_str(), told.status),
         Err(_) => say_refused(&NetFault::Memory, sink),
     }
 }
 
-/// The text of a run that ended, and its status.
-fn told_of<K: Kinds>(
+/// The text of a run that ended, whose entries are these, and its status.
+fn told_of<K: Kinds, H: Keeper, E: Entries>(
     alloc: Global,
-    chronicle: &Chronicle<K>,
+    chronicle: &Chronicle<K, H>,
+    entries: &E,
     channel: Option<usize>,
 ) -> Result<Told, AllocError>
-    requires { IsSome chronicle.now.end }
+    requires ended { IsSome chronicle.now.end }
+    requires entries { E.entries entries.now ≡ chronicle.now.history }
     ensures { IfOk result (λ told. TellsRun (family_of K.start K.answer_of) chronicle.now.network channel told.status (string_bytes told.text)) }
 {
     let Some(end) = chronicle.end() else {
@@ -191,14 +200,7 @@ fn told_of<K: Kinds>(
     least_solution_of::<K>();
     let net = chronicle.net();
     let places = places_of(alloc, net, chronicle.standings())?;
-    let text = text_of(
-        alloc,
-        net,
-        chronicle.history(),
-        places.as_slice(),
-        end,
-        channel,
-    )?;
+    let text = text_of_entries(alloc, net, entries, places.as_slice(), end, channel)?;
     Ok(Told {
         status: status_of(end),
         text,
