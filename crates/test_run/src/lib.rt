@@ -28,6 +28,8 @@ mod runs;
 #[cfg(test)]
 mod schedules;
 #[cfg(test)]
+mod tallied;
+#[cfg(test)]
 mod texts;
 #[cfg(test)]
 mod whole;
