@@ -1,6 +1,7 @@
 """The programs that were built in this tree, and what they were made from.
 
-Beside a program crates/NAME/out/NAME stands NAME.made_from, the sum of what it was made from.
+Beside a program crates/NAME/out/NAME stands NAME.made_from, the sum of what it was made from, and NAME.crates, a
+line with the crates of which it is made, by which ready.sh finds what was edited since.
 """
 import os
 
@@ -24,7 +25,9 @@ def keep(name, key, data):
 
 
 def note(name, key):
-    """Notes what the program in the tree was made from. The note is newer than the sources that it is of."""
+    """Notes what the program in the tree was made from. The note of the sum is newer than the sources that it is of."""
+    crates = " ".join(crates_below(name, read_crates(), []))
+    made_from.write(f"{path_of(name)}.crates", f"{crates}\n".encode(), 0o644)
     made_from.write(f"{path_of(name)}.made_from", key.encode(), 0o644)
 
 
