@@ -32,5 +32,5 @@ pub use kpn_standard::{
     Standard, add, answer, copy, count, divides, merge, prefix, scale, select, sink, switch, take,
     weave,
 };
-pub use standard::{Call, StandardBody};
+pub use standard::{Call, StandardBody, by_words};
 pub use task::{Finished, Task};

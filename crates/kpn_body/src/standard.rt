@@ -46,6 +46,22 @@ impl Body for StandardBody {
 
     #[inline(always)]
     fn answer(&self, local: Local, last: Option<Token>) -> Answer {
-        (self.call)(local, last)
+        by_words((self.call)(local, last))
+    }
+}
+
+/// Returns the same answer, put together word by word.
+///
+/// A closure leaves its answer in memory, by stores of a word each. A copy of the local state as a whole reads two
+/// words at once, which a processor can't take from two stores under way: it would wait until both are done.
+#[inline(always)]
+pub fn by_words(answer: Answer) -> Answer
+    ensures { result ≡ answer }
+{
+    let Answer { next, act } = answer;
+    let [first, second, third, fourth] = next;
+    Answer {
+        next: [first, second, third, fourth],
+        act,
     }
 }
