@@ -1,15 +1,22 @@
 //! Networks of standard kinds, with bodies that are made here.
 ghost use Rattle.std.specs.Prelude.{◌≡◌, ◌<◌, ◌≤◌, All, IsSome, IfOk, IfSome, OnErr, Some, length, option_map, slice_get};
 ghost use Rattle.kpn_standard.specs.Standard.{standard};
+ghost use Rattle.kpn_standard.specs.Signatures.{card_of_kind};
+ghost use Rattle.kpn_standard.specs.Table.{row_of};
+ghost use Rattle.kpn_body.specs.Calls.{IsCallable, Answers};
 ghost use Rattle.kpn_body.specs.StandardKinds.{signature, Admitted};
 ghost use Rattle.kpn_machine.specs.Opening.{cards_of};
 ghost use Rattle.kpn_execute.specs.Execution.{Executes, MakesAndExecutes};
 
 use crate::execution::execute;
-use kpn_body::{Call, Standard, StandardBody, answer};
+use kpn_body::{
+    Call, Standard, StandardBody, add, by_words, copy, count, divides, merge, prefix, scale,
+    select, sink as standard_sink, switch, take, weave,
+};
 use kpn_front::{Sink, say_refused};
 use kpn_machine::cards_of;
 use kpn_net::{Answer, Card, Local, Net, NetFault, Token};
+use kpn_standard::Kind;
 use std::alloc::{AllocError, Global};
 use std::rt::Clock;
 use std::sync::Wait;
@@ -40,7 +47,9 @@ pub fn execute_standard<S: Sink, R: Wait + Clock + Threads + Sync>(
 }
 
 /// The same, for a network with these cards. Fails if memory for a body was refused; nothing is then
-/// written. The network is passed in an `Option`: with a `Net` held by value the check finds no proof
+/// written. Each closure has the code of its kind alone, so no call looks the kind up. They stand in this
+/// function, since one that made a box could not hand it out, and a macro can't hold their clauses. The
+/// network is passed in an `Option`: with a `Net` held by value the check finds no proof
 /// of a loop that makes closures.
 fn make_and_execute<S: Sink, R: Wait + Clock + Threads + Sync>(
     rt: &R,
@@ -61,15 +70,142 @@ fn make_and_execute<S: Sink, R: Wait + Clock + Threads + Sync>(
     let mut bodies = Vec::new(alloc);
     for process in 0..cards.len() {
         let card = signed_card(cards, process);
-        let call: Call = Box::new(
-            alloc,
-            move |local: Local, last: Option<Token>| -> Answer
-                requires signed { IsSome (signature card) }
-                requires admitted { Admitted card local last }
-                ensures { result ≡ standard.answer card local last }
-            { answer(card, local, last) },
-        )?;
-        bodies.push(StandardBody::new(card, call))?;
+        let args = card.args;
+        let body = match kind_of(card) {
+            Kind::Count => {
+                let call: Call = Box::new(
+                    alloc,
+                    move |local: Local, last: Option<Token>| -> Answer
+                        requires signed { IsSome (signature (card_of_kind Kind.Count args)) }
+                        requires admitted { Admitted (card_of_kind Kind.Count args) local last }
+                        ensures { result ≡ standard.answer (card_of_kind Kind.Count args) local last }
+                    { by_words(count(args, local, last)) },
+                )?;
+                body_of(card, Kind::Count, call)
+            }
+            Kind::Sink => {
+                let call: Call = Box::new(
+                    alloc,
+                    move |local: Local, last: Option<Token>| -> Answer
+                        requires signed { IsSome (signature (card_of_kind Kind.Sink args)) }
+                        requires admitted { Admitted (card_of_kind Kind.Sink args) local last }
+                        ensures { result ≡ standard.answer (card_of_kind Kind.Sink args) local last }
+                    { by_words(standard_sink(args, local, last)) },
+                )?;
+                body_of(card, Kind::Sink, call)
+            }
+            Kind::Take => {
+                let call: Call = Box::new(
+                    alloc,
+                    move |local: Local, last: Option<Token>| -> Answer
+                        requires signed { IsSome (signature (card_of_kind Kind.Take args)) }
+                        requires admitted { Admitted (card_of_kind Kind.Take args) local last }
+                        ensures { result ≡ standard.answer (card_of_kind Kind.Take args) local last }
+                    { by_words(take(args, local, last)) },
+                )?;
+                body_of(card, Kind::Take, call)
+            }
+            Kind::Copy => {
+                let call: Call = Box::new(
+                    alloc,
+                    move |local: Local, last: Option<Token>| -> Answer
+                        requires signed { IsSome (signature (card_of_kind Kind.Copy args)) }
+                        requires admitted { Admitted (card_of_kind Kind.Copy args) local last }
+                        ensures { result ≡ standard.answer (card_of_kind Kind.Copy args) local last }
+                    { by_words(copy(args, local, last)) },
+                )?;
+                body_of(card, Kind::Copy, call)
+            }
+            Kind::Prefix => {
+                let call: Call = Box::new(
+                    alloc,
+                    move |local: Local, last: Option<Token>| -> Answer
+                        requires signed { IsSome (signature (card_of_kind Kind.Prefix args)) }
+                        requires admitted { Admitted (card_of_kind Kind.Prefix args) local last }
+                        ensures { result ≡ standard.answer (card_of_kind Kind.Prefix args) local last }
+                    { by_words(prefix(args, local, last)) },
+                )?;
+                body_of(card, Kind::Prefix, call)
+            }
+            Kind::Add => {
+                let call: Call = Box::new(
+                    alloc,
+                    move |local: Local, last: Option<Token>| -> Answer
+                        requires signed { IsSome (signature (card_of_kind Kind.Add args)) }
+                        requires admitted { Admitted (card_of_kind Kind.Add args) local last }
+                        ensures { result ≡ standard.answer (card_of_kind Kind.Add args) local last }
+                    { by_words(add(args, local, last)) },
+                )?;
+                body_of(card, Kind::Add, call)
+            }
+            Kind::Scale => {
+                let call: Call = Box::new(
+                    alloc,
+                    move |local: Local, last: Option<Token>| -> Answer
+                        requires signed { IsSome (signature (card_of_kind Kind.Scale args)) }
+                        requires admitted { Admitted (card_of_kind Kind.Scale args) local last }
+                        ensures { result ≡ standard.answer (card_of_kind Kind.Scale args) local last }
+                    { by_words(scale(args, local, last)) },
+                )?;
+                body_of(card, Kind::Scale, call)
+            }
+            Kind::Weave => {
+                let call: Call = Box::new(
+                    alloc,
+                    move |local: Local, last: Option<Token>| -> Answer
+                        requires signed { IsSome (signature (card_of_kind Kind.Weave args)) }
+                        requires admitted { Admitted (card_of_kind Kind.Weave args) local last }
+                        ensures { result ≡ standard.answer (card_of_kind Kind.Weave args) local last }
+                    { by_words(weave(args, local, last)) },
+                )?;
+                body_of(card, Kind::Weave, call)
+            }
+            Kind::Merge => {
+                let call: Call = Box::new(
+                    alloc,
+                    move |local: Local, last: Option<Token>| -> Answer
+                        requires signed { IsSome (signature (card_of_kind Kind.Merge args)) }
+                        requires admitted { Admitted (card_of_kind Kind.Merge args) local last }
+                        ensures { result ≡ standard.answer (card_of_kind Kind.Merge args) local last }
+                    { by_words(merge(args, local, last)) },
+                )?;
+                body_of(card, Kind::Merge, call)
+            }
+            Kind::Divides => {
+                let call: Call = Box::new(
+                    alloc,
+                    move |local: Local, last: Option<Token>| -> Answer
+                        requires signed { IsSome (signature (card_of_kind Kind.Divides args)) }
+                        requires admitted { Admitted (card_of_kind Kind.Divides args) local last }
+                        ensures { result ≡ standard.answer (card_of_kind Kind.Divides args) local last }
+                    { by_words(divides(args, local, last)) },
+                )?;
+                body_of(card, Kind::Divides, call)
+            }
+            Kind::Switch => {
+                let call: Call = Box::new(
+                    alloc,
+                    move |local: Local, last: Option<Token>| -> Answer
+                        requires signed { IsSome (signature (card_of_kind Kind.Switch args)) }
+                        requires admitted { Admitted (card_of_kind Kind.Switch args) local last }
+                        ensures { result ≡ standard.answer (card_of_kind Kind.Switch args) local last }
+                    { by_words(switch(args, local, last)) },
+                )?;
+                body_of(card, Kind::Switch, call)
+            }
+            Kind::Select => {
+                let call: Call = Box::new(
+                    alloc,
+                    move |local: Local, last: Option<Token>| -> Answer
+                        requires signed { IsSome (signature (card_of_kind Kind.Select args)) }
+                        requires admitted { Admitted (card_of_kind Kind.Select args) local last }
+                        ensures { result ≡ standard.answer (card_of_kind Kind.Select args) local last }
+                    { by_words(select(args, local, last)) },
+                )?;
+                body_of(card, Kind::Select, call)
+            }
+        };
+        bodies.push(body)?;
     }
     let Some(net) = net else { unreachable!() };
     Ok(execute(rt, alloc, net, bodies, workers, show, sink))
@@ -83,4 +219,26 @@ fn signed_card(cards: &[Card], process: usize) -> Card
     ensures is { slice_get cards.now process ≡ Some result }
 {
     cards[process]
+}
+
+/// The kind of a card that has a signature.
+fn kind_of(card: Card) -> Kind
+    requires signed { IsSome (signature card) }
+    ensures number { (row_of result).number ≡ card.kind }
+{
+    match Kind::numbered(card.kind) {
+        Some(kind) => kind,
+        None => unreachable!(),
+    }
+}
+
+/// The body of a card of this kind, with a closure that answers for it.
+fn body_of(card: Card, kind: Kind, call: Call) -> StandardBody
+    requires number { (row_of kind).number ≡ card.kind }
+    requires signed { IsSome (signature card) }
+    requires callable { IsCallable (Admitted (card_of_kind kind card.args)) (pre call) }
+    requires answers { Answers (Admitted (card_of_kind kind card.args)) (post call) (standard.answer (card_of_kind kind card.args)) }
+    ensures { result.card ≡ card }
+{
+    StandardBody::new(card, call)
 }

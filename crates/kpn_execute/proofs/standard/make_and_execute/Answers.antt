@@ -1,13 +1,15 @@
 -- One more body, with the next card.
-use Rattle.std.proofs.Common.{ap, Some, sym, ◌∙◌}
+use Rattle.std.proofs.Common.{◌≡◌, ap, Some, sym, ◌∙◌, arith}
 use Rattle.kpn_body.proofs.Cards.{one_more, of_all}
 use Rattle.kpn_execute.proofs.standard.make_and_execute.Goals as goal
 
 pub loop-process-preserved : goal.loop-process-preserved
-loop-process-preserved g c = record {
-  first = one_more (λ b. b.card) _ _ _ _ c.new-in-loop-process.result c.loop-process.invariant.first c.in_ok-push.ensures.items (c.signed_card-card.ensures.is ∙ ap (λ x. Some x) (sym c.new-in-loop-process.ensures));
-  same = c.loop-process.invariant.same;
-}
+loop-process-preserved g c =
+    let card_is : c.match-kind_of.body.card ≡ c.signed_card-card.result = grind arith in
+    record {
+      first = one_more (λ b. b.card) _ _ _ _ c.match-kind_of.body c.loop-process.invariant.first c.in_ok-push.ensures.items (c.signed_card-card.ensures.is ∙ ap (λ x. Some x) (sym card_is));
+      same = c.loop-process.invariant.same;
+    }
 
 pub unreachable-requires : goal.unreachable-requires
 unreachable-requires g c =
