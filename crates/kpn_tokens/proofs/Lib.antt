@@ -7,6 +7,7 @@ pub mod RowFacts
 pub mod Cells
 pub mod Plain
 pub mod NumbersBack
+pub mod PlainLines
 pub mod RecordsBack
 pub mod SamplesBack
 pub mod RowsBack

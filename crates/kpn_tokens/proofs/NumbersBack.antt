@@ -41,7 +41,7 @@ digit_said : (b : ℕ) → IsInRange 48 57 b → is_digit 10 b ≡ true
 digit_said b h = lt-ltb (digit_value b) 10 (omega (arith, digit_value_digit b h))
 
 -- what decimal digits say
-said_is : (places after : ℕ) (ds : List ℕ) → IsNumeral 10 ds → after ≤ places → digits_said places 10 ds after ≡ Ok (digits_value 10 ds * 10 ^ (places - after))
+pub said_is : (places after : ℕ) (ds : List ℕ) → IsNumeral 10 ds → after ≤ places → digits_said places 10 ds after ≡ Ok (digits_value 10 ds * 10 ^ (places - after))
 said_is places after ds h few =
     let some = some_pass ds h in
     let all = all_pass (λ b. is_digit 10 b || is_underscore b) (λ b r. rw (digit_said b r) refl) ds h.1 in
@@ -75,10 +75,10 @@ last_value (suc k) n =
     power = sym (pow-succ' 10 k)
 
 -- a text of digits, in which a point may stand
-abbrev is_figure : ℕ → Bool
+abbrev pub is_figure : ℕ → Bool
 is_figure b = nat_le 46 b && nat_le b 57
 
-abbrev are_figures : List ℕ → Bool
+abbrev pub are_figures : List ℕ → Bool
 are_figures text = list_all is_figure text
 
 figure_range : (b : ℕ) → is_figure b ≡ true → (46 ≤ b) × (b ≤ 57)
@@ -89,24 +89,24 @@ figure_at [] i h = omega arith
 figure_at (b ∷ bs) zero h = let (first, more) = and_parts (is_figure b) (are_figures bs) h in (figure_range b first).1
 figure_at (b ∷ bs) (suc i) h = let (first, more) = and_parts (is_figure b) (are_figures bs) h in figure_at bs i more
 
-figure_first : (text : List ℕ) → are_figures text ≡ true → 0 < length text → 46 ≤ slice_index text 0
+pub figure_first : (text : List ℕ) → are_figures text ≡ true → 0 < length text → 46 ≤ slice_index text 0
 figure_first [] h some = absurd (omega arith)
 figure_first (b ∷ bs) h some = let (first, more) = and_parts (is_figure b) (are_figures bs) h in (figure_range b first).0
 
-figures_plain : (text : List ℕ) → are_figures text ≡ true → are_plain text ≡ true
+pub figures_plain : (text : List ℕ) → are_figures text ≡ true → are_plain text ≡ true
 figures_plain [] h = refl
 figures_plain (b ∷ bs) h =
     let (first, more) = and_parts (is_figure b) (are_figures bs) h in
     let range = figure_range b first in
     rw (le-leb 45 b (omega (arith, range.0)), le-leb b 57 range.1) (figures_plain bs more)
 
-digits_figures : (ds : List ℕ) → AllDigits 10 ds → are_figures ds ≡ true
+pub digits_figures : (ds : List ℕ) → AllDigits 10 ds → are_figures ds ≡ true
 digits_figures ds h = all_pass is_figure (λ b r. rw (le-leb 46 b (omega (arith, r.0)), le-leb b 57 r.1) refl) ds h
 
-no_point : (ds : List ℕ) → AllDigits 10 ds → list_any is_point ds ≡ false
+pub no_point : (ds : List ℕ) → AllDigits 10 ds → list_any is_point ds ≡ false
 no_point ds h = none_pass is_point (λ b r. ne_eqb b 46 (λ e. absurd (omega (arith, r.0)))) ds h
 
-not_hexadecimal : (text : List ℕ) → are_figures text ≡ true → is_hexadecimal text ≡ false
+pub not_hexadecimal : (text : List ℕ) → are_figures text ≡ true → is_hexadecimal text ≡ false
 not_hexadecimal text h =
     let high = figure_at text 1 h in
     let small : (slice_index text 1 == 120) ≡ false = ne_eqb (slice_index text 1) 120 (λ e. absurd (omega arith)) in

@@ -1,5 +1,5 @@
 -- The rows of columns, one after another.
-use Rattle.std.proofs.Common.{◌≡◌, ◌<◌, ◌+◌, ◌++◌, ◌∙◌, ℕ, zero, suc, List, [], ◌∷◌, Option, Some, None, add-one, append_assoc, drop, get_or, length, map, max, take, refl, sym, ap, arith}
+use Rattle.std.proofs.Common.{◌≡◌, ◌<◌, ◌+◌, ◌++◌, ◌∙◌, ℕ, zero, suc, List, [], ◌∷◌, Option, add-one, append_assoc, drop, get_or, length, map, max, take, refl, sym, ap, arith}
 use Rattle.std.proofs.lemmas.List.{append-nil, take_more}
 use Rattle.std.specs.List.{slice_get}
 use Rattle.kpn_model.specs.declared.token.Token.{Token}

@@ -6,7 +6,7 @@ ghost use Rattle.kpn_tokens.specs.Rows.{field_text};
 ghost use Rattle.kpn_tokens.specs.Samples.{frame_text};
 
 use crate::layouts::{Column, Frame, Layout};
-use crate::numbers::{append_byte, append_token};
+use crate::numbers::{append_byte, append_line, append_token};
 use crate::samples::{append_sample, is_word_fit, word_of_token};
 use kpn_model::Token;
 use std::alloc::AllocError;
@@ -113,7 +113,7 @@ fn append_record(out: &mut Vec<u8>, layout: &Layout, token: Token) -> Result<(),
     ensures { OnOk result (out.new.items ≡ out.old.items ++ record_text layout.now token) }
 {
     match layout {
-        Layout::Lines(decimals) => append_token(out, *decimals, token)?,
+        Layout::Lines(decimals) => return append_line(out, *decimals, token),
         Layout::Fields(column) => append_field(out, column, token)?,
         Layout::Frames(frame) => return append_frame_of(out, frame, token),
     }

@@ -35,7 +35,7 @@ fn line_feed_in(bytes: &[u8]) -> Option<usize>
 }
 
 /// Where the first line ends, if it has a line feed.
-fn line_in(bytes: &[u8]) -> Option<Cut>
+pub(crate) fn line_in(bytes: &[u8]) -> Option<Cut>
     ensures { MatchOption result (position_or_len is_line_feed bytes.now ≡ length bytes.now) (λ cut. (cut ≡ record { length = position_or_len is_line_feed bytes.now; used = position_or_len is_line_feed bytes.now + 1 }) × (position_or_len is_line_feed bytes.now < length bytes.now)) }
 {
     match line_feed_in(bytes) {

@@ -17,6 +17,7 @@ mod rows;
 mod samples;
 mod saying;
 mod tables;
+mod word_lines;
 
 pub use appending::{AppendFault, append_tokens, count_misfits};
 pub use columns::{TokenColumn, append_table, longest};
@@ -31,5 +32,6 @@ pub use layouts::{
 pub use names::{append_names, column_named};
 pub use numbers::append_token;
 pub use reading::{MOST_TOKENS, TokensFault, read_tokens};
-pub use saying::token_of_record;
+pub use samples::token_of_frame;
+pub use saying::{Line, first_line, token_of_record};
 pub use tables::{Table, append_row};

@@ -1,5 +1,5 @@
 //! Words and flags as text.
-ghost use Rattle.std.specs.Prelude.{◌≡◌, ◌==◌, ◌+◌, ◌*◌, ◌^◌, ◌/◌, ◌<◌, ◌≤◌, ◌++◌, ◌||◌, [], ◌∷◌, nat_lt, SomeIff, OnOk, decimal, length, true, false, Ok};
+ghost use Rattle.std.specs.Prelude.{◌≡◌, ◌==◌, ◌+◌, ◌*◌, ◌^◌, ◌/◌, ◌<◌, ◌≤◌, ◌++◌, ◌||◌, [], ◌∷◌, nat_lt, SomeIff, OnOk, codes, decimal, length, true, false, Ok};
 ghost use Rattle.std.specs.Char.{digit_value};
 ghost use Rattle.std.specs.List.{after_first, before_first, list_all, list_any, position};
 ghost use Rattle.std.specs.Str.Parse.{digits_value, digits_value_after};
@@ -7,7 +7,7 @@ ghost use Rattle.kpn_tokens.specs.Records.{IsSaidOf};
 ghost use Rattle.kpn_tokens.specs.Numbers.{are_digits, digits_said, flag_said, is_digit, is_hexadecimal, is_point, is_underscore, last_digits, number_said, token_said, token_text, units_text, word_of, word_said, word_text};
 
 use crate::layouts::{Decimals, RecordFault};
-use itoa::Buffer;
+use itoa::{Buffer, write_digits};
 use kpn_model::{Sort, Token};
 use std::alloc::AllocError;
 
@@ -205,6 +205,47 @@ pub fn append_token(out: &mut Vec<u8>, decimals: Decimals, token: Token) -> Resu
         Token::Flag(true) => out.extend_from_slice(b"true"),
         Token::Flag(false) => out.extend_from_slice(b"false"),
     }
+}
+
+/// The same, with a line feed behind it.
+pub(crate) fn append_line(
+    out: &mut Vec<u8>,
+    decimals: Decimals,
+    token: Token,
+) -> Result<(), AllocError>
+    ensures { OnOk result (out.new.items ≡ out.old.items ++ (token_text decimals token ++ codes "\n")) }
+{
+    match token {
+        Token::Word(word) if decimals.digits == 0 => append_whole_line(out, decimals, word),
+        _ => {
+            append_token(out, decimals, token)?;
+            out.extend_from_slice(b"\n")
+        }
+    }
+}
+
+/// How many bytes a line of a whole word has at most.
+const LONGEST_LINE: usize = 24;
+
+/// Appends a line of a word, if words are whole.
+fn append_whole_line(out: &mut Vec<u8>, decimals: Decimals, word: u64) -> Result<(), AllocError>
+    requires { decimals.digits ≡ 0 }
+    ensures { OnOk result (out.new.items ≡ out.old.items ++ (word_text decimals word ++ codes "\n")) }
+{
+    if !decimals.is_unsigned && word >= 1 << 63 {
+        append_byte(out, b'-')?;
+        return append_number_line(out, 0u64.wrapping_sub(word));
+    }
+    append_number_line(out, word)
+}
+
+/// Appends a line of a number.
+fn append_number_line(out: &mut Vec<u8>, number: u64) -> Result<(), AllocError>
+    ensures { OnOk result (out.new.items ≡ out.old.items ++ (decimal number ++ codes "\n")) }
+{
+    let mut line = [b'\n'; LONGEST_LINE];
+    let start = write_digits(number, &mut line, LONGEST_LINE - 1);
+    out.extend_from_slice(&line[start..])
 }
 
 /// Appends the text of a word.

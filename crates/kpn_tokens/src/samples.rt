@@ -8,13 +8,10 @@ use byteorder::{BigEndian, ByteOrder, LittleEndian};
 use kpn_model::{Sort, Token};
 use std::alloc::AllocError;
 
-/// The token of a frame.
-pub(crate) fn said_by_frame(
-    frame: Frame,
-    sort: Sort,
-    bytes: &[u8],
-) -> Result<Option<Token>, RecordFault>
-    ensures said { result ≡ frame_said frame sort bytes.now }
+/// Returns the token of a frame, as [`token_of_record`](crate::token_of_record) reads it.
+#[inline(always)]
+pub fn token_of_frame(frame: &Frame, sort: Sort, bytes: &[u8]) -> Result<Option<Token>, RecordFault>
+    ensures said { result ≡ frame_said frame.now sort bytes.now }
     ensures sorted { IsSaidOf sort result }
 {
     if bytes.len() < frame.size() {
@@ -172,7 +169,22 @@ fn append_number<O: ByteOrder>(
     requires { number < numbers_of width }
     ensures { OnOk result (out.new.items ≡ out.old.items ++ O.bytes_of (bytes_in width) number) }
 {
-    let mut bytes = [0; 8];
-    O::write_uint(&mut bytes, number, width.bytes());
-    out.extend_from_slice(&bytes[..width.bytes()])
+    match width {
+        Width::Two => append_short::<O>(out, number as u16),
+        Width::One | Width::Three | Width::Four | Width::Eight => {
+            let mut bytes = [0; 8];
+            O::write_uint(&mut bytes, number, width.bytes());
+            out.extend_from_slice(&bytes[..width.bytes()])
+        }
+    }
+}
+
+/// Appends a number of two bytes in this order.
+#[inline(always)]
+fn append_short<O: ByteOrder>(out: &mut Vec<u8>, number: u16) -> Result<(), AllocError>
+    ensures { OnOk result (out.new.items ≡ out.old.items ++ O.bytes_of 2 number) }
+{
+    let mut bytes = [0; 2];
+    O::write_u16(&mut bytes, number);
+    out.extend_from_slice(&bytes)
 }

@@ -1,13 +1,16 @@
 //! What a record says.
-ghost use Rattle.std.specs.Prelude.{◌≡◌, ◌==◌, ◌<◌, IfOk, slice_index};
-ghost use Rattle.std.specs.List.{before_first};
+ghost use Rattle.std.specs.Prelude.{◌≡◌, ◌==◌, ◌<◌, IfNone, IfOk, IfSome, length, slice_index};
+ghost use Rattle.std.specs.List.{before_first, position_or_len};
 ghost use Rattle.csv.specs.Reading.{is_bom, strip_bom};
 ghost use Rattle.kpn_tokens.specs.Records.{IsSaidOf, cell, record_said, text_said};
+ghost use Rattle.kpn_tokens.specs.Rows.{is_line_feed};
 
+use crate::cutting::line_in;
 use crate::layouts::{Decimals, Layout, RecordFault};
 use crate::numbers::token_in;
 use crate::rows::said_by_row;
-use crate::samples::said_by_frame;
+use crate::samples::token_of_frame;
+use crate::word_lines::word_line_in;
 use kpn_model::{Sort, Token};
 use std::alloc::{AllocError, Global};
 use std::str;
@@ -33,7 +36,53 @@ pub fn token_of_record(
     match layout {
         Layout::Lines(decimals) => Ok(said_by_line(decimals, sort, without_mark(bytes))),
         Layout::Fields(column) => said_by_row(alloc, column, sort, bytes),
-        Layout::Frames(frame) => Ok(said_by_frame(frame, sort, bytes)),
+        Layout::Frames(frame) => Ok(token_of_frame(&frame, sort, bytes)),
+    }
+}
+
+/// A line of a file: how many bytes it has without its line feed, and what it says.
+#[derive(Clone, Copy, Debug)]
+pub struct Line {
+    pub length: usize,
+    pub said: Result<Option<Token>, RecordFault>,
+}
+
+/// Returns the first line of a file and what it says, as [`token_of_record`] reads it; `None` if no line feed is there.
+#[inline(always)]
+pub fn first_line(decimals: Decimals, sort: Sort, bytes: &[u8]) -> Option<Line>
+    ensures none { IfNone result (position_or_len is_line_feed bytes.now ≡ length bytes.now) }
+    ensures ends { IfSome result (λ line. line.length ≡ position_or_len is_line_feed bytes.now) }
+    ensures within { IfSome result (λ line. line.length < length bytes.now) }
+    ensures said { IfSome result (λ line. line.said ≡ text_said decimals sort (strip_bom (before_first is_line_feed bytes.now))) }
+    ensures sorted { IfSome result (λ line. IsSaidOf sort line.said) }
+{
+    if decimals.digits == 0 && matches!(sort, Sort::Words) {
+        if let Some(line) = word_line_in(bytes) {
+            return Some(Line {
+                length: line.length,
+                said: Ok(Some(Token::Word(line.word))),
+            });
+        }
+    }
+    any_line_in(decimals, sort, bytes)
+}
+
+/// The same, whatever the line has.
+#[cold]
+#[inline(never)]
+fn any_line_in(decimals: Decimals, sort: Sort, bytes: &[u8]) -> Option<Line>
+    ensures none { IfNone result (position_or_len is_line_feed bytes.now ≡ length bytes.now) }
+    ensures ends { IfSome result (λ line. line.length ≡ position_or_len is_line_feed bytes.now) }
+    ensures within { IfSome result (λ line. line.length < length bytes.now) }
+    ensures said { IfSome result (λ line. line.said ≡ text_said decimals sort (strip_bom (before_first is_line_feed bytes.now))) }
+    ensures sorted { IfSome result (λ line. IsSaidOf sort line.said) }
+{
+    match line_in(bytes) {
+        Some(cut) => Some(Line {
+            length: cut.length,
+            said: said_by_line(decimals, sort, without_mark(&bytes[..cut.length])),
+        }),
+        None => None,
     }
 }
 

@@ -1,5 +1,5 @@
 -- The longest column so far, and the next one.
-use Rattle.std.proofs.Common.{◌≡◌, ◌<◌, ◌+◌, ◌∙◌, length, map, max, take, sym, ap, rules}
+use Rattle.std.proofs.Common.{◌≡◌, ◌+◌, ◌∙◌, map, max, take, sym, ap, rules}
 use Rattle.kpn_tokens.specs.Tables.{column_of, longest}
 use Rattle.kpn_tokens.proofs.RowsOn.{next_longest}
 use Rattle.kpn_tokens.proofs.columns.longest.Goals as goal

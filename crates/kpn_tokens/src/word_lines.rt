@@ -1,0 +1,83 @@
+//! Lines of decimal digits alone, as most are.
+ghost use Rattle.std.specs.Prelude.{◌≡◌, ◌<◌, ◌≤◌, IfSome, length, take};
+ghost use Rattle.std.specs.Str.Parse.{AllDigits, digits_value};
+ghost use Rattle.kpn_tokens.specs.WordLines.{IsNumberLine, IsWordLine};
+
+/// How many digits are read at most: each number of so many fits.
+const MOST_DIGITS: usize = 18;
+
+/// How many digits a text begins with, and the number that they say.
+#[derive(Clone, Copy, Debug, PartialEq, Eq)]
+struct Digits {
+    count: usize,
+    number: u64,
+}
+
+/// A line of a number: how many bytes it has without its line feed, and the number.
+#[derive(Clone, Copy, Debug, PartialEq, Eq)]
+struct NumberLine {
+    length: usize,
+    number: u64,
+}
+
+/// A line of a word: how many bytes it has without its line feed, and the word.
+#[derive(Clone, Copy, Debug, PartialEq, Eq)]
+pub(crate) struct WordLine {
+    pub(crate) length: usize,
+    pub(crate) word: u64,
+}
+
+/// The first line of a text, if it is a word of 18 digits at most, with a minus before them or not.
+#[inline(always)]
+pub(crate) fn word_line_in(text: &[u8]) -> Option<WordLine>
+    ensures { IfSome result (λ line. IsWordLine text.now line.length line.word) }
+{
+    if !text.is_empty() && text[0] == b'-' {
+        let line = number_line_in(&text[1..])?;
+        return Some(WordLine {
+            length: line.length + 1,
+            word: 0u64.wrapping_sub(line.number),
+        });
+    }
+    let line = number_line_in(text)?;
+    Some(WordLine {
+        length: line.length,
+        word: line.number,
+    })
+}
+
+/// The first line of a text, if it is a number of 18 digits at most.
+#[inline(always)]
+fn number_line_in(text: &[u8]) -> Option<NumberLine>
+    ensures { IfSome result (λ line. IsNumberLine text.now line.length line.number) }
+{
+    let digits = digits_in(text);
+    if digits.count == 0 || digits.count >= text.len() || text[digits.count] != b'\n' {
+        return None;
+    }
+    Some(NumberLine {
+        length: digits.count,
+        number: digits.number,
+    })
+}
+
+/// The first digits of a text, 18 at most.
+#[inline(always)]
+fn digits_in(text: &[u8]) -> Digits
+    ensures within { result.count ≤ length text.now }
+    ensures few { result.count ≤ 18 }
+    ensures all { AllDigits 10 (take result.count text.now) }
+    ensures number { result.number ≡ digits_value 10 (take result.count text.now) }
+{
+    let mut number: u64 = 0;
+    for (count, byte) in text.iter().enumerate() {
+        if *byte < b'0' || b'9' < *byte || count == MOST_DIGITS {
+            return Digits { count, number };
+        }
+        number = number * 10 + (*byte - b'0') as u64;
+    }
+    Digits {
+        count: text.len(),
+        number,
+    }
+}
