@@ -60,6 +60,11 @@ pub drained_at_ends : (ins outs : ℕ → Bool) (c : ℕ) (ts : List Token) → 
 drained_at_ends ins outs c [] e = tt
 drained_at_ends ins outs c (t ∷ ts) e = (e, drained_at_ends ins outs c ts e)
 
+-- and what is fed into an input comes in at one
+pub fed_at_ends : (ins outs : ℕ → Bool) (c : ℕ) (ts : List Token) → ins c ≡ true → IsAtEnds ins outs (map (λ token. Fed c token) ts)
+fed_at_ends ins outs c [] e = tt
+fed_at_ends ins outs c (t ∷ ts) e = (e, fed_at_ends ins outs c ts e)
+
 -- nothing is drained
 pub tells_none : (kinds : Family) (s : FlowView) (p : OutletView) → Tells kinds s s p p
 tells_none kinds s p = record { same = same_net_none s; tokens = []; writes = writes_none p; flows = refl; at_ends = tt }

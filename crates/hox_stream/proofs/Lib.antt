@@ -3,7 +3,9 @@ pub mod Fitting
 pub mod Counted
 pub mod Buffered
 pub mod Ported
+pub mod Gathered
 pub mod Flowed
+pub mod Batched
 pub mod Streamed
 pub mod Reading
 pub mod Flushed

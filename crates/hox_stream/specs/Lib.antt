@@ -1,5 +1,6 @@
 pub mod Views
 pub mod Cutting
+pub mod Gathering
 pub mod Ports
 pub mod Lanes
 pub mod Tables

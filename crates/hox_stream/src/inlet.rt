@@ -5,9 +5,11 @@ ghost use Rattle.std.specs.Io.Iter.{u64_saturate};
 ghost use Rattle.std.specs.Io.KnownBytes.{IsAtEnd};
 ghost use Rattle.kpn_tokens.specs.Records.{listed};
 ghost use Rattle.hox_stream.specs.Cutting.{IsNext};
+ghost use Rattle.hox_stream.specs.Gathering.{Gathers};
 ghost use Rattle.hox_stream.specs.Ports.{IsRead, ReadsOn, wants_more};
 
 use crate::cutting::{LONGEST_RECORD, Next, next_of};
+use crate::gathering::gather;
 use kpn_front::Source;
 use kpn_tokens::{Layout, Sort, Token, record_in};
 use std::alloc::{AllocError, Global};
@@ -140,6 +142,34 @@ impl<S: Source> Inlet<S> {
     {
         let bytes = &self.held[self.next..];
         next_of(alloc, self.layout, self.sort, bytes, self.is_over)
+    }
+
+    /// Gathers the tokens of the next records, so many at most, and for each how many bytes there are up to the end of
+    /// its record. Returns how many there are.
+    pub(crate) fn gather(&self, most: usize, tokens: &mut [Token], ends: &mut [usize]) -> usize
+        requires tokens { most ≤ length tokens.old }
+        requires ends { most ≤ length ends.old }
+        ensures few { result ≤ most }
+        ensures gathers { Gathers self.now.layout self.now.sort self.now.kept tokens.new ends.new result }
+    {
+        gather(
+            &self.layout,
+            self.sort,
+            &self.held[self.next..],
+            most,
+            tokens,
+            ends,
+        )
+    }
+
+    /// Takes the next records, so many, which have so many bytes together and said a token each.
+    pub(crate) fn pass_all(&mut self, used: usize, count: usize)
+        requires { used ≤ length self.old.kept }
+        ensures { self.new ≡ record self.old { kept = drop used self.old.kept; records = u64_saturate (self.old.records + count); tokens = u64_saturate (self.old.tokens + count) } }
+    {
+        self.next += used;
+        self.records = self.records.saturating_add(count as u64);
+        self.tokens = self.tokens.saturating_add(count as u64);
     }
 
     /// Takes the next record, of so many bytes, which said this.

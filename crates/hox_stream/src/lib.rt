@@ -5,6 +5,7 @@
 mod cutting;
 mod exits;
 mod finish;
+mod gathering;
 mod inlet;
 mod lane;
 mod opening;

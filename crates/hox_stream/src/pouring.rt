@@ -8,6 +8,7 @@ ghost use Rattle.kpn_flow.specs.Flows.{IsSameFlow, is_among, with_ended};
 ghost use Rattle.kpn_flow.specs.Preloaded.{IsAtEnds};
 ghost use Rattle.hox_stream.specs.declared.cutting.Refusal.{Refusal as RefusalV};
 ghost use Rattle.hox_stream.specs.Cutting.{IsNext, IsRefused};
+ghost use Rattle.hox_stream.specs.Gathering.{end_of};
 ghost use Rattle.hox_stream.specs.Ports.{IsNotRead, IsRead, IsReadOnce, Pours, ReadsOn, wants_more};
 ghost use Rattle.hox_stream.specs.Streams.{Streams, IsFinish, NoneIsWaitedFor, inlet_at, is_waited_for};
 ghost use Rattle.hox_stream.specs.Turns.{AreReadIfWanted, IsTurnOf, TakesTurn};
@@ -20,7 +21,8 @@ use crate::serving::sort_of;
 use kpn_body::Body;
 use kpn_flow::Flow;
 use kpn_front::Source;
-use kpn_model::Token;
+use kpn_model::{Kinds, Token};
+use kpn_net::Net;
 use std::alloc::Global;
 
 /// Feeds what a record said, if there is room, and returns whether that was done.
@@ -97,11 +99,77 @@ fn take_more<B: Body, S: Source>(alloc: Global, flow: &mut Flow<B>, inlet: &mut 
     ensures pours { Pours (family_of B.Kinds.start B.Kinds.answer_of) flow.old flow.new inlet.old inlet.new }
     ensures unread { IsNotRead inlet.old inlet.new }
 {
+    let mut room = capacity_of(flow.net(), inlet.channel());
     'records: for _ in 0..u64::MAX {
-        if !take_record(alloc, flow, inlet) {
+        let taken = take_some(alloc, flow, inlet, room);
+        if taken == 0 {
             return;
         }
+        room = room.saturating_sub(taken).max(1);
     }
+}
+
+/// Takes the next records of a source, so many at most if they say a token each, and else one. Returns how many were
+/// taken; none where there is no room or no record.
+fn take_some<B: Body, S: Source>(
+    alloc: Global,
+    flow: &mut Flow<B>,
+    inlet: &mut Inlet<S>,
+    most: usize,
+) -> usize
+    ensures pours { Pours (family_of B.Kinds.start B.Kinds.answer_of) flow.old flow.new inlet.old inlet.new }
+    ensures unread { IsNotRead inlet.old inlet.new }
+{
+    if !flow.has_room(inlet.channel()) {
+        return 0;
+    }
+    let taken = take_batch(flow, inlet, most);
+    if taken > 0 {
+        return taken;
+    }
+    usize::from(take_record(alloc, flow, inlet))
+}
+
+/// How many tokens a channel has room for at first; one if there is no such channel.
+fn capacity_of<K: Kinds>(net: &Net<K>, channel: usize) -> usize {
+    if channel < net.channels() {
+        net.capacity(channel)
+    } else {
+        1
+    }
+}
+
+/// How many tokens are fed at once at most.
+const BATCH: usize = 64;
+
+/// Takes the next records of a source, so many at most, that say a token each, and feeds as many of these as there is
+/// room for. Returns how many records were taken.
+fn take_batch<B: Body, S: Source>(flow: &mut Flow<B>, inlet: &mut Inlet<S>, most: usize) -> usize
+    ensures pours { Pours (family_of B.Kinds.start B.Kinds.answer_of) flow.old flow.new inlet.old inlet.new }
+    ensures unread { IsNotRead inlet.old inlet.new }
+{
+    let channel = inlet.channel();
+    if !flow.is_input(channel) {
+        return 0;
+    }
+    if sort_of(flow.net(), channel) != inlet.sort() {
+        return 0;
+    }
+    flow.assure_one_run();
+    let mut tokens = [Token::Word(0); BATCH];
+    let mut ends = [0; BATCH];
+    let count = inlet.gather(most.min(BATCH), &mut tokens, &mut ends);
+    let fed = flow.feed_all(channel, &tokens[..count]);
+    inlet.pass_all(end_of(&ends, fed), fed);
+    fed
+}
+
+/// Where the first records end, so many.
+fn end_of(ends: &[usize], count: usize) -> usize
+    requires { count ≤ length ends.now }
+    ensures { result ≡ end_of ends.now count }
+{
+    if count == 0 { 0 } else { ends[count - 1] }
 }
 
 /// Why nothing was fed from a source.

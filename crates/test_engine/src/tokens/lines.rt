@@ -3,7 +3,7 @@ use super::{minus, reads_and_writes};
 use crate::checks::same;
 use kpn_tokens::{
     Decimals, Layout, RecordFault, Sort, Token, TokensFault, append_token, append_tokens,
-    read_tokens, token_of_record,
+    first_line, read_tokens, token_of_record,
 };
 
 /// Words: in decimal and hexadecimal, with signs, comments, blanks, other columns, a byte order mark, and no line
@@ -97,6 +97,42 @@ fn tells_what_a_line_says(rt: HostRuntime) {
         let said = token_of_record(rt.alloc(), Layout::Lines(LOG), Sort::Words, *line);
         same(&rt, "line", said.expect(&rt, "no memory"), *due);
     }
+}
+
+/// Texts, how many bytes the first line of each has, and what that says.
+static FIRST: [(&[u8], usize, Result<Option<Token>, RecordFault>); 9] = [
+    (b"0\n", 1, Ok(Some(Token::Word(0)))),
+    (b"-7\n8\n", 2, Ok(Some(Token::Word(18446744073709551609)))),
+    (
+        b"999999999999999999\n",
+        18,
+        Ok(Some(Token::Word(999999999999999999))),
+    ),
+    (
+        b"9999999999999999999\n",
+        19,
+        Ok(Some(Token::Word(9999999999999999999))),
+    ),
+    (
+        b"-9223372036854775808\n",
+        20,
+        Ok(Some(Token::Word(1 << 63))),
+    ),
+    (b"+5 # five\n", 9, Ok(Some(Token::Word(5)))),
+    (b"\n5\n", 0, Ok(None)),
+    (b"-\n", 1, Err(RecordFault::NotAWord)),
+    (b"1.5\n", 3, Err(RecordFault::TooPrecise)),
+];
+
+#[test]
+fn tells_the_first_line(rt: HostRuntime) {
+    for (text, length, due) in &FIRST {
+        let line = first_line(Decimals::WHOLE, Sort::Words, *text).expect(&rt, "a line");
+        same(&rt, "length", line.length, *length);
+        same(&rt, "line", line.said, *due);
+    }
+    let none = first_line(Decimals::WHOLE, Sort::Words, b"12");
+    same(&rt, "no line feed", none.is_none(), true);
 }
 
 #[test]

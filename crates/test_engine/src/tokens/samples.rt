@@ -3,7 +3,7 @@ use super::{minus, reads_and_writes};
 use crate::checks::same;
 use kpn_tokens::{
     AppendFault, Coding, Endian, Frame, Layout, RecordFault, Sample, Sort, Token, TokensFault,
-    Width, append_tokens, read_tokens,
+    Width, append_tokens, read_tokens, token_of_frame,
 };
 
 fn sample(width: Width, coding: Coding, endian: Endian) -> Sample {
@@ -47,6 +47,19 @@ static SIGNED: [(Width, &[u8], &[u8], u64); 5] = [
         1 << 63,
     ),
 ];
+
+#[test]
+fn tells_what_a_frame_says(rt: HostRuntime) {
+    let frame = Frame {
+        before: 1,
+        sample: sample(Width::Two, Coding::Signed, Endian::Little),
+        after: 1,
+    };
+    let said = token_of_frame(&frame, Sort::Words, b"\x07\xfe\xff\x07");
+    same(&rt, "frame", said, Ok(Some(Token::Word(minus(2)))));
+    let said = token_of_frame(&frame, Sort::Words, b"\x07\xfe\xff");
+    same(&rt, "cut short", said, Err(RecordFault::CutShort));
+}
 
 #[test]
 fn reads_signed_samples_and_writes_them(rt: HostRuntime) {

@@ -10,12 +10,12 @@ records-init g c = record { pours = pours_none (family_of g.B.Kinds.Kinds.start 
 
 pub records-preserved : goal.records-preserved
 records-preserved g c = record {
-  pours = pours_both (family_of g.B.Kinds.Kinds.start g.B.Kinds.Kinds.answer_of) _ _ _ _ _ _ c.records.invariant.pours c.take_record.ensures.pours;
-  unread = not_read_both _ _ _ c.records.invariant.unread c.take_record.ensures.unread;
+  pours = pours_both (family_of g.B.Kinds.Kinds.start g.B.Kinds.Kinds.answer_of) _ _ _ _ _ _ c.records.invariant.pours c.take_some-taken.ensures.pours;
+  unread = not_read_both _ _ _ c.records.invariant.unread c.take_some-taken.ensures.unread;
 }
 
-pub returns-then-not-take_record : goal.returns-then-not-take_record
-returns-then-not-take_record g c = record {
-  pours = pours_both (family_of g.B.Kinds.Kinds.start g.B.Kinds.Kinds.answer_of) _ _ _ _ _ _ c.records.invariant.pours c.take_record.ensures.pours;
-  unread = not_read_both _ _ _ c.records.invariant.unread c.take_record.ensures.unread;
+pub returns-then-taken-eq0 : goal.returns-then-taken-eq0
+returns-then-taken-eq0 g c = record {
+  pours = pours_both (family_of g.B.Kinds.Kinds.start g.B.Kinds.Kinds.answer_of) _ _ _ _ _ _ c.records.invariant.pours c.take_some-taken.ensures.pours;
+  unread = not_read_both _ _ _ c.records.invariant.unread c.take_some-taken.ensures.unread;
 }
