@@ -20,6 +20,8 @@ mod histories;
 #[cfg(test)]
 mod in_place;
 #[cfg(test)]
+mod keepers;
+#[cfg(test)]
 mod kinds;
 #[cfg(test)]
 mod machines;
