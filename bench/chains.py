@@ -24,5 +24,6 @@ def instructions(words, given=b""):
     """How many instructions a program takes, as callgrind counts them, and what it writes."""
     words = ["valgrind", "--tool=callgrind", "--callgrind-out-file=/dev/null", *words]
     done = subprocess.run(words, input=given, capture_output=True, check=False)
-    assert done.returncode == 0, (words, done.stderr[-500:])
-    return int(re.search(r"Collected : ([0-9]+)", done.stderr.decode())[1]), done.stdout
+    said = re.search(r"Collected : ([0-9]+)", done.stderr.decode())
+    assert said and done.stdout, (words, done.stderr[-500:])
+    return int(said[1]), done.stdout

@@ -1,12 +1,18 @@
-//! Reports of machines that count their entries while they keep them.
+//! Reports of machines that count their entries while they keep them, and of what several workers leave behind.
 use crate::checks::same;
 use crate::networks::{Parts, parts_of};
-use kpn_body::Standard;
+use kpn_body::{Body, Standard};
 use kpn_compute::CardBody;
 use kpn_machine::{Chronicle, Machine};
+use kpn_net::Net;
 use kpn_report::{Tallied, places_of, text_of_entries};
+use kpn_run::{Open, run};
+use kpn_state::Packed;
 use std::alloc::{AllocError, Global};
 use std::process::Abort;
+use std::rt::Clock;
+use std::sync::Wait;
+use std::thread::Threads;
 use test_texts::{COPIED_AND_WOVEN, COUNTER, reports};
 
 /// What a machine leaves behind that was opened with a body for each process, and finished.
@@ -52,4 +58,66 @@ fn counted_entries_have_their_report(rt: HostRuntime) {
 #[test]
 fn counted_entries_with_a_growth_have_their_report(rt: HostRuntime) {
     shows(&rt, rt.alloc(), COPIED_AND_WOVEN, 3, reports::WOVEN);
+}
+
+/// How many entries a machine makes that keeps them in 16 bytes.
+fn entries_of<B: Body>(
+    alloc: Global,
+    net: Net<B::Kinds>,
+    bodies: Vec<B>,
+) -> Result<usize, AllocError> {
+    let Ok(mut machine) = Machine::<B, Packed>::open_with_keeper(alloc, net, bodies) else {
+        return Err(AllocError);
+    };
+    machine.finish_alone();
+    Ok(machine.entries())
+}
+
+#[test]
+fn packed_entries_are_counted(rt: HostRuntime) {
+    let alloc = rt.alloc();
+    let Parts { net, bodies } = parts_of(&rt, alloc, COUNTER);
+    let entries = entries_of(alloc, net, bodies).expect(&rt, "no memory");
+    same(&rt, "entries", entries, 8);
+}
+
+/// Appends the text of the report, with the stream of a channel.
+fn say_told(
+    alloc: Global,
+    chronicle: &Chronicle<Standard>,
+    channel: usize,
+    sink: &mut String,
+) -> Result<(), AllocError> {
+    let Some(end) = chronicle.end() else {
+        return Ok(());
+    };
+    let net = chronicle.net();
+    let places = places_of(alloc, net, chronicle.standings())?;
+    let entries = chronicle.keeper();
+    let text = text_of_entries(alloc, net, entries, places.as_slice(), end, Some(channel))?;
+    sink.push_str(text.as_str())
+}
+
+/// Runs a network by two workers, and appends its report.
+fn tell_by_two<R: Wait + Clock + Threads + Sync>(
+    rt: &R,
+    alloc: Global,
+    parts: Parts,
+    channel: usize,
+    sink: &mut String,
+) -> Result<(), AllocError> {
+    let Parts { net, bodies } = parts;
+    match run(rt, alloc, net, bodies, 2, &Open) {
+        Ok(finish) => say_told(alloc, finish.chronicle(), channel, sink),
+        Err(_) => Err(AllocError),
+    }
+}
+
+#[test]
+fn entries_of_two_workers_have_their_report(rt: HostRuntime) {
+    let alloc = rt.alloc();
+    let parts = parts_of(&rt, alloc, COPIED_AND_WOVEN);
+    let mut sink = String::new(alloc);
+    tell_by_two(&rt, alloc, parts, 3, &mut sink).expect(&rt, "no memory");
+    same(&rt, "text", sink.as_str(), reports::WOVEN);
 }
