@@ -8,6 +8,7 @@ use crate::progress::{Phase, Progress};
 use crate::rule::{Compare, Look, News, Note, Publish, View, WordRule};
 use atomic_table::{Seat, Table};
 use kpn_model::Entry;
+use kpn_state::Keeper;
 use std::alloc::{AllocError, Global};
 use std::marker::{Brand, Model};
 
@@ -111,27 +112,56 @@ impl Board {
         requires ended { publisher.old.phase ≢ Phase.Running → (history.now ≡ publisher.old.entries) × (phase ≡ publisher.old.phase) }
         ensures { publisher.new ≡ record publisher.old { entries = history.now; phase = phase } }
     {
-        self.publish_as::<Brand>(publisher, history, growths, phase);
+        self.publish_as::<Brand, &[Entry]>(
+            publisher,
+            history,
+            history.len() as u32,
+            growths,
+            phase,
+        );
     }
 
-    // A step's `Play` sees no argument, so what to publish is passed to it by the type N.
-    fn publish_as<N: News>(
+    /// Publishes kept entries, their number of growths and their phase, by one store, as `publish` does a
+    /// history that is a slice. The publisher must be this board's. The entries must go on from the published
+    /// ones, and if these had ended, they must be the same with the same phase. There must be fewer than 2^22.
+    pub fn publish_kept<H: Keeper>(
         &self,
         publisher: &mut Publisher,
-        history: &[Entry],
+        kept: &H,
         growths: u32,
         phase: Phase,
     )
         requires board { publisher.old.board ≡ self.now }
-        requires goes_on { IsPrefix publisher.old.entries history.now }
-        requires short { length history.now < 2 ^ 22 }
-        requires counted { growths ≡ length (growths_of history.now) }
-        requires ended { publisher.old.phase ≢ Phase.Running → (history.now ≡ publisher.old.entries) × (phase ≡ publisher.old.phase) }
-        requires news { N.news ≡ record { entries = history.now; phase = phase } }
-        ensures { publisher.new ≡ record publisher.old { entries = history.now; phase = phase } }
+        requires goes_on { IsPrefix publisher.old.entries (H.entries kept.now) }
+        requires short { length (H.entries kept.now) < 2 ^ 22 }
+        requires counted { growths ≡ length (growths_of (H.entries kept.now)) }
+        requires ended { publisher.old.phase ≢ Phase.Running → (H.entries kept.now ≡ publisher.old.entries) × (phase ≡ publisher.old.phase) }
+        ensures { publisher.new ≡ record publisher.old { entries = H.entries kept.now; phase = phase } }
+    {
+        self.publish_as::<Brand, &H>(publisher, kept, kept.count() as u32, growths, phase);
+    }
+
+    // A step's `Play` sees no argument, so what to publish is passed to it by the type N, which a call chooses by
+    // what has the entries.
+    fn publish_as<N: News, T: Copy>(
+        &self,
+        publisher: &mut Publisher,
+        _from: T,
+        entries: u32,
+        growths: u32,
+        phase: Phase,
+    )
+        requires board { publisher.old.board ≡ self.now }
+        requires goes_on { IsPrefix publisher.old.entries N.news.entries }
+        requires short { length N.news.entries < 2 ^ 22 }
+        requires entries { entries ≡ length N.news.entries }
+        requires counted { growths ≡ length (growths_of N.news.entries) }
+        requires phase { phase ≡ N.news.phase }
+        requires ended { publisher.old.phase ≢ Phase.Running → (N.news.entries ≡ publisher.old.entries) × (N.news.phase ≡ publisher.old.phase) }
+        ensures { publisher.new ≡ record publisher.old { entries = N.news.entries; phase = N.news.phase } }
     {
         let progress = Progress {
-            entries: history.len() as u32,
+            entries,
             growths,
             phase,
         };

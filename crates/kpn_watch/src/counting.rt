@@ -8,6 +8,7 @@ ghost use Rattle.kpn_watch.specs.Shown.{shows, is_growth};
 use crate::board::{Board, MOST_WATCHERS, Publisher, WatchFault, Watcher};
 use crate::progress::{Phase, Progress};
 use kpn_model::{End, Entry};
+use kpn_state::Keeper;
 use std::marker::Model;
 
 /// A publisher that keeps how many entries and growths it published, so that it counts only the new
@@ -58,8 +59,7 @@ impl CountingPublisher {
 
     /// Publishes a history with its end, if it has one, on the publisher's board. The history must go
     /// on from the published one, and if that had ended, it must be the same with the same end. It must
-    /// have fewer than 2^22
-    /// entries.
+    /// have fewer than 2^22 entries.
     pub fn publish(&mut self, board: &Board, history: &[Entry], ended: Option<End>)
         requires board { self.old.board ≡ board.now }
         requires goes_on { IsPrefix self.old.entries history.now }
@@ -92,6 +92,31 @@ impl CountingPublisher {
         self.entries = history.len();
         self.phase = Phase::of_end(ended);
         board.publish(&mut self.publisher, history, self.growths, self.phase);
+    }
+
+    /// Publishes kept entries as `publish_counted` does a history that is a slice, with their end, if they have
+    /// one: takes the same time however many entries are new.
+    pub fn publish_kept<H: Keeper>(
+        &mut self,
+        board: &Board,
+        kept: &H,
+        growths: usize,
+        ended: Option<End>,
+    )
+        requires board { self.old.board ≡ board.now }
+        requires goes_on { IsPrefix self.old.entries (H.entries kept.now) }
+        requires short { length (H.entries kept.now) < 2 ^ 22 }
+        requires counted { growths ≡ length (growths_of (H.entries kept.now)) }
+        requires ended { self.old.phase ≢ Phase.Running → (H.entries kept.now ≡ self.old.entries) × (phase_of ended ≡ self.old.phase) }
+        ensures { self.new ≡ record self.old { entries = H.entries kept.now; phase = phase_of ended } }
+    {
+        let entries = kept.count();
+        let growths = growths as u32;
+        let phase = Phase::of_end(ended);
+        board.publish_kept(&mut self.publisher, kept, growths, phase);
+        self.entries = entries;
+        self.growths = growths;
+        self.phase = phase;
     }
 
     /// Makes a watcher of the publisher's board that has seen what is published. Fails exactly if 64
