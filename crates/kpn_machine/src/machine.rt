@@ -200,6 +200,13 @@ impl<B: Body, H: Keeper> Machine<B, H> {
         typed_runs::<B::Kinds>();
     }
 
+    /// Returns what keeps the entries.
+    pub fn keeper(&self) -> &H
+        ensures { H.entries result.now ≡ self.now.history }
+    {
+        self.store.keeper()
+    }
+
     /// Returns how many entries there are so far.
     #[inline(always)]
     pub fn entries(&self) -> usize
