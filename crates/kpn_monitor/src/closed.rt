@@ -15,6 +15,7 @@ use kpn_body::Body;
 use kpn_machine::Chronicle;
 use kpn_model::{End, Entry, Kinds};
 use kpn_network::Net;
+use kpn_state::{Keeper, Wide};
 use kpn_watch::{Board, CountingPublisher, Progress, Watcher};
 use std::marker::{Model, PhantomData};
 use std::sync::ledger::Ledger;
@@ -39,12 +40,12 @@ impl CloseFault {
 
 /// What `close` hands back if it fails: the monitor and the seats.
 #[derive(Drop)]
-pub struct Unclosed<B: Body, E: EntryLedger, O: Ledger> {
-    pub monitor: Monitor<B, E, O>,
+pub struct Unclosed<B: Body, E: EntryLedger, O: Ledger, H: Keeper = Wide> {
+    pub monitor: Monitor<B, E, O, H>,
     pub seats: Vec<Seat<E, O>>,
 }
 
-impl<B: Body, E: EntryLedger, O: Ledger> Unclosed<B, E, O> {
+impl<B: Body, E: EntryLedger, O: Ledger, H: Keeper> Unclosed<B, E, O, H> {
     /// Returns why the monitor was not closed.
     pub fn fault(&self) -> CloseFault
         ensures { result ≡ CloseFault.SeatsMissing }
@@ -58,15 +59,15 @@ impl<B: Body, E: EntryLedger, O: Ledger> Unclosed<B, E, O> {
 ///
 /// Only `Monitor::close` makes one.
 #[derive(Drop)]
-pub struct Closed<K: Kinds, E: EntryLedger> {
-    chronicle: Chronicle<K>,
+pub struct Closed<K: Kinds, E: EntryLedger, H: Keeper = Wide> {
+    chronicle: Chronicle<K, H>,
     receipts: u64,
     board: Board,
     publisher: CountingPublisher,
     of: PhantomData<E>,
 }
 
-impl<K: Kinds, E: EntryLedger> Model for Closed<K, E> {
+impl<K: Kinds, E: EntryLedger, H: Keeper> Model for Closed<K, E, H> {
     ghost use Rattle.std.specs.Prelude.{◌≡◌};
     ghost use Rattle.kpn_monitor.specs.Views.{ClosedView};
     ghost use Rattle.kpn_monitor.specs.Kept.{IsClosed, IsShown};
@@ -79,9 +80,9 @@ impl<K: Kinds, E: EntryLedger> Model for Closed<K, E> {
     ghost invariant = { λ c. IsClosed (family_of K.start K.answer_of) K.admits E.net (record { machine = c.chronicle; receipts = c.receipts }) × IsShown E.board c.chronicle c.publisher × (c.board ≡ E.board) };
 }
 
-impl<K: Kinds, E: EntryLedger> Closed<K, E> {
+impl<K: Kinds, E: EntryLedger, H: Keeper> Closed<K, E, H> {
     pub(crate) fn new(
-        chronicle: Chronicle<K>,
+        chronicle: Chronicle<K, H>,
         receipts: u64,
         board: Board,
         publisher: CountingPublisher,
@@ -107,13 +108,6 @@ impl<K: Kinds, E: EntryLedger> Closed<K, E> {
         ensures { result.now ≡ self.now.machine.network }
     {
         self.chronicle.net()
-    }
-
-    /// Returns the entries, in order.
-    pub fn history(&self) -> &[Entry]
-        ensures { result.now ≡ self.now.machine.history }
-    {
-        self.chronicle.history()
     }
 
     /// Returns the sum of the seats' shares of entries, which is the number of entries.
@@ -146,7 +140,7 @@ impl<K: Kinds, E: EntryLedger> Closed<K, E> {
     }
 
     /// Returns what the machine left behind: network, history, standings and end.
-    pub fn into_chronicle(self) -> Chronicle<K>
+    pub fn into_chronicle(self) -> Chronicle<K, H>
         ensures { result ≡ self.machine }
     {
         let Closed {
@@ -157,5 +151,14 @@ impl<K: Kinds, E: EntryLedger> Closed<K, E> {
             of: _,
         } = self;
         chronicle
+    }
+}
+
+impl<K: Kinds, E: EntryLedger> Closed<K, E> {
+    /// Returns the entries, in order.
+    pub fn history(&self) -> &[Entry]
+        ensures { result.now ≡ self.now.machine.history }
+    {
+        self.chronicle.history()
     }
 }

@@ -12,10 +12,14 @@ ghost use Rattle.kpn_monitor.specs.Places.{GivesFirst};
 use crate::places::Places;
 use kpn_body::{Body, Finished};
 use kpn_machine::{Machine, Outcome};
+use kpn_state::Keeper;
 
 /// Gives an answer to the machine that asked for it.
 #[inline(always)]
-pub(crate) fn give_one<B: Body>(machine: &mut Machine<B>, finished: Finished<B>) -> Outcome
+pub(crate) fn give_one<B: Body, H: Keeper>(
+    machine: &mut Machine<B, H>,
+    finished: Finished<B>,
+) -> Outcome
     requires { IsOut machine.old finished }
     ensures commits { Commits (family_of B.Kinds.start B.Kinds.answer_of) machine.old finished result machine.new }
     ensures appends { Appends (family_of B.Kinds.start B.Kinds.answer_of) machine.old machine.new (entries_appended result) }
@@ -29,7 +33,7 @@ pub(crate) fn give_one<B: Body>(machine: &mut Machine<B>, finished: Finished<B>)
 /// Gives the first answer to the machine, which sent out its task; the process does not go out again. It is a
 /// function of its own, out of the way of answers after which processes do.
 #[inline(never)]
-fn give_up<B: Body>(machine: &mut Machine<B>, places: &mut Places<B>)
+fn give_up<B: Body, H: Keeper>(machine: &mut Machine<B, H>, places: &mut Places<B>)
     requires called { 0 < places.old.called }
     requires out { (i : Input) → slice_get places.old.tasks 0 ≡ Some i → IsOut machine.old i }
     requires room { length places.old.outcomes < 64 }
@@ -43,7 +47,7 @@ fn give_up<B: Body>(machine: &mut Machine<B>, places: &mut Places<B>)
 /// Gives the first answer to the machine, which sent out its task. The process goes out again at once if it can
 /// and fewer than `keep` did.
 #[inline(always)]
-fn give_first<B: Body>(machine: &mut Machine<B>, places: &mut Places<B>, keep: usize)
+fn give_first<B: Body, H: Keeper>(machine: &mut Machine<B, H>, places: &mut Places<B>, keep: usize)
     requires called { 0 < places.old.called }
     requires out { (i : Input) → slice_get places.old.tasks 0 ≡ Some i → IsOut machine.old i }
     requires room { length places.old.outcomes < 64 }
@@ -76,8 +80,8 @@ fn refuse<B: Body>(places: &mut Places<B>) -> Finished<B>
 /// Gives the answers in these places to a machine, one after the other. At most `keep` processes that can go
 /// on go out again at once. Stops at an answer that the machine did not ask for, and returns it.
 #[inline(always)]
-pub(crate) fn give_all<B: Body>(
-    machine: &mut Machine<B>,
+pub(crate) fn give_all<B: Body, H: Keeper>(
+    machine: &mut Machine<B, H>,
     places: &mut Places<B>,
     keep: usize,
 ) -> Option<Finished<B>>
@@ -105,7 +109,7 @@ pub(crate) fn give_all<B: Body>(
 /// Gives the tasks that went out again back to the machine, but one whose process came back by another answer.
 #[cold]
 #[inline(never)]
-pub(crate) fn give_back<B: Body>(machine: &mut Machine<B>, places: &mut Places<B>)
+pub(crate) fn give_back<B: Body, H: Keeper>(machine: &mut Machine<B, H>, places: &mut Places<B>)
     ensures machine { TakesBackAll machine.old places.old.again machine.new }
     ensures network { machine.new.network ≡ machine.old.network }
     ensures end { machine.new.end ≡ machine.old.end }

@@ -27,6 +27,7 @@ use crate::seat::Seat;
 use kpn_body::{Body, Finished, Task};
 use kpn_machine::{Chronicle, Machine, Outcome, Stranger};
 use kpn_model::End;
+use kpn_state::Keeper;
 use kpn_watch::{Board, CountingPublisher, MOST_WATCHERS, Publisher, WatchFault, Watcher};
 use std::marker::Model;
 use std::sync::ledger::{Book, Ledger, Share};
@@ -75,8 +76,8 @@ pub(crate) enum Wakes {
 /// What the lock guards: the machine, the books of the two ledgers, the right to publish, and how many
 /// threads wait. Contracts see the machine, how often an end was met, and how many watchers were made.
 #[derive(Drop)]
-pub(crate) struct Guarded<B: Body, E: EntryLedger, O: Ledger> {
-    machine: Machine<B>,
+pub(crate) struct Guarded<B: Body, E: EntryLedger, O: Ledger, H: Keeper> {
+    machine: Machine<B, H>,
     entries: Book<E>,
     overs: Book<O>,
     over_count: u64,
@@ -85,7 +86,7 @@ pub(crate) struct Guarded<B: Body, E: EntryLedger, O: Ledger> {
     held_up_at: u64,
 }
 
-impl<B: Body, E: EntryLedger, O: Ledger> Model for Guarded<B, E, O> {
+impl<B: Body, E: EntryLedger, O: Ledger, H: Keeper> Model for Guarded<B, E, O, H> {
     ghost use Rattle.std.specs.Prelude.{◌≡◌};
     ghost use Rattle.kpn_monitor.specs.Views.{UnderLock};
     ghost use Rattle.kpn_monitor.specs.Kept.{IsKept, IsShown};
@@ -98,10 +99,10 @@ impl<B: Body, E: EntryLedger, O: Ledger> Model for Guarded<B, E, O> {
     ghost invariant = { λ i. IsKept (family_of B.Kinds.start B.Kinds.answer_of) B.Kinds.admits E.net i.machine i.entries.total i.overs.total × IsShown E.board i.machine i.publisher × (i.overs.total ≡ i.over_count) × (E.parts ≡ 65536) × (O.parts ≡ 65536) };
 }
 
-impl<B: Body, E: EntryLedger, O: Ledger> Guarded<B, E, O> {
+impl<B: Body, E: EntryLedger, O: Ledger, H: Keeper> Guarded<B, E, O, H> {
     /// A fresh machine with empty books.
     pub(crate) fn new(
-        machine: Machine<B>,
+        machine: Machine<B, H>,
         publisher: Publisher,
         entries: Book<E>,
         overs: Book<O>,
@@ -195,11 +196,11 @@ impl<B: Body, E: EntryLedger, O: Ledger> Guarded<B, E, O> {
         ensures called { MatchOption result (hand.new.called ≡ 0) (λ _. hand.new.called ≡ length hand.new.tasks) }
         ensures seat { seat.new ≡ record seat.old { entries = seat.old.entries + sum_by entries_appended hand.new.outcomes } }
     {
-        let before = self.machine.history().len();
+        let before = self.machine.entries();
         let refused = hand.give(&mut self.machine, keep);
         publish(&self.machine, &mut self.publisher, board);
-        let history = self.machine.history();
-        seat.add_entries(&mut self.entries, (history.len() - before) as u64);
+        let more = self.machine.entries() - before;
+        seat.add_entries(&mut self.entries, more as u64);
         refused
     }
 
@@ -317,7 +318,7 @@ impl<B: Body, E: EntryLedger, O: Ledger> Guarded<B, E, O> {
         ensures ended { (e : EndV) → result ≡ Went.Over e → HasEnded (family_of B.Kinds.start B.Kinds.answer_of) B.Kinds.admits E.net e }
     {
         self.machine.assure_faithful();
-        let before = self.machine.history().len();
+        let before = self.machine.entries();
         let answers = self.machine.ask_in_place(most);
         if answers == 0 {
             return match self.meet_end(seat) {
@@ -326,8 +327,7 @@ impl<B: Body, E: EntryLedger, O: Ledger> Guarded<B, E, O> {
             };
         }
         publish(&self.machine, &mut self.publisher, board);
-        let after = self.machine.history();
-        let more = (after.len() - before) as u64;
+        let more = (self.machine.entries() - before) as u64;
         seat.add_entries(&mut self.entries, more);
         Went::On { answers, waited }
     }
@@ -443,7 +443,7 @@ impl<B: Body, E: EntryLedger, O: Ledger> Guarded<B, E, O> {
     {
         self.machine.assure_faithful();
         self.machine.net().assure_valid();
-        (self.machine.history().len() as u64, self.over_count)
+        (self.machine.entries() as u64, self.over_count)
     }
 
     /// Makes a watcher that has seen the history so far, which is a run.
@@ -470,7 +470,7 @@ impl<B: Body, E: EntryLedger, O: Ledger> Guarded<B, E, O> {
     }
 
     /// The machine without its bodies, and its publisher.
-    pub(crate) fn into_chronicle(self) -> (Chronicle<B::Kinds>, CountingPublisher)
+    pub(crate) fn into_chronicle(self) -> (Chronicle<B::Kinds, H>, CountingPublisher)
         ensures is { result.0 ≡ self.machine }
         ensures network { result.0.network ≡ E.net }
         ensures faithful { IsFaithful (family_of B.Kinds.start B.Kinds.answer_of) B.Kinds.admits result.0 }
@@ -490,7 +490,11 @@ impl<B: Body, E: EntryLedger, O: Ledger> Guarded<B, E, O> {
 }
 
 /// Publishes the history of a machine, which goes on from the published one, with its end.
-fn publish<B: Body>(machine: &Machine<B>, publisher: &mut CountingPublisher, board: &Board)
+fn publish<B: Body, H: Keeper>(
+    machine: &Machine<B, H>,
+    publisher: &mut CountingPublisher,
+    board: &Board,
+)
     requires board { publisher.old.board ≡ board.now }
     requires goes_on { IsPrefix publisher.old.entries machine.now.history }
     requires ended { publisher.old.phase ≢ Running → (machine.now.history ≡ publisher.old.entries) × (phase_of machine.now.end ≡ publisher.old.phase) }
@@ -500,7 +504,7 @@ fn publish<B: Body>(machine: &Machine<B>, publisher: &mut CountingPublisher, boa
 {
     let ended = machine.end();
     machine.net().assure_valid();
-    publisher.publish_counted(board, machine.history(), machine.growths(), ended);
+    publisher.publish_kept(board, machine.keeper(), machine.growths(), ended);
 }
 
 /// How many entries were appended.

@@ -10,6 +10,7 @@ use crate::giving::{give_all, give_back};
 use crate::places::{MOST_TASKS, Places};
 use kpn_body::{Body, Finished, Task};
 use kpn_machine::{Machine, Outcome};
+use kpn_state::Keeper;
 use std::alloc::{AllocError, Global};
 use std::marker::Model;
 
@@ -100,7 +101,11 @@ impl<B: Body> Hand<B> {
     /// Gives the answers of the tasks that were called to the machine, one after the other. At most `keep`
     /// processes that can go on go out again at once, and their tasks are the hand's next ones. Stops at an
     /// answer that the machine did not ask for, and returns it; then, and if the run has ended, none stays out.
-    pub(crate) fn give(&mut self, machine: &mut Machine<B>, keep: usize) -> Option<Finished<B>>
+    pub(crate) fn give<H: Keeper>(
+        &mut self,
+        machine: &mut Machine<B, H>,
+        keep: usize,
+    ) -> Option<Finished<B>>
         requires { self.old.called ≡ length self.old.tasks }
         ensures refused { IfSome result (λ i. GivesBack (family_of B.Kinds.start B.Kinds.answer_of) machine.old self.old.tasks self.new.outcomes machine.new (i ∷ self.new.tasks)) }
         ensures goes_on { IfNone result (machine.new.end ≡ None → Gives (family_of B.Kinds.start B.Kinds.answer_of) machine.old self.old.tasks self.new.outcomes self.new.tasks machine.new []) }

@@ -24,6 +24,7 @@ use crate::resting::{Rest, Resters, Sighting, next_limit};
 use crate::seat::{Seat, merge, totals_of};
 use kpn_body::{Body, Finished};
 use kpn_machine::{Outcome, Stranger};
+use kpn_state::{Keeper, Wide};
 use kpn_watch::{Board, Progress, WatchFault, Watcher};
 use std::hint::spin_loop;
 use std::rt::Clock;
@@ -46,8 +47,8 @@ const PAUSES: u32 = 8;
 ///
 /// The two ledgers are of the entries that were appended, and of the ends that were met ("overs"). Each
 /// seat has a share of both, and a book under the lock holds each ledger's total.
-pub struct Monitor<B: Body, E: EntryLedger, O: Ledger> {
-    state: Mutex<Guarded<B, E, O>>,
+pub struct Monitor<B: Body, E: EntryLedger, O: Ledger, H: Keeper = Wide> {
+    state: Mutex<Guarded<B, E, O, H>>,
     /// Where threads wait for a ready process or the end, with the lock of `state`.
     changed: Condvar,
     resters: Mutex<Resters>,
@@ -61,7 +62,7 @@ pub struct Monitor<B: Body, E: EntryLedger, O: Ledger> {
 
 // Written out, so that letting go of a monitor is a call, which is proved once, and not done field by field wherever
 // one ends.
-impl<B: Body, E: EntryLedger, O: Ledger> Drop for Monitor<B, E, O> {
+impl<B: Body, E: EntryLedger, O: Ledger, H: Keeper> Drop for Monitor<B, E, O, H> {
     fn drop(self) {
         let Monitor {
             state: _,
@@ -74,10 +75,10 @@ impl<B: Body, E: EntryLedger, O: Ledger> Drop for Monitor<B, E, O> {
     }
 }
 
-impl<B: Body, E: EntryLedger, O: Ledger> Monitor<B, E, O> {
+impl<B: Body, E: EntryLedger, O: Ledger, H: Keeper> Monitor<B, E, O, H> {
     /// Makes the monitor of an opening, and a seat with all parts and empty shares. The types must name
     /// the network, the board and the ledgers of the opening. Takes no memory.
-    pub fn open(opening: Opening<B>) -> (Monitor<B, E, O>, Seat<E, O>)
+    pub fn open(opening: Opening<B, H>) -> (Monitor<B, E, O, H>, Seat<E, O>)
         requires network { opening.machine.network ≡ E.net }
         requires board { opening.board ≡ E.board }
         requires entries { (opening.entries.name ≡ E.name) × (opening.entries.parts ≡ E.parts) }
@@ -323,7 +324,7 @@ impl<B: Body, E: EntryLedger, O: Ledger> Monitor<B, E, O> {
     }
 
     // Takes the lock. It is held for short times only, so a thread looks for a while before it sleeps.
-    fn lock<R: Wait>(&self, rt: &R) -> MutexGuard<'_, Guarded<B, E, O>> {
+    fn lock<R: Wait>(&self, rt: &R) -> MutexGuard<'_, Guarded<B, E, O, H>> {
         for _ in 0..LOOKS {
             if let Some(guarded) = self.state.try_lock() {
                 return guarded;
@@ -370,13 +371,16 @@ impl<B: Body, E: EntryLedger, O: Ledger> Monitor<B, E, O> {
     }
 }
 
-impl<B: Body, E: EntryLedger, O: Ledger> Monitor<B, E, O> {
+impl<B: Body, E: EntryLedger, O: Ledger, H: Keeper> Monitor<B, E, O, H> {
     /// Closes the monitor if the shares of these seats add up to the books, as they do if the seats
     /// have all parts. The history is then a run with as many entries as the seats have receipts, and
     /// the run has ended if one of the seats met its end. A process may still be out. Waits for nobody.
     ///
     /// Errors: the shares do not add up to the books. The monitor and the seats are handed back.
-    pub fn close(self, seats: Vec<Seat<E, O>>) -> Result<Closed<B::Kinds, E>, Unclosed<B, E, O>>
+    pub fn close(
+        self,
+        seats: Vec<Seat<E, O>>,
+    ) -> Result<Closed<B::Kinds, E, H>, Unclosed<B, E, O, H>>
         ensures closed { IfOk result (λ c. IsClosed (family_of B.Kinds.start B.Kinds.answer_of) B.Kinds.admits E.net c) }
         ensures receipts { IfOk result (λ c. c.receipts ≡ sum_by (λ (s : Shares). s.entries) seats.items) }
         ensures ended { IfOk result (λ c. (k : ℕ) (s : Shares) → slice_get seats.items k ≡ Some s → s.overs ≡ 1 → IsSome c.machine.end) }
@@ -416,8 +420,8 @@ impl<B: Body, E: EntryLedger, O: Ledger> Monitor<B, E, O> {
 }
 
 /// Whether the shares of these seats add up to the books under the lock.
-fn are_booked<B: Body, E: EntryLedger, O: Ledger>(
-    guarded: &Guarded<B, E, O>,
+fn are_booked<B: Body, E: EntryLedger, O: Ledger, H: Keeper>(
+    guarded: &Guarded<B, E, O, H>,
     seats: &[Seat<E, O>],
 ) -> bool
     ensures { IsTrue result ↔ AddUp guarded.now seats.now }

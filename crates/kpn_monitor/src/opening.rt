@@ -5,23 +5,24 @@ ghost use Rattle.kpn_machine.specs.MachineView.{IsFresh};
 
 use kpn_body::Body;
 use kpn_machine::Machine;
+use kpn_state::{Keeper, Wide};
 use kpn_watch::{Board, Publisher};
 use std::alloc::Global;
 use std::marker::Model;
 use std::sync::ledger::Blank;
 
 /// A fresh machine, with a board and two ledgers that no type names yet. Contracts see the machine, the
-/// board, and the name and parts of each ledger.
+/// board, and the name and parts of each ledger. The machine's entries are kept by `H`.
 #[derive(Drop)]
-pub struct Opening<B: Body> {
-    machine: Machine<B>,
+pub struct Opening<B: Body, H: Keeper = Wide> {
+    machine: Machine<B, H>,
     board: Board,
     publisher: Publisher,
     entries: Blank,
     overs: Blank,
 }
 
-impl<B: Body> Model for Opening<B> {
+impl<B: Body, H: Keeper> Model for Opening<B, H> {
     ghost use Rattle.std.specs.Prelude.{◌≡◌, []};
     ghost use Rattle.kpn_watch.specs.declared.progress.Phase.TheVariants.{Running};
     ghost use Rattle.kpn_machine.specs.MachineView.{IsFresh};
@@ -34,11 +35,11 @@ impl<B: Body> Model for Opening<B> {
     ghost invariant = { λ o. IsFresh o.machine × (o.publisher ≡ record { board = o.board; entries = []; phase = Running; watchers = 0 }) × (o.entries.parts ≡ 65536) × (o.overs.parts ≡ 65536) };
 }
 
-impl<B: Body> Opening<B> {
+impl<B: Body, H: Keeper> Opening<B, H> {
     /// Makes an opening of a fresh machine, with a new board and with ledgers of 65,536 parts.
     ///
     /// Errors: memory was refused. The machine is handed back unchanged.
-    pub fn new(alloc: Global, machine: Machine<B>) -> Result<Opening<B>, Machine<B>>
+    pub fn new(alloc: Global, machine: Machine<B, H>) -> Result<Opening<B, H>, Machine<B, H>>
         requires { IsFresh machine }
         ensures { MatchResult result (λ o. (o.machine ≡ machine) × (o.entries.parts ≡ 65536) × (o.overs.parts ≡ 65536)) (λ m. m ≡ machine) }
     {
@@ -55,7 +56,7 @@ impl<B: Body> Opening<B> {
     }
 
     /// Returns the machine, unchanged.
-    pub fn into_machine(self) -> Machine<B>
+    pub fn into_machine(self) -> Machine<B, H>
         ensures machine { result ≡ self.machine }
         ensures fresh { IsFresh result }
     {
@@ -69,7 +70,7 @@ impl<B: Body> Opening<B> {
         machine
     }
 
-    pub(crate) fn into_parts(self) -> OpeningParts<B>
+    pub(crate) fn into_parts(self) -> OpeningParts<B, H>
         ensures machine { (result.machine ≡ self.machine) × IsFresh result.machine }
         ensures board { result.board ≡ self.board }
         ensures publisher { result.publisher ≡ record { board = self.board; entries = []; phase = Running; watchers = 0 } }
@@ -95,8 +96,8 @@ impl<B: Body> Opening<B> {
 
 /// What an opening is made of.
 #[derive(Drop)]
-pub(crate) struct OpeningParts<B: Body> {
-    pub(crate) machine: Machine<B>,
+pub(crate) struct OpeningParts<B: Body, H: Keeper> {
+    pub(crate) machine: Machine<B, H>,
     pub(crate) board: Board,
     pub(crate) publisher: Publisher,
     pub(crate) entries: Blank,

@@ -9,6 +9,7 @@ ghost use Rattle.kpn_machine.specs.Commits.{CommitsOn};
 use kpn_body::{Body, Finished, Task};
 use kpn_machine::{Machine, Outcome};
 use kpn_model::Answer;
+use kpn_state::Keeper;
 use std::alloc::{AllocError, Global};
 use std::marker::Model;
 
@@ -163,7 +164,7 @@ impl<B: Body> Places<B> {
     /// process's next one, if the process can go out again at once: if the answer is a read or a write that can
     /// be done, and the run goes on. False if it is not so, and nothing changes then.
     #[inline(always)]
-    pub(crate) fn stay(&mut self, machine: &mut Machine<B>) -> bool
+    pub(crate) fn stay<H: Keeper>(&mut self, machine: &mut Machine<B, H>) -> bool
         requires called { 0 < self.old.called }
         requires out { (i : Input) → slice_get self.old.tasks 0 ≡ Some i → IsOut machine.old i }
         requires room { length self.old.outcomes < 64 }

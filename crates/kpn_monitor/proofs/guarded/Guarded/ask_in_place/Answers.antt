@@ -1,5 +1,5 @@
 -- What the answers appended is booked.
-use Rattle.std.proofs.Common.{length, ap, arith}
+use Rattle.std.proofs.Common.{ap, arith}
 use Rattle.std.proofs.lemmas.Grind.{common_steps}
 use Rattle.kpn_model.specs.Network.{family_of}
 use Rattle.kpn_monitor.specs.Views.{Shares}
@@ -12,7 +12,7 @@ returns-clause-went g c =
     let many = rounds_append (family_of g.B.Kinds.Kinds.start g.B.Kinds.Kinds.answer_of) c.self.inside.machine rounds.0 c.ask_in_place-answers.new.self rounds.2 in (
       rounds.0,
       rounds.1,
-      omega (arith, ap (λ (s : Shares). s.entries) c.add_entries.ensures.seat, many, ap length c.history-before.ensures, ap length c.history-after.ensures),
+      omega (arith, ap (λ (s : Shares). s.entries) c.add_entries.ensures.seat, many, c.entries-before.ensures, c.entries.ensures),
       rw (← c.self.view_is) rounds.2,
       record {
         before = c.self.inside.machine;

@@ -1,5 +1,5 @@
 -- What the answers appended is published and booked.
-use Rattle.std.proofs.Common.{◌∙◌, ◌+◌, length, ap, sym, subst, arith}
+use Rattle.std.proofs.Common.{◌∙◌, ◌+◌, ap, sym, subst, arith}
 use Rattle.kpn_model.specs.Network.{family_of}
 use Rattle.std.specs.Prelude.{IsSome}
 use mathlib.Core.List.{IsPrefix}
@@ -20,10 +20,10 @@ publish-requires-clause-ended g c κs within = λ ended.
     let same = gone.ended (λ none. ended (shown.phase ∙ ap phase_of none)) in
     (same.0 ∙ sym shown.entries, ap phase_of same.1 ∙ sym shown.phase)
 
-pub overflow_sub-history : goal.overflow_sub-history
-overflow_sub-history g c =
+pub overflow_sub-more : goal.overflow_sub-more
+overflow_sub-more g c =
     let gone = gave (family_of g.B.Kinds.Kinds.start g.B.Kinds.Kinds.answer_of) _ _ _ _ _ _ c.give-refused.ensures.goes_on c.give-refused.ensures.ended c.give-refused.ensures.refused in
-    omega (arith, gone.count, ap length c.history-before.ensures, ap length c.history-history.ensures)
+    omega (arith, gone.count, c.entries-before.ensures, c.entries.ensures)
 
 pub invariant_of-self : goal.invariant_of-self
 invariant_of-self g c =
@@ -33,7 +33,7 @@ invariant_of-self g c =
         network = c.give-refused.ensures.network ∙ kept.network;
         faithful = c.publish.ensures.faithful;
         ended = λ met. subst IsSome (sym (gone.ended (some_end c.self.inside.machine.end (kept.ended met))).1) (kept.ended met);
-        counted = omega (arith, c.add_entries.ensures.book, kept.counted, gone.count, ap length c.history-before.ensures, ap length c.history-history.ensures);
+        counted = omega (arith, c.add_entries.ensures.book, kept.counted, gone.count, c.entries-before.ensures, c.entries.ensures);
       },
       record {
         board_is = ap (λ (p : Published). p.board) c.publish.ensures.published ∙ c.self.invariant.1.board_is;
@@ -48,4 +48,4 @@ invariant_of-self g c =
 pub returns-clause-seat : goal.returns-clause-seat
 returns-clause-seat g c =
     let gone = gave (family_of g.B.Kinds.Kinds.start g.B.Kinds.Kinds.answer_of) _ _ _ _ _ _ c.give-refused.ensures.goes_on c.give-refused.ensures.ended c.give-refused.ensures.refused in
-    c.add_entries.ensures.seat ∙ ap (λ k. record c.args.seat.now { entries = c.args.seat.now.entries + k }) (omega (arith, gone.count, ap length c.history-before.ensures, ap length c.history-history.ensures))
+    c.add_entries.ensures.seat ∙ ap (λ k. record c.args.seat.now { entries = c.args.seat.now.entries + k }) (omega (arith, gone.count, c.entries-before.ensures, c.entries.ensures))
