@@ -8,6 +8,7 @@ use kpn_machine::{Chronicle, Standing};
 use kpn_model::{End, Entry, Kinds};
 use kpn_monitor::{Closed, EntryLedger};
 use kpn_network::Net;
+use kpn_state::{Keeper, Wide};
 use std::marker::Model;
 
 /// A run that has ended: what its machine left behind, its end, and as many receipts as entries.
@@ -15,13 +16,13 @@ use std::marker::Model;
 /// It is made only from a `Closed` that has an end; so its machine was fresh when the monitor was
 /// opened, and each entry was appended by a commit under the lock.
 #[derive(Drop)]
-pub struct Finish<K: Kinds> {
-    chronicle: Chronicle<K>,
+pub struct Finish<K: Kinds, H: Keeper = Wide> {
+    chronicle: Chronicle<K, H>,
     receipts: u64,
     end: End,
 }
 
-impl<K: Kinds> Model for Finish<K> {
+impl<K: Kinds, H: Keeper> Model for Finish<K, H> {
     ghost use Rattle.std.specs.Prelude.{◌≡◌, Some, length};
     ghost use Rattle.kpn_run.specs.Runs.{FinishView, IsFinish};
 
@@ -32,9 +33,9 @@ impl<K: Kinds> Model for Finish<K> {
     ghost invariant = { λ f. (f.chronicle.end ≡ Some f.end) × (length f.chronicle.history ≡ f.receipts) };
 }
 
-impl<K: Kinds> Finish<K> {
+impl<K: Kinds, H: Keeper> Finish<K, H> {
     /// `None` if the run has not ended.
-    pub(crate) fn of<E: EntryLedger>(closed: Closed<K, E>) -> Option<Finish<K>>
+    pub(crate) fn of<E: EntryLedger>(closed: Closed<K, E, H>) -> Option<Finish<K, H>>
         ensures { MatchOption result (IsNone closed.machine.end) (λ f. (f.machine ≡ closed.machine) × (f.receipts ≡ closed.receipts) × (closed.machine.end ≡ Some f.cause)) }
     {
         let end = closed.end()?;
@@ -59,26 +60,15 @@ impl<K: Kinds> Finish<K> {
         self.chronicle.net()
     }
 
-    /// Returns what the machine left behind: network, history, standings and end.
+    /// Returns what the machine left behind: network, history, standings and end. Its `keeper` has the entries.
     ///
     /// ```text
     /// Ok(finish) => say_told(alloc, finish.chronicle(), channel, sink),
     /// ```
-    pub fn chronicle(&self) -> &Chronicle<K>
+    pub fn chronicle(&self) -> &Chronicle<K, H>
         ensures { result.now ≡ self.now.machine }
     {
         &self.chronicle
-    }
-
-    /// Returns the entries, in order.
-    ///
-    /// ```text
-    /// let stream = stream_of(alloc, finish.net(), finish.history(), channel)?;
-    /// ```
-    pub fn history(&self) -> &[Entry]
-        ensures { result.now ≡ self.now.machine.history }
-    {
-        self.chronicle.history()
     }
 
     /// Returns the standing of each process, in order.
@@ -123,5 +113,18 @@ impl<K: Kinds> Finish<K> {
     {
         self.chronicle.end();
         self.end
+    }
+}
+
+impl<K: Kinds> Finish<K> {
+    /// Returns the entries, in order.
+    ///
+    /// ```text
+    /// let stream = stream_of(alloc, finish.net(), finish.history(), channel)?;
+    /// ```
+    pub fn history(&self) -> &[Entry]
+        ensures { result.now ≡ self.now.machine.history }
+    {
+        self.chronicle.history()
     }
 }

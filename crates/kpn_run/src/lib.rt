@@ -29,4 +29,4 @@ pub use kpn_model::Place;
 pub use kpn_report::{Detail, Growths, Places, Report, Sizes, Steps, Stream, Streams, stream_of};
 pub use own_thread::{Worked, work, work_with};
 pub use reporting::report;
-pub use running::{RunFault, run};
+pub use running::{RunFault, run, run_with_keeper};

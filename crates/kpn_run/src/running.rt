@@ -19,6 +19,7 @@ use kpn_machine::{Machine, OpenFault, OpenRefused};
 use kpn_model::Kinds;
 use kpn_monitor::{EntryLedger, Monitor, Opening, Seat};
 use kpn_network::Net;
+use kpn_state::{Keeper, Wide};
 use std::alloc::Global;
 use std::marker::Brand;
 use std::rt::Clock;
@@ -116,6 +117,39 @@ pub fn run<B: Body, R: Wait + Clock + Threads + Sync, G: Gate>(
     ensures lost { (a : Input) (b : _) → result ≡ Err (RunFault.Lost a b) → (map B.card bodies.items ≡ cards_of net.processes) × (B.card b ≡ a.card) }
     ensures memory { (n : NetV) (bs : _) → result ≡ Err (RunFault.Memory n bs) → (n ≡ net) × (map B.card bs.items ≡ map B.card bodies.items) × (map B.card bodies.items ≡ cards_of net.processes) }
 {
+    run_with_keeper::<B, Wide, R, G>(rt, alloc, net, bodies, workers, gate)
+}
+
+/// Runs a network as [`run`] does, with the entries of its history kept by `H`: `Packed` has them in 16 bytes each,
+/// where `run` takes 48.
+///
+/// ```text
+/// match run_with_keeper::<_, Packed, _, _>(rt, alloc, net, bodies, workers, &Open) {
+///     Ok(finish) => Ok(finish),
+///     Err(_) => Err(AllocError),
+/// }
+/// ```
+pub fn run_with_keeper<B: Body, H: Keeper + Send, R: Wait + Clock + Threads + Sync, G: Gate>(
+    rt: &R,
+    alloc: Global,
+    net: Net<B::Kinds>,
+    bodies: Vec<B>,
+    workers: usize,
+    gate: &G,
+) -> Result<Finish<B::Kinds, H>, RunFault<B>>
+    ensures finish { IfOk result (IsFinish (family_of B.Kinds.start B.Kinds.answer_of) net) }
+    ensures within { IfOk result (λ f. StaysWithinCapacities (family_of B.Kinds.start B.Kinds.answer_of) net f.machine.history) }
+    ensures budget { IfOk result (λ f. SparesBudget (family_of B.Kinds.start B.Kinds.answer_of) net f.cause) }
+    ensures comparable { IfOk result (λ f. IsComparable (family_of B.Kinds.start B.Kinds.answer_of) net f.machine.history) }
+    ensures room { IfOk result (λ f. TakesLeastRoom (family_of B.Kinds.start B.Kinds.answer_of) net f.machine.history f.machine.state) }
+    ensures streams { IfOk result (λ f. ApproachLeastSolution (family_of B.Kinds.start B.Kinds.answer_of) net f.machine.history f.machine.state) }
+    ensures cards { OnOk result (map B.card bodies.items ≡ cards_of net.processes) }
+    ensures workers { (n : NetV) (bs : _) → result ≡ Err (RunFault.Workers n bs) → (n ≡ net) × (bs ≡ bodies) × ((workers ≡ 0) ⊎ (16 < workers)) }
+    ensures many { (workers ≡ 0) ⊎ (16 < workers) → result ≡ Err (RunFault.Workers net bodies) }
+    ensures open { (n : NetV) (bs : _) (fault : OpenFaultV) → result ≡ Err (RunFault.Open n bs fault) → (n ≡ net) × (bs.items ≡ bodies.items) × (fault ≢ OpenFault.Memory) × IsOpenFault net.processes (map B.card bodies.items) fault }
+    ensures lost { (a : Input) (b : _) → result ≡ Err (RunFault.Lost a b) → (map B.card bodies.items ≡ cards_of net.processes) × (B.card b ≡ a.card) }
+    ensures memory { (n : NetV) (bs : _) → result ≡ Err (RunFault.Memory n bs) → (n ≡ net) × (map B.card bs.items ≡ map B.card bodies.items) × (map B.card bodies.items ≡ cards_of net.processes) }
+{
     if !may_work(workers) {
         return Err(RunFault::Workers { net, bodies });
     }
@@ -158,14 +192,14 @@ fn unboxed<B: Body>(fault: RunFault<BoxedBody<B>>, spare: Vec<B>) -> RunFault<B>
 }
 
 /// The same run, with the bodies as they are, by a number of workers that may share it.
-fn run_bodies<B: Body, R: Wait + Clock + Threads + Sync, G: Gate>(
+fn run_bodies<B: Body, H: Keeper + Send, R: Wait + Clock + Threads + Sync, G: Gate>(
     rt: &R,
     alloc: Global,
     net: Net<B::Kinds>,
     bodies: Vec<B>,
     workers: usize,
     gate: &G,
-) -> Result<Finish<B::Kinds>, RunFault<B>>
+) -> Result<Finish<B::Kinds, H>, RunFault<B>>
     requires { (0 < workers) × (workers ≤ 16) }
     ensures finish { IfOk result (IsFinish (family_of B.Kinds.start B.Kinds.answer_of) net) }
     ensures within { IfOk result (λ f. StaysWithinCapacities (family_of B.Kinds.start B.Kinds.answer_of) net f.machine.history) }
@@ -179,7 +213,7 @@ fn run_bodies<B: Body, R: Wait + Clock + Threads + Sync, G: Gate>(
     ensures lost { (a : Input) (b : _) → result ≡ Err (RunFault.Lost a b) → (map B.card bodies.items ≡ cards_of net.processes) × (B.card b ≡ a.card) }
     ensures memory { (n : NetV) (bs : _) → result ≡ Err (RunFault.Memory n bs) → (n ≡ net) × (map B.card bs.items ≡ map B.card bodies.items) × (map B.card bodies.items ≡ cards_of net.processes) }
 {
-    let machine = match Machine::open(alloc, net, bodies) {
+    let machine = match Machine::<B, H>::open_with_keeper(alloc, net, bodies) {
         Ok(machine) => machine,
         Err(refused) => return Err(not_opened(refused)),
     };
@@ -209,13 +243,13 @@ fn may_work(workers: usize) -> bool
 }
 
 /// The same, for a machine that is open.
-fn run_machine<B: Body, R: Wait + Clock + Threads + Sync, G: Gate>(
+fn run_machine<B: Body, H: Keeper + Send, R: Wait + Clock + Threads + Sync, G: Gate>(
     rt: &R,
     alloc: Global,
-    machine: Machine<B>,
+    machine: Machine<B, H>,
     workers: usize,
     gate: &G,
-) -> Result<Finish<B::Kinds>, RunFault<B>>
+) -> Result<Finish<B::Kinds, H>, RunFault<B>>
     requires fresh { IsFresh machine }
     requires workers { (0 < workers) × (workers ≤ 16) }
     ensures finish { IfOk result (IsFinish (family_of B.Kinds.start B.Kinds.answer_of) machine.network) }
@@ -230,7 +264,9 @@ fn run_machine<B: Body, R: Wait + Clock + Threads + Sync, G: Gate>(
     ensures memory { (n : NetV) (bs : _) → result ≡ Err (RunFault.Memory n bs) → (n ≡ machine.network) × (map B.card bs.items ≡ cards_of machine.network.processes) }
 {
     match opening_of(alloc, machine) {
-        Ok(opening) => match run_named::<B, Brand, Brand, R, G>(rt, alloc, opening, workers, gate) {
+        Ok(opening) => match run_named::<B, H, Brand, Brand, R, G>(
+            rt, alloc, opening, workers, gate,
+        ) {
             Ok(finish) => {
                 told_by_laws(&finish);
                 Ok(finish)
@@ -242,7 +278,10 @@ fn run_machine<B: Body, R: Wait + Clock + Threads + Sync, G: Gate>(
 }
 
 /// What a monitor of a machine is made from, before anything has run.
-fn opening_of<B: Body>(alloc: Global, machine: Machine<B>) -> Result<Opening<B>, RunFault<B>>
+fn opening_of<B: Body, H: Keeper>(
+    alloc: Global,
+    machine: Machine<B, H>,
+) -> Result<Opening<B, H>, RunFault<B>>
     requires { IsFresh machine }
     ensures opening { IfOk result (λ o. (o.machine ≡ machine) × (o.entries.parts ≡ 65536) × (o.overs.parts ≡ 65536)) }
     ensures memory { IfErr result (λ f. (n : NetV) × ((bs : _) × (f ≡ RunFault.Memory n bs) × (n ≡ machine.network) × (map B.card bs.items ≡ cards_of machine.network.processes))) }
@@ -254,7 +293,7 @@ fn opening_of<B: Body>(alloc: Global, machine: Machine<B>) -> Result<Opening<B>,
 }
 
 /// Ghost lemma: what the laws say of a run that has ended.
-fn told_by_laws<K: Kinds>(finish: &Finish<K>)
+fn told_by_laws<K: Kinds, H: Keeper>(finish: &Finish<K, H>)
     ensures within { StaysWithinCapacities (family_of K.start K.answer_of) finish.now.machine.network finish.now.machine.history }
     ensures budget { SparesBudget (family_of K.start K.answer_of) finish.now.machine.network finish.now.cause }
     ensures comparable { IsComparable (family_of K.start K.answer_of) finish.now.machine.network finish.now.machine.history }
@@ -270,7 +309,7 @@ fn told_by_laws<K: Kinds>(finish: &Finish<K>)
 }
 
 /// The fault of memory that was refused before anything has run.
-fn put_back<B: Body>(machine: Machine<B>) -> RunFault<B>
+fn put_back<B: Body, H: Keeper>(machine: Machine<B, H>) -> RunFault<B>
     requires { IsFresh machine }
     ensures { (n : NetV) × ((bs : _) × (result ≡ RunFault.Memory n bs) × (n ≡ machine.network) × (map B.card bs.items ≡ cards_of machine.network.processes)) }
 {
@@ -281,6 +320,7 @@ fn put_back<B: Body>(machine: Machine<B>) -> RunFault<B>
 /// The same, for ledgers that are named.
 fn run_named<
     B: Body,
+    H: Keeper + Send,
     E: EntryLedger + Send + Sync,
     O: Ledger + Send + Sync,
     R: Wait + Clock + Threads + Sync,
@@ -288,10 +328,10 @@ fn run_named<
 >(
     rt: &R,
     alloc: Global,
-    opening: Opening<B>,
+    opening: Opening<B, H>,
     workers: usize,
     gate: &G,
-) -> Result<Finish<B::Kinds>, RunFault<B>>
+) -> Result<Finish<B::Kinds, H>, RunFault<B>>
     requires workers { (0 < workers) × (workers ≤ 16) }
     requires network { opening.machine.network ≡ E.net }
     requires board { opening.board ≡ E.board }
@@ -312,7 +352,7 @@ fn run_named<
     let Ok(hands) = hands_for(rt, alloc, workers) else {
         return Err(put_back(opening.into_machine()));
     };
-    let (monitor, seat) = Monitor::<B, E, O>::open(opening);
+    let (monitor, seat) = Monitor::<B, E, O, H>::open(opening);
     match run_seated(rt, gate, monitor, seat, workers, hands, slots, seats) {
         Ok(finish) => Ok(finish),
         Err(finished) => {
@@ -325,6 +365,7 @@ fn run_named<
 /// Seats the workers, joins them and closes.
 fn run_seated<
     B: Body,
+    H: Keeper + Send,
     E: EntryLedger + Send + Sync,
     O: Ledger + Send + Sync,
     R: Wait + Clock + Threads + Sync,
@@ -332,13 +373,13 @@ fn run_seated<
 >(
     rt: &R,
     gate: &G,
-    monitor: Monitor<B, E, O>,
+    monitor: Monitor<B, E, O, H>,
     seat: Seat<E, O>,
     workers: usize,
     hands: Hands<B>,
     mut slots: Vec<WorkerSlot<B, E, O>>,
     mut seats: Vec<Seat<E, O>>,
-) -> Result<Finish<B::Kinds>, Finished<B>>
+) -> Result<Finish<B::Kinds, H>, Finished<B>>
     requires workers { (0 < workers) × (workers ≤ 16) }
     requires all { seat.parts ≡ 65536 }
     requires slots { (slots.items ≡ []) × (workers ≤ vec_capacity slots) }

@@ -8,6 +8,7 @@ use crate::gate::Gate;
 use crate::worker::work_in_rounds;
 use kpn_body::{Body, Finished};
 use kpn_monitor::{EntryLedger, Hand, Monitor, Seat};
+use kpn_state::Keeper;
 use std::alloc::{AllocError, Global};
 use std::marker::Model;
 use std::rt::Clock;
@@ -57,7 +58,12 @@ impl<B: Body, E: EntryLedger, O: Ledger> WorkerSlot<B, E, O> {
         (seat, refused)
     }
 
-    fn work<R: Wait + Clock, G: Gate>(&mut self, rt: &R, monitor: &Monitor<B, E, O>, gate: &G)
+    fn work<H: Keeper, R: Wait + Clock, G: Gate>(
+        &mut self,
+        rt: &R,
+        monitor: &Monitor<B, E, O, H>,
+        gate: &G,
+    )
         ensures parts { self.new.seat.parts ≡ self.old.seat.parts }
         ensures met { HasMet self.new }
     {
@@ -172,11 +178,12 @@ fn seat_one<B: Body, E: EntryLedger, O: Ledger>(
 /// Works at all slots. The calling thread is one worker, and the others are started as threads.
 pub(crate) fn work_all<
     B: Body,
+    H: Keeper + Send,
     E: EntryLedger + Send + Sync,
     O: Ledger + Send + Sync,
     R: Wait + Clock + Threads + Sync,
     G: Gate,
->(rt: &R, monitor: &Monitor<B, E, O>, gate: &G, slots: &mut Vec<WorkerSlot<B, E, O>>)
+>(rt: &R, monitor: &Monitor<B, E, O, H>, gate: &G, slots: &mut Vec<WorkerSlot<B, E, O>>)
     ensures parts { sum_by (λ (b : AtSlot). b.seat.parts) slots.new.items ≡ sum_by (λ (b : AtSlot). b.seat.parts) slots.old.items }
     ensures met { All HasMet slots.new.items }
     ensures len { length slots.new.items ≡ length slots.old.items }
@@ -187,11 +194,12 @@ pub(crate) fn work_all<
 // As `work_all`, with the clauses stated slot by slot.
 fn work_each<
     B: Body,
+    H: Keeper + Send,
     E: EntryLedger + Send + Sync,
     O: Ledger + Send + Sync,
     R: Wait + Clock + Threads + Sync,
     G: Gate,
->(rt: &R, monitor: &Monitor<B, E, O>, gate: &G, slots: &mut [WorkerSlot<B, E, O>])
+>(rt: &R, monitor: &Monitor<B, E, O, H>, gate: &G, slots: &mut [WorkerSlot<B, E, O>])
     ensures parts { (k : ℕ) (d : AtSlot) → k < length slots.old → (slice_index_or slots.new k d).seat.parts ≡ (slice_index_or slots.old k d).seat.parts }
     ensures met { (k : ℕ) (d : AtSlot) → k < length slots.old → HasMet (slice_index_or slots.new k d) }
 {

@@ -6,6 +6,7 @@ use crate::pace::{Pace, Turn};
 use kpn_body::{Body, Finished};
 use kpn_machine::Stranger;
 use kpn_monitor::{EntryLedger, Hand, Monitor, Next, Rest, Seat, Went};
+use kpn_state::Keeper;
 use std::hint::spin_loop;
 use std::rt::Clock;
 use std::sync::Wait;
@@ -52,9 +53,16 @@ impl Stopwatch {
 /// again and again, until the run has ended or an answer is refused; in between it has bodies asked in
 /// place, if the gate lets it and while that is quicker. Returns the refused answer; if there is none, the
 /// seat has met an end. It may wait for other workers.
-pub(crate) fn work_in_rounds<B: Body, E: EntryLedger, O: Ledger, R: Wait + Clock, G: Gate>(
+pub(crate) fn work_in_rounds<
+    B: Body,
+    H: Keeper,
+    E: EntryLedger,
+    O: Ledger,
+    R: Wait + Clock,
+    G: Gate,
+>(
     rt: &R,
-    monitor: &Monitor<B, E, O>,
+    monitor: &Monitor<B, E, O, H>,
     gate: &G,
     seat: &mut Seat<E, O>,
     hand: &mut Hand<B>,
@@ -86,9 +94,9 @@ pub(crate) fn work_in_rounds<B: Body, E: EntryLedger, O: Ledger, R: Wait + Clock
 
 // Has bodies asked in place while that is quicker. Returns whether the run has ended; the seat has then
 // met its end.
-fn ask_in_place<B: Body, E: EntryLedger, O: Ledger, R: Wait + Clock>(
+fn ask_in_place<B: Body, H: Keeper, E: EntryLedger, O: Ledger, R: Wait + Clock>(
     rt: &R,
-    monitor: &Monitor<B, E, O>,
+    monitor: &Monitor<B, E, O, H>,
     seat: &mut Seat<E, O>,
     watch: &Stopwatch,
     pace: &mut Pace,
@@ -110,9 +118,9 @@ fn ask_in_place<B: Body, E: EntryLedger, O: Ledger, R: Wait + Clock>(
 }
 
 // After an exchange: goes on, pauses or rests.
-fn go_on<B: Body, E: EntryLedger, O: Ledger, R: Wait + Clock>(
+fn go_on<B: Body, H: Keeper, E: EntryLedger, O: Ledger, R: Wait + Clock>(
     rt: &R,
-    monitor: &Monitor<B, E, O>,
+    monitor: &Monitor<B, E, O, H>,
     hand: &mut Hand<B>,
     watch: &Stopwatch,
     pace: &mut Pace,
@@ -144,9 +152,9 @@ fn call_all<B: Body, G: Gate>(hand: &mut Hand<B>, gate: &G) -> u64
 }
 
 // Goes on, pauses or rests.
-fn take_turn<B: Body, E: EntryLedger, O: Ledger, R: Wait + Clock>(
+fn take_turn<B: Body, H: Keeper, E: EntryLedger, O: Ledger, R: Wait + Clock>(
     rt: &R,
-    monitor: &Monitor<B, E, O>,
+    monitor: &Monitor<B, E, O, H>,
     hand: &mut Hand<B>,
     watch: &Stopwatch,
     pace: &mut Pace,

@@ -2,7 +2,7 @@
 use Rattle.std.proofs.Common.{◌≡◌, ◌∙◌, List, map, length, ap, sym, subst, arith}
 use Rattle.std.proofs.lemmas.List.{length-map}
 use Rattle.kpn_machine.specs.Opening.{cards_of, IsOpenFault}
-use Rattle.kpn_run.proofs.running.run.Goals as goal
+use Rattle.kpn_run.proofs.running.run_with_keeper.Goals as goal
 
 pub unboxed-requires-clause-open : goal.unboxed-requires-clause-open
 unboxed-requires-clause-open g c κs within = λ n bs f is.
