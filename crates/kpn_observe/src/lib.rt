@@ -36,5 +36,5 @@ pub use kpn_monitor::{EntryLedger, Monitor, Taken};
 pub use kpn_watch::{Phase, Progress};
 pub use observer::{Observer, Wish};
 pub use reporting::chronicle_report;
-pub use running::{WatchedFault, run_watched};
+pub use running::{WatchedFault, run_watched, run_watched_with_keeper};
 pub use watched::WatchedRun;

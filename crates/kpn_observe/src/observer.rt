@@ -5,6 +5,7 @@ ghost use Rattle.kpn_watch.specs.Shown.{shows};
 use crate::bell::Bell;
 use kpn_body::Body;
 use kpn_monitor::{EntryLedger, Monitor};
+use kpn_state::Keeper;
 use kpn_watch::{Progress, Watcher};
 use std::rt::Clock;
 use std::sync::Wait;
@@ -40,9 +41,9 @@ pub trait Observer: Sync {
 }
 
 /// Looks once in each period, and once more when the workers are done.
-pub(crate) fn observe<B: Body, E: EntryLedger, O: Ledger, R: Wait + Clock, V: Observer>(
+pub(crate) fn observe<B: Body, H: Keeper, E: EntryLedger, O: Ledger, R: Wait + Clock, V: Observer>(
     rt: &R,
-    monitor: &Monitor<B, E, O>,
+    monitor: &Monitor<B, E, O, H>,
     watcher: Watcher,
     bell: &Bell,
     period: Duration,
@@ -65,8 +66,8 @@ pub(crate) fn observe<B: Body, E: EntryLedger, O: Ledger, R: Wait + Clock, V: Ob
 }
 
 /// How far the history has come. Takes no lock.
-fn look<B: Body, E: EntryLedger, O: Ledger>(
-    monitor: &Monitor<B, E, O>,
+fn look<B: Body, H: Keeper, E: EntryLedger, O: Ledger>(
+    monitor: &Monitor<B, E, O, H>,
     watcher: &mut Watcher,
 ) -> Progress
     requires { watcher.old.board ≡ E.board }

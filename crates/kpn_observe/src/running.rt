@@ -24,6 +24,7 @@ use kpn_model::Kinds;
 use kpn_monitor::{EntryLedger, Monitor, Opening, Seat};
 use kpn_network::Net;
 use kpn_run::Gate;
+use kpn_state::{Keeper, Wide};
 use kpn_watch::{Phase, Progress, Watcher};
 use std::alloc::Global;
 use std::marker::Brand;
@@ -119,13 +120,59 @@ pub fn run_watched<B: Body, R: Wait + Clock + Threads + Sync, G: Gate, V: Observ
     ensures lost { (a : Input) (b : _) → result ≡ Err (WatchedFault.Lost a b) → (map B.card bodies.items ≡ cards_of net.processes) × (B.card b ≡ a.card) }
     ensures memory { (n : NetV) (bs : _) → result ≡ Err (WatchedFault.Memory n bs) → (n ≡ net) × (map B.card bs.items ≡ map B.card bodies.items) × (map B.card bodies.items ≡ cards_of net.processes) }
 {
+    run_watched_with_keeper::<B, Wide, R, G, V>(
+        rt, alloc, net, bodies, workers, gate, period, observer,
+    )
+}
+
+/// Runs a network as [`run_watched`] does, with the entries of its history kept by `H`: `Packed` has them in 16 bytes
+/// each, where `run_watched` takes 48.
+///
+/// ```text
+/// match run_watched_with_keeper::<_, Packed, _, _, _>(
+///     rt, alloc, net, bodies, workers, &Open, period, observer,
+/// ) {
+///     Ok(run) => Ok(run),
+///     Err(_) => Err(AllocError),
+/// }
+/// ```
+pub fn run_watched_with_keeper<
+    B: Body,
+    H: Keeper + Send,
+    R: Wait + Clock + Threads + Sync,
+    G: Gate,
+    V: Observer,
+>(
+    rt: &R,
+    alloc: Global,
+    net: Net<B::Kinds>,
+    bodies: Vec<B>,
+    workers: usize,
+    gate: &G,
+    period: Duration,
+    observer: &V,
+) -> Result<WatchedRun<B::Kinds, H>, WatchedFault<B>>
+    ensures closed { IfOk result (IsClosed (family_of B.Kinds.start B.Kinds.answer_of) B.Kinds.admits net) }
+    ensures within { IfOk result (λ r. StaysWithinCapacities (family_of B.Kinds.start B.Kinds.answer_of) net r.machine.history) }
+    ensures budget { IfOk result (λ r. EndSparesBudget (family_of B.Kinds.start B.Kinds.answer_of) net r.machine.end) }
+    ensures comparable { IfOk result (λ r. IsComparable (family_of B.Kinds.start B.Kinds.answer_of) net r.machine.history) }
+    ensures room { IfOk result (λ r. TakesLeastRoom (family_of B.Kinds.start B.Kinds.answer_of) net r.machine.history r.machine.state) }
+    ensures streams { IfOk result (λ r. ApproachLeastSolution (family_of B.Kinds.start B.Kinds.answer_of) net r.machine.history r.machine.state) }
+    ensures cards { OnOk result (map B.card bodies.items ≡ cards_of net.processes) }
+    ensures workers { (n : NetV) (bs : _) → result ≡ Err (WatchedFault.Workers n bs) → (n ≡ net) × (bs ≡ bodies) × ((workers ≡ 0) ⊎ (16 < workers)) }
+    ensures many { (workers ≡ 0) ⊎ (16 < workers) → result ≡ Err (WatchedFault.Workers net bodies) }
+    ensures stopped { (n : NetV) (bs : _) → result ≡ Err (WatchedFault.Stopped n bs) → (n ≡ net) × (bs ≡ bodies) }
+    ensures open { (n : NetV) (bs : _) (fault : OpenFaultV) → result ≡ Err (WatchedFault.Open n bs fault) → (n ≡ net) × (bs.items ≡ bodies.items) × (fault ≢ OpenFault.Memory) × IsOpenFault net.processes (map B.card bodies.items) fault }
+    ensures lost { (a : Input) (b : _) → result ≡ Err (WatchedFault.Lost a b) → (map B.card bodies.items ≡ cards_of net.processes) × (B.card b ≡ a.card) }
+    ensures memory { (n : NetV) (bs : _) → result ≡ Err (WatchedFault.Memory n bs) → (n ≡ net) × (map B.card bs.items ≡ map B.card bodies.items) × (map B.card bodies.items ≡ cards_of net.processes) }
+{
     if !may_work(workers) {
         return Err(refuse_workers(net, bodies));
     }
     if stops_at_start(observer) {
         return Err(WatchedFault::Stopped { net, bodies });
     }
-    let machine = match Machine::open(alloc, net, bodies) {
+    let machine = match Machine::<B, H>::open_with_keeper(alloc, net, bodies) {
         Ok(machine) => machine,
         Err(refused) => return Err(not_opened(refused)),
     };
@@ -173,15 +220,15 @@ fn stops_at_start<V: Observer>(observer: &V) -> bool {
 }
 
 /// The same, for a machine that is open.
-fn run_machine<B: Body, R: Wait + Clock + Threads + Sync, G: Gate, V: Observer>(
+fn run_machine<B: Body, H: Keeper + Send, R: Wait + Clock + Threads + Sync, G: Gate, V: Observer>(
     rt: &R,
     alloc: Global,
-    machine: Machine<B>,
+    machine: Machine<B, H>,
     workers: usize,
     gate: &G,
     period: Duration,
     observer: &V,
-) -> Result<WatchedRun<B::Kinds>, WatchedFault<B>>
+) -> Result<WatchedRun<B::Kinds, H>, WatchedFault<B>>
     requires fresh { IsFresh machine }
     requires workers { (0 < workers) × (workers ≤ 16) }
     ensures closed { IfOk result (IsClosed (family_of B.Kinds.start B.Kinds.answer_of) B.Kinds.admits machine.network) }
@@ -198,7 +245,7 @@ fn run_machine<B: Body, R: Wait + Clock + Threads + Sync, G: Gate, V: Observer>(
 {
     match Opening::new(alloc, machine) {
         Ok(opening) => {
-            match run_named::<B, Brand, Brand, R, G, V>(
+            match run_named::<B, H, Brand, Brand, R, G, V>(
                 rt, alloc, opening, workers, gate, period, observer,
             ) {
                 Ok(ran) => {
@@ -213,7 +260,7 @@ fn run_machine<B: Body, R: Wait + Clock + Threads + Sync, G: Gate, V: Observer>(
 }
 
 /// Ghost lemma: what the laws say of a run, over or not.
-pub(crate) fn told_by_laws<K: Kinds>(ran: &WatchedRun<K>)
+pub(crate) fn told_by_laws<K: Kinds, H: Keeper>(ran: &WatchedRun<K, H>)
     ensures within { StaysWithinCapacities (family_of K.start K.answer_of) ran.now.machine.network ran.now.machine.history }
     ensures budget { EndSparesBudget (family_of K.start K.answer_of) ran.now.machine.network ran.now.machine.end }
     ensures comparable { IsComparable (family_of K.start K.answer_of) ran.now.machine.network ran.now.machine.history }
@@ -229,7 +276,7 @@ pub(crate) fn told_by_laws<K: Kinds>(ran: &WatchedRun<K>)
 }
 
 /// The fault of memory that was refused before anything has run.
-fn put_back<B: Body>(machine: Machine<B>) -> WatchedFault<B>
+fn put_back<B: Body, H: Keeper>(machine: Machine<B, H>) -> WatchedFault<B>
     requires { IsFresh machine }
     ensures { (n : NetV) × ((bs : _) × (result ≡ WatchedFault.Memory n bs) × (n ≡ machine.network) × (map B.card bs.items ≡ cards_of machine.network.processes)) }
 {
@@ -240,6 +287,7 @@ fn put_back<B: Body>(machine: Machine<B>) -> WatchedFault<B>
 /// The same, for ledgers that are named.
 fn run_named<
     B: Body,
+    H: Keeper + Send,
     E: EntryLedger + Send + Sync,
     O: Ledger + Send + Sync,
     R: Wait + Clock + Threads + Sync,
@@ -248,12 +296,12 @@ fn run_named<
 >(
     rt: &R,
     alloc: Global,
-    opening: Opening<B>,
+    opening: Opening<B, H>,
     workers: usize,
     gate: &G,
     period: Duration,
     observer: &V,
-) -> Result<WatchedRun<B::Kinds>, WatchedFault<B>>
+) -> Result<WatchedRun<B::Kinds, H>, WatchedFault<B>>
     requires workers { (0 < workers) × (workers ≤ 16) }
     requires network { opening.machine.network ≡ E.net }
     requires board { opening.board ≡ E.board }
@@ -275,7 +323,7 @@ fn run_named<
     let Ok(hands) = hands_for(rt, alloc, workers) else {
         return Err(put_back(opening.into_machine()));
     };
-    let (monitor, seat) = Monitor::<B, E, O>::open(opening);
+    let (monitor, seat) = Monitor::<B, E, O, H>::open(opening);
     let mut slots = slots;
     seat_all(seat, workers, hands, &mut slots);
     match run_seated(rt, gate, period, observer, monitor, slots, seats) {
@@ -290,6 +338,7 @@ fn run_named<
 /// Lets the workers work beside the observer, and closes.
 fn run_seated<
     B: Body,
+    H: Keeper + Send,
     E: EntryLedger + Send + Sync,
     O: Ledger + Send + Sync,
     R: Wait + Clock + Threads + Sync,
@@ -300,10 +349,10 @@ fn run_seated<
     gate: &G,
     period: Duration,
     observer: &V,
-    monitor: Monitor<B, E, O>,
+    monitor: Monitor<B, E, O, H>,
     slots: Vec<WorkerSlot<B, E, O>>,
     mut seats: Vec<Seat<E, O>>,
-) -> Result<WatchedRun<B::Kinds>, Finished<B>>
+) -> Result<WatchedRun<B::Kinds, H>, Finished<B>>
     requires all { sum_by (λ (b : Shares). b.parts) slots.items ≡ 65536 }
     requires seats { (seats.items ≡ []) × (length slots.items ≤ vec_capacity seats) }
     ensures { IfOk result (IsClosed (family_of B.Kinds.start B.Kinds.answer_of) B.Kinds.admits E.net) }
@@ -321,6 +370,7 @@ fn run_seated<
 /// Works at all slots, beside the observer if the monitor has a watcher for it.
 fn work_watched<
     B: Body,
+    H: Keeper + Send,
     E: EntryLedger + Send + Sync,
     O: Ledger + Send + Sync,
     R: Wait + Clock + Threads + Sync,
@@ -328,7 +378,7 @@ fn work_watched<
     V: Observer,
 >(
     rt: &R,
-    monitor: &Monitor<B, E, O>,
+    monitor: &Monitor<B, E, O, H>,
     gate: &G,
     period: Duration,
     observer: &V,
@@ -347,6 +397,7 @@ fn work_watched<
 /// Works at all slots in the calling thread and others, with the observer in a thread of its own.
 fn work_beside<
     B: Body,
+    H: Keeper + Send,
     E: EntryLedger + Send + Sync,
     O: Ledger + Send + Sync,
     R: Wait + Clock + Threads + Sync,
@@ -354,7 +405,7 @@ fn work_beside<
     V: Observer,
 >(
     rt: &R,
-    monitor: &Monitor<B, E, O>,
+    monitor: &Monitor<B, E, O, H>,
     gate: &G,
     bell: &Bell,
     watcher: Watcher,
@@ -379,13 +430,14 @@ fn work_beside<
 /// Works at all slots, and tells the observer when all is done.
 fn work_and_ring<
     B: Body,
+    H: Keeper + Send,
     E: EntryLedger + Send + Sync,
     O: Ledger + Send + Sync,
     R: Wait + Clock + Threads + Sync,
     G: Gate,
 >(
     rt: &R,
-    monitor: &Monitor<B, E, O>,
+    monitor: &Monitor<B, E, O, H>,
     gate: &G,
     bell: &Bell,
     slots: Vec<WorkerSlot<B, E, O>>,

@@ -8,6 +8,7 @@ use crate::worker::work_until_stopped;
 use kpn_body::{Body, Finished};
 use kpn_monitor::{EntryLedger, Hand, Monitor, Seat};
 use kpn_run::Gate;
+use kpn_state::Keeper;
 use std::alloc::{AllocError, Global};
 use std::marker::Model;
 use std::rt::Clock;
@@ -55,10 +56,10 @@ impl<B: Body, E: EntryLedger, O: Ledger> WorkerSlot<B, E, O> {
         (seat, refused)
     }
 
-    fn work<R: Wait + Clock, G: Gate>(
+    fn work<H: Keeper, R: Wait + Clock, G: Gate>(
         &mut self,
         rt: &R,
-        monitor: &Monitor<B, E, O>,
+        monitor: &Monitor<B, E, O, H>,
         gate: &G,
         bell: &Bell,
     )
@@ -175,11 +176,18 @@ fn seat_one<B: Body, E: EntryLedger, O: Ledger>(
 /// Works at all slots. The calling thread is one worker, and the others are started as threads.
 pub(crate) fn work_all<
     B: Body,
+    H: Keeper + Send,
     E: EntryLedger + Send + Sync,
     O: Ledger + Send + Sync,
     R: Wait + Clock + Threads + Sync,
     G: Gate,
->(rt: &R, monitor: &Monitor<B, E, O>, gate: &G, bell: &Bell, slots: &mut Vec<WorkerSlot<B, E, O>>)
+>(
+    rt: &R,
+    monitor: &Monitor<B, E, O, H>,
+    gate: &G,
+    bell: &Bell,
+    slots: &mut Vec<WorkerSlot<B, E, O>>,
+)
     ensures parts { sum_by (λ (b : Shares). b.parts) slots.new.items ≡ sum_by (λ (b : Shares). b.parts) slots.old.items }
     ensures len { length slots.new.items ≡ length slots.old.items }
 {
@@ -189,11 +197,12 @@ pub(crate) fn work_all<
 // As `work_all`, with the clauses stated slot by slot.
 fn work_each<
     B: Body,
+    H: Keeper + Send,
     E: EntryLedger + Send + Sync,
     O: Ledger + Send + Sync,
     R: Wait + Clock + Threads + Sync,
     G: Gate,
->(rt: &R, monitor: &Monitor<B, E, O>, gate: &G, bell: &Bell, slots: &mut [WorkerSlot<B, E, O>])
+>(rt: &R, monitor: &Monitor<B, E, O, H>, gate: &G, bell: &Bell, slots: &mut [WorkerSlot<B, E, O>])
     ensures { (k : ℕ) (d : Shares) → k < length slots.old → (slice_index_or slots.new k d).parts ≡ (slice_index_or slots.old k d).parts }
 {
     thread::for_each_mut(rt, slots, 16, &|_, slot| slot.work(rt, monitor, gate, bell));

@@ -7,6 +7,7 @@ use kpn_machine::{Chronicle, Standing};
 use kpn_model::{End, Entry, Kinds};
 use kpn_monitor::{Closed, EntryLedger};
 use kpn_network::Net;
+use kpn_state::{Keeper, Wide};
 use std::marker::Model;
 
 /// A run that has ended, that its observer stopped or that its crew left: what its machine left behind, and
@@ -15,12 +16,12 @@ use std::marker::Model;
 /// The history is a run in each case, since each entry is one of a commit under the lock. After a stop by
 /// the observer what the workers held is in it; a crew may leave with tasks whose answers are not.
 #[derive(Drop)]
-pub struct WatchedRun<K: Kinds> {
-    chronicle: Chronicle<K>,
+pub struct WatchedRun<K: Kinds, H: Keeper = Wide> {
+    chronicle: Chronicle<K, H>,
     receipts: u64,
 }
 
-impl<K: Kinds> Model for WatchedRun<K> {
+impl<K: Kinds, H: Keeper> Model for WatchedRun<K, H> {
     ghost use Rattle.std.specs.Prelude.{◌≡◌, length};
     ghost use Rattle.kpn_monitor.specs.Views.{ClosedView};
 
@@ -31,8 +32,8 @@ impl<K: Kinds> Model for WatchedRun<K> {
     ghost invariant = { λ r. length r.chronicle.history ≡ r.receipts };
 }
 
-impl<K: Kinds> WatchedRun<K> {
-    pub(crate) fn of<E: EntryLedger>(closed: Closed<K, E>) -> WatchedRun<K>
+impl<K: Kinds, H: Keeper> WatchedRun<K, H> {
+    pub(crate) fn of<E: EntryLedger>(closed: Closed<K, E, H>) -> WatchedRun<K, H>
         ensures { (result.machine ≡ closed.machine) × (result.receipts ≡ closed.receipts) }
     {
         let receipts = closed.receipts();
@@ -55,30 +56,15 @@ impl<K: Kinds> WatchedRun<K> {
         self.chronicle.net()
     }
 
-    /// Returns what the machine left behind: network, history, standings and end.
+    /// Returns what the machine left behind: network, history, standings and end. Its `keeper` has the entries.
     ///
     /// ```text
     /// let report = chronicle_report(alloc, run.chronicle()).expect(rt, "memory");
     /// ```
-    pub fn chronicle(&self) -> &Chronicle<K>
+    pub fn chronicle(&self) -> &Chronicle<K, H>
         ensures { result.now ≡ self.now.machine }
     {
         &self.chronicle
-    }
-
-    /// Returns the entries, in order.
-    ///
-    /// ```text
-    /// for token in stream_of(alloc, run.net(), run.history(), channel)? {
-    ///     if let Token::Word(word) = token {
-    ///         words.push(word)?;
-    ///     }
-    /// }
-    /// ```
-    pub fn history(&self) -> &[Entry]
-        ensures { result.now ≡ self.now.machine.history }
-    {
-        self.chronicle.history()
     }
 
     /// Returns the standing of each process, in order.
@@ -109,5 +95,22 @@ impl<K: Kinds> WatchedRun<K> {
         ensures closed { IsClosed (family_of K.start K.answer_of) K.admits self.now.machine.network self.now }
     {
         self.chronicle.end()
+    }
+}
+
+impl<K: Kinds> WatchedRun<K> {
+    /// Returns the entries, in order.
+    ///
+    /// ```text
+    /// for token in stream_of(alloc, run.net(), run.history(), channel)? {
+    ///     if let Token::Word(word) = token {
+    ///         words.push(word)?;
+    ///     }
+    /// }
+    /// ```
+    pub fn history(&self) -> &[Entry]
+        ensures { result.now ≡ self.now.machine.history }
+    {
+        self.chronicle.history()
     }
 }

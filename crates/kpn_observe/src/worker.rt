@@ -6,6 +6,7 @@ use kpn_body::{Body, Finished};
 use kpn_machine::Stranger;
 use kpn_monitor::{EntryLedger, Hand, Monitor, Next, Rest, Seat};
 use kpn_run::Gate;
+use kpn_state::Keeper;
 use std::rt::Clock;
 use std::sync::Wait;
 use std::sync::ledger::Ledger;
@@ -27,9 +28,16 @@ const LONG: u128 = 16_000;
 /// and again, until the run has ended, an answer is refused, or the workers are to stop. Then it finishes
 /// what it holds, and takes nothing more. Returns the refused answer, if there is one; if there is none,
 /// it holds nothing any more. It may wait for other workers.
-pub(crate) fn work_until_stopped<B: Body, E: EntryLedger, O: Ledger, R: Wait + Clock, G: Gate>(
+pub(crate) fn work_until_stopped<
+    B: Body,
+    H: Keeper,
+    E: EntryLedger,
+    O: Ledger,
+    R: Wait + Clock,
+    G: Gate,
+>(
     rt: &R,
-    monitor: &Monitor<B, E, O>,
+    monitor: &Monitor<B, E, O, H>,
     gate: &G,
     bell: &Bell,
     seat: &mut Seat<E, O>,
@@ -55,9 +63,9 @@ pub(crate) fn work_until_stopped<B: Body, E: EntryLedger, O: Ledger, R: Wait + C
 
 // Exchanges the answers of a hand for at most so many tasks, or for none if the workers are to stop, and rests
 // where there is nothing to do. Returns whether the worker is done: it holds nothing then.
-fn exchange<B: Body, E: EntryLedger, O: Ledger, R: Wait + Clock>(
+fn exchange<B: Body, H: Keeper, E: EntryLedger, O: Ledger, R: Wait + Clock>(
     rt: &R,
-    monitor: &Monitor<B, E, O>,
+    monitor: &Monitor<B, E, O, H>,
     bell: &Bell,
     seat: &mut Seat<E, O>,
     hand: &mut Hand<B>,

@@ -22,6 +22,6 @@ mod text;
 pub use detail::{Detail, Growths, Places, Report, Sizes, Steps, detail_of, report_of};
 pub use entries::Entries;
 pub use places::places_of;
-pub use streams::{Stream, Streams, stream_of};
+pub use streams::{Stream, Streams, stream_of, stream_of_entries};
 pub use tallied::Tallied;
 pub use text::{text_of, text_of_entries};

@@ -118,7 +118,11 @@ pub fn stream_of<K: Kinds>(
 }
 
 /// As [`stream_of`], whatever has the entries.
-pub(crate) fn stream_of_entries<K: Kinds, E: Entries>(
+///
+/// ```text
+/// let tokens = stream_of_entries(alloc, net, history, channel.channel)?;
+/// ```
+pub fn stream_of_entries<K: Kinds, E: Entries>(
     alloc: Global,
     net: &Net<K>,
     history: &E,

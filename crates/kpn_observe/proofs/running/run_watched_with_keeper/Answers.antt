@@ -11,7 +11,7 @@ use Rattle.kpn_machine.specs.MachineView.{MachineView}
 use Rattle.kpn_monitor.specs.Kept.{IsClosed}
 use Rattle.kpn_run.specs.Runs.{StaysWithinCapacities, IsComparable}
 use Rattle.kpn_observe.specs.WatchedReports.{EndSparesBudget}
-use Rattle.kpn_observe.proofs.running.run_watched.Goals as goal
+use Rattle.kpn_observe.proofs.running.run_watched_with_keeper.Goals as goal
 
 pub returns-clause-closed : goal.returns-clause-closed
 returns-clause-closed g c =
