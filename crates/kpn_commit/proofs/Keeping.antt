@@ -167,7 +167,18 @@ module _ {kinds : Family} {admits : Card → List ℕ → Option Token → Type 
         (still_parked l p d x within r (still_parked (set l p (standing_after d)) q e x there r (rw moved at at)).1).0 back)
 
     module _ (c : ℕ) (within : c < length M.channels) where
-      -- one channel changes, and lets at most this process go on
+      -- one channel changes: what a process can do then, it could do before, if it reads no token from that channel that wasn't
+      -- there and writes to no room there that wasn't
+      pub possible_changed :
+          (ts : List Token) (n q : ℕ) (x : Act) → ((i : ℕ) → x ≡ Read i → in_of net q i ≡ Some c → ts ≢ [] → tokens M c ≢ [])
+          → ((i : ℕ) (t : Token) → x ≡ Write i t → out_of net q i ≡ Some c → length ts < n → length (tokens M c) < capacity M c) → IsPossible kinds net (with_channel M c ts n) q x → IsPossible kinds net M q x
+      possible_changed ts n q Stop reads writes can = tt
+      possible_changed ts n q (Read i) reads writes can =
+          (can.0, can.1, each_set (λ d (h : Held). in_of net q i ≡ Some d → h.tokens ≢ [] → tokens M d ≢ []) M.channels c _ nothing_held within (reads i refl) (λ d _ at some. some) can.0 can.1 can.2)
+      possible_changed ts n q (Write i t) reads writes can =
+          (can.0, can.1, each_set (λ d (h : Held). out_of net q i ≡ Some d → length h.tokens < h.capacity → length (tokens M d) < capacity M d) M.channels c _ nothing_held within (writes i t refl) (λ d _ at room. room) can.0 can.1 can.2)
+
+      -- and it lets at most this process go on
       keeps_changed :
           (p : ℕ) (ts : List Token) (n : ℕ) → AllByRecursion (IsOfSort (channel_of net c).sort) ts → capacity M c ≤ n → n ≤ net.ceiling → ((q i : ℕ) → q ≢ p → in_of net q i ≡ Some c → ts ≢ [] → tokens M c ≢ [])
           → ((q i : ℕ) → q ≢ p → out_of net q i ≡ Some c → length ts < n → length (tokens M c) < capacity M c) → StandingsFit kinds admits net (Some p) (with_channel M c ts n) l
@@ -182,13 +193,8 @@ module _ {kinds : Family} {admits : Card → List ℕ → Option Token → Type 
             stopped = k.stopped;
             done = k.done;
             wanted = k.wanted;
-            blocked = λ q a ne e can. k.blocked q a (λ f. cc) e (before q a.act (λ s. ne (cc)) can);
+            blocked = λ q a ne e can. k.blocked q a (λ f. cc) e (possible_changed ts n q a.act (λ i _. reads q i (λ s. ne (cc))) (λ i t _. writes q i (λ s. ne (cc))) can);
           }
-        where
-          before : (q : ℕ) (x : Act) → q ≢ p → IsPossible kinds net (with_channel M c ts n) q x → IsPossible kinds net M q x
-          before q Stop o can = tt
-          before q (Read i) o can = (can.0, can.1, each_set (λ d (h : Held). in_of net q i ≡ Some d → h.tokens ≢ [] → tokens M d ≢ []) M.channels c _ nothing_held within (reads q i o) (λ d _ at some. some) can.0 can.1 can.2)
-          before q (Write i t) o can = (can.0, can.1, each_set (λ d (h : Held). out_of net q i ≡ Some d → length h.tokens < h.capacity → length (tokens M d) < capacity M d) M.channels c _ nothing_held within (writes q i o) (λ d _ at room. room) can.0 can.1 can.2)
 
       -- a token that comes in lets at most the reader go on
       pub keeps_fed : (t : Token) → IsOfSort (channel_of net c).sort t → StandingsFit kinds admits net (Some (channel_of net c).reader) (with_channel M c (tokens M c ++ t ∷ []) (capacity M c)) l

@@ -1,5 +1,5 @@
 -- Who waits at the channels, as one process after the other is parked or goes on: the candidates for a growth, and the marks.
-use Rattle.std.proofs.Common.{◌≡◌, ◌≢◌, ◌↔◌, ◌⊎◌, inl, inr, ⊎_elim, List, length, length-set, refl, ◌∙◌, arith, ℕ, ◌+◌, ◌<◌, ◌≤◌, Bool, true, false, cond, Some, None, Option, set}
+use Rattle.std.proofs.Common.{◌≡◌, ◌≢◌, ◌↔◌, ◌⊎◌, inl, inr, ⊎_elim, List, [], ◌∷◌, ◌++◌, length, length-set, length-append, drop, ap, refl, ◌∙◌, arith, ℕ, ◌+◌, ◌<◌, ◌≤◌, Bool, true, false, cond, Some, None, Option, set}
 use Rattle.std.specs.List.{Contains, count_by}
 use Rattle.std.proofs.lemmas.List.Sums.{sum_by-set, count_by-le-length}
 use Rattle.kpn_model.specs.declared.token.Token.{Token}
@@ -9,7 +9,8 @@ use Rattle.kpn_model.specs.declared.kinds.Answer.{Answer}
 use Rattle.kpn_model.specs.declared.history.Deed.{Deed}
 use Rattle.kpn_model.specs.declared.history.Deed.TheVariants.{Took, Put, Stopped as DidStop}
 use Rattle.kpn_model.specs.Network.{Family, Network, channel_of, in_of, out_of}
-use Rattle.kpn_model.specs.Semantics.{State, capacity, IsDeed, after_deed, IsPossible}
+use Rattle.kpn_model.specs.Semantics.{State, tokens, capacity, with_channel, IsDeed, after_deed, IsPossible}
+use Rattle.kpn_model.specs.Valid.{IsOfSort}
 use Rattle.kpn_laws.proofs.States.{in_of-reader, out_of-writer}
 use Rattle.kpn_laws.proofs.Transitions.{capacity_after, took_read, put_write, stopped_stop}
 use Rattle.kpn_state.specs.declared.standing.Standing.{Standing}
@@ -17,11 +18,11 @@ use Rattle.kpn_state.specs.declared.standing.Standing.TheVariants.{Ready, Parked
 use Rattle.kpn_state.specs.declared.waiting.Waiting.{Waiting}
 use Rattle.kpn_state.specs.Standings.{standing, standing_after, is_busy, HasChannel, StandingsFit}
 use Rattle.kpn_state.specs.Candidates.{CandidateList}
-use Rattle.kpn_state.specs.Marks.{MarkLists, mark_lists}
+use Rattle.kpn_state.specs.Marks.{MarkLists, mark_lists, is_marked}
 use Rattle.kpn_state.proofs.Placed.{standing_set_same, standing_set_other}
 use Rattle.kpn_commit.specs.Candidates.{awaited_by, is_write, waits_to_write, AreCandidates, awaited}
 use Rattle.kpn_commit.specs.Waiting.{expected_by, StandFor, AreMarks, AreWaiting, expected, partner_marked, HasMark}
-use Rattle.kpn_commit.proofs.Keeping.{each_set, still_parked}
+use Rattle.kpn_commit.proofs.Keeping.{each_set, still_parked, possible_changed, keeps_all, keeps_fed, keeps_drained}
 use Rattle.kpn_model.specs.declared.kinds.Card.{Card}
 use Rattle.kpn_commit.proofs.Deeds.{Touches, IsOn, possible_off}
 
@@ -337,3 +338,22 @@ module _ {net : Network} {l : List Standing} {marks : MarkLists} (k : AreMarks n
       apart (Write i u) (Took e t) c act is none at on = let here = before.1 in let waits : awaited net l q ≡ Some c = cc in let mark = (k.writers c).1 (q, waits) in cc
       apart Stop d c act is none at on = absurd at
       apart x DidStop c act is none at on = absurd on
+
+-- a token comes into a channel at which nobody is parked to read, or goes out of one at which nobody is parked to write
+module _ {kinds : Family} {admits : Card → List ℕ → Option Token → Type 0} {net : Network} {M : State} {l : List Standing} {marks : MarkLists} (k : StandingsFit kinds admits net None M l) (w : AreMarks net l marks) (c : ℕ) (within : c < length M.channels) where
+  pub fed_unawaited : (t : Token) → IsOfSort (channel_of net c).sort t → is_marked marks.readers c ≡ false → StandingsFit kinds admits net None (with_channel M c (tokens M c ++ t ∷ []) (capacity M c)) l
+  fed_unawaited t sort none =
+      keeps_all (keeps_fed k c within t sort)
+      (λ q a e at can.
+      k.blocked q a (λ f. cc) at
+      (possible_changed k c within _ _ q a.act
+      (λ i act from some. let waits : expected net l q ≡ Some c = rw (at, act) from in let mark = (w.readers c).1 (q, waits) in absurd (cc))
+      (λ i u act to room. let more = length-append (tokens M c) (t ∷ []) in omega arith) can))
+
+  pub drained_unawaited : is_marked marks.writers c ≡ false → StandingsFit kinds admits net None (with_channel M c (drop 1 (tokens M c)) (capacity M c)) l
+  drained_unawaited none =
+      keeps_all (keeps_drained k c within)
+      (λ q a e at can.
+      k.blocked q a (λ f. cc) at
+      (possible_changed k c within _ _ q a.act (λ i act from some e. some (ap (λ (ts : List Token). drop 1 ts) e))
+      (λ i u act to room. let waits : awaited net l q ≡ Some c = rw (at, act) to in let mark = (w.writers c).1 (q, waits) in absurd (cc)) can))

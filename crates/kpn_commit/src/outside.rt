@@ -106,9 +106,11 @@ pub fn feed<K: Kinds, H: Keeper>(
     ensures none_sent { (p : ℕ) → standing standings.new p ≡ Out → standing standings.old p ≡ Out }
     ensures waiting { AreWaiting net.now store.new.state standings.new waiting.new }
 {
-    let reader = net.ends(channel).reader;
     store.feed(channel, token);
-    wake(net, store, standings, waiting, reader);
+    if waiting.marks.reader_waits(channel) {
+        let reader = net.ends(channel).reader;
+        wake(net, store, standings, waiting, reader);
+    }
 }
 
 /// Removes the first token of a channel and returns it to the outside of the network, and makes the
@@ -131,8 +133,10 @@ pub fn drain<K: Kinds, H: Keeper>(
     ensures none_sent { (p : ℕ) → standing standings.new p ≡ Out → standing standings.old p ≡ Out }
     ensures waiting { AreWaiting net.now store.new.state standings.new waiting.new }
 {
-    let writer = net.ends(channel).writer;
     let token = store.drain(channel);
-    wake(net, store, standings, waiting, writer);
+    if waiting.marks.writer_waits(channel) {
+        let writer = net.ends(channel).writer;
+        wake(net, store, standings, waiting, writer);
+    }
     token
 }

@@ -17,9 +17,9 @@ use kpn_state::{Keeper, Roster, Store, Waiting};
 /// Asks ready processes where their bodies lie, one after the other, and does what each answers or parks it, until
 /// `most` were asked, there are `until` entries or no process is ready. Returns how many were asked.
 ///
-/// `again` is a process to be asked first, and afterwards the one that would be asked next, since it has just read:
-/// mostly it then writes, while one that has written has to wait for its reader. The history must have room for one
-/// entry more than `until`.
+/// `again` is a process to be asked first, and afterwards the one that would be asked next, since it has just read: mostly
+/// it then writes, or reads at its next port, while one that has written has to wait for its reader, and one that reads
+/// port 0 twice for its writer. The history must have room for one entry more than `until`.
 #[inline(always)]
 pub fn ask_ready<B: Body, H: Keeper>(
     net: &Net<B::Kinds>,
@@ -58,7 +58,8 @@ pub fn ask_ready<B: Body, H: Keeper>(
     asked
 }
 
-/// Asks a ready process, and does what it answers or parks it. Returns the process if it has read and is ready.
+/// Asks a ready process, and does what it answers or parks it. Returns the process if it has read, is likely to go on and
+/// is ready.
 #[inline(always)]
 fn ask<B: Body, H: Keeper>(
     net: &Net<B::Kinds>,
@@ -87,9 +88,12 @@ fn ask<B: Body, H: Keeper>(
         unreachable!()
     };
     let answer = body.answer(*local, *last);
-    let has_read = matches!(answer.act, Act::Read(_));
+    let goes_on = match answer.act {
+        Act::Read(port) => last.is_none() || port > 0,
+        Act::Write(..) | Act::Stop => false,
+    };
     let _ = react(net, store, standings, waiting, process, answer);
-    if has_read {
+    if goes_on {
         standings.if_ready(process)
     } else {
         None

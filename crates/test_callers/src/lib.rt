@@ -1,17 +1,22 @@
-//! Callers that wrong bodies turn: what two looks show, calls at one of two boards, and the opening of
-//! one of two monitors. A monitor can be opened only under the names of its own opening, so no seat of
-//! another monitor has the type of its seats.
+//! Callers that wrong bodies turn: what two looks show, calls at one of two boards, what is published one after the other,
+//! the opening of one of two monitors and of a fresh machine, and a look at a monitor. A monitor can be opened only under
+//! the names of its own opening, so no seat of another monitor has the type of its seats.
 #![tactic(auto)]
 
-ghost use Rattle.std.specs.Prelude.{◌≡◌, ◌≢◌, ◌<◌, ◌≤◌, ◌^◌, length, Some};
+ghost use Rattle.std.specs.Prelude.{◌≡◌, ◌≢◌, ◌<◌, ◌≤◌, ◌^◌, length, Some, IfOk};
 ghost use mathlib.Core.List.{IsPrefix};
+ghost use Rattle.kpn_machine.specs.MachineView.{IsFresh};
 ghost use Rattle.kpn_watch.specs.Phases.{phase_of};
+ghost use Rattle.kpn_watch.specs.Shown.{shows};
 ghost use Rattle.kpn_watch.specs.declared.progress.Phase.TheVariants.{Running};
 
 use kpn_body::Body;
+use kpn_machine::Machine;
 use kpn_model::{End, Entry};
 use kpn_monitor::{EntryLedger, Monitor, Opening, Seat};
 use kpn_watch::{Board, CountingPublisher, Progress, Publisher, WatchFault, Watcher};
+use std::alloc::Global;
+use std::sync::Wait;
 use std::sync::ledger::Ledger;
 
 /// What two looks of one watcher returned.
@@ -88,4 +93,24 @@ pub fn open_first<B: Body, E: EntryLedger, O: Ledger>(
 {
     let (monitor, seat) = Monitor::open(first);
     Opened { monitor, seat }
+}
+
+/// Makes an opening of a fresh machine; hands the machine back if memory was refused.
+pub fn open_fresh<B: Body>(alloc: Global, machine: Machine<B>) -> Result<Opening<B>, Machine<B>>
+    requires { IsFresh machine }
+    ensures { IfOk result (λ o. o.machine ≡ machine) }
+{
+    Opening::new(alloc, machine)
+}
+
+/// Looks at a monitor, and returns how far the watcher has then seen the history come.
+pub fn look_at<B: Body, E: EntryLedger, O: Ledger, R: Wait>(
+    _rt: &R,
+    monitor: &Monitor<B, E, O>,
+    watcher: &mut Watcher,
+) -> Progress
+    requires { watcher.old.board ≡ E.board }
+    ensures { result ≡ shows watcher.new.entries watcher.new.phase }
+{
+    monitor.look(watcher)
 }
