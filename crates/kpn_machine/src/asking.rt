@@ -1,25 +1,26 @@
 //! Ready processes are asked where their bodies lie: the one loop of machines and of flows.
 ghost use Rattle.std.specs.Prelude.{◌≡◌, ◌≢◌, ℕ, List, ◌<◌, ◌≤◌, ◌+◌, length, get_or, map, option_map, Some, None, IfSome};
 ghost use Rattle.kpn_model.specs.Network.{card_of, family_of};
+ghost use Rattle.kpn_model.specs.Semantics.{status};
+ghost use Rattle.kpn_model.specs.declared.history.Status.TheVariants.{Done, Live};
 ghost use Rattle.kpn_commit.specs.declared.react.Reaction.{Reaction as ReactionV};
 ghost use Rattle.kpn_commit.specs.Waiting.{AreWaiting};
-ghost use Rattle.kpn_machine.specs.Asking.{IsAsked, AreAsked};
+ghost use Rattle.kpn_machine.specs.Asking.{AreAsked};
 ghost use Rattle.kpn_machine.specs.MachineView.{HasBodies};
 ghost use Rattle.kpn_state.specs.declared.standing.Standing.TheVariants.{Ready};
 ghost use Rattle.kpn_state.specs.Standings.{StandingsFit, standing};
 
 use kpn_body::Body;
 use kpn_commit::react::react;
-use kpn_model::{Act, Status};
+use kpn_model::{Act, Local, Status, Token};
 use kpn_network::Net;
 use kpn_state::{Keeper, Roster, Store, Waiting};
 
 /// Asks ready processes where their bodies lie, one after the other, and does what each answers or parks it, until
 /// `most` were asked, there are `until` entries or no process is ready. Returns how many were asked.
 ///
-/// `again` is a process to be asked first, and afterwards the one that would be asked next, since it has just read: mostly
-/// it then writes, or reads at its next port, while one that has written has to wait for its reader, and one that reads
-/// port 0 twice for its writer. The history must have room for one entry more than `until`.
+/// `again` is a process to be asked first, and afterwards the one that would be asked next (`goes_on_after`). The history
+/// must have room for one entry more than `until`.
 #[inline(always)]
 pub fn ask_ready<B: Body, H: Keeper>(
     net: &Net<B::Kinds>,
@@ -52,50 +53,62 @@ pub fn ask_ready<B: Body, H: Keeper>(
         let Some(process) = standings.turn(*again) else {
             return asked;
         };
-        *again = ask(net, store, standings, waiting, bodies, process);
+        let Question { body, local, last } = question_to(net, store, bodies, process);
+        let answer = body.answer(local, last);
+        let goes_on = goes_on_after(answer.act, last);
+        let _ = react(net, store, standings, waiting, process, answer);
+        *again = if goes_on {
+            standings.if_ready(process)
+        } else {
+            None
+        };
         asked += 1;
     }
     asked
 }
 
-/// Asks a ready process, and does what it answers or parks it. Returns the process if it has read, is likely to go on and
-/// is ready.
+/// What a process is asked: its body, with its local state and last token.
+struct Question<'a, B: Body> {
+    body: &'a B,
+    local: Local,
+    last: Option<Token>,
+}
+
+/// What a live process is asked.
 #[inline(always)]
-fn ask<B: Body, H: Keeper>(
+fn question_to<'a, B: Body, H: Keeper>(
     net: &Net<B::Kinds>,
-    store: &mut Store<H>,
-    standings: &mut Roster,
-    waiting: &mut Waiting,
-    bodies: &[Option<B>],
+    store: &Store<H>,
+    bodies: &'a [Option<B>],
     process: usize,
-) -> Option<usize>
-    requires keeps { StandingsFit (family_of B.Kinds.start B.Kinds.answer_of) B.Kinds.admits net.now None store.old.state standings.old }
-    requires waiting { AreWaiting net.now store.old.state standings.old waiting.old }
+) -> Question<'a, B>
     requires slot { process < length bodies.now }
     requires body { get_or (map (option_map B.card) bodies.now) process None ≡ Some (card_of net.now process) }
-    requires ready { standing standings.old process ≡ Ready }
-    requires within { process < length standings.old }
-    requires room { length store.old.history + 2 ≤ store.old.limit }
-    ensures asked { (reaction : ReactionV) × IsAsked (family_of B.Kinds.start B.Kinds.answer_of) B.Kinds.admits net.now store.old standings.old reaction store.new standings.new }
-    ensures waiting { AreWaiting net.now store.new.state standings.new waiting.new }
-    ensures again { IfSome result (λ p. standing standings.new p ≡ Ready) }
+    requires within { process < length store.now.state.processes }
+    requires live { status store.now.state process ≢ Done }
+    ensures card { B.card result.body.now ≡ card_of net.now process }
+    ensures status { status store.now.state process ≡ Live result.local result.last }
 {
-    net.assure_valid();
     let Status::Live { local, last } = store.status(process) else {
         unreachable!()
     };
     let Some(body) = &bodies[process] else {
         unreachable!()
     };
-    let answer = body.answer(*local, *last);
-    let goes_on = match answer.act {
+    Question {
+        body,
+        local: *local,
+        last: *last,
+    }
+}
+
+/// Whether a process that has done this act is likely to do its next one at once, where `last` is the token that it read just
+/// before, if it did: one that has read writes then, or reads at its next port, while one that has written waits for its
+/// reader, and one that reads port 0 twice for its writer.
+#[inline(always)]
+fn goes_on_after(act: Act, last: Option<Token>) -> bool {
+    match act {
         Act::Read(port) => last.is_none() || port > 0,
         Act::Write(..) | Act::Stop => false,
-    };
-    let _ = react(net, store, standings, waiting, process, answer);
-    if goes_on {
-        standings.if_ready(process)
-    } else {
-        None
     }
 }
