@@ -3,5 +3,4 @@ pub mod ToldRuns
 pub mod Progressing
 pub mod Named
 pub mod Served
-pub mod Grown
 pub mod Fitted

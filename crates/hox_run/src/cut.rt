@@ -4,8 +4,9 @@ ghost use Rattle.kpn_model.specs.NamesAndLines.{lines_upto};
 ghost use Rattle.hox_run.specs.Cuts.{after_verdict, left_at, left_line, left_text};
 
 use crate::shown::{ChannelAs, channel_name, push_streams};
-use kpn_model::{End, Entry, Kinds, Place};
+use kpn_model::{End, Kinds, Place};
 use kpn_network::Net;
+use kpn_report::Entries;
 use kpn_state::Standing;
 use kpn_tokens::Decimals;
 use std::alloc::{AllocError, Global};
@@ -16,17 +17,17 @@ use std::fmt::Write;
 /// line `prefix` with what went through it so far. Else it is nothing.
 ///
 /// Errors: memory was refused.
-pub(crate) fn push_after_verdict<K: Kinds>(
+pub(crate) fn push_after_verdict<K: Kinds, E: Entries>(
     alloc: Global,
     out: &mut String,
     net: &Net<K>,
-    history: &[Entry],
+    history: &E,
     standings: &[Standing],
     places: &[Place],
     end: End,
     show: &[ChannelAs<Decimals>],
 ) -> Result<(), AllocError>
-    ensures { OnOk result (string_bytes out.new ≡ string_bytes out.old ++ after_verdict net.now end history.now (left_at standings.now places.now) show.now) }
+    ensures { OnOk result (string_bytes out.new ≡ string_bytes out.old ++ after_verdict net.now end (E.entries history.now) (left_at standings.now places.now) show.now) }
 {
     match end {
         End::Budget => {

@@ -5,9 +5,9 @@ ghost use Rattle.hox_run.specs.Cuts.{IsWithin};
 ghost use Rattle.hox_run.specs.Telling.{fitted, stream_file};
 
 use crate::shown::ChannelAs;
-use kpn_model::{Entry, Kinds, Listed, Token};
+use kpn_model::{Kinds, Listed, Token};
 use kpn_network::Net;
-use kpn_report::stream_of;
+use kpn_report::{Entries, stream_of_entries};
 use kpn_tokens::{Layout, count_misfits};
 use std::alloc::{AllocError, Global};
 
@@ -23,14 +23,14 @@ pub struct StreamFile {
 /// The streams of these channels, each as far as it goes into its file.
 ///
 /// Errors: memory was refused.
-pub(crate) fn stream_files<K: Kinds>(
+pub(crate) fn stream_files<K: Kinds, E: Entries>(
     alloc: Global,
     net: &Net<K>,
-    history: &[Entry],
+    history: &E,
     channels: &[ChannelAs<Layout>],
 ) -> Result<Vec<StreamFile>, AllocError>
     requires { All (IsWithin net.now) channels.now }
-    ensures { IfOk result (λ v. v.items ≡ map (stream_file net.now history.now) channels.now) }
+    ensures { IfOk result (λ v. v.items ≡ map (stream_file net.now (E.entries history.now)) channels.now) }
 {
     let mut files = Vec::with_capacity(alloc, channels.len())?;
     for channel in channels {
@@ -40,16 +40,16 @@ pub(crate) fn stream_files<K: Kinds>(
 }
 
 /// The stream of a channel, as far as it goes into its file.
-fn stream_file<K: Kinds>(
+fn stream_file<K: Kinds, E: Entries>(
     alloc: Global,
     net: &Net<K>,
-    history: &[Entry],
+    history: &E,
     channel: ChannelAs<Layout>,
 ) -> Result<StreamFile, AllocError>
     requires { IsWithin net.now channel }
-    ensures { IfOk result (λ file. file ≡ stream_file net.now history.now channel) }
+    ensures { IfOk result (λ file. file ≡ stream_file net.now (E.entries history.now) channel) }
 {
-    let tokens = stream_of(alloc, net, history, channel.channel)?;
+    let tokens = stream_of_entries(alloc, net, history, channel.channel)?;
     Ok(fitted(channel.written, tokens))
 }
 

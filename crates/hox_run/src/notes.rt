@@ -9,6 +9,7 @@ ghost use Rattle.hox_run.specs.Notes.{AreNotes, has_put, is_place_of_stopped, is
 use crate::cut::left_at;
 use kpn_model::{Deed, End, Entry, Kinds, Place, Text};
 use kpn_network::Net;
+use kpn_report::Entries;
 use kpn_state::Standing;
 use std::alloc::{AllocError, Global};
 
@@ -32,15 +33,15 @@ pub struct Notes {
 /// Returns what a run with this history and this end left unused, which left its processes so.
 ///
 /// Errors: memory was refused.
-pub(crate) fn notes_of<K: Kinds>(
+pub(crate) fn notes_of<K: Kinds, E: Entries>(
     alloc: Global,
     net: &Net<K>,
-    history: &[Entry],
+    history: &E,
     standings: &[Standing],
     places: &[Place],
     end: End,
 ) -> Result<Notes, AllocError>
-    ensures { IfOk result (AreNotes net.now end history.now (left_at standings.now places.now)) }
+    ensures { IfOk result (AreNotes net.now end (E.entries history.now) (left_at standings.now places.now)) }
 {
     let mut sources = Vec::new(alloc);
     for c in 0..net.channels() {
@@ -65,15 +66,15 @@ fn spent<K: Kinds>(net: &Net<K>, end: End) -> Option<u64>
 }
 
 /// Whether the writer of a channel has stopped, and put nothing on it.
-fn is_source<K: Kinds>(
+fn is_source<K: Kinds, E: Entries>(
     net: &Net<K>,
-    history: &[Entry],
+    history: &E,
     standings: &[Standing],
     places: &[Place],
     c: usize,
 ) -> bool
     requires { c < length net.now.channels }
-    ensures { result ≡ is_source net.now history.now (left_at standings.now places.now) c }
+    ensures { result ≡ is_source net.now (E.entries history.now) (left_at standings.now places.now) c }
 {
     let left = left_at(standings, places, net.ends(c).writer);
     is_stopped(left) && !has_put(history, c)
@@ -87,10 +88,16 @@ fn is_stopped(left: Option<Place>) -> bool
 }
 
 /// Whether a token was put on a channel.
-fn has_put(history: &[Entry], c: usize) -> bool
-    ensures { result ≡ has_put history.now c }
+fn has_put<E: Entries>(history: &E, c: usize) -> bool
+    ensures { result ≡ has_put (E.entries history.now) c }
 {
-    history.iter().any(|entry| is_put_on(entry, c))
+    for k in 0..history.count() {
+        let entry = history.entry(k);
+        if is_put_on(&entry, c) {
+            return true;
+        }
+    }
+    false
 }
 
 /// Whether an entry is a put on a channel.
@@ -120,24 +127,28 @@ fn is_taken_from(entry: &Entry, c: usize) -> bool
 }
 
 /// How many tokens were taken from a channel.
-fn taken_count(history: &[Entry], c: usize) -> usize
-    ensures { result ≡ taken_count history.now c }
+fn taken_count<E: Entries>(history: &E, c: usize) -> usize
+    ensures { result ≡ taken_count (E.entries history.now) c }
 {
-    history
-        .iter()
-        .filter(|entry| is_taken_from(*entry, c))
-        .count()
+    let mut taken = 0;
+    for k in 0..history.count() {
+        let entry = history.entry(k);
+        if is_taken_from(&entry, c) {
+            taken += 1;
+        }
+    }
+    taken
 }
 
 /// What is to be said of a source.
-fn source_of<K: Kinds>(
+fn source_of<K: Kinds, E: Entries>(
     alloc: Global,
     net: &Net<K>,
-    history: &[Entry],
+    history: &E,
     c: usize,
 ) -> Result<SourceNote, AllocError>
     requires { c < length net.now.channels }
-    ensures { IfOk result (λ note. note ≡ source_of net.now history.now c) }
+    ensures { IfOk result (λ note. note ≡ source_of net.now (E.entries history.now) c) }
 {
     let channel = Text::new(String::from_str(alloc, net.channel_name(c))?);
     let tokens = net.tokens(c).len();

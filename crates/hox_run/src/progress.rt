@@ -6,8 +6,8 @@ ghost use Rattle.kpn_state.specs.Standings.{is_ready};
 
 use kpn_body::Body;
 use kpn_machine::Machine;
-use kpn_model::Entry;
 use kpn_observe::{Observer, Phase, Progress as Watched, Wish};
+use kpn_state::Keeper;
 
 /// How far a run has come: how many entries its history has, how many of them are growths, and how many
 /// processes are ready, which is known where one worker asks them all.
@@ -59,34 +59,23 @@ impl Progress for Silent {
 }
 
 /// Tells how far a machine has come, if it is time.
-pub(crate) fn tell_of<B: Body, P: Progress>(machine: &Machine<B>, progress: &P) {
+pub(crate) fn tell_of<B: Body, H: Keeper, P: Progress>(machine: &Machine<B, H>, progress: &P) {
     if progress.is_due() {
         progress.tell(so_far(machine));
     }
 }
 
 /// How far a machine has come.
-fn so_far<B: Body>(machine: &Machine<B>) -> SoFar
+fn so_far<B: Body, H: Keeper>(machine: &Machine<B, H>) -> SoFar
     ensures entries { result.entries ≡ length machine.now.history }
     ensures growths { result.growths ≡ length (growths machine.now.history) }
     ensures ready { result.ready ≡ Some (count_by is_ready machine.now.standings) }
 {
-    let history = machine.history();
     SoFar {
-        entries: history.len() as u64,
-        growths: count_growths(history) as u64,
+        entries: machine.entries() as u64,
+        growths: machine.growths() as u64,
         ready: Some(machine.ready()),
     }
-}
-
-/// How many entries of a history are growths.
-fn count_growths(history: &[Entry]) -> usize
-    ensures { result ≡ length (growths history.now) }
-{
-    history
-        .iter()
-        .filter(|entry| matches!(**entry, Entry::Grew { .. }))
-        .count()
 }
 
 /// Looks at the board of a run by several workers, and never wishes to stop.

@@ -15,8 +15,10 @@ use kpn_body::Body;
 use kpn_compute::{CardBody, Computes, bodies_of};
 use kpn_machine::Machine;
 use kpn_network::Net;
-use kpn_observe::{WatchedFault, WatchedRun, run_watched};
-use kpn_run::{Prompt, RunFault as Fault, run};
+use kpn_observe::{WatchedFault, WatchedRun, run_watched_with_keeper};
+use kpn_report::Tallied;
+use kpn_run::{Prompt, RunFault as Fault, run_with_keeper};
+use kpn_state::Keeper;
 use kpn_tokens::{Decimals, Layout};
 use std::alloc::{AllocError, Global};
 use std::rt::Clock;
@@ -78,15 +80,17 @@ fn execute_alone<K: Computes, P: Progress>(
     requires within { All (IsWithin net) outputs.now }
     ensures { IfOk result (TellsRun (family_of K.start K.answer_of) net show.now outputs.now) }
 {
-    let Ok(mut machine) = Machine::open(alloc, net, bodies) else {
+    let Ok(mut machine) = Machine::<CardBody<K>, Tallied>::open_with_keeper(alloc, net, bodies)
+    else {
         return Err(AllocError);
     };
     finish(&mut machine, progress);
-    told_of(alloc, &machine.into_chronicle(), show, outputs)
+    let chronicle = machine.into_chronicle();
+    told_of(alloc, &chronicle, chronicle.keeper(), show, outputs)
 }
 
 /// Runs to an end in the calling thread, a piece at a time. No process may be out.
-fn finish<B: Body, P: Progress>(machine: &mut Machine<B>, progress: &P)
+fn finish<B: Body, H: Keeper, P: Progress>(machine: &mut Machine<B, H>, progress: &P)
     requires { (p : ℕ) → standing machine.old.standings p ≢ Out }
     ensures network { machine.new.network ≡ machine.old.network }
     ensures ended { IsSome machine.new.end }
@@ -98,7 +102,7 @@ fn finish<B: Body, P: Progress>(machine: &mut Machine<B>, progress: &P)
 }
 
 /// Goes on with a run that has not ended, by some answers.
-fn go_on<B: Body>(machine: &mut Machine<B>)
+fn go_on<B: Body, H: Keeper>(machine: &mut Machine<B, H>)
     requires on { machine.old.end ≡ None }
     requires none_out { (p : ℕ) → standing machine.old.standings p ≢ Out }
     ensures network { machine.new.network ≡ machine.old.network }
@@ -125,9 +129,14 @@ fn execute_by_workers<K: Computes, R: Wait + Clock + Threads + Sync>(
     requires within { All (IsWithin net) outputs.now }
     ensures { IfOk result (TellsRun (family_of K.start K.answer_of) net show.now outputs.now) }
 {
-    match run(rt, alloc, net, bodies, workers, &Prompt) {
+    match run_with_keeper::<CardBody<K>, Tallied, R, Prompt>(
+        rt, alloc, net, bodies, workers, &Prompt,
+    ) {
         Ok(finish) => {
-            told_of(alloc, finish.chronicle(), show, outputs).map_err(|_| RunFault::Memory)
+            let chronicle = finish.chronicle();
+            told_of(alloc, chronicle, chronicle.keeper(), show, outputs).map_err(
+                |_| RunFault::Memory,
+            )
         }
         Err(Fault::Memory { .. }) => Err(RunFault::Memory),
         Err(Fault::Lost { .. }) => Err(RunFault::Lost),
@@ -154,7 +163,9 @@ fn execute_watched<K: Computes, R: Wait + Clock + Threads + Sync, P: Progress>(
 {
     let observer = OnBoard { progress };
     let period = Duration::from_millis(PERIOD);
-    match run_watched(rt, alloc, net, bodies, workers, &Prompt, period, &observer) {
+    match run_watched_with_keeper::<CardBody<K>, Tallied, R, Prompt, OnBoard<'_, P>>(
+        rt, alloc, net, bodies, workers, &Prompt, period, &observer,
+    ) {
         Ok(ran) => told_of_watched(alloc, &ran, show, outputs),
         Err(WatchedFault::Memory { .. }) => Err(RunFault::Memory),
         Err(WatchedFault::Stopped { .. }) => Err(RunFault::Lost),
@@ -168,7 +179,7 @@ fn execute_watched<K: Computes, R: Wait + Clock + Threads + Sync, P: Progress>(
 /// contract says that a run has an end then.
 fn told_of_watched<K: Computes>(
     alloc: Global,
-    ran: &WatchedRun<K>,
+    ran: &WatchedRun<K, Tallied>,
     show: &[ChannelAs<Decimals>],
     outputs: &[ChannelAs<Layout>],
 ) -> Result<Told, RunFault>
@@ -178,5 +189,6 @@ fn told_of_watched<K: Computes>(
     if ran.end().is_none() {
         return Err(RunFault::Lost);
     }
-    told_of(alloc, ran.chronicle(), show, outputs).map_err(|_| RunFault::Memory)
+    let chronicle = ran.chronicle();
+    told_of(alloc, chronicle, chronicle.keeper(), show, outputs).map_err(|_| RunFault::Memory)
 }

@@ -5,9 +5,9 @@ ghost use Rattle.kpn_model.specs.History.{each_channel, stream};
 ghost use Rattle.kpn_model.specs.NamesAndLines.{channel_name};
 ghost use Rattle.hox_run.specs.Cuts.{before_verdict, streams_text, token_part, tokens_line};
 
-use kpn_model::{End, Entry, Kinds, Token};
+use kpn_model::{End, Kinds, Token};
 use kpn_network::Net;
-use kpn_report::stream_of;
+use kpn_report::{Entries, stream_of_entries};
 use kpn_tokens::{Decimals, append_token};
 use std::alloc::{AllocError, Global};
 use std::str;
@@ -22,15 +22,15 @@ pub struct ChannelAs<W> {
 /// Appends, of a run with this end that has a report, a line `stream` for each channel of `show`.
 ///
 /// Errors: memory was refused.
-pub(crate) fn push_before_verdict<K: Kinds>(
+pub(crate) fn push_before_verdict<K: Kinds, E: Entries>(
     alloc: Global,
     out: &mut String,
     net: &Net<K>,
-    history: &[Entry],
+    history: &E,
     end: End,
     show: &[ChannelAs<Decimals>],
 ) -> Result<(), AllocError>
-    ensures { OnOk result (string_bytes out.new ≡ string_bytes out.old ++ before_verdict net.now end history.now show.now) }
+    ensures { OnOk result (string_bytes out.new ≡ string_bytes out.old ++ before_verdict net.now end (E.entries history.now) show.now) }
 {
     match end {
         End::Terminated | End::Deadlock | End::Ceiling => {
@@ -43,15 +43,15 @@ pub(crate) fn push_before_verdict<K: Kinds>(
 /// Appends a line for the stream of each of these channels, which begins with this word.
 ///
 /// Errors: memory was refused.
-pub(crate) fn push_streams<K: Kinds>(
+pub(crate) fn push_streams<K: Kinds, E: Entries>(
     alloc: Global,
     out: &mut String,
     net: &Net<K>,
-    history: &[Entry],
+    history: &E,
     channels: &[ChannelAs<Decimals>],
     word: &str,
 ) -> Result<(), AllocError>
-    ensures { OnOk result (string_bytes out.new ≡ string_bytes out.old ++ streams_text net.now word.now history.now channels.now) }
+    ensures { OnOk result (string_bytes out.new ≡ string_bytes out.old ++ streams_text net.now word.now (E.entries history.now) channels.now) }
 {
     for channel in channels {
         push_stream(alloc, out, net, history, *channel, word)?;
@@ -60,17 +60,17 @@ pub(crate) fn push_streams<K: Kinds>(
 }
 
 /// Appends the line of a channel's stream.
-fn push_stream<K: Kinds>(
+fn push_stream<K: Kinds, E: Entries>(
     alloc: Global,
     out: &mut String,
     net: &Net<K>,
-    history: &[Entry],
+    history: &E,
     channel: ChannelAs<Decimals>,
     word: &str,
 ) -> Result<(), AllocError>
-    ensures { OnOk result (string_bytes out.new ≡ string_bytes out.old ++ tokens_line net.now word.now (slice_index_or (each_channel net.now (λ b. stream net.now history.now b)) channel.channel []) channel) }
+    ensures { OnOk result (string_bytes out.new ≡ string_bytes out.old ++ tokens_line net.now word.now (slice_index_or (each_channel net.now (λ b. stream net.now (E.entries history.now) b)) channel.channel []) channel) }
 {
-    let tokens = stream_of(alloc, net, history, channel.channel)?;
+    let tokens = stream_of_entries(alloc, net, history, channel.channel)?;
     push_line(alloc, out, net, tokens.as_slice(), channel, word)
 }
 

@@ -17,10 +17,10 @@ use crate::shown::{ChannelAs, push_before_verdict};
 use kpn_front::Status;
 use kpn_laws::{determinacy_of, least_room_of, least_solution_of};
 use kpn_machine::Chronicle;
-use kpn_model::{End, Entry, Kinds, Place, Verdict};
+use kpn_model::{End, Kinds, Place, Verdict};
 use kpn_network::Net;
-use kpn_report::{places_of, text_of};
-use kpn_state::Standing;
+use kpn_report::{Entries, places_of, text_of_entries};
+use kpn_state::{Keeper, Standing};
 use kpn_tokens::{Decimals, Layout};
 use kpn_verdict::{verdict_of, verdict_text};
 use std::alloc::{AllocError, Global};
@@ -43,16 +43,18 @@ struct Judged {
     report: String,
 }
 
-/// Returns what is told of a run that ended, with the streams of the channels of `show` in the report.
+/// Returns what is told of a run that ended and whose entries are these, with the streams of the channels of `show` in the report.
 ///
 /// Errors: memory was refused.
-pub(crate) fn told_of<K: Kinds>(
+pub(crate) fn told_of<K: Kinds, H: Keeper, E: Entries>(
     alloc: Global,
-    chronicle: &Chronicle<K>,
+    chronicle: &Chronicle<K, H>,
+    history: &E,
     show: &[ChannelAs<Decimals>],
     outputs: &[ChannelAs<Layout>],
 ) -> Result<Told, AllocError>
     requires ended { IsSome chronicle.now.end }
+    requires entries { E.entries history.now ≡ chronicle.now.history }
     requires within { All (IsWithin chronicle.now.network) outputs.now }
     ensures { IfOk result (TellsRun (family_of K.start K.answer_of) chronicle.now.network show.now outputs.now) }
 {
@@ -63,7 +65,6 @@ pub(crate) fn told_of<K: Kinds>(
     least_room_of::<K>();
     least_solution_of::<K>();
     let net = chronicle.net();
-    let history = chronicle.history();
     let standings = chronicle.standings();
     let places = places_of(alloc, net, standings)?;
     let judged = judge(alloc, net, history, standings, places.as_slice(), end, show)?;
@@ -77,20 +78,20 @@ pub(crate) fn told_of<K: Kinds>(
 }
 
 /// The report of a run, and the verdict on it.
-fn judge<K: Kinds>(
+fn judge<K: Kinds, E: Entries>(
     alloc: Global,
     net: &Net<K>,
-    history: &[Entry],
+    history: &E,
     standings: &[Standing],
     places: &[Place],
     end: End,
     show: &[ChannelAs<Decimals>],
 ) -> Result<Judged, AllocError>
     ensures verdict { IfOk result (λ judged. IsVerdict net.now places.now end judged.verdict) }
-    ensures report { IfOk result (λ judged. (kinds : Family) (M : State) → (has_report end ≡ true → places.now ≡ places_in kinds net.now M) → string_bytes judged.report ≡ report_text kinds net.now end history.now M None ++ before_verdict net.now end history.now show.now ++ verdict_line net.now places.now judged.verdict ++ after_verdict net.now end history.now (left_at standings.now places.now) show.now) }
+    ensures report { IfOk result (λ judged. (kinds : Family) (M : State) → (has_report end ≡ true → places.now ≡ places_in kinds net.now M) → string_bytes judged.report ≡ report_text kinds net.now end (E.entries history.now) M None ++ before_verdict net.now end (E.entries history.now) show.now ++ verdict_line net.now places.now judged.verdict ++ after_verdict net.now end (E.entries history.now) (left_at standings.now places.now) show.now) }
 {
     let verdict = verdict_of(net, places, end);
-    let mut report = text_of(alloc, net, history, places, end, None)?;
+    let mut report = text_of_entries(alloc, net, history, places, end, None)?;
     push_judged(
         alloc,
         &mut report,
@@ -106,18 +107,18 @@ fn judge<K: Kinds>(
 }
 
 /// Appends the streams of channels, the line of a verdict, and what follows it.
-fn push_judged<K: Kinds>(
+fn push_judged<K: Kinds, E: Entries>(
     alloc: Global,
     out: &mut String,
     net: &Net<K>,
-    history: &[Entry],
+    history: &E,
     standings: &[Standing],
     places: &[Place],
     end: End,
     show: &[ChannelAs<Decimals>],
     verdict: Verdict,
 ) -> Result<(), AllocError>
-    ensures { OnOk result (string_bytes out.new ≡ string_bytes out.old ++ before_verdict net.now end history.now show.now ++ verdict_line net.now places.now verdict ++ after_verdict net.now end history.now (left_at standings.now places.now) show.now) }
+    ensures { OnOk result (string_bytes out.new ≡ string_bytes out.old ++ before_verdict net.now end (E.entries history.now) show.now ++ verdict_line net.now places.now verdict ++ after_verdict net.now end (E.entries history.now) (left_at standings.now places.now) show.now) }
 {
     push_before_verdict(alloc, out, net, history, end, show)?;
     push_line(alloc, out, net, places, verdict)?;

@@ -20,7 +20,7 @@ returns g c =
     let verdict = c.in_ok-judged.judged.verdict in
     let report = c.in_ok-judged.judged.report in
     let net_is = c.net-net.ensures in
-    let history_is = c.history-history.ensures in
+    let history_is = c.requires.entries in
     let places_are = c.as_slice.ensures.value in
     let standings_are = c.standings-standings.ensures in
     let judged = moved (λ net E ps. IsVerdict net ps cause verdict) s.network _ s.history _ places _ net_is history_is places_are c.in_ok-judged.ensures.verdict in
@@ -33,5 +33,5 @@ returns g c =
     judged
     (rw c.as_slice-2.ensures.value at c.status_with.ensures)
     told
-    (rw (c.net-net.ensures, c.history-history.ensures) at c.in_ok-outputs.ensures)
-    (rw (c.net-net.ensures, c.history-history.ensures, c.standings-standings.ensures, c.as_slice-3.ensures.value) at c.in_ok-notes_of.ensures)
+    (rw (c.net-net.ensures, c.requires.entries) at c.in_ok-outputs.ensures)
+    (rw (c.net-net.ensures, c.requires.entries, c.standings-standings.ensures, c.as_slice-3.ensures.value) at c.in_ok-notes_of.ensures)
