@@ -20,6 +20,8 @@ mod monitor;
 #[cfg(test)]
 mod networks;
 #[cfg(test)]
+mod packed;
+#[cfg(test)]
 mod refusals;
 #[cfg(test)]
 mod reporting;

@@ -2,4 +2,4 @@
 mod built;
 mod crews;
 mod side_by_side;
-mod watched;
+pub(crate) mod watched;

@@ -6,7 +6,7 @@ use kpn_compute::CardBody;
 use kpn_machine::{Chronicle, Machine};
 use kpn_net::Net;
 use kpn_report::{Tallied, places_of, text_of_entries};
-use kpn_run::{Open, run};
+use kpn_run::{Open, run, run_with_keeper};
 use kpn_state::Packed;
 use std::alloc::{AllocError, Global};
 use std::process::Abort;
@@ -120,4 +120,40 @@ fn entries_of_two_workers_have_their_report(rt: HostRuntime) {
     let mut sink = String::new(alloc);
     tell_by_two(&rt, alloc, parts, 3, &mut sink).expect(&rt, "no memory");
     same(&rt, "text", sink.as_str(), reports::WOVEN);
+}
+
+/// Runs the network of a text by so many workers, and compares the report, with the stream of a channel.
+fn shows_by<R: Wait + Clock + Threads + Sync + Abort>(
+    rt: &R,
+    alloc: Global,
+    text: &str,
+    workers: usize,
+    channel: usize,
+    due: &str,
+) {
+    let Parts { net, bodies } = parts_of(rt, alloc, text);
+    let ran = run_with_keeper::<CardBody<Standard>, Tallied, R, Open>(
+        rt, alloc, net, bodies, workers, &Open,
+    );
+    let Ok(finish) = ran else {
+        panic!(rt; "no run");
+    };
+    let told = text_of(alloc, finish.chronicle(), channel).expect(rt, "no memory");
+    same(rt, "text", told.expect(rt, "no end").as_str(), due);
+    drop(finish);
+}
+
+#[test]
+fn counted_entries_of_workers_have_their_report(rt: HostRuntime) {
+    for workers in [2, 16] {
+        shows_by(&rt, rt.alloc(), COUNTER, workers, 0, reports::COUNTER);
+        shows_by(
+            &rt,
+            rt.alloc(),
+            COPIED_AND_WOVEN,
+            workers,
+            3,
+            reports::WOVEN,
+        );
+    }
 }

@@ -1,5 +1,5 @@
 //! Boards: how many watchers there may be, and what is shown of histories that were worked out by hand.
-ghost use Rattle.std.specs.Prelude.{◌≡◌, ◌+◌, ◌<◌, ◌++◌, ◌∷◌, [], length};
+ghost use Rattle.std.specs.Prelude.{◌≡◌, ◌+◌, ◌<◌, ◌≤◌, ◌++◌, ◌∷◌, [], length};
 ghost use Rattle.kpn_model.specs.declared.history.Deed.TheVariants.{Put, Took, Stopped};
 ghost use Rattle.kpn_model.specs.declared.history.Entry.TheVariants.{Did, Grew};
 ghost use Rattle.kpn_model.specs.declared.token.Token.TheVariants.{Word};
@@ -9,6 +9,7 @@ ghost use Rattle.kpn_watch.specs.declared.progress.Phase.TheVariants.{Memory, Ru
 
 use crate::checks::same;
 use kpn_model::{Deed, End, Entry, Token};
+use kpn_state::{Keeper, Packed};
 use kpn_watch::{Board, CountingPublisher, Phase, Progress, Publisher, Watcher};
 use std::alloc::Global;
 use std::process::Abort;
@@ -56,6 +57,44 @@ fn a_look_shows_a_growth(rt: HostRuntime) -> Result<(), Fail> {
     let (board, mut publisher) = Board::new(rt.alloc())?;
     let mut watcher = board.split(&mut publisher)?;
     let seen = looks_between(&board, &mut publisher, &mut watcher);
+    board.join(watcher, &mut publisher);
+    let due = (
+        progress(1, 0, Phase::Running),
+        progress(3, 1, Phase::Terminated),
+    );
+    same(&rt, "seen", seen, due);
+    Ok(())
+}
+
+/// Keeps an entry and publishes it, then two more with an end, and looks after each.
+fn kept_looks_between<H: Keeper>(
+    board: &Board,
+    publisher: &mut Publisher,
+    watcher: &mut Watcher,
+    kept: &mut H,
+) -> (Progress, Progress)
+    requires publisher { (publisher.old.board ≡ board.now) × (publisher.old.entries ≡ []) × (publisher.old.phase ≡ Phase.Running) }
+    requires watcher { watcher.old.board ≡ board.now }
+    requires none { H.entries kept.old ≡ [] }
+    requires room { 3 ≤ H.room kept.old }
+    ensures publisher { publisher.new.board ≡ board.now }
+    ensures watcher { watcher.new.board ≡ board.now }
+{
+    kept.keep(put(1));
+    board.publish_kept(publisher, kept, 0, Phase::Running);
+    let early = board.look(watcher);
+    kept.keep(Entry::Grew { channel: 0, to: 2 });
+    kept.keep(stopped(1));
+    board.publish_kept(publisher, kept, 1, Phase::Terminated);
+    (early, board.look(watcher))
+}
+
+#[test]
+fn a_look_shows_kept_entries(rt: HostRuntime) -> Result<(), Fail> {
+    let (board, mut publisher) = Board::new(rt.alloc())?;
+    let mut watcher = board.split(&mut publisher)?;
+    let mut kept = Packed::with_room(rt.alloc(), 3)?;
+    let seen = kept_looks_between(&board, &mut publisher, &mut watcher, &mut kept);
     board.join(watcher, &mut publisher);
     let due = (
         progress(1, 0, Phase::Running),
@@ -144,7 +183,9 @@ impl Display {
     }
 }
 
-fn put(number: u64) -> Entry {
+fn put(number: u64) -> Entry
+    ensures { result ≡ Did 0 (Put 0 (Word number)) }
+{
     Entry::Did {
         process: 0,
         deed: Deed::Put {
@@ -154,7 +195,9 @@ fn put(number: u64) -> Entry {
     }
 }
 
-fn stopped(process: usize) -> Entry {
+fn stopped(process: usize) -> Entry
+    ensures { result ≡ Did process Stopped }
+{
     Entry::Did {
         process,
         deed: Deed::Stopped,
