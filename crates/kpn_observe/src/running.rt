@@ -129,12 +129,16 @@ pub fn run_watched<B: Body, R: Wait + Clock + Threads + Sync, G: Gate, V: Observ
 /// each, where `run_watched` takes 48.
 ///
 /// ```text
-/// match run_watched_with_keeper::<_, Packed, _, _, _>(
-///     rt, alloc, net, bodies, workers, &Open, period, observer,
-/// ) {
-///     Ok(run) => Ok(run),
-///     Err(_) => Err(AllocError),
-/// }
+/// let ran = run_watched_with_keeper::<CardBody<Standard>, Packed, R, Open, Witness>(
+///     rt,
+///     alloc,
+///     net,
+///     bodies,
+///     workers,
+///     &Open,
+///     often(),
+///     witness,
+/// );
 /// ```
 pub fn run_watched_with_keeper<
     B: Body,

@@ -124,10 +124,9 @@ pub fn run<B: Body, R: Wait + Clock + Threads + Sync, G: Gate>(
 /// where `run` takes 48.
 ///
 /// ```text
-/// match run_with_keeper::<_, Packed, _, _>(rt, alloc, net, bodies, workers, &Open) {
-///     Ok(finish) => Ok(finish),
-///     Err(_) => Err(AllocError),
-/// }
+/// let ran = run_with_keeper::<CardBody<Standard>, Packed, R, Open>(
+///     rt, alloc, net, bodies, workers, &Open,
+/// );
 /// ```
 pub fn run_with_keeper<B: Body, H: Keeper + Send, R: Wait + Clock + Threads + Sync, G: Gate>(
     rt: &R,
