@@ -49,7 +49,7 @@ fn status_of<R: Env + Files + Input + Print + Eprint + AllocGlobal + Wait + Cloc
     }
 }
 
-/// The same, by the arguments.
+/// Does what the arguments ask for, and returns the exit status.
 fn status_by<R: Files + Input + Print + Eprint + AllocGlobal + Wait + Clock + Threads + Sync>(
     rt: &R,
     arguments: &Vec<String>,
@@ -97,7 +97,7 @@ fn arguments_of<R: Env + AllocGlobal>(rt: &R) -> io::Result<Vec<String>> {
     Ok(arguments)
 }
 
-/// The same as slices.
+/// The arguments as slices.
 fn texts_of<'a>(
     rt: &impl AllocGlobal,
     arguments: &'a Vec<String>,

@@ -89,7 +89,7 @@ fn say_ready<R: Eprint>(rt: &R, entries: u64, a_second: u64, growths: u64, ready
     );
 }
 
-/// The same, where that is not known.
+/// Tells of a run of which it isn't known how long it can be.
 fn say_entries<R: Eprint>(rt: &R, entries: u64, a_second: u64, growths: u64) {
     let _ = eprint!(rt; "{CLEAR}{entries} entries, {a_second} a second, {growths} growths");
 }

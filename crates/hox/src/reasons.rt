@@ -53,7 +53,7 @@ fn say_why<R: Eprint + AllocGlobal>(rt: &R, what: &str, file: &str, error: io::E
     }
 }
 
-/// The same, for a reason in words.
+/// Says what failed with a file, and why, in these words.
 fn say_reason<R: Eprint>(rt: &R, what: &str, file: &str, reason: &str) {
     let _ = eprintln!(rt; "hox: can't {what} {file}: {reason}");
 }

@@ -43,7 +43,7 @@ pub(crate) fn draw_run<K: Computes + Titled, R: Wait + Clock + Threads + Sync>(
     }
 }
 
-/// The same, in the calling thread, with a body for each process.
+/// Runs a network in the calling thread, with a body for each process, and draws how that left it.
 fn draw_alone<K: Computes + Titled>(
     alloc: Global,
     net: Net<K>,
@@ -59,7 +59,7 @@ fn draw_alone<K: Computes + Titled>(
     picture_of_run(alloc, &machine.into_chronicle(), direction)
 }
 
-/// The same, by several workers.
+/// Runs a network by several workers, with a body for each process, and draws how that left it.
 fn draw_by_workers<K: Computes + Titled, R: Wait + Clock + Threads + Sync>(
     rt: &R,
     alloc: Global,

@@ -162,7 +162,7 @@ fn channel_in(text: &str) -> &str
     }
 }
 
-/// The same for one text.
+/// Checks one text of the option.
 fn check_format<'a>(
     text: &'a str,
     inputs: &[Pair<'a>],

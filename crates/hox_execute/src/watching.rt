@@ -27,7 +27,7 @@ impl<S> Watched<S> {
         self.error
     }
 
-    /// The same, for a source of which a read has failed.
+    /// Why the read of a source failed that has failed.
     pub(crate) fn reason(&self) -> io::Error {
         match self.error {
             Some(error) => error,

@@ -106,7 +106,7 @@ impl<'a> Format<'a> {
     }
 }
 
-/// The same with words written unsigned.
+/// These decimals, with words written unsigned.
 pub(crate) fn unsigned(decimals: Decimals) -> Decimals
     ensures { result ≡ unsigned decimals }
 {

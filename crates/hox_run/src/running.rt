@@ -68,7 +68,7 @@ pub fn execute<K: Computes, R: Wait + Clock + Threads + Sync, P: Progress>(
     }
 }
 
-/// The same, in the calling thread, with a body for each process.
+/// Runs a network in the calling thread, with a body for each process, and returns what is told of the run.
 fn execute_alone<K: Computes, P: Progress>(
     alloc: Global,
     net: Net<K>,
@@ -114,7 +114,7 @@ fn go_on<B: Body, H: Keeper>(machine: &mut Machine<B, H>)
     machine.ask_in_place(PIECE);
 }
 
-/// The same, by several workers.
+/// Runs a network by several workers, and returns what is told of the run.
 fn execute_by_workers<K: Computes, R: Wait + Clock + Threads + Sync>(
     rt: &R,
     alloc: Global,
@@ -145,7 +145,8 @@ fn execute_by_workers<K: Computes, R: Wait + Clock + Threads + Sync>(
     }
 }
 
-/// The same, by several workers, beside a thread that is told how far they have come.
+/// Runs a network by several workers, beside a thread that is told how far they have come, and returns what is told of
+/// the run.
 fn execute_watched<K: Computes, R: Wait + Clock + Threads + Sync, P: Progress>(
     rt: &R,
     alloc: Global,

@@ -238,7 +238,7 @@ fn read_on<S: Source>(alloc: Global, inlet: &mut Inlet<S>) -> Result<(), PourFau
     }
 }
 
-/// The same as [`pour`], for the source at place `k`. Returns why the stream ends, if it does.
+/// Pours ([`pour`]) the source at place `k`. Returns why the stream ends, if it does.
 fn pour_at<B: Body, S: Source>(
     alloc: Global,
     flow: &mut Flow<B>,
@@ -290,7 +290,8 @@ fn first_starved<B: Body, S: Source>(
     None
 }
 
-/// The same, each in its turn: from this place on, or else from the first one on.
+/// The source whose turn it is of those for whose tokens a process waits: the first from this place on, or else the first
+/// of all.
 fn next_starved<B: Body, S: Source>(
     flow: &Flow<B>,
     inlets: &[Inlet<S>],

@@ -17,7 +17,7 @@ pub(crate) fn shortest(lanes: &[Lane]) -> usize
     }
 }
 
-/// The same, of a first column and others.
+/// How many tokens the shortest has of a first column and others.
 fn shortest_of(first: &Lane, others: &[Lane]) -> usize
     ensures { result ≡ shortest (first.now ∷ others.now) }
 {

@@ -35,7 +35,7 @@ pub(crate) fn stream_out<B: Body, I: Source, O: Sink>(
     }
 }
 
-/// The same, without the rows that are not full.
+/// Runs a stream until it has come to its end, without the rows that are not full.
 fn stream<B: Body, I: Source, O: Sink>(
     alloc: Global,
     flow: &mut Flow<B>,

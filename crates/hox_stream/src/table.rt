@@ -220,7 +220,7 @@ impl<S: Sink> TableOutlet<S> {
         Ok(())
     }
 
-    /// The same, for one row.
+    /// Writes one row.
     fn write_row(&mut self) -> Result<(), TableFault>
         ensures rows { RowsGo self.old self.new 1 }
         ensures failed { IfErr result (λ _. self.new.has_failed ≡ true) }

@@ -41,7 +41,7 @@ fn tell_lane<B: Body, S: Sink>(
     }
 }
 
-/// The same, for a column of the table at place `k`, if it has it; there are so many sinks before the tables. If it
+/// Moves tokens to a column of the table at place `k`, if it has it; there are so many sinks before the tables. If that
 /// fails, returns why the stream ends.
 fn tell_lane_at<B: Body, S: Sink>(
     flow: &mut Flow<B>,
@@ -80,7 +80,7 @@ fn finish_of(fault: TableFault, first: usize, k: usize) -> Finish
     }
 }
 
-/// The same, for all columns of the table at place `k`.
+/// Moves tokens to all columns of the table at place `k`.
 fn tell_table<B: Body, S: Sink>(
     flow: &mut Flow<B>,
     tables: &mut [TableOutlet<S>],
@@ -103,7 +103,7 @@ fn tell_table<B: Body, S: Sink>(
     Ok(has_moved)
 }
 
-/// The same, for all tables. Returns whether any token was moved.
+/// Moves tokens to all tables. Returns whether any was moved.
 pub(crate) fn tell_tables<B: Body, S: Sink>(
     flow: &mut Flow<B>,
     tables: &mut [TableOutlet<S>],

@@ -41,7 +41,7 @@ fn tell<B: Body, S: Sink>(flow: &mut Flow<B>, outlet: &mut Outlet<S>) -> Result<
     }
 }
 
-/// The same, for the sink at place `k`. If it fails, returns why the stream ends.
+/// Moves tokens to the sink at place `k`. If that fails, returns why the stream ends.
 fn tell_at<B: Body, S: Sink>(
     flow: &mut Flow<B>,
     outlets: &mut [Outlet<S>],
@@ -61,7 +61,7 @@ fn tell_at<B: Body, S: Sink>(
     }
 }
 
-/// The same, for all sinks. Returns whether any token was moved.
+/// Moves tokens to all sinks. Returns whether any was moved.
 fn tell_sinks<B: Body, S: Sink>(
     flow: &mut Flow<B>,
     outlets: &mut [Outlet<S>],

@@ -85,7 +85,7 @@ fn arguments_of<R: Env + AllocGlobal>(rt: &R) -> io::Result<Vec<String>> {
     Ok(arguments)
 }
 
-/// The same as slices.
+/// The arguments as slices.
 fn texts_of<'a>(rt: &impl AllocGlobal, arguments: &'a Vec<String>) -> io::Result<Vec<&'a str>> {
     let mut texts = Vec::with_capacity(rt.alloc(), arguments.len())?;
     for argument in arguments {

@@ -61,7 +61,7 @@ impl<'a> NewChannel<'a> {
         }
     }
 
-    /// The same, from this output, counted from 0.
+    /// This channel, from this output of its writer, counted from 0.
     ///
     /// ```text
     /// made.channel(NewChannel::new("later", "cp", "late").out(1).capacity(4))?;
@@ -72,7 +72,7 @@ impl<'a> NewChannel<'a> {
         NewChannel { out, ..self }
     }
 
-    /// The same, to this input, counted from 0.
+    /// This channel, to this input of its reader, counted from 0.
     ///
     /// ```text
     /// let asked = NewChannel::new("f", "dv", "dm")
@@ -86,7 +86,7 @@ impl<'a> NewChannel<'a> {
         NewChannel { input, ..self }
     }
 
-    /// The same, of flags.
+    /// This channel, of flags.
     ///
     /// ```text
     /// let asked = NewChannel::new("f", "dv", "dm")
@@ -103,7 +103,7 @@ impl<'a> NewChannel<'a> {
         }
     }
 
-    /// The same, with room for so many tokens.
+    /// This channel, with room for so many tokens.
     ///
     /// ```text
     /// made.channel(NewChannel::new("x", "src", "x3").capacity(4))?;
@@ -114,7 +114,7 @@ impl<'a> NewChannel<'a> {
         NewChannel { capacity, ..self }
     }
 
-    /// The same, with these tokens at first, in the order in which they are read.
+    /// This channel, with these tokens at first, in the order in which they are read.
     ///
     /// ```text
     /// let words = [TokenSketch::Integer(5), TokenSketch::Integer(6)];

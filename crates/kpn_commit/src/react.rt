@@ -205,7 +205,7 @@ fn unlist<H: Keeper>(store: &Store<H>, waiting: &mut Waiting, channel: usize)
     waiting.marks.note_writer(channel, false);
 }
 
-/// The same answer, put together of its parts. To park a copy of the whole, all its bytes would have to
+/// Returns the answer, put together of its parts. To park a copy of the whole, all its bytes would have to
 /// be kept at hand while it is tried whether the answer can be done, and mostly it can.
 #[inline(always)]
 fn anew(answer: Answer) -> Answer

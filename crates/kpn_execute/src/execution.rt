@@ -113,8 +113,8 @@ fn tell<B: Body, S: Sink, R: Wait + Clock + Threads + Sync>(
     }
 }
 
-/// The same, in the calling thread. `tell` calls it with bodies that fit, so a machine that is not opened was
-/// refused memory.
+/// Runs a network in the calling thread and writes the report. `tell` calls it with bodies that fit, so a machine that is
+/// not opened was refused memory.
 #[inline(never)]
 fn tell_alone<B: Body, S: Sink>(
     alloc: Global,
@@ -133,7 +133,7 @@ fn tell_alone<B: Body, S: Sink>(
     say_told(alloc, &chronicle, chronicle.keeper(), channel, sink)
 }
 
-/// The same, by several workers.
+/// Runs a network by several workers and writes the report.
 #[inline(never)]
 fn tell_by_workers<B: Body, S: Sink, R: Wait + Clock + Threads + Sync>(
     rt: &R,

@@ -46,7 +46,7 @@ pub fn execute_standard<S: Sink, R: Wait + Clock + Threads + Sync>(
     }
 }
 
-/// The same, for a network with these cards. Fails if memory for a body was refused; nothing is then
+/// Makes the bodies of a network with these cards and runs it. Fails if memory for a body was refused; nothing is then
 /// written. Each closure has the code of its kind alone, so no call looks the kind up. They stand in this
 /// function, since one that made a box could not hand it out, and a macro can't hold their clauses. The
 /// network is passed in an `Option`: with a `Net` held by value the check finds no proof

@@ -32,7 +32,7 @@ pub fn load<K: Kinds, S: Source>(alloc: Global, source: &mut S) -> Result<Net<K>
     load_or_refuse(alloc, source).map_err(|refused| refused.fault)
 }
 
-/// The same as `load`, but it hands back the text of a refused description beside the fault.
+/// Loads a network as `load` does, and hands back the text of a refused description beside the fault.
 pub fn load_or_refuse<K: Kinds, S: Source>(alloc: Global, source: &mut S) -> Result<Net<K>, Refused>
     ensures loads { S.has_failed source.old ≡ false → IfSome (S.remaining source.old) (λ text. Loads K.named K.signature (S.has_failed source.new) text (without_text result)) }
     ensures text { IfSome (S.remaining source.old) (λ text. IfErr result (IsTextOf text)) }

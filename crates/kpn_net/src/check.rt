@@ -84,7 +84,7 @@ fn find_process(processes: &[ProcessSketch], name: &str) -> Option<usize>
     processes.iter().position(|p| p.name.as_str() == name)
 }
 
-/// The same; 0 if there is none.
+/// The place of the process with this name; 0 if there is none.
 fn index_of(processes: &[ProcessSketch], name: &str) -> usize
     ensures { result ≡ index_of processes.now name.now }
 {

@@ -202,7 +202,7 @@ pub fn run_by_crew<B: Body, R: Threads + Sync, C: Crew<B>>(
     }
 }
 
-/// The same, for a machine that is open.
+/// Runs an open machine by a crew.
 fn run_opened<B: Body, R: Threads + Sync, C: Crew<B>>(
     rt: &R,
     alloc: Global,
@@ -248,7 +248,7 @@ fn no_memory<B: Body>(machine: Machine<B>) -> OpenRefused<B>
     }
 }
 
-/// The same, for ledgers that are named.
+/// Runs an open machine by a crew, with ledgers that are named.
 fn run_named<
     B: Body,
     E: EntryLedger + Send + Sync,
@@ -352,7 +352,7 @@ fn work_all<
     work_each(rt, monitor, crewed.as_mut_slice(), crew);
 }
 
-// As `work_all`, of a slice.
+// Works at each slot of a slice.
 fn work_each<
     B: Body,
     E: EntryLedger + Send + Sync,

@@ -223,7 +223,7 @@ fn stops_at_start<V: Observer>(observer: &V) -> bool {
     observer.see(progress) == Wish::Stop
 }
 
-/// The same, for a machine that is open.
+/// Runs an open machine beside an observer.
 fn run_machine<B: Body, H: Keeper + Send, R: Wait + Clock + Threads + Sync, G: Gate, V: Observer>(
     rt: &R,
     alloc: Global,
@@ -288,7 +288,7 @@ fn put_back<B: Body, H: Keeper>(machine: Machine<B, H>) -> WatchedFault<B>
     WatchedFault::Memory { net, bodies }
 }
 
-/// The same, for ledgers that are named.
+/// Runs an open machine beside an observer, with ledgers that are named.
 fn run_named<
     B: Body,
     H: Keeper + Send,

@@ -117,7 +117,7 @@ pub fn stream_of<K: Kinds>(
     stream_of_entries(alloc, net, &Slice { history }, channel)
 }
 
-/// As [`stream_of`], whatever has the entries.
+/// Returns the stream of a channel ([`stream_of`]), whatever has the entries.
 ///
 /// ```text
 /// let tokens = stream_of_entries(alloc, net, history, channel.channel)?;

@@ -138,8 +138,8 @@ pub fn text_of<K: Kinds>(
     text_of_entries(alloc, net, &Slice { history }, places, end, show)
 }
 
-/// As [`text_of`], whatever has the entries. Entries that were counted while they were kept are counted again only if
-/// a channel grew.
+/// The text of a report ([`text_of`]), whatever has the entries. Those that were counted while they were kept are counted
+/// again only if a channel grew.
 pub fn text_of_entries<K: Kinds, E: Entries>(
     alloc: Global,
     net: &Net<K>,

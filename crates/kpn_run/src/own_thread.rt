@@ -31,7 +31,7 @@ pub fn work<B: Body, E: EntryLedger, O: Ledger, R: Wait, G: Gate>(
     Worked { seat, stranger }
 }
 
-/// As [`work`], with a borrowed seat: the caller still has it while other threads work with theirs. Returns
+/// Works as [`work`] does, with a borrowed seat: the caller still has it while other threads work with theirs. Returns
 /// the refused answer; if there is none, the seat has met an end. It may wait for other workers.
 pub fn work_with<B: Body, E: EntryLedger, O: Ledger, R: Wait, G: Gate>(
     rt: &R,

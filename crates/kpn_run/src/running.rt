@@ -161,7 +161,7 @@ pub fn run_with_keeper<B: Body, H: Keeper + Send, R: Wait + Clock + Threads + Sy
     }
 }
 
-/// The same fault, with the bodies in the vector that they came from.
+/// A fault with its bodies in the vector that they came from.
 fn unboxed<B: Body>(fault: RunFault<BoxedBody<B>>, spare: Vec<B>) -> RunFault<B>
     requires workers { (n : NetV) (bs : _) → fault ≢ RunFault.Workers n bs }
     requires spare { spare.items ≡ [] }
@@ -190,7 +190,7 @@ fn unboxed<B: Body>(fault: RunFault<BoxedBody<B>>, spare: Vec<B>) -> RunFault<B>
     }
 }
 
-/// The same run, with the bodies as they are, by a number of workers that may share it.
+/// Runs a network with the bodies as they are, by a number of workers that may share it.
 fn run_bodies<B: Body, H: Keeper + Send, R: Wait + Clock + Threads + Sync, G: Gate>(
     rt: &R,
     alloc: Global,
@@ -241,7 +241,7 @@ fn may_work(workers: usize) -> bool
     workers > 0 && workers <= 16
 }
 
-/// The same, for a machine that is open.
+/// Runs an open machine.
 fn run_machine<B: Body, H: Keeper + Send, R: Wait + Clock + Threads + Sync, G: Gate>(
     rt: &R,
     alloc: Global,
@@ -316,7 +316,7 @@ fn put_back<B: Body, H: Keeper>(machine: Machine<B, H>) -> RunFault<B>
     RunFault::Memory { net, bodies }
 }
 
-/// The same, for ledgers that are named.
+/// Runs an open machine, with ledgers that are named.
 fn run_named<
     B: Body,
     H: Keeper + Send,

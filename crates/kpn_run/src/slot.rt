@@ -191,7 +191,7 @@ pub(crate) fn work_all<
     work_each(rt, monitor, gate, slots.as_mut_slice());
 }
 
-// As `work_all`, with the clauses stated slot by slot.
+// Works at each slot; the clauses tell of one slot after the other.
 fn work_each<
     B: Body,
     H: Keeper + Send,

@@ -15,7 +15,7 @@ use kpn_standard::kind::Row;
 pub enum Signal {
     /// Stops at once; its channel holds words that come from outside.
     Input,
-    /// The same with flags.
+    /// Stops at once; its channel holds flags that come from outside.
     InputFlags,
     /// Reads words for ever.
     Drain,

@@ -8,10 +8,10 @@ use kpn_model::{Act, Answer, Local, Token};
 /// The first number of the local state of a process with two inputs before it reads input 0.
 pub const READS_FIRST: u64 = 0;
 
-/// The same before it reads input 1.
+/// That number before it reads input 1.
 pub const READS_SECOND: u64 = 1;
 
-/// The same before it writes.
+/// That number before it writes.
 pub const WRITES: u64 = 2;
 
 /// Returns the answer that reads input 0.

@@ -207,7 +207,7 @@ pub fn append_token(out: &mut Vec<u8>, decimals: Decimals, token: Token) -> Resu
     }
 }
 
-/// The same, with a line feed behind it.
+/// Appends the text of a token, with a line feed behind it.
 pub(crate) fn append_line(
     out: &mut Vec<u8>,
     decimals: Decimals,

@@ -67,7 +67,7 @@ pub fn first_line(decimals: Decimals, sort: Sort, bytes: &[u8]) -> Option<Line>
     any_line_in(decimals, sort, bytes)
 }
 
-/// The same, whatever the line has.
+/// The first line of the bytes, whatever it has.
 #[cold]
 #[inline(never)]
 fn any_line_in(decimals: Decimals, sort: Sort, bytes: &[u8]) -> Option<Line>

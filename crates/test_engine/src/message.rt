@@ -143,7 +143,7 @@ static KEYS: [(&str, &str, u8, &str); 15] = [
     ),
 ];
 
-/// The same of names, kinds, arguments and unused ports.
+/// Texts with a fault of names, kinds, arguments or unused ports, and their messages.
 static PROCESSES: [(&str, &str, u8, &str); 13] = [
     (
         "name = \"src\"",
@@ -225,7 +225,7 @@ static PROCESSES: [(&str, &str, u8, &str); 13] = [
     ),
 ];
 
-/// The same of channels, and of the budget and the step.
+/// Texts with a fault of channels, of the budget or of the step, and their messages.
 static CHANNELS: [(&str, &str, u8, &str); 14] = [
     (
         "from = \"src\"",

@@ -115,7 +115,7 @@ const LOOP_LINES: &str = r##"  label="cycle ad c2 cp c1 (deadlock)";
 }
 "##;
 
-/// The same by one worker and by two.
+/// The picture is the same by one worker and by two.
 #[test]
 fn draws_a_deadlock_with_its_cycle(rt: HostRuntime) {
     let whole = drawn(&rt, LOOP_LINES);

@@ -172,7 +172,7 @@ fn does<R: AllocGlobal + Wait + Clock + Threads + Abort + Sync>(
     does_among(rt, memory_of(rt, description), line, status, due);
 }
 
-/// The same, with these files.
+/// Does what a command line asks for, with these files, and compares the exit status and what was done.
 fn does_among<R: AllocGlobal + Wait + Clock + Threads + Abort + Sync>(
     rt: &R,
     mut memory: Memory<'_, R>,

@@ -35,7 +35,7 @@ entries 8
 verdict ran dry
 ";
 
-/// The same on three words, with the streams of y and x.
+/// The report on three words, with the streams of y and x.
 const SHOWN_LINES: &str = "end deadlock
 process src stopped steps 1
 process p stopped steps 5
@@ -118,7 +118,7 @@ pub(crate) fn with_tokens<R: Abort>(rt: &R, alloc: Global, tokens: &str, workers
     request
 }
 
-/// The same, and channel y is wanted.
+/// What is asked for: channel x has these tokens, and channel y is wanted.
 fn asked<R: Abort>(rt: &R, alloc: Global, tokens: &str, workers: usize) -> Request
     ensures { result.workers ≡ workers }
 {

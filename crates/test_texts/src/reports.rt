@@ -10,7 +10,7 @@ entries 8
 stream c0 1 2 3
 ";
 
-/// The same without the stream.
+/// The counter of three into the sink of three, without the stream.
 pub const COUNTER_ALONE: &str = "end terminated
 process src stopped steps 4
 process snk stopped steps 4
@@ -43,7 +43,7 @@ grew c0 2
 entries 7
 ";
 
-/// The same with the stream.
+/// The counter of three into a sink of one, with its stream.
 pub const SINK_OF_ONE_STREAM: &str = "end terminated
 process src stopped steps 4
 process snk stopped steps 2
@@ -201,7 +201,7 @@ entries 26
 stream c1 0 1 3 6
 ";
 
-/// The same with the stream of those that come out.
+/// Running sums, with the stream of those that come out.
 pub const SUMS_OUT: &str = "end deadlock
 process s stopped steps 4
 process ad reads c0 steps 9

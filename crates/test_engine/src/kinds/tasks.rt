@@ -39,7 +39,7 @@ fn asked<B: Body>(
     Ok(finished.into_body())
 }
 
-/// The same with `ask`, and with the answer alone, which a caller may keep beside the body.
+/// Compares what a task and its answer hold, by `ask`, and with the answer alone, which a caller may keep beside the body.
 fn asked_in_parts<B: Body>(
     rt: &impl Abort,
     body: B,

@@ -155,7 +155,7 @@ fn describes_a_counter_into_a_sink(rt: HostRuntime) {
     drop(sketch);
 }
 
-/// The same of version 2, with start tokens, a step, and the greatest budget.
+/// The counter, of version 2, with start tokens, a step, and the greatest budget.
 const COUNTER_AND_TOKENS: &str = "version = 2
 budget = 2000000
 step = 1024

@@ -34,7 +34,7 @@ pub(crate) fn run_flips<S: Sink, R: Wait + Clock + Threads + Sync>(
     run_with_cards(rt, alloc, cards.as_slice(), Some(net), workers, show, sink)
 }
 
-/// The same, for a network with these cards. The network is passed in an `Option`: with a `Net` held by
+/// Runs a network with these cards. The network is passed in an `Option`: with a `Net` held by
 /// value the check finds no proof of a loop that makes closures.
 fn run_with_cards<S: Sink, R: Wait + Clock + Threads + Sync>(
     rt: &R,

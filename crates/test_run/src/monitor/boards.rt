@@ -239,7 +239,7 @@ fn each_commit_is_shown(rt: HostRuntime) {
     same(&rt, "left", publisher.join(&board, watcher), last);
 }
 
-/// The same, but the growth is refused its memory: the history stays, and the word is `refused` of `worked_words`.
+/// A growth is refused its memory: the history stays, and the word is `refused` of `worked_words`.
 #[test]
 fn a_refused_growth_is_shown(rt: HostRuntime) {
     worked_words();

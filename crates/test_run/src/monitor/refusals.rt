@@ -153,7 +153,7 @@ static BEFORE_THE_GROWTH: Shown = (
     },
 );
 
-/// The same, if the growth was not refused.
+/// What is shown then if the growth was not refused.
 static AFTER_THE_GROWTH: Shown = (
     Ended {
         end: Some(End::Terminated),
