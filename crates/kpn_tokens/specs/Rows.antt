@@ -1,11 +1,15 @@
 -- Lines of fields, as `csv` reads them.
-use Rattle.std.specs.Prelude.{◌==◌, ◌++◌, ℕ, Bool, List, [], ◌∷◌, if◌then◌else◌, replicate, Option, Some, None, Result, Ok, Err}
+use Rattle.std.specs.Prelude.{◌≡◌, ◌==◌, ◌++◌, ℕ, Bool, List, [], ◌∷◌, if◌then◌else◌, replicate, Option, Some, None, Result, Ok, Err}
+use Rattle.std.specs.Borrow.{Bor}
 use Rattle.std.specs.List.{flat_map, list_any}
 use Rattle.std.specs.Option.{option_map_or}
 use Rattle.std.specs.Str.{is_utf8, trim}
-use Rattle.csv.specs.Reading.{default_config, records, strip_bom}
+use Rattle.csv.specs.Reading.{Ready, default_config, reader_config, reader_state, reader_trim, records, source_of, strip_bom}
 use Rattle.csv.specs.Records.{Row, field_at, fields_of}
 use Rattle.csv.specs.declared.parser.Config.{Config}
+use Rattle.csv.specs.declared.parser.State.TheVariants as st
+use Rattle.csv.specs.declared.reader.Reader.{Reader}
+use Rattle.csv.specs.declared.reader.Trim.TheVariants as trim
 use Rattle.kpn_model.specs.declared.token.Sort.{Sort}
 use Rattle.kpn_model.specs.declared.token.Token.{Token}
 use Rattle.kpn_tokens.specs.declared.layouts.Cell.{Cell}
@@ -31,6 +35,14 @@ config_of separator = record default_config { delimiter = separator_byte separat
 -- the rows of a line: none if it is blank, and else one, unless a carriage return within it ends a row
 abbrev pub rows_of : Separator → List ℕ → List (List (List ℕ))
 rows_of separator line = records (config_of separator) (strip_bom (line ++ 10 ∷ []))
+
+-- a reader is at the beginning of a line of fields, and has nothing else
+pub record IsAtLine (separator : Separator) (line : List ℕ) (reader : Reader (Bor (List ℕ))) : Type 0 where
+  pub config : reader_config reader ≡ config_of separator
+  pub trim : reader_trim reader ≡ trim.None
+  pub ready : Ready reader
+  pub state : reader_state reader ≡ st.StartRecord
+  pub source : source_of (λ bytes. Some bytes.now) reader ≡ Some (strip_bom (line ++ 10 ∷ []))
 
 -- a field goes on over the end of the line
 abbrev pub is_open_field : List ℕ → Bool

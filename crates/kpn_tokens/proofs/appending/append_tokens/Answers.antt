@@ -1,4 +1,5 @@
-use Rattle.std.proofs.Common.{◌≡◌, ◌<◌, false, not, get_or, length, rules, ap}
+use Rattle.std.proofs.Common.{◌≡◌, ◌<◌, false, not, get_or, length, rules, ap, arith}
+use Rattle.std.proofs.lemmas.Grind.{common_steps}
 use Rattle.kpn_model.specs.declared.token.Token.{Token}
 use Rattle.kpn_model.specs.declared.token.Token.TheVariants.{Word}
 use Rattle.kpn_tokens.specs.Records.{clips, fits}
@@ -20,3 +21,12 @@ returns-then-not-may_clip-clause-refused c =
       first_misfit = position_at (λ (token : Token). not (fits layout token)) tokens c.loop-place.place (Word 0) within (λ k h. ap not (before k h)) (ap not here);
       appended = c.loop-place.invariant.written;
     })
+
+pub loop-place-preserved : goal.loop-place-preserved
+loop-place-preserved c = grind (arith, common_steps)
+
+pub returns-clause-appends : goal.returns-clause-appends
+returns-clause-appends c = grind (arith, common_steps)
+
+pub returns-clause-clipped : goal.returns-clause-clipped
+returns-clause-clipped c = grind (arith, common_steps)

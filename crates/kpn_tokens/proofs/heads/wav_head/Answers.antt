@@ -1,4 +1,5 @@
 use Rattle.std.proofs.Common.{◌≡◌, ◌<◌, ◌≤◌, ◌+◌, Some, codes, length, rules, sym, arith}
+use Rattle.std.proofs.lemmas.Grind.{common_steps}
 use Rattle.kpn_tokens.specs.Heads.{after_chunk, chunk_size, width_told}
 use Rattle.kpn_tokens.proofs.Chunks.{ends_before, only_one, told_long}
 use Rattle.kpn_tokens.proofs.heads.wav_head.Goals as goal
@@ -43,3 +44,6 @@ returns-then-samples-gt-LONGEST_HEAD c =
           let same : c.in-Some.samples ≡ samples = only_one bytes (codes "data") 12 c.in-Some.samples samples c.in-Some.ensures.0 h in
           omega arith,
     )
+
+pub returns-in-Some-width_told : goal.returns-in-Some-width_told
+returns-in-Some-width_told c = grind (arith, common_steps)

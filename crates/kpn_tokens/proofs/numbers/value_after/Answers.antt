@@ -1,4 +1,5 @@
 use Rattle.std.proofs.Common.{◌≡◌, ◌∷◌, ◌<◌, ◌+◌, ◌*◌, ◌≤◌, suc, drop, drop-cons, get_or, length, arith, rules}
+use Rattle.std.proofs.lemmas.Grind.{common_steps}
 use Rattle.std.proofs.lemmas.List.{drop_all}
 use Rattle.std.specs.Char.{digit_value}
 use Rattle.std.specs.Str.Parse.{digits_value_after}
@@ -28,3 +29,6 @@ returns c =
     let none = drop_all i digits past in
     let same : c.loop-digit.value ≡ digits_value_after base c.args.start digits = rw none at c.loop-digit.invariant.same in
     (rw same at c.loop-digit.invariant.fits, same)
+
+pub loop-digit-preserved : goal.loop-digit-preserved
+loop-digit-preserved c = grind (arith, common_steps)

@@ -1,4 +1,5 @@
 use Rattle.std.proofs.Common.{◌≡◌, ◌-◌, Ok, Err, drop, take, length, length-drop, false, true, slice_index, rules, arith, sym}
+use Rattle.std.proofs.lemmas.Grind.{common_steps}
 use Rattle.std.proofs.lemmas.List.{take_all}
 use Rattle.kpn_tokens.specs.Numbers.{number_said, word_of}
 use Rattle.kpn_tokens.proofs.Words.{fault_is, number_is}
@@ -22,3 +23,6 @@ returns-in-Err c =
     let said : word_of (number_said c.args.places (drop 1 text)) false ≡ Err c.in-Err.fault = rw tail at (sym c.in-Err.ensures) in
     let fault = fault_is (number_said c.args.places (drop 1 text)) c.in-Err.fault said in
     rw minus (sym fault)
+
+pub returns-in-Some-eq43 : goal.returns-in-Some-eq43
+returns-in-Some-eq43 c = grind (arith, common_steps)
