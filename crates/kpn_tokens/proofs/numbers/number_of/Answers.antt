@@ -9,9 +9,6 @@ returns-then-not-has_digit c = grind (arith, common_steps)
 pub returns-then-not-has_only_digits : goal.returns-then-not-has_only_digits
 returns-then-not-has_only_digits c = grind (arith, common_steps)
 
-pub returns-then-contains : goal.returns-then-contains
-returns-then-contains c = grind (arith, common_steps)
-
 pub returns-then-part-places : goal.returns-then-part-places
 returns-then-part-places c = grind (arith, common_steps)
 
