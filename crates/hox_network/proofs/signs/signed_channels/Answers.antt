@@ -1,0 +1,7 @@
+-- Found without an answer too, after a longer search.
+use Rattle.std.proofs.Common.{arith}
+use Rattle.std.proofs.lemmas.Grind.{common_steps}
+use Rattle.hox_network.proofs.signs.signed_channels.Goals as goal
+
+pub loop-channel-preserved : goal.loop-channel-preserved
+loop-channel-preserved c = grind (arith, common_steps)
