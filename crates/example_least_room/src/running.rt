@@ -1,6 +1,6 @@
 //! A run of Parks's case, and how much room it takes.
 ghost use Rattle.std.specs.Prelude.{◌≡◌, ◌≢◌, ℕ, ◌<◌, ◌≤◌, Some, IsSome, count_by, length};
-ghost use Rattle.kpn_model.specs.Network.{family_of};
+ghost use Rattle.kpn_model.specs.Families.{family};
 ghost use Rattle.kpn_model.specs.declared.history.End.TheVariants.{Budget, Ceiling};
 ghost use Rattle.kpn_model.specs.Semantics.{capacity};
 ghost use Rattle.kpn_model.specs.History.{growths};
@@ -22,7 +22,7 @@ use test_laws::worked_room;
 /// 54 entries; and neither the ceiling nor the budget ends the run. It ends because all have stopped,
 /// because none can go on, or because memory for a growth was refused.
 pub fn finish<B: Body>(machine: &mut Machine<B>) -> usize
-    requires standard { (family_of B.Kinds.start B.Kinds.answer_of) ≡ standard }
+    requires standard { (family B.Kinds.Kinds) ≡ standard }
     requires network { machine.old.network ≡ longer_parks_case }
     requires none_out { count_by is_out machine.old.standings ≡ 0 }
     ensures end { IsSome machine.new.end }

@@ -1,6 +1,7 @@
 //! From a description and files of tokens to a picture.
 ghost use Rattle.std.specs.Prelude.{◌≡◌, ◌+◌, IfOk, IfErr, string_bytes};
-ghost use Rattle.kpn_model.specs.Network.{family_of, Network as NetworkV};
+ghost use Rattle.kpn_model.specs.Network.{Network as NetworkV};
+ghost use Rattle.kpn_model.specs.Families.{family};
 ghost use Rattle.kpn_front.specs.Loading.{ConsumesAtMost, longest};
 ghost use Rattle.hox_network.specs.Preparing.{HasFewWorkers, IsFault, Serves};
 ghost use Rattle.hox_draw.specs.Drawing.{Draws, DrawsNet, GivesPicture};
@@ -31,7 +32,7 @@ pub fn draw<K: Computes + Titled, I: Source, R: Wait + Clock + Threads + Sync>(
     source: &mut I,
 ) -> Result<String, Fault>
     requires { HasFewWorkers request.now }
-    ensures served { Serves K.named K.signature (GivesPicture (family_of K.start K.answer_of) K.title direction is_run request.now) (I.remaining source.old) (I.has_failed source.old) (I.has_failed source.new) result }
+    ensures served { Serves K.named K.signature (GivesPicture (family K.Kinds) K.title direction is_run request.now) (I.remaining source.old) (I.has_failed source.old) (I.has_failed source.new) result }
     ensures taken { ConsumesAtMost (longest + 1) (I.remaining source.old) (I.remaining source.new) }
 {
     let prepared: Result<Net<K>, Fault> = prepare(alloc, request, source);
@@ -51,7 +52,7 @@ fn draw_prepared<K: Computes + Titled, R: Wait + Clock + Threads + Sync>(
     is_run: bool,
 ) -> Result<String, Fault>
     requires { HasFewWorkers request.now }
-    ensures drawn { IfOk result (λ picture. Draws (family_of K.start K.answer_of) K.title direction is_run net (string_bytes picture)) }
+    ensures drawn { IfOk result (λ picture. Draws (family K.Kinds) K.title direction is_run net (string_bytes picture)) }
     ensures fault { IfErr result (λ e. (m : NetworkV) → IsFault request.now m e) }
 {
     if !is_run {
@@ -70,7 +71,7 @@ fn draw_net<K: Titled>(
     net: &Net<K>,
     direction: Direction,
 ) -> Result<String, AllocError>
-    ensures { IfOk result (λ picture. DrawsNet (family_of K.start K.answer_of) K.title direction net.now (string_bytes picture)) }
+    ensures { IfOk result (λ picture. DrawsNet (family K.Kinds) K.title direction net.now (string_bytes picture)) }
 {
     let start = Left {
         places: &[],

@@ -1,6 +1,6 @@
 //! Running a network, and drawing it as the run left it.
 ghost use Rattle.std.specs.Prelude.{◌≡◌, ◌<◌, ◌≤◌, Err, IfOk, IsSome, map, string_bytes};
-ghost use Rattle.kpn_model.specs.Network.{family_of};
+ghost use Rattle.kpn_model.specs.Families.{family};
 ghost use Rattle.hox_draw.specs.Drawing.{DrawsRun, report_picture};
 
 use hox_network::RunFault;
@@ -30,7 +30,7 @@ pub(crate) fn draw_run<K: Computes + Titled, R: Wait + Clock + Threads + Sync>(
     workers: usize,
 ) -> Result<String, RunFault>
     requires { (1 ≤ workers) × (workers ≤ 16) }
-    ensures drawn { IfOk result (λ picture. DrawsRun (family_of K.start K.answer_of) K.title direction net (string_bytes picture)) }
+    ensures drawn { IfOk result (λ picture. DrawsRun (family K.Kinds) K.title direction net (string_bytes picture)) }
     ensures lost { result ≡ Err RunFault.Lost → 1 < workers }
 {
     let Ok(bodies) = bodies_of(alloc, &net) else {
@@ -50,7 +50,7 @@ fn draw_alone<K: Computes + Titled>(
     bodies: Vec<CardBody<K>>,
     direction: Direction,
 ) -> Result<String, AllocError>
-    ensures { IfOk result (λ picture. DrawsRun (family_of K.start K.answer_of) K.title direction net (string_bytes picture)) }
+    ensures { IfOk result (λ picture. DrawsRun (family K.Kinds) K.title direction net (string_bytes picture)) }
 {
     let Ok(mut machine) = Machine::open(alloc, net, bodies) else {
         return Err(AllocError);
@@ -70,7 +70,7 @@ fn draw_by_workers<K: Computes + Titled, R: Wait + Clock + Threads + Sync>(
 ) -> Result<String, RunFault>
     requires cards { map ⟦<CardBody<K> as Body>⟧.card bodies.items ≡ map (λ p. p.card) net.processes }
     requires workers { (1 < workers) × (workers ≤ 16) }
-    ensures { IfOk result (λ picture. DrawsRun (family_of K.start K.answer_of) K.title direction net (string_bytes picture)) }
+    ensures { IfOk result (λ picture. DrawsRun (family K.Kinds) K.title direction net (string_bytes picture)) }
 {
     match run(rt, alloc, net, bodies, workers, &Prompt) {
         Ok(finish) => {
@@ -90,7 +90,7 @@ fn picture_of_run<K: Titled>(
     direction: Direction,
 ) -> Result<String, AllocError>
     requires { IsSome chronicle.now.end }
-    ensures { IfOk result (λ picture. DrawsRun (family_of K.start K.answer_of) K.title direction chronicle.now.network (string_bytes picture)) }
+    ensures { IfOk result (λ picture. DrawsRun (family K.Kinds) K.title direction chronicle.now.network (string_bytes picture)) }
 {
     let Some(end) = chronicle.end() else {
         unreachable!()
@@ -110,7 +110,7 @@ fn picture_of_report<K: Titled>(
     direction: Direction,
     report: &Report,
 ) -> Result<String, AllocError>
-    ensures { IfOk result (λ picture. string_bytes picture ≡ report_picture (family_of K.start K.answer_of) K.title direction net.now report.now.end report.now.detail) }
+    ensures { IfOk result (λ picture. string_bytes picture ≡ report_picture (family K.Kinds) K.title direction net.now report.now.end report.now.detail) }
 {
     let left = match &report.detail {
         Some(detail) => Left {

@@ -1,6 +1,6 @@
 //! Drawing a network.
 ghost use Rattle.std.specs.Prelude.{◌≡◌, ◌≤◌, [], IfOk, IfErr, OnErr, map};
-ghost use Rattle.kpn_model.specs.Network.{family_of};
+ghost use Rattle.kpn_model.specs.Families.{family};
 ghost use Rattle.hox_draw.specs.Drawing.{GivesPicture};
 ghost use Rattle.hox_network.specs.Preparing.{HasFewWorkers};
 ghost use Rattle.hox_execute.specs.Commands.{HasDrawn, IsStop};
@@ -36,7 +36,7 @@ pub(crate) fn draw<'a, K: Computes + Titled, S: FileSystem, R: Wait + Clock + Th
     is_run: bool,
 ) -> Result<Status, Stop<'a>>
     requires { (1 ≤ wanted.workers) × (wanted.workers ≤ 16) }
-    ensures done { IfOk result (λ status. HasDrawn K.named K.signature (S.contents files.old) (S.clash files.old) (want_of wanted.entry) (map (λ t. t.now) tokens.now) [] (S.is_steady files.old) (S.effects files.old) (S.effects files.new) status (family_of K.start K.answer_of) K.title direction is_run) }
+    ensures done { IfOk result (λ status. HasDrawn K.named K.signature (S.contents files.old) (S.clash files.old) (want_of wanted.entry) (map (λ t. t.now) tokens.now) [] (S.is_steady files.old) (S.effects files.old) (S.effects files.new) status (family K.Kinds) K.title direction is_run) }
     ensures stop { IfErr result (IsStop K.named K.signature (S.contents files.old) (S.clash files.old) (want_of wanted.entry) (map (λ t. t.now) tokens.now) []) }
     ensures untouched { OnErr result (S.effects files.new ≡ S.effects files.old) }
 {
@@ -72,7 +72,7 @@ fn drawn<K: Computes + Titled, S: FileSystem, R: Wait + Clock + Threads + Sync>(
     is_run: bool,
 ) -> Result<String, Unserved>
     requires { HasFewWorkers request.now }
-    ensures { ServesNamed (S.contents files.now) K.named K.signature (GivesPicture (family_of K.start K.answer_of) K.title direction is_run request.now) name.now result }
+    ensures { ServesNamed (S.contents files.now) K.named K.signature (GivesPicture (family K.Kinds) K.title direction is_run request.now) name.now result }
 {
     let mut source = match files.open(name) {
         Ok(source) => Watched::new(source),

@@ -1,6 +1,6 @@
 //! Running a network.
 ghost use Rattle.std.specs.Prelude.{◌≡◌, ◌≤◌, IfOk, IfErr, OnErr, map};
-ghost use Rattle.kpn_model.specs.Network.{family_of};
+ghost use Rattle.kpn_model.specs.Families.{family};
 ghost use Rattle.hox_network.specs.Preparing.{HasFewWorkers};
 ghost use Rattle.hox_run.specs.Serving.{GivesRun};
 ghost use Rattle.hox_execute.specs.Commands.{HasRun, IsStop};
@@ -49,7 +49,7 @@ pub(crate) fn run<'a, K: Computes, S: FileSystem, R: Wait + Clock + Threads + Sy
     progress: &P,
 ) -> Result<Ran<'a>, Stop<'a>>
     requires { (1 ≤ wanted.workers) × (wanted.workers ≤ 16) }
-    ensures done { IfOk result (λ ran. HasRun K.named K.signature (S.contents files.old) (S.clash files.old) (want_of wanted.entry) (map (λ t. t.now) tokens.now) (map (λ t. t.now) outputs.now) (S.is_steady files.old) (S.effects files.old) (S.effects files.new) (family_of K.start K.answer_of) ran) }
+    ensures done { IfOk result (λ ran. HasRun K.named K.signature (S.contents files.old) (S.clash files.old) (want_of wanted.entry) (map (λ t. t.now) tokens.now) (map (λ t. t.now) outputs.now) (S.is_steady files.old) (S.effects files.old) (S.effects files.new) (family K.Kinds) ran) }
     ensures stop { IfErr result (IsStop K.named K.signature (S.contents files.old) (S.clash files.old) (want_of wanted.entry) (map (λ t. t.now) tokens.now) (map (λ t. t.now) outputs.now)) }
     ensures untouched { OnErr result (S.effects files.new ≡ S.effects files.old) }
 {
@@ -123,7 +123,7 @@ fn told_of<K: Computes, S: FileSystem, R: Wait + Clock + Threads + Sync, P: Prog
     progress: &P,
 ) -> Result<Told, Unserved>
     requires { HasFewWorkers request.now }
-    ensures { ServesNamed (S.contents files.now) K.named K.signature (GivesRun (family_of K.start K.answer_of) request.now) name.now result }
+    ensures { ServesNamed (S.contents files.now) K.named K.signature (GivesRun (family K.Kinds) request.now) name.now result }
 {
     let mut source = match files.open(name) {
         Ok(source) => Watched::new(source),

@@ -2,7 +2,7 @@
 ghost use Rattle.std.specs.Prelude.{◌≡◌, ◌≤◌, IfOk, IfErr, IfSome, MatchResult, None, false, OnErr, [], is_some, map, option_map};
 ghost use Rattle.kpn_front.specs.declared.status.Status.{Status as StatusV};
 ghost use Rattle.hox_execute.specs.declared.running.Ran.{Ran as RanV};
-ghost use Rattle.kpn_model.specs.Network.{family_of};
+ghost use Rattle.kpn_model.specs.Families.{family};
 ghost use Rattle.hox_args.specs.HoxChoices.{HasFewHoxWorkers};
 ghost use Rattle.hox_execute.specs.Program.{Does, DrawsChoice, IsDrawStop, IsProgramStop, IsRunStop, IsStopIn, RunsChoice, Serves, want_in, want_of_run};
 ghost use Rattle.hox_execute.specs.Requests.{want_of};
@@ -56,7 +56,7 @@ pub fn execute<
     arguments: &'a [&'a str],
     progress: &P,
 ) -> Result<Outcome<'a>, Stop<'a>>
-    ensures done { IfOk result (Serves (family_of K.start K.answer_of) K.named K.signature (S.contents files.old) (S.clash files.old) (S.is_steady files.old) (S.effects files.old) (S.effects files.new) K.title (map (λ w. w.now) arguments.entry.now)) }
+    ensures done { IfOk result (Serves (family K.Kinds) K.named K.signature (S.contents files.old) (S.clash files.old) (S.is_steady files.old) (S.effects files.old) (S.effects files.new) K.title (map (λ w. w.now) arguments.entry.now)) }
     ensures stop { IfErr result (IsProgramStop K.named K.signature (S.contents files.old) (S.clash files.old) (map (λ w. w.now) arguments.entry.now)) }
     ensures untouched { OnErr result (S.effects files.new ≡ S.effects files.old) }
 {
@@ -81,7 +81,7 @@ fn execute_choice<
     progress: &P,
 ) -> Result<Outcome<'a>, Stop<'a>>
     requires { HasFewHoxWorkers choice }
-    ensures done { IfOk result (Does (family_of K.start K.answer_of) K.named K.signature (S.contents files.old) (S.clash files.old) (S.is_steady files.old) (S.effects files.old) (S.effects files.new) K.title choice.entry) }
+    ensures done { IfOk result (Does (family K.Kinds) K.named K.signature (S.contents files.old) (S.clash files.old) (S.is_steady files.old) (S.effects files.old) (S.effects files.new) K.title choice.entry) }
     ensures stop { IfErr result (IsStopIn K.named K.signature (S.contents files.old) (S.clash files.old) choice.entry) }
     ensures untouched { OnErr result (S.effects files.new ≡ S.effects files.old) }
 {
@@ -140,7 +140,7 @@ fn run_choice<'a, K: Computes, S: FileSystem, R: Wait + Clock + Threads + Sync, 
     progress: &P,
 ) -> Result<Ran<'a>, Stop<'a>>
     requires { (1 ≤ choice.now.workers) × (choice.now.workers ≤ 16) }
-    ensures done { IfOk result (λ ran. RunsChoice (family_of K.start K.answer_of) K.named K.signature (S.contents files.old) (S.clash files.old) (S.is_steady files.old) (S.effects files.old) (S.effects files.new) choice.now ran) }
+    ensures done { IfOk result (λ ran. RunsChoice (family K.Kinds) K.named K.signature (S.contents files.old) (S.clash files.old) (S.is_steady files.old) (S.effects files.old) (S.effects files.new) choice.now ran) }
     ensures stop { IfErr result (IsRunStop K.named K.signature (S.contents files.old) (S.clash files.old) choice.now) }
     ensures untouched { OnErr result (S.effects files.new ≡ S.effects files.old) }
 {
@@ -183,7 +183,7 @@ fn draw_choice<'a, K: Computes + Titled, S: FileSystem, R: Wait + Clock + Thread
     choice: &DrawChoice<'a>,
 ) -> Result<Status, Stop<'a>>
     requires { IfSome choice.now.workers (λ n. (1 ≤ n) × (n ≤ 16)) }
-    ensures done { IfOk result (DrawsChoice (family_of K.start K.answer_of) K.named K.signature (S.contents files.old) (S.clash files.old) (S.is_steady files.old) (S.effects files.old) (S.effects files.new) K.title choice.now) }
+    ensures done { IfOk result (DrawsChoice (family K.Kinds) K.named K.signature (S.contents files.old) (S.clash files.old) (S.is_steady files.old) (S.effects files.old) (S.effects files.new) K.title choice.now) }
     ensures stop { IfErr result (IsDrawStop K.named K.signature (S.contents files.old) (S.clash files.old) choice.now) }
     ensures untouched { OnErr result (S.effects files.new ≡ S.effects files.old) }
 {

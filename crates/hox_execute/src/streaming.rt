@@ -3,7 +3,7 @@ ghost use Rattle.std.specs.Prelude.{◌≡◌, IfOk, IfErr, IfSome, map};
 ghost use Rattle.std.specs.List.{AllZip};
 ghost use Rattle.hox_format.specs.Resuming.{left_of, resumed_has_failed};
 ghost use Rattle.hox_execute.specs.Reports.{first_rate};
-ghost use Rattle.kpn_model.specs.Network.{family_of};
+ghost use Rattle.kpn_model.specs.Families.{family};
 ghost use Rattle.hox_stream.specs.Serves.{Serves, new_inlets, new_outs};
 ghost use Rattle.hox_stream.specs.Views.{outs};
 ghost use Rattle.hox_execute.specs.Pairs.{AreUsable, channels_of};
@@ -94,8 +94,8 @@ pub fn stream<'a, K: Computes, S: FileSystem>(
     files: &S,
     choice: &StreamChoice<'a>,
 ) -> Result<Streamed<'a, Both<K, Exits>, Resumed<S::Input>, S::Output>, StreamStop<'a>>
-    ensures done { IfOk result (λ s. StreamsBetween (family_of K.start K.answer_of) K.named K.signature (S.contents files.now) (S.clash files.now) choice.now s.ends s.served.flow s.served.inlets.items (outs s.served.outlets.items s.served.tables.items) s.served.finish) }
-    ensures stop { IfErr result (IsStreamStop (family_of K.start K.answer_of) K.named K.signature (S.contents files.now) (S.clash files.now) choice.now) }
+    ensures done { IfOk result (λ s. StreamsBetween (family K.Kinds) K.named K.signature (S.contents files.now) (S.clash files.now) choice.now s.ends s.served.flow s.served.inlets.items (outs s.served.outlets.items s.served.tables.items) s.served.finish) }
+    ensures stop { IfErr result (IsStreamStop (family K.Kinds) K.named K.signature (S.contents files.now) (S.clash files.now) choice.now) }
 {
     let ends = ends_of(alloc, files, choice)?;
     let file = name_of(choice.file);
@@ -184,8 +184,8 @@ fn opened<K: Computes, S: FileSystem>(
     name: &str,
     ends: &Ends<'_>,
 ) -> Result<OpenStream<Both<K, Exits>>, Unopened>
-    ensures ok { IfOk result (Opens (family_of K.start K.answer_of) K.named K.signature (S.contents files.now) name.now ends.now) }
-    ensures fault { IfErr result (IsUnopened (family_of K.start K.answer_of) K.named K.signature (S.contents files.now) name.now ends.now) }
+    ensures ok { IfOk result (Opens (family K.Kinds) K.named K.signature (S.contents files.now) name.now ends.now) }
+    ensures fault { IfErr result (IsUnopened (family K.Kinds) K.named K.signature (S.contents files.now) name.now ends.now) }
 {
     match described_in::<K, S>(alloc, files, name) {
         Ok(described) => open_described::<K>(alloc, described, ends),
@@ -206,8 +206,8 @@ fn open_described<K: Computes>(
     described: Described,
     ends: &Ends<'_>,
 ) -> Result<OpenStream<Both<K, Exits>>, Unopened>
-    ensures ok { IfOk result (StartsBetween (family_of K.start K.answer_of) K.named described.sketch ends.now) }
-    ensures fault { IfErr result (IsFaultyBetween (family_of K.start K.answer_of) K.named K.signature described.sketch ends.now) }
+    ensures ok { IfOk result (StartsBetween (family K.Kinds) K.named described.sketch ends.now) }
+    ensures fault { IfErr result (IsFaultyBetween (family K.Kinds) K.named K.signature described.sketch ends.now) }
 {
     let Described { sketch, channels } = described;
     let (Ok(fed), Ok(drained)) = (
@@ -302,7 +302,7 @@ fn run_between<'a, F: Computes, S: FileSystem>(
     ends: Ends<'a>,
     start: OpenStream<F>,
 ) -> Result<Streamed<'a, F, Resumed<S::Input>, S::Output>, StreamStop<'a>>
-    ensures done { IfOk result (λ s. (s.ends ≡ ends.entry) × RunsBetween (family_of F.start F.answer_of) (S.contents files.now) ends.entry start s.served.flow s.served.inlets.items (outs s.served.outlets.items s.served.tables.items) s.served.finish) }
+    ensures done { IfOk result (λ s. (s.ends ≡ ends.entry) × RunsBetween (family F.Kinds) (S.contents files.now) ends.entry start s.served.flow s.served.inlets.items (outs s.served.outlets.items s.served.tables.items) s.served.finish) }
     ensures stop { IfErr result (IsUnfit ends.entry) }
 {
     let sources = sources_of(alloc, files, ends.inputs.as_slice())?;
@@ -321,7 +321,7 @@ fn run_opened<'a, F: Computes, I: Source + Drop, O: Sink + Drop>(
     sinks: Vec<LaidOut<O>>,
     tables: Vec<LaidTable<O>>,
 ) -> Result<Streamed<'a, F, Resumed<I>, O>, StreamStop<'a>>
-    ensures done { IfOk result (λ s. (s.ends ≡ ends.entry) × Serves (family_of F.start F.answer_of) start s.served.flow (new_inlets (left_of I.remaining) (resumed_has_failed I.has_failed) start.network start.inputs (map laid_source sources.items)) s.served.inlets.items (new_outs O.seen start.outputs sinks.items tables.items) (outs s.served.outlets.items s.served.tables.items) s.served.finish) }
+    ensures done { IfOk result (λ s. (s.ends ≡ ends.entry) × Serves (family F.Kinds) start s.served.flow (new_inlets (left_of I.remaining) (resumed_has_failed I.has_failed) start.network start.inputs (map laid_source sources.items)) s.served.inlets.items (new_outs O.seen start.outputs sinks.items tables.items) (outs s.served.outlets.items s.served.tables.items) s.served.finish) }
     ensures stop { IfErr result (IsUnfit ends.entry) }
 {
     let Ok(sources) = laid_out(alloc, sources) else {

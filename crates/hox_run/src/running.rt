@@ -1,7 +1,7 @@
 //! Running a network.
 ghost use Rattle.std.specs.Prelude.{◌≡◌, ◌≢◌, ◌+◌, ◌<◌, ◌≤◌, ℕ, IfOk, IsSome, None, Err, length, map};
 ghost use Rattle.std.specs.List.{All};
-ghost use Rattle.kpn_model.specs.Network.{family_of};
+ghost use Rattle.kpn_model.specs.Families.{family};
 ghost use Rattle.kpn_state.specs.declared.standing.Standing.TheVariants.{Out};
 ghost use Rattle.kpn_state.specs.Standings.{standing};
 ghost use Rattle.hox_run.specs.Cuts.{IsWithin};
@@ -53,7 +53,7 @@ pub fn execute<K: Computes, R: Wait + Clock + Threads + Sync, P: Progress>(
 ) -> Result<Told, RunFault>
     requires workers { (1 ≤ workers) × (workers ≤ 16) }
     requires within { All (IsWithin net) outputs.now }
-    ensures told { IfOk result (TellsRun (family_of K.start K.answer_of) net show.now outputs.now) }
+    ensures told { IfOk result (TellsRun (family K.Kinds) net show.now outputs.now) }
     ensures lost { result ≡ Err RunFault.Lost → 1 < workers }
 {
     let Ok(bodies) = bodies_of(alloc, &net) else {
@@ -78,7 +78,7 @@ fn execute_alone<K: Computes, P: Progress>(
     progress: &P,
 ) -> Result<Told, AllocError>
     requires within { All (IsWithin net) outputs.now }
-    ensures { IfOk result (TellsRun (family_of K.start K.answer_of) net show.now outputs.now) }
+    ensures { IfOk result (TellsRun (family K.Kinds) net show.now outputs.now) }
 {
     let Ok(mut machine) = Machine::<CardBody<K>, Tallied>::open_with_keeper(alloc, net, bodies)
     else {
@@ -127,7 +127,7 @@ fn execute_by_workers<K: Computes, R: Wait + Clock + Threads + Sync>(
     requires cards { map ⟦<CardBody<K> as Body>⟧.card bodies.items ≡ map (λ p. p.card) net.processes }
     requires workers { (1 < workers) × (workers ≤ 16) }
     requires within { All (IsWithin net) outputs.now }
-    ensures { IfOk result (TellsRun (family_of K.start K.answer_of) net show.now outputs.now) }
+    ensures { IfOk result (TellsRun (family K.Kinds) net show.now outputs.now) }
 {
     match run_with_keeper::<CardBody<K>, Tallied, R, Prompt>(
         rt, alloc, net, bodies, workers, &Prompt,
@@ -160,7 +160,7 @@ fn execute_watched<K: Computes, R: Wait + Clock + Threads + Sync, P: Progress>(
     requires cards { map ⟦<CardBody<K> as Body>⟧.card bodies.items ≡ map (λ p. p.card) net.processes }
     requires workers { (1 < workers) × (workers ≤ 16) }
     requires within { All (IsWithin net) outputs.now }
-    ensures { IfOk result (TellsRun (family_of K.start K.answer_of) net show.now outputs.now) }
+    ensures { IfOk result (TellsRun (family K.Kinds) net show.now outputs.now) }
 {
     let observer = OnBoard { progress };
     let period = Duration::from_millis(PERIOD);
@@ -185,7 +185,7 @@ fn told_of_watched<K: Computes>(
     outputs: &[ChannelAs<Layout>],
 ) -> Result<Told, RunFault>
     requires within { All (IsWithin ran.now.machine.network) outputs.now }
-    ensures { IfOk result (TellsRun (family_of K.start K.answer_of) ran.now.machine.network show.now outputs.now) }
+    ensures { IfOk result (TellsRun (family K.Kinds) ran.now.machine.network show.now outputs.now) }
 {
     if ran.end().is_none() {
         return Err(RunFault::Lost);

@@ -1,7 +1,8 @@
 //! Running a described network as it is asked for, from bytes to bytes.
 ghost use Rattle.std.specs.Prelude.{◌≡◌, ◌<◌, ◌+◌, ◌⊎◌, ℕ, IfOk, IfErr, IfNone, IfSome, MatchResult, None, length};
 ghost use Rattle.std.specs.List.{All};
-ghost use Rattle.kpn_model.specs.Network.{family_of, number_of_channel, Network as NetworkV};
+ghost use Rattle.kpn_model.specs.Network.{number_of_channel, Network as NetworkV};
+ghost use Rattle.kpn_model.specs.Families.{family};
 ghost use Rattle.kpn_front.specs.Loading.{ConsumesAtMost, longest};
 ghost use Rattle.hox_network.specs.Preparing.{HasFewWorkers, LacksChannel, Prepares, Serves, channel_names};
 ghost use Rattle.hox_run.specs.Cuts.{IsWithin};
@@ -35,7 +36,7 @@ pub fn serve<K: Computes, I: Source, R: Wait + Clock + Threads + Sync, P: Progre
     progress: &P,
 ) -> Result<Told, Fault>
     requires { HasFewWorkers request.now }
-    ensures served { Serves K.named K.signature (GivesRun (family_of K.start K.answer_of) request.now) (I.remaining source.old) (I.has_failed source.old) (I.has_failed source.new) result }
+    ensures served { Serves K.named K.signature (GivesRun (family K.Kinds) request.now) (I.remaining source.old) (I.has_failed source.old) (I.has_failed source.new) result }
     ensures taken { ConsumesAtMost (longest + 1) (I.remaining source.old) (I.remaining source.new) }
 {
     let prepared: Result<Net<K>, Fault> = prepare(alloc, request, source);
@@ -54,7 +55,7 @@ fn serve_prepared<K: Computes, R: Wait + Clock + Threads + Sync, P: Progress>(
     progress: &P,
 ) -> Result<Told, Fault>
     requires { HasFewWorkers request.now }
-    ensures { (loaded : NetworkV) → Prepares request.now loaded net → GivesRun (family_of K.start K.answer_of) request.now loaded result }
+    ensures { (loaded : NetworkV) → Prepares request.now loaded net → GivesRun (family K.Kinds) request.now loaded result }
 {
     let show = shown_in(alloc, &net, request.show.as_slice())?;
     let outputs = outputs_in(alloc, &net, request.outputs.as_slice())?;

@@ -1,7 +1,8 @@
 //! What is told of a run that ended.
 ghost use Rattle.std.specs.Prelude.{◌≡◌, ◌<◌, ◌++◌, ℕ, true, None, IfOk, IsSome, OnOk, string_bytes};
 ghost use Rattle.std.specs.List.{All, list_any};
-ghost use Rattle.kpn_model.specs.Network.{Family, family_of};
+ghost use Rattle.kpn_model.specs.Network.{Family};
+ghost use Rattle.kpn_model.specs.Families.{family};
 ghost use Rattle.kpn_model.specs.Semantics.{State};
 ghost use Rattle.kpn_model.specs.Endings.{has_report};
 ghost use Rattle.kpn_model.specs.Verdicts.{IsVerdict};
@@ -56,7 +57,7 @@ pub(crate) fn told_of<K: Kinds, H: Keeper, E: Entries>(
     requires ended { IsSome chronicle.now.end }
     requires entries { E.entries history.now ≡ chronicle.now.history }
     requires within { All (IsWithin chronicle.now.network) outputs.now }
-    ensures { IfOk result (TellsRun (family_of K.start K.answer_of) chronicle.now.network show.now outputs.now) }
+    ensures { IfOk result (TellsRun (family K.Kinds) chronicle.now.network show.now outputs.now) }
 {
     let Some(end) = chronicle.end() else {
         unreachable!()

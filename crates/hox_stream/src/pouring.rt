@@ -1,7 +1,8 @@
 //! From a source into its channel.
 ghost use Rattle.std.specs.Prelude.{◌≡◌, ◌≢◌, ◌<◌, true, false, [], Err, IsTrue, IfOk, IfSome, IfNone, ◌≤◌, ℕ, List, length, map};
 ghost use Rattle.std.specs.Io.KnownBytes.{IsAtEnd};
-ghost use Rattle.kpn_model.specs.Network.{channel_of, family_of};
+ghost use Rattle.kpn_model.specs.Network.{channel_of};
+ghost use Rattle.kpn_model.specs.Families.{family};
 ghost use Rattle.kpn_tokens.specs.Records.{listed};
 ghost use Rattle.kpn_flow.specs.Events.{Fed, Flows};
 ghost use Rattle.kpn_flow.specs.Flows.{IsSameFlow, is_among, with_ended};
@@ -28,7 +29,7 @@ use std::alloc::Global;
 /// Feeds what a record said, if there is room, and returns whether that was done.
 fn feed_said<B: Body>(flow: &mut Flow<B>, channel: usize, said: Option<Token>) -> bool
     ensures same { IsSameFlow flow.old flow.new }
-    ensures flows { IsTrue result → Flows (family_of B.Kinds.start B.Kinds.answer_of) flow.old.network flow.old.state (map (λ token. Fed channel token) (listed said)) flow.new.state }
+    ensures flows { IsTrue result → Flows (family B.Kinds.Kinds) flow.old.network flow.old.state (map (λ token. Fed channel token) (listed said)) flow.new.state }
     ensures at_ends { IsTrue result → IsAtEnds (is_among flow.old.inputs) (is_among flow.old.outputs) (map (λ token. Fed channel token) (listed said)) }
     ensures not { result ≡ false → flow.new ≡ flow.old }
 {
@@ -49,7 +50,7 @@ fn take_said<B: Body, S: Source>(
 ) -> bool
     requires next { IsNext inlet.old.layout inlet.old.sort inlet.old.kept inlet.old.is_over (Next.Record said used) }
     requires at_end { inlet.old.is_over ≡ true → IsAtEnd inlet.old.remaining }
-    ensures pours { Pours (family_of B.Kinds.start B.Kinds.answer_of) flow.old flow.new inlet.old inlet.new }
+    ensures pours { Pours (family B.Kinds.Kinds) flow.old flow.new inlet.old inlet.new }
     ensures unread { IsNotRead inlet.old inlet.new }
 {
     if !feed_said(flow, inlet.channel(), said) {
@@ -62,7 +63,7 @@ fn take_said<B: Body, S: Source>(
 /// Takes the next record of a source and feeds its token, if there is room and a record. Returns whether that was
 /// done. Where there is no room, no record is read.
 fn take_record<B: Body, S: Source>(alloc: Global, flow: &mut Flow<B>, inlet: &mut Inlet<S>) -> bool
-    ensures pours { Pours (family_of B.Kinds.start B.Kinds.answer_of) flow.old flow.new inlet.old inlet.new }
+    ensures pours { Pours (family B.Kinds.Kinds) flow.old flow.new inlet.old inlet.new }
     ensures unread { IsNotRead inlet.old inlet.new }
 {
     if !flow.has_room(inlet.channel()) {
@@ -85,7 +86,7 @@ fn take_records<B: Body, S: Source>(
 )
     requires next { IsNext inlet.old.layout inlet.old.sort inlet.old.kept inlet.old.is_over (Next.Record said used) }
     requires at_end { inlet.old.is_over ≡ true → IsAtEnd inlet.old.remaining }
-    ensures pours { Pours (family_of B.Kinds.start B.Kinds.answer_of) flow.old flow.new inlet.old inlet.new }
+    ensures pours { Pours (family B.Kinds.Kinds) flow.old flow.new inlet.old inlet.new }
     ensures unread { IsNotRead inlet.old inlet.new }
 {
     if !take_said(flow, inlet, said, used) {
@@ -96,7 +97,7 @@ fn take_records<B: Body, S: Source>(
 
 /// Takes one record after another of a source and feeds their tokens, as long as there are room and records.
 fn take_more<B: Body, S: Source>(alloc: Global, flow: &mut Flow<B>, inlet: &mut Inlet<S>)
-    ensures pours { Pours (family_of B.Kinds.start B.Kinds.answer_of) flow.old flow.new inlet.old inlet.new }
+    ensures pours { Pours (family B.Kinds.Kinds) flow.old flow.new inlet.old inlet.new }
     ensures unread { IsNotRead inlet.old inlet.new }
 {
     let mut room = capacity_of(flow.net(), inlet.channel());
@@ -117,7 +118,7 @@ fn take_some<B: Body, S: Source>(
     inlet: &mut Inlet<S>,
     most: usize,
 ) -> usize
-    ensures pours { Pours (family_of B.Kinds.start B.Kinds.answer_of) flow.old flow.new inlet.old inlet.new }
+    ensures pours { Pours (family B.Kinds.Kinds) flow.old flow.new inlet.old inlet.new }
     ensures unread { IsNotRead inlet.old inlet.new }
 {
     if !flow.has_room(inlet.channel()) {
@@ -145,7 +146,7 @@ const BATCH: usize = 64;
 /// Takes the next records of a source, so many at most, that say a token each, and feeds as many of these as there is
 /// room for. Returns how many records were taken.
 fn take_batch<B: Body, S: Source>(flow: &mut Flow<B>, inlet: &mut Inlet<S>, most: usize) -> usize
-    ensures pours { Pours (family_of B.Kinds.start B.Kinds.answer_of) flow.old flow.new inlet.old inlet.new }
+    ensures pours { Pours (family B.Kinds.Kinds) flow.old flow.new inlet.old inlet.new }
     ensures unread { IsNotRead inlet.old inlet.new }
 {
     let channel = inlet.channel();
@@ -189,7 +190,7 @@ fn pour<B: Body, S: Source>(
     inlet: &mut Inlet<S>,
 ) -> Result<(), PourFault>
     requires { is_among flow.old.unended inlet.old.channel ≡ true }
-    ensures pours { Pours (family_of B.Kinds.start B.Kinds.answer_of) flow.old flow.new inlet.old inlet.new }
+    ensures pours { Pours (family B.Kinds.Kinds) flow.old flow.new inlet.old inlet.new }
     ensures read { IfOk result (λ _. wants_more inlet.old ≡ true → IsReadOnce inlet.old inlet.new) }
     ensures only_if_wanted { wants_more inlet.old ≡ false → IsNotRead inlet.old inlet.new }
     ensures ended { inlet.old.is_over ≡ true → inlet.old.kept ≡ [] → flow.new ≡ with_ended flow.old inlet.old.channel }
@@ -247,8 +248,8 @@ fn pour_at<B: Body, S: Source>(
 ) -> Option<Finish>
     requires within { k < length inlets.old }
     requires input { is_among flow.old.unended (inlet_at inlets.old k).channel ≡ true }
-    ensures streams { (outs : OutsView) → Streams (family_of B.Kinds.start B.Kinds.answer_of) flow.old flow.new inlets.old inlets.new outs outs }
-    ensures finish { IfSome result (λ f. (outs : OutsView) → IsFinish (family_of B.Kinds.start B.Kinds.answer_of) flow.new inlets.new outs f) }
+    ensures streams { (outs : OutsView) → Streams (family B.Kinds.Kinds) flow.old flow.new inlets.old inlets.new outs outs }
+    ensures finish { IfSome result (λ f. (outs : OutsView) → IsFinish (family B.Kinds.Kinds) flow.new inlets.new outs f) }
     ensures read { IfNone result (wants_more (inlet_at inlets.old k) ≡ true → IsReadOnce (inlet_at inlets.old k) (inlet_at inlets.new k)) }
     ensures only_if_wanted { AreReadIfWanted inlets.old inlets.new }
     ensures others { (j : ℕ) → (j ≡ k → ⊥) → inlet_at inlets.new j ≡ inlet_at inlets.old j }
@@ -314,8 +315,8 @@ pub(crate) fn pour_next<B: Body, S: Source>(
     inlets: &mut [Inlet<S>],
     turn: &mut usize,
 ) -> Option<Finish>
-    ensures streams { (outs : OutsView) → Streams (family_of B.Kinds.start B.Kinds.answer_of) flow.old flow.new inlets.old inlets.new outs outs }
-    ensures finish { IfSome result (λ f. (outs : OutsView) → IsFinish (family_of B.Kinds.start B.Kinds.answer_of) flow.new inlets.new outs f) }
+    ensures streams { (outs : OutsView) → Streams (family B.Kinds.Kinds) flow.old flow.new inlets.old inlets.new outs outs }
+    ensures finish { IfSome result (λ f. (outs : OutsView) → IsFinish (family B.Kinds.Kinds) flow.new inlets.new outs f) }
     ensures takes_turn { IfNone result (TakesTurn flow.old inlets.old inlets.new turn.old turn.new) }
     ensures only_if_wanted { AreReadIfWanted inlets.old inlets.new }
 {

@@ -1,6 +1,7 @@
 //! A stream from its start to its end.
 ghost use Rattle.std.specs.Prelude.{◌≡◌, IfOk};
-ghost use Rattle.kpn_model.specs.Network.{channel_of, family_of};
+ghost use Rattle.kpn_model.specs.Network.{channel_of};
+ghost use Rattle.kpn_model.specs.Families.{family};
 ghost use Rattle.hox_stream.specs.Serves.{Serves, new_inlet, new_inlets, new_outs};
 ghost use Rattle.hox_stream.specs.Views.{outs};
 
@@ -72,7 +73,7 @@ pub fn serve<F: Computes, I: Source + Drop, O: Sink + Drop>(
     sinks: Vec<LaidOut<O>>,
     tables: Vec<LaidTable<O>>,
 ) -> Result<Served<F, I, O>, AllocError>
-    ensures { IfOk result (λ r. Serves (family_of F.start F.answer_of) opened r.flow (new_inlets I.remaining I.has_failed opened.network opened.inputs sources.items) r.inlets.items (new_outs O.seen opened.outputs sinks.items tables.items) (outs r.outlets.items r.tables.items) r.finish) }
+    ensures { IfOk result (λ r. Serves (family F.Kinds) opened r.flow (new_inlets I.remaining I.has_failed opened.network opened.inputs sources.items) r.inlets.items (new_outs O.seen opened.outputs sinks.items tables.items) (outs r.outlets.items r.tables.items) r.finish) }
 {
     let Ports {
         mut inlets,

@@ -2,7 +2,8 @@
 ghost use Rattle.std.specs.Prelude.{◌≡◌, ◌<◌, ◌⊎◌, false, [], Some, IfOk, IfErr, IfSome, length, map, get_or};
 ghost use Rattle.std.specs.List.{list_any};
 ghost use Rattle.kpn_compute.specs.Both.{both_family, both_named, both_ports};
-ghost use Rattle.kpn_model.specs.Network.{channel_of, family_of, number_of_channel};
+ghost use Rattle.kpn_model.specs.Network.{channel_of, number_of_channel};
+ghost use Rattle.kpn_model.specs.Families.{family};
 ghost use Rattle.kpn_flow.specs.Ends.{is_no_channel};
 ghost use Rattle.kpn_net.specs.Sketched.{net_of};
 ghost use Rattle.hox_stream.specs.Exits.{exit_named, exit_ports, exits, with_exits};
@@ -61,7 +62,7 @@ pub struct OpenStream<F: Computes> {
 }
 
 impl<F: Computes> Model for OpenStream<F> {
-    ghost use Rattle.kpn_model.specs.Network.{family_of};
+    ghost use Rattle.kpn_model.specs.Families.{family};
     ghost use Rattle.kpn_flow.specs.Flows.{FlowView};
     ghost use Rattle.hox_stream.specs.Starts.{IsStart};
 
@@ -69,7 +70,7 @@ impl<F: Computes> Model for OpenStream<F> {
 
     ghost view = { λ m. m.flow };
 
-    ghost invariant = { λ m. IsStart (family_of F.start F.answer_of) m.flow m.inputs.items m.outputs.items };
+    ghost invariant = { λ m. IsStart (family F.Kinds) m.flow m.inputs.items m.outputs.items };
 }
 
 /// Opens the stream of the network that a sketch describes, at its start, from the names of the channels that will
@@ -84,8 +85,8 @@ pub fn open_stream<K: Computes>(
     fed: &[Text],
     drained: &[Text],
 ) -> Result<OpenStream<Both<K, Exits>>, StreamFault>
-    ensures ok { IfOk result (IsStarted (both_family (family_of K.start K.answer_of) exits) (net_of (both_named K.named exit_named) (with_exits drained.now sketch)) fed.now drained.now) }
-    ensures fault { IfErr result (IsStreamFault (both_family (family_of K.start K.answer_of) exits) (net_of (both_named K.named exit_named) (with_exits drained.now sketch)) (IsNoNetwork (both_named K.named exit_named) (both_ports K.signature exit_ports) (with_exits drained.now sketch)) fed.now drained.now) }
+    ensures ok { IfOk result (IsStarted (both_family (family K.Kinds) exits) (net_of (both_named K.named exit_named) (with_exits drained.now sketch)) fed.now drained.now) }
+    ensures fault { IfErr result (IsStreamFault (both_family (family K.Kinds) exits) (net_of (both_named K.named exit_named) (with_exits drained.now sketch)) (IsNoNetwork (both_named K.named exit_named) (both_ports K.signature exit_ports) (with_exits drained.now sketch)) fed.now drained.now) }
 {
     match net_with_exits::<K>(alloc, sketch, drained) {
         Ok(net) => open_net(alloc, net, fed, drained),
@@ -100,8 +101,8 @@ fn open_net<F: Computes>(
     fed: &[Text],
     drained: &[Text],
 ) -> Result<OpenStream<F>, StreamFault>
-    ensures ok { IfOk result (IsStarted (family_of F.start F.answer_of) net fed.now drained.now) }
-    ensures fault { IfErr result (IsStreamFault (family_of F.start F.answer_of) net (λ _. ⊥) fed.now drained.now) }
+    ensures ok { IfOk result (IsStarted (family F.Kinds) net fed.now drained.now) }
+    ensures fault { IfErr result (IsStreamFault (family F.Kinds) net (λ _. ⊥) fed.now drained.now) }
 {
     let Ok(bodies) = bodies_of(alloc, &net) else {
         return Err(StreamFault::Memory);
@@ -128,9 +129,9 @@ fn start<F: Computes>(
     requires cards { map ⟦<CardBody<F> as Body>⟧.card bodies.items ≡ cards_in net }
     requires inputs { list_any (is_no_channel net) inputs.items ≡ false }
     requires outputs { list_any (is_no_channel net) outputs.items ≡ false }
-    requires fed { list_any (is_busy (family_of F.start F.answer_of) net Way.In) inputs.items ≡ false }
-    requires drained { list_any (is_busy (family_of F.start F.answer_of) net Way.Out) outputs.items ≡ false }
-    ensures fresh { IfOk result (IsFresh (family_of F.start F.answer_of) net) }
+    requires fed { list_any (is_busy (family F.Kinds) net Way.In) inputs.items ≡ false }
+    requires drained { list_any (is_busy (family F.Kinds) net Way.Out) outputs.items ≡ false }
+    ensures fresh { IfOk result (IsFresh (family F.Kinds) net) }
     ensures inputs { IfOk result (λ s. s.inputs ≡ inputs.items) }
     ensures outputs { IfOk result (λ s. s.outputs ≡ outputs.items) }
     ensures fault { IfErr result (IsStartFault inputs.items outputs.items) }
@@ -156,10 +157,10 @@ fn flow_between<F: Computes>(
     requires cards { map ⟦<CardBody<F> as Body>⟧.card bodies.items ≡ cards_in net }
     requires inputs { list_any (is_no_channel net) inputs.now ≡ false }
     requires outputs { list_any (is_no_channel net) outputs.now ≡ false }
-    requires fed { list_any (is_busy (family_of F.start F.answer_of) net Way.In) inputs.now ≡ false }
-    requires drained { list_any (is_busy (family_of F.start F.answer_of) net Way.Out) outputs.now ≡ false }
-    ensures fresh { IfOk result (IsFresh (family_of F.start F.answer_of) net) }
-    ensures start { IfOk result (λ flow. IsStart (family_of F.start F.answer_of) flow inputs.now outputs.now) }
+    requires fed { list_any (is_busy (family F.Kinds) net Way.In) inputs.now ≡ false }
+    requires drained { list_any (is_busy (family F.Kinds) net Way.Out) outputs.now ≡ false }
+    ensures fresh { IfOk result (IsFresh (family F.Kinds) net) }
+    ensures start { IfOk result (λ flow. IsStart (family F.Kinds) flow inputs.now outputs.now) }
     ensures fault { IfErr result (IsStartFault inputs.now outputs.now) }
 {
     match Flow::open(alloc, net, bodies, inputs, outputs) {
@@ -192,8 +193,8 @@ fn channels_at<B: Body>(
     requires { map B.card bodies.now ≡ cards_in net.now }
     ensures named { IfOk result (λ v. AreNamed net.now names.now v.items) }
     ensures within { IfOk result (λ v. list_any (is_no_channel net.now) v.items ≡ false) }
-    ensures idle { IfOk result (λ v. list_any (is_busy (family_of B.Kinds.start B.Kinds.answer_of) net.now way) v.items ≡ false) }
-    ensures fault { IfErr result (IsNameFault (family_of B.Kinds.start B.Kinds.answer_of) net.now way names.now) }
+    ensures idle { IfOk result (λ v. list_any (is_busy (family B.Kinds.Kinds) net.now way) v.items ≡ false) }
+    ensures fault { IfErr result (IsNameFault (family B.Kinds.Kinds) net.now way names.now) }
 {
     let mut channels = Vec::new(alloc);
     for k in 0..names.len() {
@@ -218,8 +219,8 @@ fn channel_at<B: Body>(
     requires within { k < length names.now }
     ensures named { IfOk result (λ c. number_of_channel net.now (get_or names.now k []) ≡ Some c) }
     ensures within { IfOk result (λ c. is_no_channel net.now c ≡ false) }
-    ensures idle { IfOk result (λ c. is_busy (family_of B.Kinds.start B.Kinds.answer_of) net.now way c ≡ false) }
-    ensures fault { IfErr result (IsNameFault (family_of B.Kinds.start B.Kinds.answer_of) net.now way names.now) }
+    ensures idle { IfOk result (λ c. is_busy (family B.Kinds.Kinds) net.now way c ≡ false) }
+    ensures fault { IfErr result (IsNameFault (family B.Kinds.Kinds) net.now way names.now) }
 {
     let Some(channel) = net.find_channel(names[k].as_str()) else {
         return Err(NameFault::NoChannel(k));

@@ -1,6 +1,6 @@
 //! A flow between sources and sinks.
 ghost use Rattle.std.specs.Prelude.{IfNone, IfSome, List};
-ghost use Rattle.kpn_model.specs.Network.{family_of};
+ghost use Rattle.kpn_model.specs.Families.{family};
 ghost use Rattle.kpn_flow.specs.Pieces.{IsOneRunInPieces};
 ghost use Rattle.hox_stream.specs.Streams.{AreWritten, IsFinish, Streams, StreamsOut};
 ghost use Rattle.hox_stream.specs.Turns.{AreReadUnheld, PassesTurn, TakesTurn};
@@ -26,7 +26,7 @@ pub(crate) fn stream_out<B: Body, I: Source, O: Sink>(
     inlets: &mut [Inlet<I>],
     outs: &mut Outs<O>,
 ) -> Finish
-    ensures { StreamsOut (family_of B.Kinds.start B.Kinds.answer_of) flow.old flow.new inlets.old inlets.new outs.old outs.new result }
+    ensures { StreamsOut (family B.Kinds.Kinds) flow.old flow.new inlets.old inlets.new outs.old outs.new result }
 {
     let finish = stream(alloc, flow, inlets, outs);
     match outs.end() {
@@ -42,10 +42,10 @@ fn stream<B: Body, I: Source, O: Sink>(
     inlets: &mut [Inlet<I>],
     outs: &mut Outs<O>,
 ) -> Finish
-    ensures streams { Streams (family_of B.Kinds.start B.Kinds.answer_of) flow.old flow.new inlets.old inlets.new outs.old outs.new }
-    ensures finish { IsFinish (family_of B.Kinds.start B.Kinds.answer_of) flow.new inlets.new outs.new result }
+    ensures streams { Streams (family B.Kinds.Kinds) flow.old flow.new inlets.old inlets.new outs.old outs.new }
+    ensures finish { IsFinish (family B.Kinds.Kinds) flow.new inlets.new outs.new result }
     ensures written { AreWritten outs.new }
-    ensures one_run { IsOneRunInPieces (family_of B.Kinds.start B.Kinds.answer_of) flow.new }
+    ensures one_run { IsOneRunInPieces (family B.Kinds.Kinds) flow.new }
 {
     let finish = turn_on(alloc, flow, inlets, outs);
     flow.assure_one_run();
@@ -62,8 +62,8 @@ fn turn_on<B: Body, I: Source, O: Sink>(
     inlets: &mut [Inlet<I>],
     outs: &mut Outs<O>,
 ) -> Finish
-    ensures streams { Streams (family_of B.Kinds.start B.Kinds.answer_of) flow.old flow.new inlets.old inlets.new outs.old outs.new }
-    ensures finish { IsFinish (family_of B.Kinds.start B.Kinds.answer_of) flow.new inlets.new outs.new result }
+    ensures streams { Streams (family B.Kinds.Kinds) flow.old flow.new inlets.old inlets.new outs.old outs.new }
+    ensures finish { IsFinish (family B.Kinds.Kinds) flow.new inlets.new outs.new result }
 {
     let mut next = 0;
     'turns: for _ in 0..u64::MAX {
@@ -83,8 +83,8 @@ fn turn<B: Body, I: Source, O: Sink>(
     outs: &mut Outs<O>,
     next: &mut usize,
 ) -> Option<Finish>
-    ensures streams { Streams (family_of B.Kinds.start B.Kinds.answer_of) flow.old flow.new inlets.old inlets.new outs.old outs.new }
-    ensures finish { IfSome result (IsFinish (family_of B.Kinds.start B.Kinds.answer_of) flow.new inlets.new outs.new) }
+    ensures streams { Streams (family B.Kinds.Kinds) flow.old flow.new inlets.old inlets.new outs.old outs.new }
+    ensures finish { IfSome result (IsFinish (family B.Kinds.Kinds) flow.new inlets.new outs.new) }
     ensures turn { IfNone result (PassesTurn inlets.old inlets.new next.old next.new) }
     ensures unheld { AreReadUnheld inlets.old inlets.new outs.new }
 {
@@ -110,8 +110,8 @@ fn pour<B: Body, I: Source, O: Sink>(
     outs: &mut Outs<O>,
     next: &mut usize,
 ) -> Option<Finish>
-    ensures streams { Streams (family_of B.Kinds.start B.Kinds.answer_of) flow.old flow.new inlets.old inlets.new outs.old outs.new }
-    ensures finish { IfSome result (IsFinish (family_of B.Kinds.start B.Kinds.answer_of) flow.new inlets.new outs.new) }
+    ensures streams { Streams (family B.Kinds.Kinds) flow.old flow.new inlets.old inlets.new outs.old outs.new }
+    ensures finish { IfSome result (IsFinish (family B.Kinds.Kinds) flow.new inlets.new outs.new) }
     ensures turn { IfNone result (TakesTurn flow.old inlets.old inlets.new next.old next.new) }
     ensures unheld { AreReadUnheld inlets.old inlets.new outs.new }
 {

@@ -1,6 +1,7 @@
 //! From the channels into files of several.
 ghost use Rattle.std.specs.Prelude.{◌≡◌, ◌<◌, ℕ, false, Ok, IfErr, List, [], length};
-ghost use Rattle.kpn_model.specs.Network.{Family, family_of};
+ghost use Rattle.kpn_model.specs.Network.{Family};
+ghost use Rattle.kpn_model.specs.Families.{family};
 ghost use Rattle.kpn_flow.specs.Flows.{FlowView, IsSameFlow};
 ghost use Rattle.hox_stream.specs.Streams.{AllEnd, AllTablesStay, IsFinish, IsOutAt, Streams, table_at};
 ghost use Rattle.hox_stream.specs.Tables.{IsTableFault, TellsLane};
@@ -21,7 +22,7 @@ fn tell_lane<B: Body, S: Sink>(
     place: usize,
 ) -> Result<bool, TableFault>
     requires { place < length table.old.lanes }
-    ensures tells { TellsLane (family_of B.Kinds.start B.Kinds.answer_of) flow.old flow.new table.old table.new place }
+    ensures tells { TellsLane (family B.Kinds.Kinds) flow.old flow.new table.old table.new place }
     ensures same { IsSameFlow flow.old flow.new }
     ensures none { result ≡ Ok false → flow.new.state ≡ flow.old.state }
     ensures fault { IfErr result (IsTableFault table.new) }
@@ -51,10 +52,10 @@ fn tell_lane_at<B: Body, S: Sink>(
     place: usize,
 ) -> Result<bool, Finish>
     requires { k < length tables.old }
-    ensures streams { (ins : List InletView) (sinks : List OutletView) → Streams (family_of B.Kinds.start B.Kinds.answer_of) flow.old flow.new ins ins (outs sinks tables.old) (outs sinks tables.new) }
+    ensures streams { (ins : List InletView) (sinks : List OutletView) → Streams (family B.Kinds.Kinds) flow.old flow.new ins ins (outs sinks tables.old) (outs sinks tables.new) }
     ensures same { IsSameFlow flow.old flow.new }
     ensures none { result ≡ Ok false → flow.new.state ≡ flow.old.state }
-    ensures finish { IfErr result (λ f. (ins : List InletView) (sinks : List OutletView) → length sinks ≡ first → IsFinish (family_of B.Kinds.start B.Kinds.answer_of) flow.new ins (outs sinks tables.new) f) }
+    ensures finish { IfErr result (λ f. (ins : List InletView) (sinks : List OutletView) → length sinks ≡ first → IsFinish (family B.Kinds.Kinds) flow.new ins (outs sinks tables.new) f) }
 {
     if place >= tables[k].width() {
         return Ok(false);
@@ -88,10 +89,10 @@ fn tell_table<B: Body, S: Sink>(
     k: usize,
 ) -> Result<bool, Finish>
     requires { k < length tables.old }
-    ensures streams { (ins : List InletView) (sinks : List OutletView) → Streams (family_of B.Kinds.start B.Kinds.answer_of) flow.old flow.new ins ins (outs sinks tables.old) (outs sinks tables.new) }
+    ensures streams { (ins : List InletView) (sinks : List OutletView) → Streams (family B.Kinds.Kinds) flow.old flow.new ins ins (outs sinks tables.old) (outs sinks tables.new) }
     ensures same { IsSameFlow flow.old flow.new }
     ensures none { result ≡ Ok false → flow.new.state ≡ flow.old.state }
-    ensures finish { IfErr result (λ f. (ins : List InletView) (sinks : List OutletView) → length sinks ≡ first → IsFinish (family_of B.Kinds.start B.Kinds.answer_of) flow.new ins (outs sinks tables.new) f) }
+    ensures finish { IfErr result (λ f. (ins : List InletView) (sinks : List OutletView) → length sinks ≡ first → IsFinish (family B.Kinds.Kinds) flow.new ins (outs sinks tables.new) f) }
 {
     let mut has_moved = false;
     for place in 0..tables[k].width() {
@@ -109,10 +110,10 @@ pub(crate) fn tell_tables<B: Body, S: Sink>(
     tables: &mut [TableOutlet<S>],
     first: usize,
 ) -> Result<bool, Finish>
-    ensures streams { (ins : List InletView) (sinks : List OutletView) → Streams (family_of B.Kinds.start B.Kinds.answer_of) flow.old flow.new ins ins (outs sinks tables.old) (outs sinks tables.new) }
+    ensures streams { (ins : List InletView) (sinks : List OutletView) → Streams (family B.Kinds.Kinds) flow.old flow.new ins ins (outs sinks tables.old) (outs sinks tables.new) }
     ensures same { IsSameFlow flow.old flow.new }
     ensures none { result ≡ Ok false → flow.new.state ≡ flow.old.state }
-    ensures finish { IfErr result (λ f. (ins : List InletView) (sinks : List OutletView) → length sinks ≡ first → IsFinish (family_of B.Kinds.start B.Kinds.answer_of) flow.new ins (outs sinks tables.new) f) }
+    ensures finish { IfErr result (λ f. (ins : List InletView) (sinks : List OutletView) → length sinks ≡ first → IsFinish (family B.Kinds.Kinds) flow.new ins (outs sinks tables.new) f) }
 {
     let mut has_moved = false;
     for k in 0..tables.len() {

@@ -1,6 +1,6 @@
 //! The answer of a task.
 ghost use Rattle.std.specs.Prelude.{◌≡◌, IsSome};
-ghost use Rattle.kpn_model.specs.Network.{family_of};
+ghost use Rattle.kpn_model.specs.Families.{family};
 ghost use Rattle.kpn_body.specs.Input.{input, answer_to, IsAnswerTo};
 
 use kpn_model::{Answer, Card, Kinds, Local, Token};
@@ -21,13 +21,13 @@ pub struct Answered<K: Kinds> {
 
 impl<K: Kinds> Model for Answered<K> {
     ghost use Rattle.kpn_body.specs.Input.{Input, input, IsAnswerTo};
-    ghost use Rattle.kpn_model.specs.Network.{family_of};
+    ghost use Rattle.kpn_model.specs.Families.{family};
 
     ghost Value = { Input };
 
     ghost view = { λ a. input a.process a.card a.local a.last };
 
-    ghost invariant = { λ a. IsAnswerTo K.signature K.admits (family_of K.start K.answer_of) (input a.process a.card a.local a.last) a.answer };
+    ghost invariant = { λ a. IsAnswerTo K.signature K.admits (family K.Kinds) (input a.process a.card a.local a.last) a.answer };
 }
 
 impl<K: Kinds> Answered<K> {
@@ -39,7 +39,7 @@ impl<K: Kinds> Answered<K> {
         last: Option<Token>,
         answer: Answer,
     ) -> Self
-        requires { IsAnswerTo K.signature K.admits (family_of K.start K.answer_of) (input process card local last) answer }
+        requires { IsAnswerTo K.signature K.admits (family K.Kinds) (input process card local last) answer }
         ensures { result ≡ input process card local last }
     {
         Answered {
@@ -85,7 +85,7 @@ impl<K: Kinds> Answered<K> {
 
     /// Returns the answer: the card's for this local state and last token.
     pub fn answer(&self) -> Answer
-        ensures { result ≡ answer_to (family_of K.start K.answer_of) self.now }
+        ensures { result ≡ answer_to (family K.Kinds) self.now }
     {
         self.answer
     }

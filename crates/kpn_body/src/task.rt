@@ -1,6 +1,6 @@
 //! Tasks, and the answers that come back.
 ghost use Rattle.std.specs.Prelude.{◌≡◌, IsSome};
-ghost use Rattle.kpn_model.specs.Network.{family_of};
+ghost use Rattle.kpn_model.specs.Families.{family};
 ghost use Rattle.kpn_body.specs.Input.{input, answer_to};
 
 use crate::answered::Answered;
@@ -119,7 +119,7 @@ impl<B: Body> Task<B> {
     /// together. Each call calls the body. Takes no lock and no memory.
     #[inline]
     pub fn ask(&self) -> Answer
-        ensures { result ≡ answer_to (family_of B.Kinds.start B.Kinds.answer_of) self.now }
+        ensures { result ≡ answer_to (family B.Kinds.Kinds) self.now }
     {
         self.body.answer(self.local, self.last)
     }
@@ -127,7 +127,7 @@ impl<B: Body> Task<B> {
     /// Puts the answer that `ask` returned together with the task.
     #[inline]
     pub fn answered(self, answer: Answer) -> Finished<B>
-        requires { answer ≡ answer_to (family_of B.Kinds.start B.Kinds.answer_of) self }
+        requires { answer ≡ answer_to (family B.Kinds.Kinds) self }
         ensures { result ≡ self }
     {
         let Task {
@@ -197,7 +197,7 @@ impl<B: Body> Finished<B> {
 
     /// Returns the answer: the card's for this local state and last token.
     pub fn answer(&self) -> Answer
-        ensures { result ≡ answer_to (family_of B.Kinds.start B.Kinds.answer_of) self.now }
+        ensures { result ≡ answer_to (family B.Kinds.Kinds) self.now }
     {
         self.answered.answer()
     }

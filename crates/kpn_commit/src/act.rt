@@ -1,7 +1,8 @@
 //! Does what a process wants, if it can be done.
 ghost use Rattle.std.specs.Prelude.{◌≡◌, ◌≢◌, ◌<◌, ℕ, List, Option, length, set, Some, IfSome, IfNone, IsSome};
 ghost use Rattle.kpn_model.specs.declared.token.Token.{Token as TokenV};
-ghost use Rattle.kpn_model.specs.Network.{card_of, family_of};
+ghost use Rattle.kpn_model.specs.Network.{card_of};
+ghost use Rattle.kpn_model.specs.Families.{family};
 ghost use Rattle.kpn_model.specs.Lawful.{NamesPort, LeadsOn};
 ghost use Rattle.kpn_model.specs.Semantics.{wants, IsPossible, IsDeed, after_deed};
 ghost use Rattle.kpn_model.specs.declared.kinds.Act.TheVariants.{Stop};
@@ -27,9 +28,9 @@ fn read<K: Kinds, H: Keeper>(
     requires process { process < length store.old.state.processes }
     requires channels { length store.old.state.channels ≡ length net.now.channels }
     requires room { length store.old.history < store.old.limit }
-    ensures is_deed { IfSome result (IsDeed (family_of K.start K.answer_of) net.now store.old.state process (Act.Read port)) }
-    ensures entry { IfSome result (λ deed. store.new ≡ more store.old (after_deed (family_of K.start K.answer_of) net.now store.old.state process next deed) (Did process deed)) }
-    ensures cannot { IfNone result (IsPossible (family_of K.start K.answer_of) net.now store.old.state process (Act.Read port) → ⊥) }
+    ensures is_deed { IfSome result (IsDeed (family K.Kinds) net.now store.old.state process (Act.Read port)) }
+    ensures entry { IfSome result (λ deed. store.new ≡ more store.old (after_deed (family K.Kinds) net.now store.old.state process next deed) (Did process deed)) }
+    ensures cannot { IfNone result (IsPossible (family K.Kinds) net.now store.old.state process (Act.Read port) → ⊥) }
     ensures same { IfNone result (store.new ≡ store.old) }
 {
     let channel = net.in_of(process, usize::from(port))?;
@@ -55,9 +56,9 @@ fn write<K: Kinds, H: Keeper>(
     requires process { process < length store.old.state.processes }
     requires channels { length store.old.state.channels ≡ length net.now.channels }
     requires room { length store.old.history < store.old.limit }
-    ensures is_deed { IfSome result (IsDeed (family_of K.start K.answer_of) net.now store.old.state process (Act.Write port token)) }
-    ensures entry { IfSome result (λ deed. store.new ≡ more store.old (after_deed (family_of K.start K.answer_of) net.now store.old.state process next deed) (Did process deed)) }
-    ensures cannot { IfNone result (IsPossible (family_of K.start K.answer_of) net.now store.old.state process (Act.Write port token) → ⊥) }
+    ensures is_deed { IfSome result (IsDeed (family K.Kinds) net.now store.old.state process (Act.Write port token)) }
+    ensures entry { IfSome result (λ deed. store.new ≡ more store.old (after_deed (family K.Kinds) net.now store.old.state process next deed) (Did process deed)) }
+    ensures cannot { IfNone result (IsPossible (family K.Kinds) net.now store.old.state process (Act.Write port token) → ⊥) }
     ensures same { IfNone result (store.new ≡ store.old) }
 {
     let channel = net.out_of(process, usize::from(port))?;
@@ -80,9 +81,9 @@ fn perform<K: Kinds, H: Keeper>(
     requires process { process < length store.old.state.processes }
     requires channels { length store.old.state.channels ≡ length net.now.channels }
     requires room { length store.old.history < store.old.limit }
-    ensures is_deed { IfSome result (IsDeed (family_of K.start K.answer_of) net.now store.old.state process answer.act) }
-    ensures entry { IfSome result (λ deed. store.new ≡ more store.old (after_deed (family_of K.start K.answer_of) net.now store.old.state process answer.next deed) (Did process deed)) }
-    ensures cannot { IfNone result (IsPossible (family_of K.start K.answer_of) net.now store.old.state process answer.act → ⊥) }
+    ensures is_deed { IfSome result (IsDeed (family K.Kinds) net.now store.old.state process answer.act) }
+    ensures entry { IfSome result (λ deed. store.new ≡ more store.old (after_deed (family K.Kinds) net.now store.old.state process answer.next deed) (Did process deed)) }
+    ensures cannot { IfNone result (IsPossible (family K.Kinds) net.now store.old.state process answer.act → ⊥) }
     ensures same { IfNone result (store.new ≡ store.old) }
 {
     match answer.act {
@@ -116,16 +117,16 @@ pub fn advance<K: Kinds, H: Keeper>(
     process: usize,
     answer: Answer,
 ) -> Option<Deed>
-    requires keeps { StandingsFit (family_of K.start K.answer_of) K.admits net.now (Some process) store.old.state standings.old }
+    requires keeps { StandingsFit (family K.Kinds) K.admits net.now (Some process) store.old.state standings.old }
     requires process { process < length standings.old }
-    requires wants { wants (family_of K.start K.answer_of) net.now store.old.state process ≡ Some answer }
+    requires wants { wants (family K.Kinds) net.now store.old.state process ≡ Some answer }
     requires room { length store.old.history < store.old.limit }
-    ensures is_deed { IfSome result (IsDeed (family_of K.start K.answer_of) net.now store.old.state process answer.act) }
-    ensures entry { IfSome result (λ deed. store.new ≡ more store.old (after_deed (family_of K.start K.answer_of) net.now store.old.state process answer.next deed) (Did process deed)) }
+    ensures is_deed { IfSome result (IsDeed (family K.Kinds) net.now store.old.state process answer.act) }
+    ensures entry { IfSome result (λ deed. store.new ≡ more store.old (after_deed (family K.Kinds) net.now store.old.state process answer.next deed) (Did process deed)) }
     ensures standing { IfSome result (λ deed. standings.new ≡ set standings.old process (standing_after deed)) }
     ensures channel { IfSome result (HasChannel net.now) }
-    ensures keeps { IfSome result (λ deed. StandingsFit (family_of K.start K.answer_of) K.admits net.now (partner net.now deed) store.new.state standings.new) }
-    ensures cannot { IfNone result (IsPossible (family_of K.start K.answer_of) net.now store.old.state process answer.act → ⊥) }
+    ensures keeps { IfSome result (λ deed. StandingsFit (family K.Kinds) K.admits net.now (partner net.now deed) store.new.state standings.new) }
+    ensures cannot { IfNone result (IsPossible (family K.Kinds) net.now store.old.state process answer.act → ⊥) }
     ensures same { IfNone result (store.new ≡ store.old) }
     ensures same_standings { IfNone result (standings.new ≡ standings.old) }
 {
@@ -147,10 +148,10 @@ fn perform_on<K: Kinds, H: Keeper>(
     requires process { process < length store.old.state.processes }
     requires channels { length store.old.state.channels ≡ length net.now.channels }
     requires room { length store.old.history < store.old.limit }
-    ensures is_deed { IfSome result (IsDeed (family_of K.start K.answer_of) net.now store.old.state process answer.act) }
-    ensures entry { IfSome result (λ deed. store.new ≡ more store.old (after_deed (family_of K.start K.answer_of) net.now store.old.state process answer.next deed) (Did process deed)) }
+    ensures is_deed { IfSome result (IsDeed (family K.Kinds) net.now store.old.state process answer.act) }
+    ensures entry { IfSome result (λ deed. store.new ≡ more store.old (after_deed (family K.Kinds) net.now store.old.state process answer.next deed) (Did process deed)) }
     ensures ready { IfSome result (λ deed. standing_after deed ≡ Ready) }
-    ensures cannot { IfNone result (answer.act ≢ Stop → IsPossible (family_of K.start K.answer_of) net.now store.old.state process answer.act → ⊥) }
+    ensures cannot { IfNone result (answer.act ≢ Stop → IsPossible (family K.Kinds) net.now store.old.state process answer.act → ⊥) }
     ensures same { IfNone result (store.new ≡ store.old) }
 {
     match answer.act {
@@ -170,16 +171,16 @@ pub(crate) fn advance_on<K: Kinds, H: Keeper>(
     process: usize,
     answer: Answer,
 ) -> Option<Deed>
-    requires keeps { StandingsFit (family_of K.start K.answer_of) K.admits net.now (Some process) store.old.state standings.now }
+    requires keeps { StandingsFit (family K.Kinds) K.admits net.now (Some process) store.old.state standings.now }
     requires process { process < length standings.now }
-    requires wants { wants (family_of K.start K.answer_of) net.now store.old.state process ≡ Some answer }
+    requires wants { wants (family K.Kinds) net.now store.old.state process ≡ Some answer }
     requires room { length store.old.history < store.old.limit }
-    ensures is_deed { IfSome result (IsDeed (family_of K.start K.answer_of) net.now store.old.state process answer.act) }
-    ensures entry { IfSome result (λ deed. store.new ≡ more store.old (after_deed (family_of K.start K.answer_of) net.now store.old.state process answer.next deed) (Did process deed)) }
+    ensures is_deed { IfSome result (IsDeed (family K.Kinds) net.now store.old.state process answer.act) }
+    ensures entry { IfSome result (λ deed. store.new ≡ more store.old (after_deed (family K.Kinds) net.now store.old.state process answer.next deed) (Did process deed)) }
     ensures ready { IfSome result (λ deed. standing_after deed ≡ Ready) }
     ensures channel { IfSome result (HasChannel net.now) }
-    ensures keeps { IfSome result (λ deed. StandingsFit (family_of K.start K.answer_of) K.admits net.now (partner net.now deed) store.new.state (set standings.now process (standing_after deed))) }
-    ensures cannot { IfNone result (answer.act ≢ Stop → IsPossible (family_of K.start K.answer_of) net.now store.old.state process answer.act → ⊥) }
+    ensures keeps { IfSome result (λ deed. StandingsFit (family K.Kinds) K.admits net.now (partner net.now deed) store.new.state (set standings.now process (standing_after deed))) }
+    ensures cannot { IfNone result (answer.act ≢ Stop → IsPossible (family K.Kinds) net.now store.old.state process answer.act → ⊥) }
     ensures same { IfNone result (store.new ≡ store.old) }
 {
     net.assure_valid();

@@ -1,7 +1,8 @@
 //! Tokens that come into a channel from outside of the network, and tokens that go out of one; and the
 //! parked process that this lets go on.
 ghost use Rattle.std.specs.Prelude.{◌≡◌, ◌<◌, ◌++◌, ◌∷◌, ℕ, [], length, drop, Some, None, IsTrue, false};
-ghost use Rattle.kpn_model.specs.Network.{channel_of, family_of};
+ghost use Rattle.kpn_model.specs.Network.{channel_of};
+ghost use Rattle.kpn_model.specs.Families.{family};
 ghost use Rattle.kpn_model.specs.Semantics.{tokens, capacity, with_channel, IsPossible};
 ghost use Rattle.kpn_model.specs.Valid.{IsOfSort};
 ghost use Rattle.kpn_model.specs.declared.kinds.Act.{Act as ActV};
@@ -19,8 +20,8 @@ use kpn_state::{Keeper, Roster, Store, Waiting};
 /// Whether a process can read at a port: its channel holds a token.
 fn can_read<K: Kinds, H: Keeper>(net: &Net<K>, store: &Store<H>, process: usize, port: u8) -> bool
     requires channels { length store.now.state.channels ≡ length net.now.channels }
-    ensures can { IsTrue result → IsPossible (family_of K.start K.answer_of) net.now store.now.state process (ActV.Read port) }
-    ensures cannot { result ≡ false → IsPossible (family_of K.start K.answer_of) net.now store.now.state process (ActV.Read port) → ⊥ }
+    ensures can { IsTrue result → IsPossible (family K.Kinds) net.now store.now.state process (ActV.Read port) }
+    ensures cannot { result ≡ false → IsPossible (family K.Kinds) net.now store.now.state process (ActV.Read port) → ⊥ }
 {
     let Some(channel) = net.in_of(process, usize::from(port)) else {
         return false;
@@ -38,8 +39,8 @@ fn can_write<K: Kinds, H: Keeper>(
     token: Token,
 ) -> bool
     requires channels { length store.now.state.channels ≡ length net.now.channels }
-    ensures can { IsTrue result → IsPossible (family_of K.start K.answer_of) net.now store.now.state process (ActV.Write port token) }
-    ensures cannot { result ≡ false → IsPossible (family_of K.start K.answer_of) net.now store.now.state process (ActV.Write port token) → ⊥ }
+    ensures can { IsTrue result → IsPossible (family K.Kinds) net.now store.now.state process (ActV.Write port token) }
+    ensures cannot { result ≡ false → IsPossible (family K.Kinds) net.now store.now.state process (ActV.Write port token) → ⊥ }
 {
     let Some(channel) = net.out_of(process, usize::from(port)) else {
         return false;
@@ -51,8 +52,8 @@ fn can_write<K: Kinds, H: Keeper>(
 /// Whether a process can do this act.
 fn can_do<K: Kinds, H: Keeper>(net: &Net<K>, store: &Store<H>, process: usize, act: Act) -> bool
     requires channels { length store.now.state.channels ≡ length net.now.channels }
-    ensures can { IsTrue result → IsPossible (family_of K.start K.answer_of) net.now store.now.state process act }
-    ensures cannot { result ≡ false → IsPossible (family_of K.start K.answer_of) net.now store.now.state process act → ⊥ }
+    ensures can { IsTrue result → IsPossible (family K.Kinds) net.now store.now.state process act }
+    ensures cannot { result ≡ false → IsPossible (family K.Kinds) net.now store.now.state process act → ⊥ }
 {
     match act {
         Act::Read(port) => can_read(net, store, process, port),
@@ -70,9 +71,9 @@ fn wake<K: Kinds, H: Keeper>(
     waiting: &mut Waiting,
     process: usize,
 )
-    requires keeps { StandingsFit (family_of K.start K.answer_of) K.admits net.now (Some process) store.now.state standings.old }
+    requires keeps { StandingsFit (family K.Kinds) K.admits net.now (Some process) store.now.state standings.old }
     requires waiting { AreWaiting net.now store.now.state standings.old waiting.old }
-    ensures keeps { StandingsFit (family_of K.start K.answer_of) K.admits net.now None store.now.state standings.new }
+    ensures keeps { StandingsFit (family K.Kinds) K.admits net.now None store.now.state standings.new }
     ensures none_sent { (p : ℕ) → standing standings.new p ≡ Out → standing standings.old p ≡ Out }
     ensures waiting { AreWaiting net.now store.now.state standings.new waiting.new }
 {
@@ -96,13 +97,13 @@ pub fn feed<K: Kinds, H: Keeper>(
     channel: usize,
     token: Token,
 )
-    requires keeps { StandingsFit (family_of K.start K.answer_of) K.admits net.now None store.old.state standings.old }
+    requires keeps { StandingsFit (family K.Kinds) K.admits net.now None store.old.state standings.old }
     requires channel { channel < length net.now.channels }
     requires sort { IsOfSort (channel_of net.now channel).sort token }
     requires space { length (tokens store.old.state channel) < capacity store.old.state channel }
     requires waiting { AreWaiting net.now store.old.state standings.old waiting.old }
     ensures fed { store.new ≡ state_and_history (with_channel store.old.state channel (tokens store.old.state channel ++ token ∷ []) (capacity store.old.state channel)) store.old.history store.old.limit }
-    ensures keeps { StandingsFit (family_of K.start K.answer_of) K.admits net.now None store.new.state standings.new }
+    ensures keeps { StandingsFit (family K.Kinds) K.admits net.now None store.new.state standings.new }
     ensures none_sent { (p : ℕ) → standing standings.new p ≡ Out → standing standings.old p ≡ Out }
     ensures waiting { AreWaiting net.now store.new.state standings.new waiting.new }
 {
@@ -123,13 +124,13 @@ pub fn drain<K: Kinds, H: Keeper>(
     waiting: &mut Waiting,
     channel: usize,
 ) -> Token
-    requires keeps { StandingsFit (family_of K.start K.answer_of) K.admits net.now None store.old.state standings.old }
+    requires keeps { StandingsFit (family K.Kinds) K.admits net.now None store.old.state standings.old }
     requires channel { channel < length net.now.channels }
     requires some { 0 < length (tokens store.old.state channel) }
     requires waiting { AreWaiting net.now store.old.state standings.old waiting.old }
     ensures token { tokens store.old.state channel ≡ result ∷ drop 1 (tokens store.old.state channel) }
     ensures rest { store.new ≡ state_and_history (with_channel store.old.state channel (drop 1 (tokens store.old.state channel)) (capacity store.old.state channel)) store.old.history store.old.limit }
-    ensures keeps { StandingsFit (family_of K.start K.answer_of) K.admits net.now None store.new.state standings.new }
+    ensures keeps { StandingsFit (family K.Kinds) K.admits net.now None store.new.state standings.new }
     ensures none_sent { (p : ℕ) → standing standings.new p ≡ Out → standing standings.old p ≡ Out }
     ensures waiting { AreWaiting net.now store.new.state standings.new waiting.new }
 {

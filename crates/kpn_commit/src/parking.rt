@@ -1,6 +1,6 @@
 //! Processes that are parked wait at a channel, whose mark says so.
 ghost use Rattle.std.specs.Prelude.{◌≡◌, ◌<◌, length, set, true};
-ghost use Rattle.kpn_model.specs.Network.{family_of};
+ghost use Rattle.kpn_model.specs.Families.{family};
 ghost use Rattle.kpn_model.specs.Semantics.{IsPossible};
 ghost use Rattle.kpn_state.specs.declared.standing.Standing.TheVariants.{Parked, Ready};
 ghost use Rattle.kpn_state.specs.Standings.{standing, is_busy};
@@ -61,7 +61,7 @@ pub fn unpark<K: Kinds, H: Keeper>(
 )
     requires process { process < length standings.old }
     requires parked { standing standings.old process ≡ Parked answer }
-    requires possible { IsPossible (family_of K.start K.answer_of) net.now store.now.state process answer.act }
+    requires possible { IsPossible (family K.Kinds) net.now store.now.state process answer.act }
     requires channels { length store.now.state.channels ≡ length net.now.channels }
     requires waiting { AreWaiting net.now store.now.state standings.old waiting.old }
     ensures ready { standings.new ≡ set standings.old process Ready }

@@ -1,7 +1,7 @@
 //! What an answer does at once: a deed, or the process is parked; and the deed of the parked process
 //! that it enables.
 ghost use Rattle.std.specs.Prelude.{◌≡◌, ◌≢◌, ◌↔◌, ◌<◌, ◌≤◌, ◌+◌, ℕ, length, set, Contains, Some, None, IfSome, IfNone, IsTrue, true, false};
-ghost use Rattle.kpn_model.specs.Network.{family_of};
+ghost use Rattle.kpn_model.specs.Families.{family};
 ghost use Rattle.kpn_model.specs.declared.kinds.Answer.{Answer as AnswerV};
 ghost use Rattle.kpn_model.specs.Semantics.{wants, status, capacity, IsPossible};
 ghost use Rattle.kpn_model.specs.declared.kinds.Act.TheVariants.{Stop};
@@ -40,14 +40,14 @@ pub fn react<K: Kinds, H: Keeper>(
     process: usize,
     answer: Answer,
 ) -> Reaction
-    requires keeps { StandingsFit (family_of K.start K.answer_of) K.admits net.now None store.old.state standings.old }
+    requires keeps { StandingsFit (family K.Kinds) K.admits net.now None store.old.state standings.old }
     requires process { process < length standings.old }
-    requires wants { wants (family_of K.start K.answer_of) net.now store.old.state process ≡ Some answer }
+    requires wants { wants (family K.Kinds) net.now store.old.state process ≡ Some answer }
     requires busy { is_busy (standing standings.old process) ≡ true }
     requires room { length store.old.history + 2 ≤ store.old.limit }
     requires waiting { AreWaiting net.now store.old.state standings.old waiting.old }
-    ensures reacts { Reacts (family_of K.start K.answer_of) net.now store.old standings.old process answer result store.new standings.new }
-    ensures keeps { StandingsFit (family_of K.start K.answer_of) K.admits net.now None store.new.state standings.new }
+    ensures reacts { Reacts (family K.Kinds) net.now store.old standings.old process answer result store.new standings.new }
+    ensures keeps { StandingsFit (family K.Kinds) K.admits net.now None store.new.state standings.new }
     ensures waiting { AreWaiting net.now store.new.state standings.new waiting.new }
 {
     let next = answer.next;
@@ -87,14 +87,14 @@ fn react_to<K: Kinds, H: Keeper>(
     process: usize,
     answer: Answer,
 ) -> Reaction
-    requires keeps { StandingsFit (family_of K.start K.answer_of) K.admits net.now None store.old.state standings.old }
+    requires keeps { StandingsFit (family K.Kinds) K.admits net.now None store.old.state standings.old }
     requires process { process < length standings.old }
-    requires wants { wants (family_of K.start K.answer_of) net.now store.old.state process ≡ Some answer }
+    requires wants { wants (family K.Kinds) net.now store.old.state process ≡ Some answer }
     requires busy { is_busy (standing standings.old process) ≡ true }
     requires room { length store.old.history + 2 ≤ store.old.limit }
     requires waiting { AreWaiting net.now store.old.state standings.old waiting.old }
-    ensures reacts { Reacts (family_of K.start K.answer_of) net.now store.old standings.old process answer result store.new standings.new }
-    ensures keeps { StandingsFit (family_of K.start K.answer_of) K.admits net.now None store.new.state standings.new }
+    ensures reacts { Reacts (family K.Kinds) net.now store.old standings.old process answer result store.new standings.new }
+    ensures keeps { StandingsFit (family K.Kinds) K.admits net.now None store.new.state standings.new }
     ensures waiting { AreWaiting net.now store.new.state standings.new waiting.new }
 {
     let Some(deed) = advance(net, store, standings, process, answer) else {
@@ -127,18 +127,18 @@ pub(crate) fn react_on<K: Kinds, H: Keeper>(
     process: usize,
     answer: Answer,
 ) -> Option<Reaction>
-    requires keeps { StandingsFit (family_of K.start K.answer_of) K.admits net.now None store.old.state standings.old }
+    requires keeps { StandingsFit (family K.Kinds) K.admits net.now None store.old.state standings.old }
     requires process { process < length standings.old }
-    requires wants { wants (family_of K.start K.answer_of) net.now store.old.state process ≡ Some answer }
+    requires wants { wants (family K.Kinds) net.now store.old.state process ≡ Some answer }
     requires busy { is_busy (standing standings.old process) ≡ true }
     requires room { length store.old.history + 2 ≤ store.old.limit }
     requires waiting { AreWaiting net.now store.old.state standings.old waiting.old }
-    ensures reacts { IfSome result (λ r. Reacts (family_of K.start K.answer_of) net.now store.old standings.old process answer r store.new (set standings.new process Ready)) }
+    ensures reacts { IfSome result (λ r. Reacts (family K.Kinds) net.now store.old standings.old process answer r store.new (set standings.new process Ready)) }
     ensures stays { standing standings.new process ≡ standing standings.old process }
     ensures many { length standings.new ≡ length standings.old }
-    ensures keeps { IfSome result (λ _. StandingsFit (family_of K.start K.answer_of) K.admits net.now None store.new.state (set standings.new process Ready)) }
+    ensures keeps { IfSome result (λ _. StandingsFit (family K.Kinds) K.admits net.now None store.new.state (set standings.new process Ready)) }
     ensures waiting { IfSome result (λ _. AreWaiting net.now store.new.state (set standings.new process Ready) waiting.new) }
-    ensures cannot { IfNone result (answer.act ≢ Stop → IsPossible (family_of K.start K.answer_of) net.now store.old.state process answer.act → ⊥) }
+    ensures cannot { IfNone result (answer.act ≢ Stop → IsPossible (family K.Kinds) net.now store.old.state process answer.act → ⊥) }
     ensures same { IfNone result ((store.new ≡ store.old) × (standings.new ≡ standings.old) × (waiting.new ≡ waiting.old)) }
 {
     let deed = advance_on(net, store, standings, process, answer)?;
@@ -167,11 +167,11 @@ fn resume<K: Kinds, H: Keeper>(
     waiting: &mut Waiting,
     process: usize,
 ) -> bool
-    requires keeps { StandingsFit (family_of K.start K.answer_of) K.admits net.now (Some process) store.old.state standings.old }
+    requires keeps { StandingsFit (family K.Kinds) K.admits net.now (Some process) store.old.state standings.old }
     requires room { length store.old.history < store.old.limit }
     requires waiting { AreWaiting net.now store.old.state standings.old waiting.old }
-    ensures resumes { IsTrue result → Resumes (family_of K.start K.answer_of) K.admits net.now store.old standings.old process store.new standings.new }
-    ensures cannot { result ≡ false → (a : AnswerV) → standing standings.old process ≡ Parked a → IsPossible (family_of K.start K.answer_of) net.now store.old.state process a.act → ⊥ }
+    ensures resumes { IsTrue result → Resumes (family K.Kinds) K.admits net.now store.old standings.old process store.new standings.new }
+    ensures cannot { result ≡ false → (a : AnswerV) → standing standings.old process ≡ Parked a → IsPossible (family K.Kinds) net.now store.old.state process a.act → ⊥ }
     ensures same { result ≡ false → store.new ≡ store.old }
     ensures same_standings { result ≡ false → standings.new ≡ standings.old }
     ensures waiting { AreWaiting net.now store.new.state standings.new waiting.new }

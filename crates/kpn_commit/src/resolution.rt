@@ -1,6 +1,6 @@
 //! What follows when no process is ready or out.
 ghost use Rattle.std.specs.Prelude.{◌≡◌, ◌≢◌, ◌↔◌, ◌<◌, ◌≤◌, ◌+◌, ℕ, min, length, set, Contains, None, false};
-ghost use Rattle.kpn_model.specs.Network.{family_of};
+ghost use Rattle.kpn_model.specs.Families.{family};
 ghost use Rattle.std.specs.List.{list_any};
 ghost use Rattle.kpn_state.specs.Marks.{mark_lists};
 ghost use Rattle.kpn_state.specs.Standings.{StandingsFit, is_busy};
@@ -57,12 +57,12 @@ fn resolve_idle<K: Kinds, H: Keeper>(
     standings: &mut Roster,
     waiting: &mut Waiting,
 ) -> Resolution
-    requires keeps { StandingsFit (family_of K.start K.answer_of) K.admits net.now None store.old.state standings.old }
+    requires keeps { StandingsFit (family K.Kinds) K.admits net.now None store.old.state standings.old }
     requires idle { list_any is_busy standings.old ≡ false }
     requires room { length store.old.history + 2 ≤ store.old.limit }
     requires waiting { AreWaiting net.now store.old.state standings.old waiting.old }
-    ensures resolves { Resolves (family_of K.start K.answer_of) net.now store.old standings.old result store.new standings.new }
-    ensures keeps { StandingsFit (family_of K.start K.answer_of) K.admits net.now None store.new.state standings.new }
+    ensures resolves { Resolves (family K.Kinds) net.now store.old standings.old result store.new standings.new }
+    ensures keeps { StandingsFit (family K.Kinds) K.admits net.now None store.new.state standings.new }
     ensures waiting { AreWaiting net.now store.new.state standings.new waiting.new }
 {
     net.assure_valid();
@@ -100,11 +100,11 @@ pub fn resolve<K: Kinds, H: Keeper>(
     standings: &mut Roster,
     waiting: &mut Waiting,
 ) -> Resolution
-    requires keeps { StandingsFit (family_of K.start K.answer_of) K.admits net.now None store.old.state standings.old }
+    requires keeps { StandingsFit (family K.Kinds) K.admits net.now None store.old.state standings.old }
     requires room { list_any is_busy standings.old ≡ false → length store.old.history + 2 ≤ store.old.limit }
     requires waiting { AreWaiting net.now store.old.state standings.old waiting.old }
-    ensures resolves { Resolves (family_of K.start K.answer_of) net.now store.old standings.old result store.new standings.new }
-    ensures keeps { StandingsFit (family_of K.start K.answer_of) K.admits net.now None store.new.state standings.new }
+    ensures resolves { Resolves (family K.Kinds) net.now store.old standings.old result store.new standings.new }
+    ensures keeps { StandingsFit (family K.Kinds) K.admits net.now None store.new.state standings.new }
     ensures waiting { AreWaiting net.now store.new.state standings.new waiting.new }
 {
     if standings.any_busy() {

@@ -1,6 +1,6 @@
 //! The work of a commit.
 ghost use Rattle.std.specs.Prelude.{◌≡◌, ◌≢◌, ◌<◌, ◌≤◌, ◌+◌, length, set, Some, None, true, false, IfSome, IfNone};
-ghost use Rattle.kpn_model.specs.Network.{family_of};
+ghost use Rattle.kpn_model.specs.Families.{family};
 ghost use Rattle.kpn_model.specs.Semantics.{wants, IsPossible};
 ghost use Rattle.kpn_model.specs.declared.kinds.Act.TheVariants.{Stop};
 ghost use Rattle.kpn_state.specs.declared.standing.Standing.TheVariants.{Ready};
@@ -66,12 +66,12 @@ pub fn settle<K: Kinds, H: Keeper>(
     standings: &mut Roster,
     waiting: &mut Waiting,
 ) -> (Resolution, Option<End>)
-    requires keeps { StandingsFit (family_of K.start K.answer_of) K.admits net.now None store.old.state standings.old }
+    requires keeps { StandingsFit (family K.Kinds) K.admits net.now None store.old.state standings.old }
     requires room { list_any is_busy standings.old ≡ false → length store.old.history + 2 ≤ store.old.limit }
     requires waiting { AreWaiting net.now store.old.state standings.old waiting.old }
-    ensures resolves { Resolves (family_of K.start K.answer_of) net.now store.old standings.old result.0 store.new standings.new }
+    ensures resolves { Resolves (family K.Kinds) net.now store.old standings.old result.0 store.new standings.new }
     ensures ended { result.1 ≡ end_after result.0 net.now.budget (length store.new.history) }
-    ensures keeps { StandingsFit (family_of K.start K.answer_of) K.admits net.now None store.new.state standings.new }
+    ensures keeps { StandingsFit (family K.Kinds) K.admits net.now None store.new.state standings.new }
     ensures waiting { AreWaiting net.now store.new.state standings.new waiting.new }
 {
     let resolution = resolve(net, store, standings, waiting);
@@ -90,14 +90,14 @@ pub fn work<K: Kinds, H: Keeper>(
     process: usize,
     answer: Answer,
 ) -> (Outcome, Option<End>)
-    requires keeps { StandingsFit (family_of K.start K.answer_of) K.admits net.now None store.old.state standings.old }
+    requires keeps { StandingsFit (family K.Kinds) K.admits net.now None store.old.state standings.old }
     requires process { process < length standings.old }
-    requires wants { wants (family_of K.start K.answer_of) net.now store.old.state process ≡ Some answer }
+    requires wants { wants (family K.Kinds) net.now store.old.state process ≡ Some answer }
     requires busy { is_busy (standing standings.old process) ≡ true }
     requires room { length store.old.history + 3 ≤ store.old.limit }
     requires waiting { AreWaiting net.now store.old.state standings.old waiting.old }
-    ensures works { Works (family_of K.start K.answer_of) net.now store.old standings.old process answer result.0 store.new standings.new result.1 }
-    ensures keeps { StandingsFit (family_of K.start K.answer_of) K.admits net.now None store.new.state standings.new }
+    ensures works { Works (family K.Kinds) net.now store.old standings.old process answer result.0 store.new standings.new result.1 }
+    ensures keeps { StandingsFit (family K.Kinds) K.admits net.now None store.new.state standings.new }
     ensures waiting { AreWaiting net.now store.new.state standings.new waiting.new }
 {
     let reaction = react(net, store, standings, waiting, process, answer);
@@ -118,18 +118,18 @@ pub fn work_on<K: Kinds, H: Keeper>(
     process: usize,
     answer: Answer,
 ) -> Option<Outcome>
-    requires keeps { StandingsFit (family_of K.start K.answer_of) K.admits net.now None store.old.state standings.old }
+    requires keeps { StandingsFit (family K.Kinds) K.admits net.now None store.old.state standings.old }
     requires process { process < length standings.old }
-    requires wants { wants (family_of K.start K.answer_of) net.now store.old.state process ≡ Some answer }
+    requires wants { wants (family K.Kinds) net.now store.old.state process ≡ Some answer }
     requires busy { is_busy (standing standings.old process) ≡ true }
     requires room { length store.old.history + 3 ≤ store.old.limit }
     requires waiting { AreWaiting net.now store.old.state standings.old waiting.old }
-    ensures works { IfSome result (λ outcome. Works (family_of K.start K.answer_of) net.now store.old standings.old process answer outcome store.new (set standings.new process Ready) None) }
+    ensures works { IfSome result (λ outcome. Works (family K.Kinds) net.now store.old standings.old process answer outcome store.new (set standings.new process Ready) None) }
     ensures stays { standing standings.new process ≡ standing standings.old process }
     ensures many { length standings.new ≡ length standings.old }
-    ensures keeps { IfSome result (λ _. StandingsFit (family_of K.start K.answer_of) K.admits net.now None store.new.state (set standings.new process Ready)) }
+    ensures keeps { IfSome result (λ _. StandingsFit (family K.Kinds) K.admits net.now None store.new.state (set standings.new process Ready)) }
     ensures waiting { IfSome result (λ _. AreWaiting net.now store.new.state (set standings.new process Ready) waiting.new) }
-    ensures cannot { IfNone result (length store.old.history + 2 < net.now.budget → answer.act ≢ Stop → IsPossible (family_of K.start K.answer_of) net.now store.old.state process answer.act → ⊥) }
+    ensures cannot { IfNone result (length store.old.history + 2 < net.now.budget → answer.act ≢ Stop → IsPossible (family K.Kinds) net.now store.old.state process answer.act → ⊥) }
     ensures same { IfNone result ((store.new ≡ store.old) × (standings.new ≡ standings.old) × (waiting.new ≡ waiting.old)) }
 {
     let entries = store.entries() as u64;

@@ -1,6 +1,6 @@
 //! Two families as one.
 ghost use Rattle.std.specs.Prelude.{◌≡◌, ◌⊎◌, ◌↔◌, ◌<◌, ◌-◌, ◌^◌, true, false, None, IsSome, IfSome};
-ghost use Rattle.kpn_model.specs.Network.{family_of};
+ghost use Rattle.kpn_model.specs.Families.{family};
 ghost use Rattle.kpn_compute.specs.Both.{is_first, own_card, both_named, both_ports, both_family, BothAdmit, IsNameRefused, MeansOwn, number_in_both};
 
 use crate::computes::Computes;
@@ -55,9 +55,9 @@ impl<A: Kinds, B: Kinds> Kinds for Both<A, B> {
 
     ghost signature = { both_ports A.signature B.signature };
 
-    ghost start = { (both_family (family_of A.start A.answer_of) (family_of B.start B.answer_of)).start };
+    ghost start = { (both_family (family A.Kinds) (family B.Kinds)).start };
 
-    ghost answer_of = { (both_family (family_of A.start A.answer_of) (family_of B.start B.answer_of)).answer };
+    ghost answer_of = { (both_family (family A.Kinds) (family B.Kinds)).answer };
 
     ghost admits = { BothAdmit A.admits B.admits };
 

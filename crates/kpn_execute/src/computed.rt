@@ -1,6 +1,6 @@
 //! Networks of families for which a plain function answers, with bodies that are made here.
 ghost use Rattle.std.specs.Prelude.{◌≤◌, option_map};
-ghost use Rattle.kpn_model.specs.Network.{family_of};
+ghost use Rattle.kpn_model.specs.Families.{family};
 ghost use Rattle.kpn_execute.specs.Execution.{MakesAndExecutes};
 
 use crate::execution::execute;
@@ -25,7 +25,7 @@ pub fn execute_net<K: Computes, S: Sink, R: Wait + Clock + Threads + Sync>(
     sink: &mut S,
 ) -> u8
     requires workers { (1 ≤ workers) × (workers ≤ 16) }
-    ensures { MakesAndExecutes (family_of K.start K.answer_of) net workers (option_map (λ s. s.now) show.entry) (S.seen sink.old) (S.seen sink.new) result }
+    ensures { MakesAndExecutes (family K.Kinds) net workers (option_map (λ s. s.now) show.entry) (S.seen sink.old) (S.seen sink.new) result }
 {
     match bodies_of(alloc, &net) {
         Ok(bodies) => execute(rt, alloc, net, bodies, workers, show, sink),

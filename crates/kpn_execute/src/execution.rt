@@ -1,6 +1,7 @@
 //! Running a network, and writing the report.
 ghost use Rattle.std.specs.Prelude.{◌≡◌, ◌≢◌, ◌<◌, ◌≤◌, Some, None, IfOk, IfErr, IsSome, map, option_map, string_bytes};
-ghost use Rattle.kpn_model.specs.Network.{family_of, number_of_channel};
+ghost use Rattle.kpn_model.specs.Network.{number_of_channel};
+ghost use Rattle.kpn_model.specs.Families.{family};
 ghost use Rattle.kpn_machine.specs.Opening.{cards_of};
 ghost use Rattle.kpn_execute.specs.Execution.{status_of_end, IsChannelToShow, Executes, TellsEnded, TellsShown, TellsRun, Writes};
 
@@ -62,7 +63,7 @@ pub fn execute<B: Body, S: Sink, R: Wait + Clock + Threads + Sync>(
 ) -> u8
     requires cards { map B.card bodies.items ≡ cards_of net.processes }
     requires workers { (1 ≤ workers) × (workers ≤ 16) }
-    ensures { Executes (family_of B.Kinds.start B.Kinds.answer_of) net workers (option_map (λ s. s.now) show.entry) (S.seen sink.old) (S.seen sink.new) result }
+    ensures { Executes (family B.Kinds.Kinds) net workers (option_map (λ s. s.now) show.entry) (S.seen sink.old) (S.seen sink.new) result }
 {
     match channel_to_show(&net, show) {
         Ok(channel) => {
@@ -104,7 +105,7 @@ fn tell<B: Body, S: Sink, R: Wait + Clock + Threads + Sync>(
 ) -> u8
     requires cards { map B.card request.bodies.items ≡ cards_of request.net.processes }
     requires workers { (1 ≤ request.workers) × (request.workers ≤ 16) }
-    ensures { Writes (TellsShown (family_of B.Kinds.start B.Kinds.answer_of) request.net request.workers channel) (S.seen sink.old) (S.seen sink.new) result }
+    ensures { Writes (TellsShown (family B.Kinds.Kinds) request.net request.workers channel) (S.seen sink.old) (S.seen sink.new) result }
 {
     if request.workers == 1 {
         tell_alone(alloc, request.net, request.bodies, channel, sink)
@@ -123,7 +124,7 @@ fn tell_alone<B: Body, S: Sink>(
     channel: Option<usize>,
     sink: &mut S,
 ) -> u8
-    ensures { Writes (TellsEnded (family_of B.Kinds.start B.Kinds.answer_of) net channel) (S.seen sink.old) (S.seen sink.new) result }
+    ensures { Writes (TellsEnded (family B.Kinds.Kinds) net channel) (S.seen sink.old) (S.seen sink.new) result }
 {
     let Ok(mut machine) = Machine::<B, Tallied>::open_with_keeper(alloc, net, bodies) else {
         return say_refused(&NetFault::Memory, sink);
@@ -144,7 +145,7 @@ fn tell_by_workers<B: Body, S: Sink, R: Wait + Clock + Threads + Sync>(
 ) -> u8
     requires cards { map B.card request.bodies.items ≡ cards_of request.net.processes }
     requires workers { (1 < request.workers) × (request.workers ≤ 16) }
-    ensures { Writes (TellsShown (family_of B.Kinds.start B.Kinds.answer_of) request.net request.workers channel) (S.seen sink.old) (S.seen sink.new) result }
+    ensures { Writes (TellsShown (family B.Kinds.Kinds) request.net request.workers channel) (S.seen sink.old) (S.seen sink.new) result }
 {
     let RunRequest {
         net,
@@ -173,7 +174,7 @@ fn say_told<K: Kinds, H: Keeper, E: Entries, S: Sink>(
 ) -> u8
     requires ended { IsSome chronicle.now.end }
     requires entries { E.entries entries.now ≡ chronicle.now.history }
-    ensures { Writes (TellsEnded (family_of K.start K.answer_of) chronicle.now.network channel) (S.seen sink.old) (S.seen sink.new) result }
+    ensures { Writes (TellsEnded (family K.Kinds) chronicle.now.network channel) (S.seen sink.old) (S.seen sink.new) result }
 {
     match told_of(alloc, chronicle, entries, channel) {
         Ok(told) => say(sink, told.text.as_str(), told.status),
@@ -190,7 +191,7 @@ fn told_of<K: Kinds, H: Keeper, E: Entries>(
 ) -> Result<Told, AllocError>
     requires ended { IsSome chronicle.now.end }
     requires entries { E.entries entries.now ≡ chronicle.now.history }
-    ensures { IfOk result (λ told. TellsRun (family_of K.start K.answer_of) chronicle.now.network channel told.status (string_bytes told.text)) }
+    ensures { IfOk result (λ told. TellsRun (family K.Kinds) chronicle.now.network channel told.status (string_bytes told.text)) }
 {
     let Some(end) = chronicle.end() else {
         unreachable!()

@@ -1,7 +1,7 @@
 //! Which channels of a network may be fed, and which drained.
 ghost use Rattle.std.specs.Prelude.{◌≡◌, ◌<◌, length, map, None, IfSome, IfNone};
 ghost use Rattle.std.specs.List.{list_any};
-ghost use Rattle.kpn_model.specs.Network.{family_of};
+ghost use Rattle.kpn_model.specs.Families.{family};
 ghost use Rattle.kpn_machine.specs.Opening.{cards_of};
 ghost use Rattle.kpn_flow.specs.Ends.{IsFlowFault, stops_at_once, has_live_writer, has_live_reader, is_no_channel, has_twice, end_fault};
 ghost use Rattle.kpn_flow.specs.Flows.{is_among, without};
@@ -85,7 +85,7 @@ fn any_no_channel<K: Kinds>(net: &Net<K>, channels: &[usize]) -> bool
 /// ```
 pub fn stops_at_once<B: Body>(bodies: &[B], process: usize) -> bool
     requires { process < length bodies.now }
-    ensures { result ≡ stops_at_once (family_of B.Kinds.start B.Kinds.answer_of) (map B.card bodies.now) process }
+    ensures { result ≡ stops_at_once (family B.Kinds.Kinds) (map B.card bodies.now) process }
 {
     let body = &bodies[process];
     let card = body.card();
@@ -98,7 +98,7 @@ pub fn stops_at_once<B: Body>(bodies: &[B], process: usize) -> bool
 /// Whether the writer of a channel does more than to stop.
 fn has_live_writer<B: Body>(net: &Net<B::Kinds>, bodies: &[B], channel: usize) -> bool
     requires { length bodies.now ≡ length net.now.processes }
-    ensures { result ≡ has_live_writer (family_of B.Kinds.start B.Kinds.answer_of) net.now (map B.card bodies.now) channel }
+    ensures { result ≡ has_live_writer (family B.Kinds.Kinds) net.now (map B.card bodies.now) channel }
 {
     net.assure_valid();
     channel < net.channels() && !stops_at_once(bodies, net.ends(channel).writer)
@@ -107,7 +107,7 @@ fn has_live_writer<B: Body>(net: &Net<B::Kinds>, bodies: &[B], channel: usize) -
 /// Whether the reader of a channel does more than to stop.
 fn has_live_reader<B: Body>(net: &Net<B::Kinds>, bodies: &[B], channel: usize) -> bool
     requires { length bodies.now ≡ length net.now.processes }
-    ensures { result ≡ has_live_reader (family_of B.Kinds.start B.Kinds.answer_of) net.now (map B.card bodies.now) channel }
+    ensures { result ≡ has_live_reader (family B.Kinds.Kinds) net.now (map B.card bodies.now) channel }
 {
     net.assure_valid();
     channel < net.channels() && !stops_at_once(bodies, net.ends(channel).reader)
@@ -115,7 +115,7 @@ fn has_live_reader<B: Body>(net: &Net<B::Kinds>, bodies: &[B], channel: usize) -
 
 fn any_live_writer<B: Body>(net: &Net<B::Kinds>, bodies: &[B], channels: &[usize]) -> bool
     requires { length bodies.now ≡ length net.now.processes }
-    ensures { result ≡ list_any (has_live_writer (family_of B.Kinds.start B.Kinds.answer_of) net.now (map B.card bodies.now)) channels.now }
+    ensures { result ≡ list_any (has_live_writer (family B.Kinds.Kinds) net.now (map B.card bodies.now)) channels.now }
 {
     channels.iter().any(
         |c|
@@ -126,7 +126,7 @@ fn any_live_writer<B: Body>(net: &Net<B::Kinds>, bodies: &[B], channels: &[usize
 
 fn any_live_reader<B: Body>(net: &Net<B::Kinds>, bodies: &[B], channels: &[usize]) -> bool
     requires { length bodies.now ≡ length net.now.processes }
-    ensures { result ≡ list_any (has_live_reader (family_of B.Kinds.start B.Kinds.answer_of) net.now (map B.card bodies.now)) channels.now }
+    ensures { result ≡ list_any (has_live_reader (family B.Kinds.Kinds) net.now (map B.card bodies.now)) channels.now }
 {
     channels.iter().any(
         |c|
@@ -143,7 +143,7 @@ fn end_fault<B: Body>(
     outputs: &[usize],
 ) -> Option<FlowFault>
     requires { length bodies.now ≡ length net.now.processes }
-    ensures { result ≡ end_fault (family_of B.Kinds.start B.Kinds.answer_of) net.now (map B.card bodies.now) inputs.now outputs.now }
+    ensures { result ≡ end_fault (family B.Kinds.Kinds) net.now (map B.card bodies.now) inputs.now outputs.now }
 {
     if any_no_channel(net, inputs) || any_no_channel(net, outputs) {
         return Some(FlowFault::Channel);
@@ -167,9 +167,9 @@ pub(crate) fn fault_of<B: Body>(
     inputs: &[usize],
     outputs: &[usize],
 ) -> Option<FlowFault>
-    ensures some { IfSome result (IsFlowFault (family_of B.Kinds.start B.Kinds.answer_of) net.now (map B.card bodies.now) inputs.now outputs.now) }
+    ensures some { IfSome result (IsFlowFault (family B.Kinds.Kinds) net.now (map B.card bodies.now) inputs.now outputs.now) }
     ensures cards { IfNone result (map B.card bodies.now ≡ cards_of net.now.processes) }
-    ensures none { IfNone result (end_fault (family_of B.Kinds.start B.Kinds.answer_of) net.now (map B.card bodies.now) inputs.now outputs.now ≡ None) }
+    ensures none { IfNone result (end_fault (family B.Kinds.Kinds) net.now (map B.card bodies.now) inputs.now outputs.now ≡ None) }
 {
     match misfit(net, bodies) {
         Some(OpenFault::Bodies) => Some(FlowFault::Bodies),

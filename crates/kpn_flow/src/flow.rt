@@ -1,7 +1,8 @@
 //! The flow.
 ghost use Rattle.std.specs.Prelude.{◌≡◌, ◌↔◌, ℕ, ◌<◌, ◌≤◌, length, map, take, drop, replicate, IfOk, IfErr, OnOk, IfSome, IfNone, IsTrue, true, false, []};
 ghost use Rattle.std.specs.List.{list_all};
-ghost use Rattle.kpn_model.specs.Network.{channel_of, family_of};
+ghost use Rattle.kpn_model.specs.Network.{channel_of};
+ghost use Rattle.kpn_model.specs.Families.{family};
 ghost use Rattle.kpn_model.specs.Semantics.{start, tokens, capacity, IsBlocked};
 ghost use Rattle.kpn_model.specs.Valid.{IsOfSort};
 ghost use Rattle.kpn_state.specs.declared.standing.Standing.TheVariants.{Ready};
@@ -66,7 +67,7 @@ impl<B: Body> Drop for Flow<B> {
 
 impl<B: Body> Model for Flow<B> {
     ghost use Rattle.std.specs.Prelude.{map, option_map};
-    ghost use Rattle.kpn_model.specs.Network.{family_of};
+    ghost use Rattle.kpn_model.specs.Families.{family};
     ghost use Rattle.kpn_commit.specs.Waiting.{AreWaiting};
     ghost use Rattle.kpn_flow.specs.Flows.{FlowView, flow_view, IsFlowing};
 
@@ -74,7 +75,7 @@ impl<B: Body> Model for Flow<B> {
 
     ghost view = { λ m. flow_view m.net m.store.state m.standings m.inputs.items m.unended.items m.outputs.items m.counts };
 
-    ghost invariant = { λ m. IsFlowing (family_of B.Kinds.start B.Kinds.answer_of) B.Kinds.admits (flow_view m.net m.store.state m.standings m.inputs.items m.unended.items m.outputs.items m.counts) (map (option_map B.card) m.bodies.items) m.store.limit × AreWaiting m.net m.store.state m.standings m.waiting };
+    ghost invariant = { λ m. IsFlowing (family B.Kinds.Kinds) B.Kinds.admits (flow_view m.net m.store.state m.standings m.inputs.items m.unended.items m.outputs.items m.counts) (map (option_map B.card) m.bodies.items) m.store.limit × AreWaiting m.net m.store.state m.standings m.waiting };
 }
 
 /// Why a flow was not opened, with the network and the bodies handed back.
@@ -106,13 +107,13 @@ impl<B: Body> Flow<B> {
         inputs: &[usize],
         outputs: &[usize],
     ) -> Result<Flow<B>, FlowRefused<B>>
-        ensures opened { IfOk result (λ m. m ≡ flow_view net (start (family_of B.Kinds.start B.Kinds.answer_of) net) (replicate (length net.processes) Ready) inputs.now inputs.now outputs.now nothing_counted) }
+        ensures opened { IfOk result (λ m. m ≡ flow_view net (start (family B.Kinds.Kinds) net) (replicate (length net.processes) Ready) inputs.now inputs.now outputs.now nothing_counted) }
         ensures cards { OnOk result (map B.card bodies.items ≡ cards_of net.processes) }
-        ensures ends { OnOk result (AreEnds (family_of B.Kinds.start B.Kinds.answer_of) net inputs.now outputs.now) }
+        ensures ends { OnOk result (AreEnds (family B.Kinds.Kinds) net inputs.now outputs.now) }
         ensures apart { OnOk result (AreApart inputs.now outputs.now) }
         ensures net_back { IfErr result (λ refused. refused.net ≡ net) }
         ensures bodies_back { IfErr result (λ refused. refused.bodies.items ≡ bodies.items) }
-        ensures fault { IfErr result (λ refused. IsFlowFault (family_of B.Kinds.start B.Kinds.answer_of) net (map B.card bodies.items) inputs.now outputs.now refused.fault) }
+        ensures fault { IfErr result (λ refused. IsFlowFault (family B.Kinds.Kinds) net (map B.card bodies.items) inputs.now outputs.now refused.fault) }
     {
         if let Some(fault) = fault_of(&net, bodies.as_slice(), inputs, outputs) {
             return Err(FlowRefused { net, bodies, fault });
@@ -227,7 +228,7 @@ impl<B: Body> Flow<B> {
     /// the channel is empty. After `Pause::Starved` this tells which input to feed.
     pub fn is_starved(&self, channel: usize) -> bool
         ensures parked { result ≡ starves self.now.network self.now.standings channel }
-        ensures starving { IsTrue result → IsStarving (family_of B.Kinds.start B.Kinds.answer_of) self.now.network self.now.state (channel_of self.now.network channel).reader channel }
+        ensures starving { IsTrue result → IsStarving (family B.Kinds.Kinds) self.now.network self.now.state (channel_of self.now.network channel).reader channel }
     {
         starves(&self.net, self.standings.as_slice(), channel)
     }
@@ -236,7 +237,7 @@ impl<B: Body> Flow<B> {
     /// the channel is full. After `Pause::Blocked` this tells which output to drain.
     pub fn is_held_up(&self, channel: usize) -> bool
         ensures parked { result ≡ holds_up self.now.network self.now.standings channel }
-        ensures blocked { IsTrue result → IsBlocked (family_of B.Kinds.start B.Kinds.answer_of) self.now.network self.now.state (channel_of self.now.network channel).writer channel }
+        ensures blocked { IsTrue result → IsBlocked (family B.Kinds.Kinds) self.now.network self.now.state (channel_of self.now.network channel).writer channel }
     {
         holds_up(&self.net, self.standings.as_slice(), channel)
     }
@@ -263,7 +264,7 @@ impl<B: Body> Flow<B> {
     /// and of which this is `true`, the same came out of each output, and is in it (`comparable`).
     pub fn is_exhausted(&self) -> bool
         ensures waits { result ≡ list_all waits_to_read self.now.standings }
-        ensures exhausted { IsTrue result → IsExhausted (family_of B.Kinds.start B.Kinds.answer_of) self.now.network self.now.state }
+        ensures exhausted { IsTrue result → IsExhausted (family B.Kinds.Kinds) self.now.network self.now.state }
     {
         all_wait_to_read(self.standings.as_slice())
     }
@@ -276,10 +277,10 @@ impl<B: Body> Flow<B> {
     /// begins with it (Kahn 1974). The entries among such events were counted; and what has not ended
     /// is an input.
     pub fn assure_one_run(&self)
-        ensures ends { AreEnds (family_of B.Kinds.start B.Kinds.answer_of) self.now.network self.now.inputs self.now.outputs }
+        ensures ends { AreEnds (family B.Kinds.Kinds) self.now.network self.now.inputs self.now.outputs }
         ensures unended { (c : ℕ) → is_among self.now.unended c ≡ true → is_among self.now.inputs c ≡ true }
-        ensures reached { IsReached (family_of B.Kinds.start B.Kinds.answer_of) self.now.network self.now.inputs self.now.outputs self.now.counts self.now.state }
-        ensures one_run { IsOneRunInPieces (family_of B.Kinds.start B.Kinds.answer_of) self.now }
+        ensures reached { IsReached (family B.Kinds.Kinds) self.now.network self.now.inputs self.now.outputs self.now.counts self.now.state }
+        ensures one_run { IsOneRunInPieces (family B.Kinds.Kinds) self.now }
     {
         let _ = &self.net;
     }
@@ -297,8 +298,8 @@ impl<B: Body> Flow<B> {
     /// ```
     pub fn advance(&mut self, most: u64) -> Pause
         ensures same { IsSameFlow self.old self.new }
-        ensures advances { Advances (family_of B.Kinds.start B.Kinds.answer_of) self.old.network self.old.unended self.old.outputs self.old.counts self.new.counts self.old.state self.new.state most result }
-        ensures told { TellWants (family_of B.Kinds.start B.Kinds.answer_of) self.new.network self.new.state self.new.standings result }
+        ensures advances { Advances (family B.Kinds.Kinds) self.old.network self.old.unended self.old.outputs self.old.counts self.new.counts self.old.state self.new.state most result }
+        ensures told { TellWants (family B.Kinds.Kinds) self.new.network self.new.state self.new.standings result }
     {
         go_on(
             &self.net,
@@ -370,7 +371,7 @@ impl<B: Body> Flow<B> {
         requires { MayFeed self.old channel token }
         ensures same { IsSameFlow self.old self.new }
         ensures counts { self.new.counts ≡ self.old.counts }
-        ensures fed { IsTrue result → Happens (family_of B.Kinds.start B.Kinds.answer_of) self.old.network self.old.state (Fed channel token) self.new.state }
+        ensures fed { IsTrue result → Happens (family B.Kinds.Kinds) self.old.network self.old.state (Fed channel token) self.new.state }
         ensures full { result ≡ false → (self.new ≡ self.old) × (capacity self.old.state channel ≤ length (tokens self.old.state channel)) }
     {
         let (held, capacity) = self.store.tokens_and_capacity(channel);
@@ -400,7 +401,7 @@ impl<B: Body> Flow<B> {
         requires { is_among self.old.outputs channel ≡ true }
         ensures same { IsSameFlow self.old self.new }
         ensures counts { self.new.counts ≡ self.old.counts }
-        ensures drained { IfSome result (λ token. Happens (family_of B.Kinds.start B.Kinds.answer_of) self.old.network self.old.state (Drained channel token) self.new.state) }
+        ensures drained { IfSome result (λ token. Happens (family B.Kinds.Kinds) self.old.network self.old.state (Drained channel token) self.new.state) }
         ensures empty { IfNone result ((self.new ≡ self.old) × (tokens self.old.state channel ≡ [])) }
     {
         let (held, _) = self.store.tokens_and_capacity(channel);
@@ -455,7 +456,7 @@ impl<B: Body> Flow<B> {
         ensures same { IsSameFlow self.old self.new }
         ensures counts { self.new.counts ≡ self.old.counts }
         ensures few { result ≤ length batch.now }
-        ensures fed { Flows (family_of B.Kinds.start B.Kinds.answer_of) self.old.network self.old.state (map (Fed channel) (take result batch.now)) self.new.state }
+        ensures fed { Flows (family B.Kinds.Kinds) self.old.network self.old.state (map (Fed channel) (take result batch.now)) self.new.state }
         ensures full { result < length batch.now → capacity self.new.state channel ≤ length (tokens self.new.state channel) }
     {
         let mut fed = 0;
@@ -481,7 +482,7 @@ impl<B: Body> Flow<B> {
         ensures counts { self.new.counts ≡ self.old.counts }
         ensures few { result ≤ length buffer.old }
         ensures length { length buffer.new ≡ length buffer.old }
-        ensures drained { Flows (family_of B.Kinds.start B.Kinds.answer_of) self.old.network self.old.state (map (Drained channel) (take result buffer.new)) self.new.state }
+        ensures drained { Flows (family B.Kinds.Kinds) self.old.network self.old.state (map (Drained channel) (take result buffer.new)) self.new.state }
         ensures rest { drop result buffer.new ≡ drop result buffer.old }
         ensures empty { result < length buffer.old → tokens self.new.state channel ≡ [] }
     {

@@ -1,6 +1,6 @@
 //! Stretch after stretch.
 ghost use Rattle.std.specs.Prelude.{◌≡◌, ◌≤◌, ◌+◌, map, option_map};
-ghost use Rattle.kpn_model.specs.Network.{family_of};
+ghost use Rattle.kpn_model.specs.Families.{family};
 ghost use Rattle.kpn_commit.specs.Waiting.{AreWaiting};
 ghost use Rattle.kpn_flow.specs.Flows.{IsSettledIn, HasAllBodies};
 ghost use Rattle.kpn_flow.specs.Pauses.{Advances, TellWants};
@@ -42,15 +42,15 @@ pub(crate) fn go_on<B: Body>(
     counts: &mut Counts,
     most: u64,
 ) -> Pause
-    requires fits { IsSettledIn (family_of B.Kinds.start B.Kinds.answer_of) B.Kinds.admits net.now store.old.state standings.old }
+    requires fits { IsSettledIn (family B.Kinds.Kinds) B.Kinds.admits net.now store.old.state standings.old }
     requires bodies { HasAllBodies net.now (map (option_map B.card) bodies.now) }
     requires room { 1048576 ≤ store.old.limit }
     requires waiting { AreWaiting net.now store.old.state standings.old waiting.old }
-    ensures fits { IsSettledIn (family_of B.Kinds.start B.Kinds.answer_of) B.Kinds.admits net.now store.new.state standings.new }
+    ensures fits { IsSettledIn (family B.Kinds.Kinds) B.Kinds.admits net.now store.new.state standings.new }
     ensures waiting { AreWaiting net.now store.new.state standings.new waiting.new }
     ensures limit { store.new.limit ≡ store.old.limit }
-    ensures advances { Advances (family_of B.Kinds.start B.Kinds.answer_of) net.now inputs.now outputs.now counts.old counts.new store.old.state store.new.state most result }
-    ensures told { TellWants (family_of B.Kinds.start B.Kinds.answer_of) net.now store.new.state standings.new result }
+    ensures advances { Advances (family B.Kinds.Kinds) net.now inputs.now outputs.now counts.old counts.new store.old.state store.new.state most result }
+    ensures told { TellWants (family B.Kinds.Kinds) net.now store.new.state standings.new result }
 {
     let mut done = 0;
     let mut grown = 0;

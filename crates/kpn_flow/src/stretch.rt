@@ -1,7 +1,7 @@
 //! One stretch of a flow: ready processes are asked, or what follows when none is ready.
 ghost use Rattle.std.specs.Prelude.{◌≡◌, ℕ, ◌+◌, ◌*◌, ◌≤◌, [], length, map, option_map, sum_by, false, IfSome, IfNone};
 ghost use Rattle.std.specs.List.{list_any};
-ghost use Rattle.kpn_model.specs.Network.{family_of};
+ghost use Rattle.kpn_model.specs.Families.{family};
 ghost use Rattle.kpn_state.specs.declared.standing.Standing.TheVariants.{Ready};
 ghost use Rattle.kpn_state.specs.Standings.{standing, is_busy};
 ghost use Rattle.kpn_commit.specs.Waiting.{AreWaiting};
@@ -51,19 +51,19 @@ fn rest<K: Kinds>(
     inputs: &[usize],
     outputs: &[usize],
 ) -> Option<Pause>
-    requires fits { IsSettledIn (family_of K.start K.answer_of) K.admits net.now store.old.state standings.old }
+    requires fits { IsSettledIn (family K.Kinds) K.admits net.now store.old.state standings.old }
     requires idle { list_any is_busy standings.old ≡ false }
     requires waiting { AreWaiting net.now store.old.state standings.old waiting.old }
     requires room { 2 ≤ store.old.limit }
     requires emptied { store.old.history ≡ [] }
-    ensures fits { IsSettledIn (family_of K.start K.answer_of) K.admits net.now store.new.state standings.new }
+    ensures fits { IsSettledIn (family K.Kinds) K.admits net.now store.new.state standings.new }
     ensures waiting { AreWaiting net.now store.new.state standings.new waiting.new }
     ensures limit { store.new.limit ≡ store.old.limit }
-    ensures run { OpenRun (family_of K.start K.answer_of) net.now inputs.now outputs.now store.old.state store.new.history store.new.state }
+    ensures run { OpenRun (family K.Kinds) net.now inputs.now outputs.now store.old.state store.new.history store.new.state }
     ensures few { length store.new.history ≤ 2 }
-    ensures rests { IfSome result (IsRest (family_of K.start K.answer_of) net.now inputs.now outputs.now store.new.state) }
+    ensures rests { IfSome result (IsRest (family K.Kinds) net.now inputs.now outputs.now store.new.state) }
     ensures none { IfSome result (λ _. store.new.history ≡ []) }
-    ensures told { IfSome result (TellWants (family_of K.start K.answer_of) net.now store.new.state standings.new) }
+    ensures told { IfSome result (TellWants (family K.Kinds) net.now store.new.state standings.new) }
     ensures goes { IfNone result (sum_by is_not_parked standings.new + 1 ≤ sum_by is_not_parked standings.old + 2 * length store.new.history) }
 {
     if let Some(pause) = awaited(net, standings.as_slice(), inputs, outputs) {
@@ -90,20 +90,20 @@ pub(crate) fn stretch<B: Body>(
     again: &mut Option<usize>,
     until: usize,
 ) -> Option<Pause>
-    requires fits { IsSettledIn (family_of B.Kinds.start B.Kinds.answer_of) B.Kinds.admits net.now store.old.state standings.old }
+    requires fits { IsSettledIn (family B.Kinds.Kinds) B.Kinds.admits net.now store.old.state standings.old }
     requires bodies { HasAllBodies net.now (map (option_map B.card) bodies.now) }
     requires some { 1 ≤ until }
     requires room { until + 1 ≤ store.old.limit }
     requires waiting { AreWaiting net.now store.old.state standings.old waiting.old }
     requires again { IfSome again.old (λ p. standing standings.old p ≡ Ready) }
-    ensures fits { IsSettledIn (family_of B.Kinds.start B.Kinds.answer_of) B.Kinds.admits net.now store.new.state standings.new }
+    ensures fits { IsSettledIn (family B.Kinds.Kinds) B.Kinds.admits net.now store.new.state standings.new }
     ensures waiting { AreWaiting net.now store.new.state standings.new waiting.new }
     ensures limit { store.new.limit ≡ store.old.limit }
-    ensures run { OpenRun (family_of B.Kinds.start B.Kinds.answer_of) net.now inputs.now outputs.now store.old.state store.new.history store.new.state }
+    ensures run { OpenRun (family B.Kinds.Kinds) net.now inputs.now outputs.now store.old.state store.new.history store.new.state }
     ensures few { length store.new.history ≤ until + 1 }
-    ensures rests { IfSome result (IsRest (family_of B.Kinds.start B.Kinds.answer_of) net.now inputs.now outputs.now store.new.state) }
+    ensures rests { IfSome result (IsRest (family B.Kinds.Kinds) net.now inputs.now outputs.now store.new.state) }
     ensures none { IfSome result (λ _. store.new.history ≡ []) }
-    ensures told { IfSome result (TellWants (family_of B.Kinds.start B.Kinds.answer_of) net.now store.new.state standings.new) }
+    ensures told { IfSome result (TellWants (family B.Kinds.Kinds) net.now store.new.state standings.new) }
     ensures goes { IfNone result (sum_by is_not_parked standings.new + 1 ≤ sum_by is_not_parked standings.old + 2 * length store.new.history) }
     ensures again { IfSome again.new (λ p. standing standings.new p ≡ Ready) }
 {

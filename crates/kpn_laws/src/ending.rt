@@ -1,5 +1,6 @@
 //! A network that can come to its end in bounded room does so.
-ghost use Rattle.kpn_model.specs.Network.{Family, family_of};
+ghost use Rattle.kpn_model.specs.Network.{Family};
+ghost use Rattle.kpn_model.specs.Families.{family};
 ghost use Rattle.kpn_laws.specs.Completion.{CanAlwaysGoOn, FewEntries, Completes, HasEnd, NeverEnds};
 
 use kpn_model::Kinds;
@@ -24,9 +25,9 @@ pub fn completion()
 
 /// Ghost lemma: the laws of [`completion`] for a family that is given as a type.
 pub fn completion_of<K: Kinds>()
-    ensures goes_on { CanAlwaysGoOn (family_of K.start K.answer_of) }
-    ensures few_entries { FewEntries (family_of K.start K.answer_of) }
-    ensures completes { Completes (family_of K.start K.answer_of) }
-    ensures has_end { HasEnd (family_of K.start K.answer_of) }
-    ensures never_ends { NeverEnds (family_of K.start K.answer_of) }
+    ensures goes_on { CanAlwaysGoOn (family K.Kinds) }
+    ensures few_entries { FewEntries (family K.Kinds) }
+    ensures completes { Completes (family K.Kinds) }
+    ensures has_end { HasEnd (family K.Kinds) }
+    ensures never_ends { NeverEnds (family K.Kinds) }
 {}

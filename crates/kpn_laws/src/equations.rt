@@ -1,5 +1,6 @@
 //! The streams of a network are the least solution of its equations (Kahn 1974).
-ghost use Rattle.kpn_model.specs.Network.{Family, family_of};
+ghost use Rattle.kpn_model.specs.Network.{Family};
+ghost use Rattle.kpn_model.specs.Families.{family};
 ghost use Rattle.kpn_laws.specs.Alone.{IsFunction, IsContinuous};
 ghost use Rattle.kpn_laws.specs.Equations.{StreamsAreBelow, EndIsLeastSolution, DigestIsLeastSolution, DigestIsBelow, EndIsLeastFromAny, AllIsReached, LimitIsLeastSolution, OneLeastSolution, TwoHaveCommonRun};
 ghost use Rattle.kpn_laws.specs.StreamsOfRun.{EachApproachesLeastSolution};
@@ -43,16 +44,16 @@ pub fn least_solution()
 
 /// Ghost lemma: the laws of [`least_solution`] for a family that is given as a type.
 pub fn least_solution_of<K: Kinds>()
-    ensures function { IsFunction (family_of K.start K.answer_of) }
-    ensures continuous { IsContinuous (family_of K.start K.answer_of) }
-    ensures below { StreamsAreBelow (family_of K.start K.answer_of) }
-    ensures end_is_least { EndIsLeastSolution (family_of K.start K.answer_of) }
-    ensures digest_is_least { DigestIsLeastSolution (family_of K.start K.answer_of) }
-    ensures below_digest { DigestIsBelow (family_of K.start K.answer_of) }
-    ensures end_is_least_from_any { EndIsLeastFromAny (family_of K.start K.answer_of) }
-    ensures one_least { OneLeastSolution (family_of K.start K.answer_of) }
-    ensures all_reached { AllIsReached (family_of K.start K.answer_of) }
-    ensures limit_is_least { LimitIsLeastSolution (family_of K.start K.answer_of) }
-    ensures common_run { TwoHaveCommonRun (family_of K.start K.answer_of) }
-    ensures each_run { EachApproachesLeastSolution (family_of K.start K.answer_of) }
+    ensures function { IsFunction (family K.Kinds) }
+    ensures continuous { IsContinuous (family K.Kinds) }
+    ensures below { StreamsAreBelow (family K.Kinds) }
+    ensures end_is_least { EndIsLeastSolution (family K.Kinds) }
+    ensures digest_is_least { DigestIsLeastSolution (family K.Kinds) }
+    ensures below_digest { DigestIsBelow (family K.Kinds) }
+    ensures end_is_least_from_any { EndIsLeastFromAny (family K.Kinds) }
+    ensures one_least { OneLeastSolution (family K.Kinds) }
+    ensures all_reached { AllIsReached (family K.Kinds) }
+    ensures limit_is_least { LimitIsLeastSolution (family K.Kinds) }
+    ensures common_run { TwoHaveCommonRun (family K.Kinds) }
+    ensures each_run { EachApproachesLeastSolution (family K.Kinds) }
 {}

@@ -1,5 +1,6 @@
 //! Whichever process goes on next, the outcome is the same.
-ghost use Rattle.kpn_model.specs.Network.{Family, family_of};
+ghost use Rattle.kpn_model.specs.Network.{Family};
+ghost use Rattle.kpn_model.specs.Families.{family};
 ghost use Rattle.kpn_model.specs.Determinacy.{OneDigest, NoneLonger, OneOutcome, AllPrefixComparable};
 ghost use Rattle.kpn_model.specs.Moments.{OneState, PrefixesAreRuns, AlwaysWithin, HistoryTellsState, BudgetSuffices, EnabledCanDo, OneCause};
 
@@ -25,17 +26,17 @@ pub fn determinacy()
 /// Ghost lemma: the laws of [`determinacy`] and of `moments` for a family that
 /// is given as a type.
 pub fn determinacy_of<K: Kinds>()
-    ensures one_digest { OneDigest (family_of K.start K.answer_of) }
-    ensures none_longer { NoneLonger (family_of K.start K.answer_of) }
-    ensures one_outcome { OneOutcome (family_of K.start K.answer_of) }
-    ensures all_comparable { AllPrefixComparable (family_of K.start K.answer_of) }
-    ensures one_state { OneState (family_of K.start K.answer_of) }
-    ensures prefixes { PrefixesAreRuns (family_of K.start K.answer_of) }
-    ensures within { AlwaysWithin (family_of K.start K.answer_of) }
-    ensures told { HistoryTellsState (family_of K.start K.answer_of) }
-    ensures budget { BudgetSuffices (family_of K.start K.answer_of) }
-    ensures enabled { EnabledCanDo (family_of K.start K.answer_of) }
-    ensures one_cause { OneCause (family_of K.start K.answer_of) }
+    ensures one_digest { OneDigest (family K.Kinds) }
+    ensures none_longer { NoneLonger (family K.Kinds) }
+    ensures one_outcome { OneOutcome (family K.Kinds) }
+    ensures all_comparable { AllPrefixComparable (family K.Kinds) }
+    ensures one_state { OneState (family K.Kinds) }
+    ensures prefixes { PrefixesAreRuns (family K.Kinds) }
+    ensures within { AlwaysWithin (family K.Kinds) }
+    ensures told { HistoryTellsState (family K.Kinds) }
+    ensures budget { BudgetSuffices (family K.Kinds) }
+    ensures enabled { EnabledCanDo (family K.Kinds) }
+    ensures one_cause { OneCause (family K.Kinds) }
 {
     determinacy();
     moments();

@@ -1,5 +1,6 @@
 //! No run takes more room than the network needs.
-ghost use Rattle.kpn_model.specs.Network.{Family, family_of};
+ghost use Rattle.kpn_model.specs.Network.{Family};
+ghost use Rattle.kpn_model.specs.Families.{family};
 ghost use Rattle.kpn_laws.specs.Sufficient.{OwnEndSuffices, KeepsCapacities};
 ghost use Rattle.kpn_laws.specs.LeastRoom.{Dominates, ChosenHasFewer, GrowsBelow, StaysBelow, LeastPossible, FewGrowths, CeilingSuffices};
 ghost use Rattle.kpn_laws.specs.RoomOfRun.{EachTakesLeastRoom};
@@ -39,14 +40,14 @@ pub fn least_room()
 
 /// Ghost lemma: the laws of [`least_room`] for a family that is given as a type.
 pub fn least_room_of<K: Kinds>()
-    ensures chosen_has_fewer { ChosenHasFewer (family_of K.start K.answer_of) }
-    ensures grows_below { GrowsBelow (family_of K.start K.answer_of) }
-    ensures stays_below { StaysBelow (family_of K.start K.answer_of) }
-    ensures least_possible { LeastPossible (family_of K.start K.answer_of) }
-    ensures few_growths { FewGrowths (family_of K.start K.answer_of) }
-    ensures ceiling_suffices { CeilingSuffices (family_of K.start K.answer_of) }
-    ensures dominates { Dominates (family_of K.start K.answer_of) }
-    ensures own_end { OwnEndSuffices (family_of K.start K.answer_of) }
-    ensures keeps_capacities { KeepsCapacities (family_of K.start K.answer_of) }
-    ensures each_run { EachTakesLeastRoom (family_of K.start K.answer_of) }
+    ensures chosen_has_fewer { ChosenHasFewer (family K.Kinds) }
+    ensures grows_below { GrowsBelow (family K.Kinds) }
+    ensures stays_below { StaysBelow (family K.Kinds) }
+    ensures least_possible { LeastPossible (family K.Kinds) }
+    ensures few_growths { FewGrowths (family K.Kinds) }
+    ensures ceiling_suffices { CeilingSuffices (family K.Kinds) }
+    ensures dominates { Dominates (family K.Kinds) }
+    ensures own_end { OwnEndSuffices (family K.Kinds) }
+    ensures keeps_capacities { KeepsCapacities (family K.Kinds) }
+    ensures each_run { EachTakesLeastRoom (family K.Kinds) }
 {}

@@ -2,7 +2,8 @@
 ghost use Rattle.std.specs.Prelude.{Option};
 ghost use Rattle.kpn_model.specs.declared.kinds.Card.{Card};
 ghost use Rattle.kpn_model.specs.declared.kinds.Signature.{Signature};
-ghost use Rattle.kpn_model.specs.Network.{Family, family_of};
+ghost use Rattle.kpn_model.specs.Network.{Family};
+ghost use Rattle.kpn_model.specs.Families.{family};
 ghost use Rattle.kpn_model.specs.Moments.{OneState, PrefixesAreRuns, AlwaysWithin, HistoryTellsState, BudgetSuffices, EnabledCanDo, OneCause};
 ghost use Rattle.kpn_model.specs.Valid.{StaysWellTyped};
 ghost use Rattle.kpn_laws.specs.ValidRuns.{StartsWithin, StaysWithin};
@@ -37,7 +38,7 @@ pub fn valid_runs()
 /// token in a channel fits and has the channel's sort, and each live process is in a state that its
 /// card admits. This follows from the laws of the family, which each implementation of `Kinds` proves.
 pub fn typed_runs<K: Kinds>()
-    ensures { StaysWellTyped K.signature K.admits (family_of K.start K.answer_of) }
+    ensures { StaysWellTyped K.signature K.admits (family K.Kinds) }
 {
     K::lawful();
 }

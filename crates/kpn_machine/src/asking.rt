@@ -1,6 +1,7 @@
 //! Ready processes are asked where their bodies lie: the one loop of machines and of flows.
 ghost use Rattle.std.specs.Prelude.{◌≡◌, ◌≢◌, ℕ, List, ◌<◌, ◌≤◌, ◌+◌, length, get_or, map, option_map, Some, None, IfSome};
-ghost use Rattle.kpn_model.specs.Network.{card_of, family_of};
+ghost use Rattle.kpn_model.specs.Network.{card_of};
+ghost use Rattle.kpn_model.specs.Families.{family};
 ghost use Rattle.kpn_model.specs.Semantics.{status};
 ghost use Rattle.kpn_model.specs.declared.history.Status.TheVariants.{Done, Live};
 ghost use Rattle.kpn_commit.specs.declared.react.Reaction.{Reaction as ReactionV};
@@ -32,14 +33,14 @@ pub fn ask_ready<B: Body, H: Keeper>(
     most: u64,
     until: usize,
 ) -> u64
-    requires keeps { StandingsFit (family_of B.Kinds.start B.Kinds.answer_of) B.Kinds.admits net.now None store.old.state standings.old }
+    requires keeps { StandingsFit (family B.Kinds.Kinds) B.Kinds.admits net.now None store.old.state standings.old }
     requires waiting { AreWaiting net.now store.old.state standings.old waiting.old }
     requires slots { length bodies.now ≡ length net.now.processes }
     requires bodies { HasBodies net.now standings.old (map (option_map B.card) bodies.now) }
     requires again { IfSome again.old (λ p. standing standings.old p ≡ Ready) }
     requires room { until + 1 ≤ store.old.limit }
-    ensures asked { (reactions : List ReactionV) × (length reactions ≡ result) × AreAsked (family_of B.Kinds.start B.Kinds.answer_of) B.Kinds.admits net.now until store.old standings.old reactions store.new standings.new }
-    ensures keeps { StandingsFit (family_of B.Kinds.start B.Kinds.answer_of) B.Kinds.admits net.now None store.new.state standings.new }
+    ensures asked { (reactions : List ReactionV) × (length reactions ≡ result) × AreAsked (family B.Kinds.Kinds) B.Kinds.admits net.now until store.old standings.old reactions store.new standings.new }
+    ensures keeps { StandingsFit (family B.Kinds.Kinds) B.Kinds.admits net.now None store.new.state standings.new }
     ensures waiting { AreWaiting net.now store.new.state standings.new waiting.new }
     ensures again { IfSome again.new (λ p. standing standings.new p ≡ Ready) }
     ensures most { result ≤ most }

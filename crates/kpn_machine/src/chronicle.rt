@@ -1,6 +1,6 @@
 //! What a machine leaves behind.
 ghost use Rattle.std.specs.Prelude.{◌≡◌};
-ghost use Rattle.kpn_model.specs.Network.{family_of};
+ghost use Rattle.kpn_model.specs.Families.{family};
 ghost use Rattle.kpn_machine.specs.MachineView.{machine_view, IsFaithful};
 
 use kpn_model::{End, Entry, Kinds};
@@ -37,13 +37,13 @@ impl<K: Kinds, H: Keeper> Drop for Chronicle<K, H> {
 
 impl<K: Kinds, H: Keeper> Model for Chronicle<K, H> {
     ghost use Rattle.kpn_machine.specs.MachineView.{MachineView, machine_view, IsFaithful};
-    ghost use Rattle.kpn_model.specs.Network.{family_of};
+    ghost use Rattle.kpn_model.specs.Families.{family};
 
     ghost Value = { MachineView };
 
     ghost view = { λ m. machine_view m.net m.store.state m.store.history m.standings m.end m.commits };
 
-    ghost invariant = { λ m. IsFaithful (family_of K.start K.answer_of) K.admits (machine_view m.net m.store.state m.store.history m.standings m.end m.commits) };
+    ghost invariant = { λ m. IsFaithful (family K.Kinds) K.admits (machine_view m.net m.store.state m.store.history m.standings m.end m.commits) };
 }
 
 impl<K: Kinds, H: Keeper> Chronicle<K, H> {
@@ -54,7 +54,7 @@ impl<K: Kinds, H: Keeper> Chronicle<K, H> {
         ended: Option<End>,
         commits: u64,
     ) -> Self
-        requires faithful { IsFaithful (family_of K.start K.answer_of) K.admits (machine_view net store.state store.history standings ended commits) }
+        requires faithful { IsFaithful (family K.Kinds) K.admits (machine_view net store.state store.history standings ended commits) }
         ensures { result ≡ machine_view net store.state store.history standings ended commits }
     {
         Chronicle {
@@ -90,7 +90,7 @@ impl<K: Kinds, H: Keeper> Chronicle<K, H> {
     /// Returns how the run ended; `None` if it did not.
     pub fn end(&self) -> Option<End>
         ensures end { result ≡ self.now.end }
-        ensures faithful { IsFaithful (family_of K.start K.answer_of) K.admits self.now }
+        ensures faithful { IsFaithful (family K.Kinds) K.admits self.now }
     {
         self.end
     }

@@ -1,6 +1,7 @@
 //! The machine.
 ghost use Rattle.std.specs.Prelude.{count_by, ◌≡◌, ◌≢◌, ℕ, List, ◌<◌, ◌≤◌, ◌+◌, ◌↔◌, [], replicate, length, get_or, set, map, option_map, Some, None, IfSome, IfNone, IfErr, IfOk, OnOk, IsTrue, IsSome};
-ghost use Rattle.kpn_model.specs.Network.{card_of, family_of};
+ghost use Rattle.kpn_model.specs.Network.{card_of};
+ghost use Rattle.kpn_model.specs.Families.{family};
 ghost use Rattle.kpn_model.specs.History.{growths as growths_of};
 ghost use Rattle.kpn_model.specs.Semantics.{status, start, IsPossible};
 ghost use Rattle.kpn_model.specs.declared.kinds.Act.TheVariants.{Stop};
@@ -72,13 +73,13 @@ impl<B: Body, H: Keeper> Model for Machine<B, H> {
     ghost use Rattle.std.specs.Vec.{vec_capacity};
     ghost use Rattle.kpn_commit.specs.Waiting.{AreWaiting};
     ghost use Rattle.kpn_machine.specs.MachineView.{MachineView, machine_view, IsSound, HasSpareCapacity};
-    ghost use Rattle.kpn_model.specs.Network.{family_of};
+    ghost use Rattle.kpn_model.specs.Families.{family};
 
     ghost Value = { MachineView };
 
     ghost view = { λ m. machine_view m.net m.store.state m.store.history m.standings m.end m.commits };
 
-    ghost invariant = { λ m. IsSound (family_of B.Kinds.start B.Kinds.answer_of) B.Kinds.admits (machine_view m.net m.store.state m.store.history m.standings m.end m.commits) m.store.limit (map (option_map B.card) m.bodies.items) × HasSpareCapacity m.net m.spare.items (vec_capacity m.spare) × AreWaiting m.net m.store.state m.standings m.waiting };
+    ghost invariant = { λ m. IsSound (family B.Kinds.Kinds) B.Kinds.admits (machine_view m.net m.store.state m.store.history m.standings m.end m.commits) m.store.limit (map (option_map B.card) m.bodies.items) × HasSpareCapacity m.net m.spare.items (vec_capacity m.spare) × AreWaiting m.net m.store.state m.standings m.waiting };
 }
 
 /// Why a machine was not opened, with the network and the bodies handed back.
@@ -113,7 +114,7 @@ impl<B: Body> Machine<B> {
         net: Net<B::Kinds>,
         bodies: Vec<B>,
     ) -> Result<Machine<B>, OpenRefused<B>>
-        ensures opened { IfOk result (λ m. m ≡ machine_view net (start (family_of B.Kinds.start B.Kinds.answer_of) net) [] (replicate (length net.processes) Ready) None 0) }
+        ensures opened { IfOk result (λ m. m ≡ machine_view net (start (family B.Kinds.Kinds) net) [] (replicate (length net.processes) Ready) None 0) }
         ensures fresh { IfOk result IsFresh }
         ensures cards { OnOk result (map B.card bodies.items ≡ cards_of net.processes) }
         ensures net_back { IfErr result (λ refused. refused.net ≡ net) }
@@ -144,7 +145,7 @@ impl<B: Body, H: Keeper> Machine<B, H> {
         net: Net<B::Kinds>,
         mut bodies: Vec<B>,
     ) -> Result<Machine<B, H>, OpenRefused<B>>
-        ensures opened { IfOk result (λ m. m ≡ machine_view net (start (family_of B.Kinds.start B.Kinds.answer_of) net) [] (replicate (length net.processes) Ready) None 0) }
+        ensures opened { IfOk result (λ m. m ≡ machine_view net (start (family B.Kinds.Kinds) net) [] (replicate (length net.processes) Ready) None 0) }
         ensures fresh { IfOk result IsFresh }
         ensures cards { OnOk result (map B.card bodies.items ≡ cards_of net.processes) }
         ensures net_back { IfErr result (λ refused. refused.net ≡ net) }
@@ -185,7 +186,7 @@ impl<B: Body, H: Keeper> Machine<B, H> {
     /// Returns how the run ended; `None` if it did not.
     pub fn end(&self) -> Option<End>
         ensures end { result ≡ self.now.end }
-        ensures faithful { IsFaithful (family_of B.Kinds.start B.Kinds.answer_of) B.Kinds.admits self.now }
+        ensures faithful { IsFaithful (family B.Kinds.Kinds) B.Kinds.admits self.now }
     {
         self.assure_faithful();
         self.end
@@ -193,7 +194,7 @@ impl<B: Body, H: Keeper> Machine<B, H> {
 
     /// Ghost lemma: what holds of each machine at each time.
     pub fn assure_faithful(&self)
-        ensures faithful { IsFaithful (family_of B.Kinds.start B.Kinds.answer_of) B.Kinds.admits self.now }
+        ensures faithful { IsFaithful (family B.Kinds.Kinds) B.Kinds.admits self.now }
     {
         self.net.assure_valid();
         valid_runs();
@@ -324,7 +325,7 @@ fn is_out_with<K: Kinds, H: Keeper>(
     local: Local,
     last: Option<Token>,
 ) -> bool
-    requires keeps { StandingsFit (family_of K.start K.answer_of) K.admits net.now None store.now.state standings.now }
+    requires keeps { StandingsFit (family K.Kinds) K.admits net.now None store.now.state standings.now }
     ensures { IsTrue result ↔ IsOutAt net.now store.now.state standings.now (input process card local last) }
 {
     if process >= standings.len() {
@@ -394,10 +395,10 @@ impl<B: Body, H: Keeper> Machine<B, H> {
         ensures stranger { IfErr result (λ stranger. (stranger.finished ≡ finished) × (self.new ≡ self.old)) }
         ensures deserved { IfErr result (λ _. IsOut self.old finished → ⊥) }
         ensures out { OnOk result (IsOut self.old finished) }
-        ensures commits { IfOk result (λ outcome. Commits (family_of B.Kinds.start B.Kinds.answer_of) self.old finished outcome self.new) }
-        ensures appends { IfOk result (λ outcome. Appends (family_of B.Kinds.start B.Kinds.answer_of) self.old self.new (entries_appended outcome)) }
-        ensures tells { IfOk result (TellsEnabled (family_of B.Kinds.start B.Kinds.answer_of) self.old finished.process) }
-        ensures ends { OnOk result (self.old.end ≡ None → EndsAs (family_of B.Kinds.start B.Kinds.answer_of) self.new) }
+        ensures commits { IfOk result (λ outcome. Commits (family B.Kinds.Kinds) self.old finished outcome self.new) }
+        ensures appends { IfOk result (λ outcome. Appends (family B.Kinds.Kinds) self.old self.new (entries_appended outcome)) }
+        ensures tells { IfOk result (TellsEnabled (family B.Kinds.Kinds) self.old finished.process) }
+        ensures ends { OnOk result (self.old.end ≡ None → EndsAs (family B.Kinds.Kinds) self.new) }
         ensures back { OnOk result (standing self.new.standings finished.process ≢ Out) }
         ensures others { OnOk result ((p : ℕ) → p ≢ finished.process → (standing self.new.standings p ≡ Out) ↔ (standing self.old.standings p ≡ Out)) }
     {
@@ -412,10 +413,10 @@ impl<B: Body, H: Keeper> Machine<B, H> {
     #[inline(always)]
     pub fn commit_asked(&mut self, finished: Finished<B>) -> Outcome
         requires { IsOut self.old finished }
-        ensures commits { Commits (family_of B.Kinds.start B.Kinds.answer_of) self.old finished result self.new }
-        ensures appends { Appends (family_of B.Kinds.start B.Kinds.answer_of) self.old self.new (entries_appended result) }
-        ensures tells { TellsEnabled (family_of B.Kinds.start B.Kinds.answer_of) self.old finished.process result }
-        ensures ends { self.old.end ≡ None → EndsAs (family_of B.Kinds.start B.Kinds.answer_of) self.new }
+        ensures commits { Commits (family B.Kinds.Kinds) self.old finished result self.new }
+        ensures appends { Appends (family B.Kinds.Kinds) self.old self.new (entries_appended result) }
+        ensures tells { TellsEnabled (family B.Kinds.Kinds) self.old finished.process result }
+        ensures ends { self.old.end ≡ None → EndsAs (family B.Kinds.Kinds) self.new }
         ensures back { standing self.new.standings finished.process ≢ Out }
         ensures others { (p : ℕ) → p ≢ finished.process → (standing self.new.standings p ≡ Out) ↔ (standing self.old.standings p ≡ Out) }
     {
@@ -449,9 +450,9 @@ impl<B: Body, H: Keeper> Machine<B, H> {
     #[inline(always)]
     pub fn commit_on(&mut self, task: &mut Task<B>, answer: Answer) -> Option<Outcome>
         requires out { IsOut self.old task.old }
-        requires answer { answer ≡ answer_to (family_of B.Kinds.start B.Kinds.answer_of) task.old }
-        ensures goes { IfSome result (λ outcome. CommitsOn (family_of B.Kinds.start B.Kinds.answer_of) self.old task.old outcome task.new self.new) }
-        ensures cannot { IfNone result (self.old.end ≡ None → length self.old.history + 2 < self.old.network.budget → answer.act ≢ Stop → IsPossible (family_of B.Kinds.start B.Kinds.answer_of) self.old.network self.old.state task.old.process answer.act → ⊥) }
+        requires answer { answer ≡ answer_to (family B.Kinds.Kinds) task.old }
+        ensures goes { IfSome result (λ outcome. CommitsOn (family B.Kinds.Kinds) self.old task.old outcome task.new self.new) }
+        ensures cannot { IfNone result (self.old.end ≡ None → length self.old.history + 2 < self.old.network.budget → answer.act ≢ Stop → IsPossible (family B.Kinds.Kinds) self.old.network self.old.state task.old.process answer.act → ⊥) }
         ensures same { IfNone result ((self.new ≡ self.old) × (task.new ≡ task.old)) }
     {
         self.net.assure_valid();
@@ -565,7 +566,7 @@ impl<B: Body, H: Keeper> Machine<B, H> {
     /// ended.
     fn go_on(&mut self, most: u64) -> u64
         requires { self.old.end ≡ None }
-        ensures rounds { (outcomes : List OutcomeV) × (length outcomes ≡ result) × GoesRounds (family_of B.Kinds.start B.Kinds.answer_of) self.old outcomes self.new }
+        ensures rounds { (outcomes : List OutcomeV) × (length outcomes ≡ result) × GoesRounds (family B.Kinds.Kinds) self.old outcomes self.new }
         ensures most { result ≤ most }
         ensures stuck { result ≡ 0 → 0 < most → (p : ℕ) → standing self.old.standings p ≢ Ready }
     {
@@ -605,11 +606,11 @@ impl<B: Body, H: Keeper> Machine<B, H> {
     /// ```
     pub fn finish_alone(&mut self)
         requires { count_by is_out self.old.standings ≡ 0 }
-        ensures goes { ContinuesRun (family_of B.Kinds.start B.Kinds.answer_of) self.old self.new }
+        ensures goes { ContinuesRun (family B.Kinds.Kinds) self.old self.new }
         ensures end { IsSome self.new.end }
-        ensures faithful { IsFaithful (family_of B.Kinds.start B.Kinds.answer_of) B.Kinds.admits self.new }
-        ensures room { TakesLeastRoom (family_of B.Kinds.start B.Kinds.answer_of) self.new.network self.new.history self.new.state }
-        ensures streams { ApproachLeastSolution (family_of B.Kinds.start B.Kinds.answer_of) self.new.network self.new.history self.new.state }
+        ensures faithful { IsFaithful (family B.Kinds.Kinds) B.Kinds.admits self.new }
+        ensures room { TakesLeastRoom (family B.Kinds.Kinds) self.new.network self.new.history self.new.state }
+        ensures streams { ApproachLeastSolution (family B.Kinds.Kinds) self.new.network self.new.history self.new.state }
     {
         while self.end().is_none() {
             self.go_on(u64::MAX);
@@ -638,15 +639,15 @@ impl<B: Body, H: Keeper> Machine<B, H> {
     /// how many answers were taken. Processes that are out stay out. No contract says which ready process
     /// is asked. Takes no memory except that of growths.
     pub fn ask_in_place(&mut self, most: u64) -> u64
-        ensures rounds { (outcomes : List OutcomeV) × (length outcomes ≡ result) × GoesRounds (family_of B.Kinds.start B.Kinds.answer_of) self.old outcomes self.new }
-        ensures goes { ContinuesRun (family_of B.Kinds.start B.Kinds.answer_of) self.old self.new }
+        ensures rounds { (outcomes : List OutcomeV) × (length outcomes ≡ result) × GoesRounds (family B.Kinds.Kinds) self.old outcomes self.new }
+        ensures goes { ContinuesRun (family B.Kinds.Kinds) self.old self.new }
         ensures commits { self.new.commits ≡ self.old.commits + result }
         ensures most { result ≤ most }
         ensures fewer { result < most → self.new.end ≡ None → (p : ℕ) → standing self.new.standings p ≢ Ready }
         ensures out { (p : ℕ) → (standing self.new.standings p ≡ Out) ↔ (standing self.old.standings p ≡ Out) }
         ensures ended { self.old.end ≢ None → result ≡ 0 }
         ensures none { result ≡ 0 → self.new ≡ self.old }
-        ensures faithful { IsFaithful (family_of B.Kinds.start B.Kinds.answer_of) B.Kinds.admits self.new }
+        ensures faithful { IsFaithful (family B.Kinds.Kinds) B.Kinds.admits self.new }
     {
         let mut taken = 0;
         while self.is_to_go_on(taken, most) {

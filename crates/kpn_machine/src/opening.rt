@@ -1,7 +1,8 @@
 //! What a machine begins with.
 ghost use Rattle.std.specs.Prelude.{◌≡◌, ℕ, ◌<◌, ◌+◌, length, [], All, Some, None, IsSome, IfOk, OnOk, IfSome, IfNone, map, option_map, replicate, false};
 ghost use Rattle.std.specs.Vec.{vec_capacity};
-ghost use Rattle.kpn_model.specs.Network.{card_of, family_of};
+ghost use Rattle.kpn_model.specs.Network.{card_of};
+ghost use Rattle.kpn_model.specs.Families.{family};
 ghost use Rattle.kpn_model.specs.Semantics.{start};
 ghost use Rattle.kpn_state.specs.declared.standing.Standing.TheVariants.{Ready};
 ghost use Rattle.kpn_state.specs.StateAndHistory.{state_and_history};
@@ -72,7 +73,7 @@ pub fn misfit<B: Body>(net: &Net<B::Kinds>, bodies: &[B]) -> Option<OpenFault>
 
 /// Each process live, with its card's start.
 pub fn start_statuses<K: Kinds>(alloc: Global, net: &Net<K>) -> Result<Vec<Status>, AllocError>
-    ensures items { IfOk result (λ v. v.items ≡ map (starting (family_of K.start K.answer_of)) net.now.processes) }
+    ensures items { IfOk result (λ v. v.items ≡ map (starting (family K.Kinds)) net.now.processes) }
     ensures admitted { OnOk result ((p : ℕ) → p < length net.now.processes → K.admits (card_of net.now p) (K.start (card_of net.now p)) None) }
 {
     let mut statuses = Vec::with_capacity(alloc, net.processes())?;
@@ -105,7 +106,7 @@ fn start_store<K: Kinds, H: Keeper>(
     net: &Net<K>,
     limit: usize,
 ) -> Result<Store<H>, AllocError>
-    ensures store { IfOk result (λ s. s ≡ state_and_history (start (family_of K.start K.answer_of) net.now) [] limit) }
+    ensures store { IfOk result (λ s. s ≡ state_and_history (start (family K.Kinds) net.now) [] limit) }
     ensures admitted { OnOk result ((p : ℕ) → p < length net.now.processes → K.admits (card_of net.now p) (K.start (card_of net.now p)) None) }
 {
     net.assure_valid();
@@ -143,7 +144,7 @@ pub fn prepare<B: Body, H: Keeper>(
     net: &Net<B::Kinds>,
     limit: usize,
 ) -> Result<Start<B, H>, AllocError>
-    ensures store { IfOk result (λ r. r.store ≡ state_and_history (start (family_of B.Kinds.start B.Kinds.answer_of) net.now) [] limit) }
+    ensures store { IfOk result (λ r. r.store ≡ state_and_history (start (family B.Kinds.Kinds) net.now) [] limit) }
     ensures standings { IfOk result (λ r. r.standings ≡ replicate (length net.now.processes) Ready) }
     ensures candidates { IfOk result (λ r. r.waiting.candidates ≡ candidate_list [] (length net.now.processes)) }
     ensures marks { IfOk result (λ r. r.waiting.marks ≡ mark_lists (replicate (length net.now.channels) false) (replicate (length net.now.channels) false)) }

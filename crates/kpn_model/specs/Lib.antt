@@ -1,4 +1,5 @@
 pub mod Network
+pub mod Families
 pub mod Lawful
 pub mod Semantics
 pub mod History

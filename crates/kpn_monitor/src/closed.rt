@@ -1,6 +1,6 @@
 //! A monitor that was closed.
 ghost use Rattle.std.specs.Prelude.{◌≡◌, ◌≢◌, length};
-ghost use Rattle.kpn_model.specs.Network.{family_of};
+ghost use Rattle.kpn_model.specs.Families.{family};
 ghost use mathlib.Core.List.{IsPrefix};
 ghost use Rattle.kpn_watch.specs.declared.progress.Phase.TheVariants.{Running};
 ghost use Rattle.kpn_watch.specs.Phases.{phase_of};
@@ -71,13 +71,13 @@ impl<K: Kinds, E: EntryLedger, H: Keeper> Model for Closed<K, E, H> {
     ghost use Rattle.std.specs.Prelude.{◌≡◌};
     ghost use Rattle.kpn_monitor.specs.Views.{ClosedView};
     ghost use Rattle.kpn_monitor.specs.Kept.{IsClosed, IsShown};
-    ghost use Rattle.kpn_model.specs.Network.{family_of};
+    ghost use Rattle.kpn_model.specs.Families.{family};
 
     ghost Value = { ClosedView };
 
     ghost view = { λ c. record { machine = c.chronicle; receipts = c.receipts } };
 
-    ghost invariant = { λ c. IsClosed (family_of K.start K.answer_of) K.admits E.net (record { machine = c.chronicle; receipts = c.receipts }) × IsShown E.board c.chronicle c.publisher × (c.board ≡ E.board) };
+    ghost invariant = { λ c. IsClosed (family K.Kinds) K.admits E.net (record { machine = c.chronicle; receipts = c.receipts }) × IsShown E.board c.chronicle c.publisher × (c.board ≡ E.board) };
 }
 
 impl<K: Kinds, E: EntryLedger, H: Keeper> Closed<K, E, H> {
@@ -88,7 +88,7 @@ impl<K: Kinds, E: EntryLedger, H: Keeper> Closed<K, E, H> {
         publisher: CountingPublisher,
     ) -> Self
         requires network { chronicle.network ≡ E.net }
-        requires faithful { IsFaithful (family_of K.start K.answer_of) K.admits chronicle }
+        requires faithful { IsFaithful (family K.Kinds) K.admits chronicle }
         requires shown { IsShown E.board chronicle publisher }
         requires board { board ≡ E.board }
         requires receipts { length chronicle.history ≡ receipts }
@@ -121,7 +121,7 @@ impl<K: Kinds, E: EntryLedger, H: Keeper> Closed<K, E, H> {
     /// Returns how the run ended; `None` if it did not.
     pub fn end(&self) -> Option<End>
         ensures end { result ≡ self.now.machine.end }
-        ensures faithful { IsFaithful (family_of K.start K.answer_of) K.admits self.now.machine }
+        ensures faithful { IsFaithful (family K.Kinds) K.admits self.now.machine }
     {
         self.chronicle.end()
     }

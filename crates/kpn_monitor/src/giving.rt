@@ -1,7 +1,7 @@
 //! How the answers of a hand are given to a machine.
 ghost use Rattle.std.specs.Prelude.{◌≡◌, ◌+◌, ◌<◌, ◌≤◌, [], ◌∷◌, length, slice_get, Some, MatchOption};
 ghost use Rattle.std.specs.List.{All};
-ghost use Rattle.kpn_model.specs.Network.{family_of};
+ghost use Rattle.kpn_model.specs.Families.{family};
 ghost use Rattle.kpn_body.specs.Input.{Input};
 ghost use Rattle.kpn_machine.specs.MachineView.{IsOut};
 ghost use Rattle.kpn_machine.specs.Commits.{Commits, Appends, entries_appended};
@@ -21,10 +21,10 @@ pub(crate) fn give_one<B: Body, H: Keeper>(
     finished: Finished<B>,
 ) -> Outcome
     requires { IsOut machine.old finished }
-    ensures commits { Commits (family_of B.Kinds.start B.Kinds.answer_of) machine.old finished result machine.new }
-    ensures appends { Appends (family_of B.Kinds.start B.Kinds.answer_of) machine.old machine.new (entries_appended result) }
+    ensures commits { Commits (family B.Kinds.Kinds) machine.old finished result machine.new }
+    ensures appends { Appends (family B.Kinds.Kinds) machine.old machine.new (entries_appended result) }
     ensures network { machine.new.network ≡ machine.old.network }
-    ensures committed { WasCommitted (family_of B.Kinds.start B.Kinds.answer_of) B.Kinds.admits machine.old.network finished result }
+    ensures committed { WasCommitted (family B.Kinds.Kinds) B.Kinds.admits machine.old.network finished result }
 {
     machine.assure_faithful();
     machine.commit_asked(finished)
@@ -37,7 +37,7 @@ fn give_up<B: Body, H: Keeper>(machine: &mut Machine<B, H>, places: &mut Places<
     requires called { 0 < places.old.called }
     requires out { (i : Input) → slice_get places.old.tasks 0 ≡ Some i → IsOut machine.old i }
     requires room { length places.old.outcomes < 64 }
-    ensures gave { GivesFirst (family_of B.Kinds.start B.Kinds.answer_of) B.Kinds.admits machine.old places.old machine.new places.new }
+    ensures gave { GivesFirst (family B.Kinds.Kinds) B.Kinds.admits machine.old places.old machine.new places.new }
     ensures again { places.new.again ≡ places.old.again }
 {
     let outcome = give_one(machine, places.leave());
@@ -51,7 +51,7 @@ fn give_first<B: Body, H: Keeper>(machine: &mut Machine<B, H>, places: &mut Plac
     requires called { 0 < places.old.called }
     requires out { (i : Input) → slice_get places.old.tasks 0 ≡ Some i → IsOut machine.old i }
     requires room { length places.old.outcomes < 64 }
-    ensures gave { GivesFirst (family_of B.Kinds.start B.Kinds.answer_of) B.Kinds.admits machine.old places.old machine.new places.new }
+    ensures gave { GivesFirst (family B.Kinds.Kinds) B.Kinds.admits machine.old places.old machine.new places.new }
     ensures most { length places.old.again ≤ keep → length places.new.again ≤ keep }
 {
     machine.assure_faithful();
@@ -89,10 +89,10 @@ pub(crate) fn give_all<B: Body, H: Keeper>(
     requires kept { places.old.again ≡ [] }
     requires few { length places.old.tasks ≤ 64 }
     requires within { places.old.called ≤ length places.old.tasks }
-    ensures machine { MatchOption result (Gives (family_of B.Kinds.start B.Kinds.answer_of) machine.old places.old.tasks places.new.outcomes places.new.again machine.new places.new.tasks) (λ i. Gives (family_of B.Kinds.start B.Kinds.answer_of) machine.old places.old.tasks places.new.outcomes places.new.again machine.new (i ∷ places.new.tasks)) }
+    ensures machine { MatchOption result (Gives (family B.Kinds.Kinds) machine.old places.old.tasks places.new.outcomes places.new.again machine.new places.new.tasks) (λ i. Gives (family B.Kinds.Kinds) machine.old places.old.tasks places.new.outcomes places.new.again machine.new (i ∷ places.new.tasks)) }
     ensures network { machine.new.network ≡ machine.old.network }
-    ensures committed { MatchOption result (WereCommitted (family_of B.Kinds.start B.Kinds.answer_of) B.Kinds.admits machine.old.network places.old.tasks places.new.outcomes places.new.tasks) (λ i. WereCommitted (family_of B.Kinds.start B.Kinds.answer_of) B.Kinds.admits machine.old.network places.old.tasks places.new.outcomes (i ∷ places.new.tasks)) }
-    ensures taken { All (WasTaken (family_of B.Kinds.start B.Kinds.answer_of) B.Kinds.admits machine.old.network) places.new.again }
+    ensures committed { MatchOption result (WereCommitted (family B.Kinds.Kinds) B.Kinds.admits machine.old.network places.old.tasks places.new.outcomes places.new.tasks) (λ i. WereCommitted (family B.Kinds.Kinds) B.Kinds.admits machine.old.network places.old.tasks places.new.outcomes (i ∷ places.new.tasks)) }
+    ensures taken { All (WasTaken (family B.Kinds.Kinds) B.Kinds.admits machine.old.network) places.new.again }
     ensures most { length places.new.again ≤ keep }
     ensures called { MatchOption result ((places.new.called ≡ 0) × (length places.new.outcomes ≡ places.old.called)) (λ _. places.new.called + 1 + length places.new.outcomes ≡ places.old.called) }
     ensures count { MatchOption result (length places.new.tasks + length places.new.outcomes ≡ length places.old.tasks) (λ _. length places.new.tasks + 1 + length places.new.outcomes ≡ length places.old.tasks) }

@@ -5,7 +5,7 @@
 //! book of overs is not empty; and what is published is the history with the phase of its end.
 ghost use Rattle.std.specs.Prelude.{Bool, ℕ, List, ◌≡◌, ◌≢◌, ◌+◌, ◌^◌, ◌<◌, ◌≤◌, ◌↔◌, [], ◌∷◌, ◌++◌, true, false, length, Some, IfNone, Ok, IfSome, IfOk, IfErr, IsErr, OnOk, OnErr, IsSome, MatchOption, MatchResult};
 ghost use mathlib.Core.List.{IsPrefix};
-ghost use Rattle.kpn_model.specs.Network.{family_of};
+ghost use Rattle.kpn_model.specs.Families.{family};
 ghost use Rattle.std.specs.List.{All, sum_by};
 ghost use Rattle.kpn_model.specs.declared.history.End.{End as EndV};
 ghost use Rattle.kpn_model.specs.Semantics.{State};
@@ -90,13 +90,13 @@ impl<B: Body, E: EntryLedger, O: Ledger, H: Keeper> Model for Guarded<B, E, O, H
     ghost use Rattle.std.specs.Prelude.{◌≡◌};
     ghost use Rattle.kpn_monitor.specs.Views.{UnderLock};
     ghost use Rattle.kpn_monitor.specs.Kept.{IsKept, IsShown};
-    ghost use Rattle.kpn_model.specs.Network.{family_of};
+    ghost use Rattle.kpn_model.specs.Families.{family};
 
     ghost Value = { UnderLock };
 
     ghost view = { λ i. record { machine = i.machine; overs = i.over_count; watchers = i.publisher.watchers } };
 
-    ghost invariant = { λ i. IsKept (family_of B.Kinds.start B.Kinds.answer_of) B.Kinds.admits E.net i.machine i.entries.total i.overs.total × IsShown E.board i.machine i.publisher × (i.overs.total ≡ i.over_count) × (E.parts ≡ 65536) × (O.parts ≡ 65536) };
+    ghost invariant = { λ i. IsKept (family B.Kinds.Kinds) B.Kinds.admits E.net i.machine i.entries.total i.overs.total × IsShown E.board i.machine i.publisher × (i.overs.total ≡ i.over_count) × (E.parts ≡ 65536) × (O.parts ≡ 65536) };
 }
 
 impl<B: Body, E: EntryLedger, O: Ledger, H: Keeper> Guarded<B, E, O, H> {
@@ -130,11 +130,11 @@ impl<B: Body, E: EntryLedger, O: Ledger, H: Keeper> Guarded<B, E, O, H> {
     /// or if the book of overs is full.
     pub(crate) fn take(&mut self, seat: &mut Seat<E, O>) -> Option<Taken<B>>
         ensures none { IfNone result ((seat.new ≡ seat.old) × (self.new ≡ self.old)) }
-        ensures nothing { IfNone result (FoundNothing (family_of B.Kinds.start B.Kinds.answer_of) B.Kinds.admits E.net) }
+        ensures nothing { IfNone result (FoundNothing (family B.Kinds.Kinds) B.Kinds.admits E.net) }
         ensures task { (t : Input) → result ≡ Some (Taken.Task t) → (seat.new ≡ seat.old) × TakesOut self.old.machine t self.new.machine }
         ensures over { (e : EndV) → result ≡ Some (Taken.Over e) → (seat.new ≡ record seat.old { overs = 1 }) × (self.old.machine.end ≡ Some e) × (self.new.machine ≡ self.old.machine) }
-        ensures taken { (t : Input) → result ≡ Some (Taken.Task t) → WasTaken (family_of B.Kinds.start B.Kinds.answer_of) B.Kinds.admits E.net t }
-        ensures ended { (e : EndV) → result ≡ Some (Taken.Over e) → HasEnded (family_of B.Kinds.start B.Kinds.answer_of) B.Kinds.admits E.net e }
+        ensures taken { (t : Input) → result ≡ Some (Taken.Task t) → WasTaken (family B.Kinds.Kinds) B.Kinds.admits E.net t }
+        ensures ended { (e : EndV) → result ≡ Some (Taken.Over e) → HasEnded (family B.Kinds.Kinds) B.Kinds.admits E.net e }
     {
         match self.machine.end() {
             Some(end) => {
@@ -162,9 +162,9 @@ impl<B: Body, E: EntryLedger, O: Ledger, H: Keeper> Guarded<B, E, O, H> {
         seat: &mut Seat<E, O>,
     ) -> Result<Outcome, Stranger<B>>
         requires { board.now ≡ E.board }
-        ensures machine { MatchResult result (λ o. Commits (family_of B.Kinds.start B.Kinds.answer_of) self.old.machine finished o self.new.machine × Appends (family_of B.Kinds.start B.Kinds.answer_of) self.old.machine self.new.machine (entries_appended o)) (λ s. (self.new ≡ self.old) × (s.finished ≡ finished)) }
+        ensures machine { MatchResult result (λ o. Commits (family B.Kinds.Kinds) self.old.machine finished o self.new.machine × Appends (family B.Kinds.Kinds) self.old.machine self.new.machine (entries_appended o)) (λ s. (self.new ≡ self.old) × (s.finished ≡ finished)) }
         ensures seat { MatchResult result (λ o. seat.new ≡ record seat.old { entries = seat.old.entries + entries_appended o }) (λ _. seat.new ≡ seat.old) }
-        ensures committed { IfOk result (λ o. WasCommitted (family_of B.Kinds.start B.Kinds.answer_of) B.Kinds.admits E.net finished o) }
+        ensures committed { IfOk result (λ o. WasCommitted (family B.Kinds.Kinds) B.Kinds.admits E.net finished o) }
     {
         if !self.machine.has_asked(&finished) {
             return Err(Stranger { finished });
@@ -187,11 +187,11 @@ impl<B: Body, E: EntryLedger, O: Ledger, H: Keeper> Guarded<B, E, O, H> {
     ) -> Option<Finished<B>>
         requires board { board.now ≡ E.board }
         requires called { hand.old.called ≡ length hand.old.tasks }
-        ensures refused { IfSome result (λ i. GivesBack (family_of B.Kinds.start B.Kinds.answer_of) self.old.machine hand.old.tasks hand.new.outcomes self.new.machine (i ∷ hand.new.tasks)) }
-        ensures goes_on { IfNone result (self.new.machine.end ≡ None → Gives (family_of B.Kinds.start B.Kinds.answer_of) self.old.machine hand.old.tasks hand.new.outcomes hand.new.tasks self.new.machine []) }
-        ensures ended { IfNone result (self.new.machine.end ≢ None → (hand.new.tasks ≡ []) × GivesBack (family_of B.Kinds.start B.Kinds.answer_of) self.old.machine hand.old.tasks hand.new.outcomes self.new.machine []) }
-        ensures committed { MatchOption result (WereCommitted (family_of B.Kinds.start B.Kinds.answer_of) B.Kinds.admits E.net hand.old.tasks hand.new.outcomes []) (λ i. WereCommitted (family_of B.Kinds.start B.Kinds.answer_of) B.Kinds.admits E.net hand.old.tasks hand.new.outcomes (i ∷ hand.new.tasks)) }
-        ensures taken { IfNone result (All (WasTaken (family_of B.Kinds.start B.Kinds.answer_of) B.Kinds.admits E.net) hand.new.tasks) }
+        ensures refused { IfSome result (λ i. GivesBack (family B.Kinds.Kinds) self.old.machine hand.old.tasks hand.new.outcomes self.new.machine (i ∷ hand.new.tasks)) }
+        ensures goes_on { IfNone result (self.new.machine.end ≡ None → Gives (family B.Kinds.Kinds) self.old.machine hand.old.tasks hand.new.outcomes hand.new.tasks self.new.machine []) }
+        ensures ended { IfNone result (self.new.machine.end ≢ None → (hand.new.tasks ≡ []) × GivesBack (family B.Kinds.Kinds) self.old.machine hand.old.tasks hand.new.outcomes self.new.machine []) }
+        ensures committed { MatchOption result (WereCommitted (family B.Kinds.Kinds) B.Kinds.admits E.net hand.old.tasks hand.new.outcomes []) (λ i. WereCommitted (family B.Kinds.Kinds) B.Kinds.admits E.net hand.old.tasks hand.new.outcomes (i ∷ hand.new.tasks)) }
+        ensures taken { IfNone result (All (WasTaken (family B.Kinds.Kinds) B.Kinds.admits E.net) hand.new.tasks) }
         ensures most { IfNone result (length hand.new.tasks ≤ keep) }
         ensures called { MatchOption result (hand.new.called ≡ 0) (λ _. hand.new.called ≡ length hand.new.tasks) }
         ensures seat { seat.new ≡ record seat.old { entries = seat.old.entries + sum_by entries_appended hand.new.outcomes } }
@@ -211,7 +211,7 @@ impl<B: Body, E: EntryLedger, O: Ledger, H: Keeper> Guarded<B, E, O, H> {
         ensures nothing { result ≡ Next.Nothing → seat.new ≡ seat.old }
         ensures seat { (seat.new.parts ≡ seat.old.parts) × (seat.new.entries ≡ seat.old.entries) }
         ensures over { (e : EndV) → result ≡ Next.Over e → (seat.new ≡ record seat.old { overs = 1 }) × (self.new.machine.end ≡ Some e) }
-        ensures ended { (e : EndV) → result ≡ Next.Over e → HasEnded (family_of B.Kinds.start B.Kinds.answer_of) B.Kinds.admits E.net e }
+        ensures ended { (e : EndV) → result ≡ Next.Over e → HasEnded (family B.Kinds.Kinds) B.Kinds.admits E.net e }
     {
         let Some(end) = self.machine.end() else {
             return Next::Nothing;
@@ -237,15 +237,15 @@ impl<B: Body, E: EntryLedger, O: Ledger, H: Keeper> Guarded<B, E, O, H> {
         requires called { hand.old.called ≡ 0 }
         requires wanted { (wanted ≤ 64) × (1 ≤ most → wanted ≤ most) }
         ensures out { (more : List Input) × (hand.new.tasks ≡ hand.old.tasks ++ more) × TakesOutAll self.old.machine more self.new.machine }
-        ensures taken { All (WasTaken (family_of B.Kinds.start B.Kinds.answer_of) B.Kinds.admits E.net) hand.old.tasks → All (WasTaken (family_of B.Kinds.start B.Kinds.answer_of) B.Kinds.admits E.net) hand.new.tasks }
+        ensures taken { All (WasTaken (family B.Kinds.Kinds) B.Kinds.admits E.net) hand.old.tasks → All (WasTaken (family B.Kinds.Kinds) B.Kinds.admits E.net) hand.new.tasks }
         ensures rest { (hand.new.called ≡ 0) × (hand.new.outcomes ≡ hand.old.outcomes) }
         ensures most { length hand.new.tasks ≤ most }
         ensures tasks { result ≡ Next.Tasks → (seat.new ≡ seat.old) × (0 < length hand.new.tasks) }
         ensures nothing { result ≡ Next.Nothing → (seat.new ≡ seat.old) × (hand.new.tasks ≡ []) }
-        ensures found { result ≡ Next.Nothing → 0 < most → FoundNothing (family_of B.Kinds.start B.Kinds.answer_of) B.Kinds.admits E.net }
+        ensures found { result ≡ Next.Nothing → 0 < most → FoundNothing (family B.Kinds.Kinds) B.Kinds.admits E.net }
         ensures seat { (seat.new.parts ≡ seat.old.parts) × (seat.new.entries ≡ seat.old.entries) }
         ensures over { (e : EndV) → result ≡ Next.Over e → (seat.new ≡ record seat.old { overs = 1 }) × (hand.new.tasks ≡ []) × (self.new.machine.end ≡ Some e) }
-        ensures ended { (e : EndV) → result ≡ Next.Over e → HasEnded (family_of B.Kinds.start B.Kinds.answer_of) B.Kinds.admits E.net e }
+        ensures ended { (e : EndV) → result ≡ Next.Over e → HasEnded (family B.Kinds.Kinds) B.Kinds.admits E.net e }
     {
         if most == 0 {
             return self.meet_end(seat);
@@ -275,18 +275,18 @@ impl<B: Body, E: EntryLedger, O: Ledger, H: Keeper> Guarded<B, E, O, H> {
     ) -> Result<Next, Stranger<B>>
         requires board { board.now ≡ E.board }
         requires called { hand.old.called ≡ length hand.old.tasks }
-        ensures machine { IfOk result (λ _. (m : MachineView) × (again : List Input) × (more : List Input) × (hand.new.tasks ≡ again ++ more) × (m.end ≡ None → Gives (family_of B.Kinds.start B.Kinds.answer_of) self.old.machine hand.old.tasks hand.new.outcomes again m []) × (m.end ≢ None → (again ≡ []) × GivesBack (family_of B.Kinds.start B.Kinds.answer_of) self.old.machine hand.old.tasks hand.new.outcomes m []) × TakesOutAll m more self.new.machine) }
-        ensures committed { OnOk result (WereCommitted (family_of B.Kinds.start B.Kinds.answer_of) B.Kinds.admits E.net hand.old.tasks hand.new.outcomes []) }
-        ensures stranger { IfErr result (λ s. WereCommitted (family_of B.Kinds.start B.Kinds.answer_of) B.Kinds.admits E.net hand.old.tasks hand.new.outcomes (s.finished ∷ hand.new.tasks) × GivesBack (family_of B.Kinds.start B.Kinds.answer_of) self.old.machine hand.old.tasks hand.new.outcomes self.new.machine (s.finished ∷ hand.new.tasks)) }
+        ensures machine { IfOk result (λ _. (m : MachineView) × (again : List Input) × (more : List Input) × (hand.new.tasks ≡ again ++ more) × (m.end ≡ None → Gives (family B.Kinds.Kinds) self.old.machine hand.old.tasks hand.new.outcomes again m []) × (m.end ≢ None → (again ≡ []) × GivesBack (family B.Kinds.Kinds) self.old.machine hand.old.tasks hand.new.outcomes m []) × TakesOutAll m more self.new.machine) }
+        ensures committed { OnOk result (WereCommitted (family B.Kinds.Kinds) B.Kinds.admits E.net hand.old.tasks hand.new.outcomes []) }
+        ensures stranger { IfErr result (λ s. WereCommitted (family B.Kinds.Kinds) B.Kinds.admits E.net hand.old.tasks hand.new.outcomes (s.finished ∷ hand.new.tasks) × GivesBack (family B.Kinds.Kinds) self.old.machine hand.old.tasks hand.new.outcomes self.new.machine (s.finished ∷ hand.new.tasks)) }
         ensures kept { OnErr result ((seat.new.overs ≡ seat.old.overs) × (hand.new.called ≡ length hand.new.tasks)) }
         ensures seat { (seat.new.parts ≡ seat.old.parts) × (seat.new.entries ≡ seat.old.entries + sum_by entries_appended hand.new.outcomes) }
-        ensures taken { OnOk result (All (WasTaken (family_of B.Kinds.start B.Kinds.answer_of) B.Kinds.admits E.net) hand.new.tasks × (hand.new.called ≡ 0)) }
+        ensures taken { OnOk result (All (WasTaken (family B.Kinds.Kinds) B.Kinds.admits E.net) hand.new.tasks × (hand.new.called ≡ 0)) }
         ensures most { OnOk result (length hand.new.tasks ≤ most) }
         ensures tasks { result ≡ Ok Next.Tasks → (seat.new.overs ≡ seat.old.overs) × (0 < length hand.new.tasks) }
         ensures nothing { result ≡ Ok Next.Nothing → (seat.new.overs ≡ seat.old.overs) × (hand.new.tasks ≡ []) }
-        ensures found { result ≡ Ok Next.Nothing → 0 < most → FoundNothing (family_of B.Kinds.start B.Kinds.answer_of) B.Kinds.admits E.net }
+        ensures found { result ≡ Ok Next.Nothing → 0 < most → FoundNothing (family B.Kinds.Kinds) B.Kinds.admits E.net }
         ensures over { (e : EndV) → result ≡ Ok (Next.Over e) → (seat.new.overs ≡ 1) × (hand.new.tasks ≡ []) × (self.new.machine.end ≡ Some e) }
-        ensures ended { (e : EndV) → result ≡ Ok (Next.Over e) → HasEnded (family_of B.Kinds.start B.Kinds.answer_of) B.Kinds.admits E.net e }
+        ensures ended { (e : EndV) → result ≡ Ok (Next.Over e) → HasEnded (family B.Kinds.Kinds) B.Kinds.admits E.net e }
     {
         let wanted = self.wanted(hand, most);
         // Those that are ready have waited, so they come before those that could stay.
@@ -308,14 +308,14 @@ impl<B: Body, E: EntryLedger, O: Ledger, H: Keeper> Guarded<B, E, O, H> {
         waited: bool,
     ) -> Went
         requires { board.now ≡ E.board }
-        ensures machine { ContinuesRun (family_of B.Kinds.start B.Kinds.answer_of) self.old.machine self.new.machine }
-        ensures went { (outcomes : List OutcomeV) × (length outcomes ≡ answers_of result) × (seat.new.entries ≡ seat.old.entries + sum_by entries_appended outcomes) × GoesRounds (family_of B.Kinds.start B.Kinds.answer_of) self.old.machine outcomes self.new.machine × WentRounds (family_of B.Kinds.start B.Kinds.answer_of) B.Kinds.admits E.net outcomes }
+        ensures machine { ContinuesRun (family B.Kinds.Kinds) self.old.machine self.new.machine }
+        ensures went { (outcomes : List OutcomeV) × (length outcomes ≡ answers_of result) × (seat.new.entries ≡ seat.old.entries + sum_by entries_appended outcomes) × GoesRounds (family B.Kinds.Kinds) self.old.machine outcomes self.new.machine × WentRounds (family B.Kinds.Kinds) B.Kinds.admits E.net outcomes }
         ensures parts { seat.new.parts ≡ seat.old.parts }
         ensures on { (n : ℕ) (w : Bool) → result ≡ Went.On n w → (0 < n) × (n ≤ most) × (seat.new.overs ≡ seat.old.overs) }
         ensures nowhere { result ≡ Went.Nowhere → seat.new ≡ seat.old }
-        ensures found { result ≡ Went.Nowhere → 0 < most → FoundNothing (family_of B.Kinds.start B.Kinds.answer_of) B.Kinds.admits E.net }
+        ensures found { result ≡ Went.Nowhere → 0 < most → FoundNothing (family B.Kinds.Kinds) B.Kinds.admits E.net }
         ensures over { (e : EndV) → result ≡ Went.Over e → (seat.new ≡ record seat.old { overs = 1 }) × (self.new.machine.end ≡ Some e) }
-        ensures ended { (e : EndV) → result ≡ Went.Over e → HasEnded (family_of B.Kinds.start B.Kinds.answer_of) B.Kinds.admits E.net e }
+        ensures ended { (e : EndV) → result ≡ Went.Over e → HasEnded (family B.Kinds.Kinds) B.Kinds.admits E.net e }
     {
         self.machine.assure_faithful();
         let before = self.machine.entries();
@@ -347,7 +347,7 @@ impl<B: Body, E: EntryLedger, O: Ledger, H: Keeper> Guarded<B, E, O, H> {
         requires some { 0 < length hand.old.tasks }
         requires room { wanted ≤ 64 }
         ensures out { (more : List Input) × (hand.new.tasks ≡ hand.old.tasks ++ more) × TakesOutAll self.old.machine more self.new.machine }
-        ensures taken { All (WasTaken (family_of B.Kinds.start B.Kinds.answer_of) B.Kinds.admits E.net) hand.old.tasks → All (WasTaken (family_of B.Kinds.start B.Kinds.answer_of) B.Kinds.admits E.net) hand.new.tasks }
+        ensures taken { All (WasTaken (family B.Kinds.Kinds) B.Kinds.admits E.net) hand.old.tasks → All (WasTaken (family B.Kinds.Kinds) B.Kinds.admits E.net) hand.new.tasks }
         ensures some { 0 < length hand.new.tasks }
         ensures many { (n : ℕ) → length hand.old.tasks ≤ n → wanted ≤ n → length hand.new.tasks ≤ n }
         ensures rest { (hand.new.called ≡ hand.old.called) × (hand.new.outcomes ≡ hand.old.outcomes) }
@@ -362,7 +362,7 @@ impl<B: Body, E: EntryLedger, O: Ledger, H: Keeper> Guarded<B, E, O, H> {
     // Takes one more task. False if no process is ready.
     fn deal_one(&mut self, hand: &mut Hand<B>) -> bool
         requires { length hand.old.tasks < 64 }
-        ensures more { result ≡ true → (i : Input) × (hand.new ≡ record hand.old { tasks = hand.old.tasks ++ i ∷ [] }) × TakesOut self.old.machine i self.new.machine × WasTaken (family_of B.Kinds.start B.Kinds.answer_of) B.Kinds.admits E.net i }
+        ensures more { result ≡ true → (i : Input) × (hand.new ≡ record hand.old { tasks = hand.old.tasks ++ i ∷ [] }) × TakesOut self.old.machine i self.new.machine × WasTaken (family B.Kinds.Kinds) B.Kinds.admits E.net i }
         ensures none { result ≡ false → (hand.new ≡ hand.old) × (self.new ≡ self.old) }
     {
         self.machine.assure_faithful();
@@ -450,7 +450,7 @@ impl<B: Body, E: EntryLedger, O: Ledger, H: Keeper> Guarded<B, E, O, H> {
     pub(crate) fn watch(&mut self, board: &Board) -> Result<Watcher, WatchFault>
         requires { board.now ≡ E.board }
         ensures seen { IfOk result (λ w. w ≡ record { board = E.board; entries = self.old.machine.history; phase = phase_of self.old.machine.end }) }
-        ensures run { IfOk result (λ w. (M : State) × IsRun (family_of B.Kinds.start B.Kinds.answer_of) E.net w.entries M × MayStand (family_of B.Kinds.start B.Kinds.answer_of) E.net w.entries M self.old.machine.end) }
+        ensures run { IfOk result (λ w. (M : State) × IsRun (family B.Kinds.Kinds) E.net w.entries M × MayStand (family B.Kinds.Kinds) E.net w.entries M self.old.machine.end) }
         ensures made { IfOk result (λ _. self.new ≡ record self.old { watchers = self.old.watchers + 1 }) }
         ensures full { IsErr result ↔ (self.old.watchers ≡ MOST_WATCHERS) }
         ensures kept { OnErr result (self.new ≡ self.old) }
@@ -473,7 +473,7 @@ impl<B: Body, E: EntryLedger, O: Ledger, H: Keeper> Guarded<B, E, O, H> {
     pub(crate) fn into_chronicle(self) -> (Chronicle<B::Kinds, H>, CountingPublisher)
         ensures is { result.0 ≡ self.machine }
         ensures network { result.0.network ≡ E.net }
-        ensures faithful { IsFaithful (family_of B.Kinds.start B.Kinds.answer_of) B.Kinds.admits result.0 }
+        ensures faithful { IsFaithful (family B.Kinds.Kinds) B.Kinds.admits result.0 }
         ensures shown { IsShown E.board result.0 result.1 }
     {
         let Guarded {
@@ -499,7 +499,7 @@ fn publish<B: Body, H: Keeper>(
     requires goes_on { IsPrefix publisher.old.entries machine.now.history }
     requires ended { publisher.old.phase ≢ Running → (machine.now.history ≡ publisher.old.entries) × (phase_of machine.now.end ≡ publisher.old.phase) }
     ensures published { publisher.new ≡ record publisher.old { entries = machine.now.history; phase = phase_of machine.now.end } }
-    ensures faithful { IsFaithful (family_of B.Kinds.start B.Kinds.answer_of) B.Kinds.admits machine.now }
+    ensures faithful { IsFaithful (family B.Kinds.Kinds) B.Kinds.admits machine.now }
     ensures short { length machine.now.history < 2 ^ 22 }
 {
     let ended = machine.end();

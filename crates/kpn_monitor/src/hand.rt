@@ -1,7 +1,7 @@
 //! What a worker holds.
 ghost use Rattle.std.specs.Prelude.{◌≡◌, ◌≢◌, ◌+◌, ◌<◌, ◌≤◌, [], ◌∷◌, ◌++◌, Some, None, length, slice_get, IfOk, IfNone, IfSome, MatchOption};
 ghost use Rattle.std.specs.List.{All};
-ghost use Rattle.kpn_model.specs.Network.{family_of};
+ghost use Rattle.kpn_model.specs.Families.{family};
 ghost use Rattle.kpn_body.specs.Input.{Input};
 ghost use Rattle.kpn_monitor.specs.Kept.{WasTaken};
 ghost use Rattle.kpn_monitor.specs.Hands.{GivesBack, Gives, WereCommitted};
@@ -107,11 +107,11 @@ impl<B: Body> Hand<B> {
         keep: usize,
     ) -> Option<Finished<B>>
         requires { self.old.called ≡ length self.old.tasks }
-        ensures refused { IfSome result (λ i. GivesBack (family_of B.Kinds.start B.Kinds.answer_of) machine.old self.old.tasks self.new.outcomes machine.new (i ∷ self.new.tasks)) }
-        ensures goes_on { IfNone result (machine.new.end ≡ None → Gives (family_of B.Kinds.start B.Kinds.answer_of) machine.old self.old.tasks self.new.outcomes self.new.tasks machine.new []) }
-        ensures ended { IfNone result (machine.new.end ≢ None → (self.new.tasks ≡ []) × GivesBack (family_of B.Kinds.start B.Kinds.answer_of) machine.old self.old.tasks self.new.outcomes machine.new []) }
-        ensures committed { MatchOption result (WereCommitted (family_of B.Kinds.start B.Kinds.answer_of) B.Kinds.admits machine.old.network self.old.tasks self.new.outcomes []) (λ i. WereCommitted (family_of B.Kinds.start B.Kinds.answer_of) B.Kinds.admits machine.old.network self.old.tasks self.new.outcomes (i ∷ self.new.tasks)) }
-        ensures taken { IfNone result (All (WasTaken (family_of B.Kinds.start B.Kinds.answer_of) B.Kinds.admits machine.old.network) self.new.tasks) }
+        ensures refused { IfSome result (λ i. GivesBack (family B.Kinds.Kinds) machine.old self.old.tasks self.new.outcomes machine.new (i ∷ self.new.tasks)) }
+        ensures goes_on { IfNone result (machine.new.end ≡ None → Gives (family B.Kinds.Kinds) machine.old self.old.tasks self.new.outcomes self.new.tasks machine.new []) }
+        ensures ended { IfNone result (machine.new.end ≢ None → (self.new.tasks ≡ []) × GivesBack (family B.Kinds.Kinds) machine.old self.old.tasks self.new.outcomes machine.new []) }
+        ensures committed { MatchOption result (WereCommitted (family B.Kinds.Kinds) B.Kinds.admits machine.old.network self.old.tasks self.new.outcomes []) (λ i. WereCommitted (family B.Kinds.Kinds) B.Kinds.admits machine.old.network self.old.tasks self.new.outcomes (i ∷ self.new.tasks)) }
+        ensures taken { IfNone result (All (WasTaken (family B.Kinds.Kinds) B.Kinds.admits machine.old.network) self.new.tasks) }
         ensures most { IfNone result (length self.new.tasks ≤ keep) }
         ensures called { MatchOption result (self.new.called ≡ 0) (λ _. self.new.called ≡ length self.new.tasks) }
         ensures network { machine.new.network ≡ machine.old.network }

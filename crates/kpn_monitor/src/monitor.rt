@@ -1,6 +1,6 @@
 //! A machine under a lock.
 ghost use Rattle.std.specs.Prelude.{Bool, ◌≡◌, ◌≢◌, ◌+◌, ◌<◌, ◌≤◌, ◌↔◌, ℕ, List, [], ◌∷◌, Some, Ok, IfOk, IfErr, OnOk, OnErr, IsSome, IsOk, IsTrue, MatchResult, length, slice_get};
-ghost use Rattle.kpn_model.specs.Network.{family_of};
+ghost use Rattle.kpn_model.specs.Families.{family};
 ghost use Rattle.std.specs.List.{All, sum_by};
 ghost use Rattle.kpn_model.specs.declared.history.End.{End as EndV};
 ghost use Rattle.kpn_model.specs.Semantics.{State};
@@ -112,8 +112,8 @@ impl<B: Body, E: EntryLedger, O: Ledger, H: Keeper> Monitor<B, E, O, H> {
     pub fn take<R: Wait>(&self, rt: &R, seat: &mut Seat<E, O>) -> Taken<B>
         ensures task { (t : Input) → result ≡ Taken.Task t → seat.new ≡ seat.old }
         ensures over { (e : EndV) → result ≡ Taken.Over e → seat.new ≡ record seat.old { overs = 1 } }
-        ensures taken { (t : Input) → result ≡ Taken.Task t → WasTaken (family_of B.Kinds.start B.Kinds.answer_of) B.Kinds.admits E.net t }
-        ensures ended { (e : EndV) → result ≡ Taken.Over e → HasEnded (family_of B.Kinds.start B.Kinds.answer_of) B.Kinds.admits E.net e }
+        ensures taken { (t : Input) → result ≡ Taken.Task t → WasTaken (family B.Kinds.Kinds) B.Kinds.admits E.net t }
+        ensures ended { (e : EndV) → result ≡ Taken.Over e → HasEnded (family B.Kinds.Kinds) B.Kinds.admits E.net e }
     {
         let mut guarded = self.state.lock(rt);
         for _ in rt.forever() {
@@ -144,7 +144,7 @@ impl<B: Body, E: EntryLedger, O: Ledger, H: Keeper> Monitor<B, E, O, H> {
     ) -> Result<Outcome, Stranger<B>>
         ensures seat { MatchResult result (λ o. seat.new ≡ record seat.old { entries = seat.old.entries + entries_appended o }) (λ _. seat.new ≡ seat.old) }
         ensures stranger { IfErr result (λ s. s.finished ≡ finished) }
-        ensures committed { IfOk result (λ o. WasCommitted (family_of B.Kinds.start B.Kinds.answer_of) B.Kinds.admits E.net finished o) }
+        ensures committed { IfOk result (λ o. WasCommitted (family B.Kinds.Kinds) B.Kinds.admits E.net finished o) }
     {
         let mut guarded = self.state.lock(rt);
         let answer = guarded.commit(&self.board, finished, seat);
@@ -175,16 +175,16 @@ impl<B: Body, E: EntryLedger, O: Ledger, H: Keeper> Monitor<B, E, O, H> {
         requires { hand.old.called ≡ length hand.old.tasks }
         ensures parts { seat.new.parts ≡ seat.old.parts }
         ensures entries { seat.new.entries ≡ seat.old.entries + sum_by entries_appended hand.new.outcomes }
-        ensures committed { OnOk result (WereCommitted (family_of B.Kinds.start B.Kinds.answer_of) B.Kinds.admits E.net hand.old.tasks hand.new.outcomes []) }
-        ensures stranger { IfErr result (λ s. WereCommitted (family_of B.Kinds.start B.Kinds.answer_of) B.Kinds.admits E.net hand.old.tasks hand.new.outcomes (s.finished ∷ hand.new.tasks)) }
+        ensures committed { OnOk result (WereCommitted (family B.Kinds.Kinds) B.Kinds.admits E.net hand.old.tasks hand.new.outcomes []) }
+        ensures stranger { IfErr result (λ s. WereCommitted (family B.Kinds.Kinds) B.Kinds.admits E.net hand.old.tasks hand.new.outcomes (s.finished ∷ hand.new.tasks)) }
         ensures kept { OnErr result ((seat.new.overs ≡ seat.old.overs) × (hand.new.called ≡ length hand.new.tasks)) }
-        ensures taken { OnOk result (All (WasTaken (family_of B.Kinds.start B.Kinds.answer_of) B.Kinds.admits E.net) hand.new.tasks × (hand.new.called ≡ 0)) }
+        ensures taken { OnOk result (All (WasTaken (family B.Kinds.Kinds) B.Kinds.admits E.net) hand.new.tasks × (hand.new.called ≡ 0)) }
         ensures most { OnOk result (length hand.new.tasks ≤ most) }
         ensures tasks { result ≡ Ok Next.Tasks → (seat.new.overs ≡ seat.old.overs) × (0 < length hand.new.tasks) }
         ensures nothing { result ≡ Ok Next.Nothing → (seat.new.overs ≡ seat.old.overs) × (hand.new.tasks ≡ []) }
-        ensures found { result ≡ Ok Next.Nothing → 0 < most → FoundNothing (family_of B.Kinds.start B.Kinds.answer_of) B.Kinds.admits E.net }
+        ensures found { result ≡ Ok Next.Nothing → 0 < most → FoundNothing (family B.Kinds.Kinds) B.Kinds.admits E.net }
         ensures over { (e : EndV) → result ≡ Ok (Next.Over e) → (seat.new.overs ≡ 1) × (hand.new.tasks ≡ []) }
-        ensures ended { (e : EndV) → result ≡ Ok (Next.Over e) → HasEnded (family_of B.Kinds.start B.Kinds.answer_of) B.Kinds.admits E.net e }
+        ensures ended { (e : EndV) → result ≡ Ok (Next.Over e) → HasEnded (family B.Kinds.Kinds) B.Kinds.admits E.net e }
     {
         hand.see_awake(self.awake.load(Ordering::SeqCst));
         let mut guarded = self.lock(rt);
@@ -207,13 +207,13 @@ impl<B: Body, E: EntryLedger, O: Ledger, H: Keeper> Monitor<B, E, O, H> {
     /// numbers of all of them together. `On` says how many answers were taken: at least one, and at most
     /// `most`. If none was taken and the run has ended, the seat has met its end: its share of overs is 1.
     pub fn ask_in_place<R: Wait>(&self, rt: &R, seat: &mut Seat<E, O>, most: u64) -> Went
-        ensures went { (outcomes : List OutcomeV) × (length outcomes ≡ answers_of result) × (seat.new.entries ≡ seat.old.entries + sum_by entries_appended outcomes) × WentRounds (family_of B.Kinds.start B.Kinds.answer_of) B.Kinds.admits E.net outcomes }
+        ensures went { (outcomes : List OutcomeV) × (length outcomes ≡ answers_of result) × (seat.new.entries ≡ seat.old.entries + sum_by entries_appended outcomes) × WentRounds (family B.Kinds.Kinds) B.Kinds.admits E.net outcomes }
         ensures parts { seat.new.parts ≡ seat.old.parts }
         ensures on { (n : ℕ) (w : Bool) → result ≡ Went.On n w → (0 < n) × (n ≤ most) × (seat.new.overs ≡ seat.old.overs) }
         ensures nowhere { result ≡ Went.Nowhere → seat.new ≡ seat.old }
-        ensures found { result ≡ Went.Nowhere → 0 < most → FoundNothing (family_of B.Kinds.start B.Kinds.answer_of) B.Kinds.admits E.net }
+        ensures found { result ≡ Went.Nowhere → 0 < most → FoundNothing (family B.Kinds.Kinds) B.Kinds.admits E.net }
         ensures over { (e : EndV) → result ≡ Went.Over e → seat.new ≡ record seat.old { overs = 1 } }
-        ensures ended { (e : EndV) → result ≡ Went.Over e → HasEnded (family_of B.Kinds.start B.Kinds.answer_of) B.Kinds.admits E.net e }
+        ensures ended { (e : EndV) → result ≡ Went.Over e → HasEnded (family B.Kinds.Kinds) B.Kinds.admits E.net e }
     {
         let free = self.state.try_lock();
         let waited = free.is_none();
@@ -352,7 +352,7 @@ impl<B: Body, E: EntryLedger, O: Ledger, H: Keeper> Monitor<B, E, O, H> {
     /// Fails if 64 watchers were made.
     pub fn watch<R: Wait>(&self, rt: &R) -> Result<Watcher, WatchFault>
         ensures board { IfOk result (λ w. w.board ≡ E.board) }
-        ensures run { IfOk result (λ w. (M : State) × IsRun (family_of B.Kinds.start B.Kinds.answer_of) E.net w.entries M) }
+        ensures run { IfOk result (λ w. (M : State) × IsRun (family B.Kinds.Kinds) E.net w.entries M) }
     {
         self.state.lock(rt).watch(&self.board)
     }
@@ -381,7 +381,7 @@ impl<B: Body, E: EntryLedger, O: Ledger, H: Keeper> Monitor<B, E, O, H> {
         self,
         seats: Vec<Seat<E, O>>,
     ) -> Result<Closed<B::Kinds, E, H>, Unclosed<B, E, O, H>>
-        ensures closed { IfOk result (λ c. IsClosed (family_of B.Kinds.start B.Kinds.answer_of) B.Kinds.admits E.net c) }
+        ensures closed { IfOk result (λ c. IsClosed (family B.Kinds.Kinds) B.Kinds.admits E.net c) }
         ensures receipts { IfOk result (λ c. c.receipts ≡ sum_by (λ (s : Shares). s.entries) seats.items) }
         ensures ended { IfOk result (λ c. (k : ℕ) (s : Shares) → slice_get seats.items k ≡ Some s → s.overs ≡ 1 → IsSome c.machine.end) }
         ensures seats { IfErr result (λ u. u.seats.items ≡ seats.items) }

@@ -1,6 +1,6 @@
 //! The places of the tasks of a hand.
 ghost use Rattle.std.specs.Prelude.{◌≡◌, ◌+◌, ◌<◌, ◌≤◌, ℕ, List, [], ◌∷◌, ◌++◌, Some, true, false, length, take, drop, slice_get, slice_index_or, vec_capacity, IfOk, IfNone, IfSome, IsTrue, ◌↔◌};
-ghost use Rattle.kpn_model.specs.Network.{family_of};
+ghost use Rattle.kpn_model.specs.Families.{family};
 ghost use Rattle.kpn_body.specs.Input.{Input};
 ghost use Rattle.kpn_commit.specs.declared.outcome.Outcome.{Outcome as OutcomeV};
 ghost use Rattle.kpn_machine.specs.MachineView.{IsOut};
@@ -34,13 +34,13 @@ impl<B: Body> Model for Places<B> {
     ghost use Rattle.std.specs.Prelude.{◌≡◌, ◌≤◌, ◌-◌, length, take, drop, vec_capacity};
     ghost use Rattle.kpn_monitor.specs.Views.{Placed};
     ghost use Rattle.kpn_monitor.specs.Places.{IsLaidOut, tasks_in};
-    ghost use Rattle.kpn_model.specs.Network.{family_of};
+    ghost use Rattle.kpn_model.specs.Families.{family};
 
     ghost Value = { Placed };
 
     ghost view = { λ p. record { again = tasks_in (take p.kept p.places.items); tasks = tasks_in (drop p.given p.places.items); called = length p.answers.items - p.given; given = p.given; outcomes = p.outcomes.items } };
 
-    ghost invariant = { λ p. IsLaidOut (family_of B.Kinds.start B.Kinds.answer_of) p.places.items p.answers.items p.given p.kept × (64 ≤ vec_capacity p.places) × (64 ≤ vec_capacity p.answers) × (64 ≤ vec_capacity p.outcomes) };
+    ghost invariant = { λ p. IsLaidOut (family B.Kinds.Kinds) p.places.items p.answers.items p.given p.kept × (64 ≤ vec_capacity p.places) × (64 ≤ vec_capacity p.answers) × (64 ≤ vec_capacity p.outcomes) };
 }
 
 impl<B: Body> Places<B> {
@@ -168,7 +168,7 @@ impl<B: Body> Places<B> {
         requires called { 0 < self.old.called }
         requires out { (i : Input) → slice_get self.old.tasks 0 ≡ Some i → IsOut machine.old i }
         requires room { length self.old.outcomes < 64 }
-        ensures stays { result ≡ true → (i j : Input) × (o : OutcomeV) × (rest : List Input) × (self.old.tasks ≡ i ∷ rest) × (self.new ≡ record { again = self.old.again ++ j ∷ []; tasks = rest; called = self.new.called; given = self.new.given; outcomes = self.old.outcomes ++ o ∷ [] }) × (self.old.called ≡ self.new.called + 1) × CommitsOn (family_of B.Kinds.start B.Kinds.answer_of) machine.old i o j machine.new }
+        ensures stays { result ≡ true → (i j : Input) × (o : OutcomeV) × (rest : List Input) × (self.old.tasks ≡ i ∷ rest) × (self.new ≡ record { again = self.old.again ++ j ∷ []; tasks = rest; called = self.new.called; given = self.new.given; outcomes = self.old.outcomes ++ o ∷ [] }) × (self.old.called ≡ self.new.called + 1) × CommitsOn (family B.Kinds.Kinds) machine.old i o j machine.new }
         ensures same { result ≡ false → (self.new ≡ self.old) × (machine.new ≡ machine.old) }
     {
         let answer = self.answers[self.given];

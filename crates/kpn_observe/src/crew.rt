@@ -1,7 +1,7 @@
 //! Runs by threads of a caller's own.
 ghost use Rattle.std.specs.Prelude.{◌≡◌, ◌≢◌, ◌+◌, ◌<◌, ◌≤◌, [], length, map, vec_capacity, Ok, IfOk, IfErr, IfNone, MatchResult, OnOk};
 ghost use Rattle.std.specs.List.{sum_by};
-ghost use Rattle.kpn_model.specs.Network.{family_of};
+ghost use Rattle.kpn_model.specs.Families.{family};
 ghost use Rattle.kpn_model.specs.declared.history.End.{End as EndV};
 ghost use Rattle.kpn_body.specs.Input.{Input};
 ghost use Rattle.kpn_machine.specs.Commits.{entries_appended};
@@ -76,8 +76,8 @@ impl<E: EntryLedger, O: Ledger> CrewSeat<E, O> {
     pub fn take<B: Body, R: Wait>(&mut self, rt: &R, monitor: &Monitor<B, E, O>) -> Taken<B>
         ensures task { (t : Input) → result ≡ Taken.Task t → self.new ≡ self.old }
         ensures over { (e : EndV) → result ≡ Taken.Over e → self.new ≡ record self.old { overs = 1 } }
-        ensures taken { (t : Input) → result ≡ Taken.Task t → WasTaken (family_of B.Kinds.start B.Kinds.answer_of) B.Kinds.admits E.net t }
-        ensures ended { (e : EndV) → result ≡ Taken.Over e → HasEnded (family_of B.Kinds.start B.Kinds.answer_of) B.Kinds.admits E.net e }
+        ensures taken { (t : Input) → result ≡ Taken.Task t → WasTaken (family B.Kinds.Kinds) B.Kinds.admits E.net t }
+        ensures ended { (e : EndV) → result ≡ Taken.Over e → HasEnded (family B.Kinds.Kinds) B.Kinds.admits E.net e }
     {
         monitor.take(rt, &mut self.seat)
     }
@@ -100,7 +100,7 @@ impl<E: EntryLedger, O: Ledger> CrewSeat<E, O> {
     ) -> Result<Outcome, Stranger<B>>
         ensures seat { MatchResult result (λ o. self.new ≡ record self.old { entries = self.old.entries + entries_appended o }) (λ _. self.new ≡ self.old) }
         ensures stranger { IfErr result (λ s. s.finished ≡ finished) }
-        ensures committed { IfOk result (λ o. WasCommitted (family_of B.Kinds.start B.Kinds.answer_of) B.Kinds.admits E.net finished o) }
+        ensures committed { IfOk result (λ o. WasCommitted (family B.Kinds.Kinds) B.Kinds.admits E.net finished o) }
     {
         monitor.commit(rt, finished, &mut self.seat)
     }
@@ -184,12 +184,12 @@ pub fn run_by_crew<B: Body, R: Threads + Sync, C: Crew<B>>(
     seats: u16,
     crew: &C,
 ) -> Result<WatchedRun<B::Kinds>, OpenRefused<B>>
-    ensures closed { IfOk result (IsClosed (family_of B.Kinds.start B.Kinds.answer_of) B.Kinds.admits net) }
-    ensures within { IfOk result (λ r. StaysWithinCapacities (family_of B.Kinds.start B.Kinds.answer_of) net r.machine.history) }
-    ensures budget { IfOk result (λ r. EndSparesBudget (family_of B.Kinds.start B.Kinds.answer_of) net r.machine.end) }
-    ensures comparable { IfOk result (λ r. IsComparable (family_of B.Kinds.start B.Kinds.answer_of) net r.machine.history) }
-    ensures room { IfOk result (λ r. TakesLeastRoom (family_of B.Kinds.start B.Kinds.answer_of) net r.machine.history r.machine.state) }
-    ensures streams { IfOk result (λ r. ApproachLeastSolution (family_of B.Kinds.start B.Kinds.answer_of) net r.machine.history r.machine.state) }
+    ensures closed { IfOk result (IsClosed (family B.Kinds.Kinds) B.Kinds.admits net) }
+    ensures within { IfOk result (λ r. StaysWithinCapacities (family B.Kinds.Kinds) net r.machine.history) }
+    ensures budget { IfOk result (λ r. EndSparesBudget (family B.Kinds.Kinds) net r.machine.end) }
+    ensures comparable { IfOk result (λ r. IsComparable (family B.Kinds.Kinds) net r.machine.history) }
+    ensures room { IfOk result (λ r. TakesLeastRoom (family B.Kinds.Kinds) net r.machine.history r.machine.state) }
+    ensures streams { IfOk result (λ r. ApproachLeastSolution (family B.Kinds.Kinds) net r.machine.history r.machine.state) }
     ensures cards { OnOk result (map B.card bodies.items ≡ cards_of net.processes) }
     ensures net_back { IfErr result (λ refused. refused.net ≡ net) }
     ensures cards_back { IfErr result (λ refused. map B.card refused.bodies.items ≡ map B.card bodies.items) }
@@ -211,12 +211,12 @@ fn run_opened<B: Body, R: Threads + Sync, C: Crew<B>>(
     crew: &C,
 ) -> Result<WatchedRun<B::Kinds>, OpenRefused<B>>
     requires { IsFresh machine }
-    ensures closed { IfOk result (IsClosed (family_of B.Kinds.start B.Kinds.answer_of) B.Kinds.admits machine.network) }
-    ensures within { IfOk result (λ r. StaysWithinCapacities (family_of B.Kinds.start B.Kinds.answer_of) machine.network r.machine.history) }
-    ensures budget { IfOk result (λ r. EndSparesBudget (family_of B.Kinds.start B.Kinds.answer_of) machine.network r.machine.end) }
-    ensures comparable { IfOk result (λ r. IsComparable (family_of B.Kinds.start B.Kinds.answer_of) machine.network r.machine.history) }
-    ensures room { IfOk result (λ r. TakesLeastRoom (family_of B.Kinds.start B.Kinds.answer_of) machine.network r.machine.history r.machine.state) }
-    ensures streams { IfOk result (λ r. ApproachLeastSolution (family_of B.Kinds.start B.Kinds.answer_of) machine.network r.machine.history r.machine.state) }
+    ensures closed { IfOk result (IsClosed (family B.Kinds.Kinds) B.Kinds.admits machine.network) }
+    ensures within { IfOk result (λ r. StaysWithinCapacities (family B.Kinds.Kinds) machine.network r.machine.history) }
+    ensures budget { IfOk result (λ r. EndSparesBudget (family B.Kinds.Kinds) machine.network r.machine.end) }
+    ensures comparable { IfOk result (λ r. IsComparable (family B.Kinds.Kinds) machine.network r.machine.history) }
+    ensures room { IfOk result (λ r. TakesLeastRoom (family B.Kinds.Kinds) machine.network r.machine.history r.machine.state) }
+    ensures streams { IfOk result (λ r. ApproachLeastSolution (family B.Kinds.Kinds) machine.network r.machine.history r.machine.state) }
     ensures net_back { IfErr result (λ refused. refused.net ≡ machine.network) }
     ensures cards_back { IfErr result (λ refused. map B.card refused.bodies.items ≡ cards_of machine.network.processes) }
     ensures fault { IfErr result (λ refused. refused.fault ≡ OpenFault.Memory) }
@@ -266,7 +266,7 @@ fn run_named<
     requires board { opening.board ≡ E.board }
     requires entries { (opening.entries.name ≡ E.name) × (opening.entries.parts ≡ E.parts) }
     requires overs { (opening.overs.name ≡ O.name) × (opening.overs.parts ≡ O.parts) }
-    ensures closed { IfOk result (IsClosed (family_of B.Kinds.start B.Kinds.answer_of) B.Kinds.admits E.net) }
+    ensures closed { IfOk result (IsClosed (family B.Kinds.Kinds) B.Kinds.admits E.net) }
     ensures net_back { IfErr result (λ refused. refused.net ≡ opening.machine.network) }
     ensures cards_back { IfErr result (λ refused. map B.card refused.bodies.items ≡ cards_of opening.machine.network.processes) }
     ensures fault { IfErr result (λ refused. refused.fault ≡ OpenFault.Memory) }
@@ -328,7 +328,7 @@ fn run_seated<
 ) -> WatchedRun<B::Kinds>
     requires parts { length crewed.items + rest.parts ≡ 65536 }
     requires seats { (seats.items ≡ []) × (length crewed.items < vec_capacity seats) }
-    ensures { IsClosed (family_of B.Kinds.start B.Kinds.answer_of) B.Kinds.admits E.net result }
+    ensures { IsClosed (family B.Kinds.Kinds) B.Kinds.admits E.net result }
 {
     let mut crewed = crewed;
     work_all(rt, &monitor, &mut crewed, crew);

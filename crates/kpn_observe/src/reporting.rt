@@ -1,7 +1,7 @@
 //! The report of what a machine left behind, whoever ran it.
 ghost use Rattle.std.specs.Prelude.{◌≡◌, Some, is_some, IfOk, IfSome};
 ghost use Rattle.kpn_model.specs.declared.history.End.{End as EndV};
-ghost use Rattle.kpn_model.specs.Network.{family_of};
+ghost use Rattle.kpn_model.specs.Families.{family};
 ghost use Rattle.kpn_report.specs.Reported.{IsReport};
 ghost use Rattle.kpn_run.specs.Reports.{IsEveryRuns, IsOutcome, TellsLeastSolution};
 ghost use Rattle.kpn_observe.specs.WatchedReports.{IsReportOf};
@@ -30,7 +30,7 @@ pub fn chronicle_report<K: Kinds>(
     chronicle: &Chronicle<K>,
 ) -> Result<Option<Report>, AllocError>
     ensures some { IfOk result (λ r. is_some r ≡ is_some chronicle.now.end) }
-    ensures tells { (cause : EndV) → chronicle.now.end ≡ Some cause → IfOk result (λ o. IfSome o (λ r. IsReportOf (family_of K.start K.answer_of) chronicle.now cause r.end r.detail)) }
+    ensures tells { (cause : EndV) → chronicle.now.end ≡ Some cause → IfOk result (λ o. IfSome o (λ r. IsReportOf (family K.Kinds) chronicle.now cause r.end r.detail)) }
 {
     let Some(end) = chronicle.end() else {
         return Ok(None);
@@ -46,10 +46,10 @@ fn report_at<K: Kinds>(
 ) -> Result<Report, AllocError>
     requires { chronicle.now.end ≡ Some end }
     ensures end { IfOk result (λ r. r.end ≡ end) }
-    ensures own { IfOk result (λ r. IsReport (family_of K.start K.answer_of) chronicle.now.network end chronicle.now.history chronicle.now.state r.detail) }
-    ensures every { IfOk result (λ r. IsEveryRuns (family_of K.start K.answer_of) chronicle.now.network end r.detail) }
-    ensures any_capacities { IfOk result (λ r. IsOutcome (family_of K.start K.answer_of) chronicle.now.network end chronicle.now.history r.detail) }
-    ensures streams { IfOk result (λ r. TellsLeastSolution (family_of K.start K.answer_of) chronicle.now.network end r.detail) }
+    ensures own { IfOk result (λ r. IsReport (family K.Kinds) chronicle.now.network end chronicle.now.history chronicle.now.state r.detail) }
+    ensures every { IfOk result (λ r. IsEveryRuns (family K.Kinds) chronicle.now.network end r.detail) }
+    ensures any_capacities { IfOk result (λ r. IsOutcome (family K.Kinds) chronicle.now.network end chronicle.now.history r.detail) }
+    ensures streams { IfOk result (λ r. TellsLeastSolution (family K.Kinds) chronicle.now.network end r.detail) }
 {
     determinacy_of::<K>();
     least_solution_of::<K>();

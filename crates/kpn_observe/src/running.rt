@@ -1,7 +1,8 @@
 //! The run of a network by workers, beside an observer.
 ghost use Rattle.std.specs.Prelude.{◌≡◌, ◌≢◌, ◌<◌, ◌≤◌, ◌⊎◌, false, [], length, map, vec_capacity, Err, IfOk, IsTrue, OnOk};
 ghost use Rattle.std.specs.List.{sum_by};
-ghost use Rattle.kpn_model.specs.Network.{Network as NetV, family_of};
+ghost use Rattle.kpn_model.specs.Network.{Network as NetV};
+ghost use Rattle.kpn_model.specs.Families.{family};
 ghost use Rattle.kpn_machine.specs.declared.opening.OpenFault.{OpenFault as OpenFaultV};
 ghost use Rattle.kpn_machine.specs.Opening.{cards_of, IsOpenFault};
 ghost use Rattle.kpn_machine.specs.MachineView.{IsFresh};
@@ -106,12 +107,12 @@ pub fn run_watched<B: Body, R: Wait + Clock + Threads + Sync, G: Gate, V: Observ
     period: Duration,
     observer: &V,
 ) -> Result<WatchedRun<B::Kinds>, WatchedFault<B>>
-    ensures closed { IfOk result (IsClosed (family_of B.Kinds.start B.Kinds.answer_of) B.Kinds.admits net) }
-    ensures within { IfOk result (λ r. StaysWithinCapacities (family_of B.Kinds.start B.Kinds.answer_of) net r.machine.history) }
-    ensures budget { IfOk result (λ r. EndSparesBudget (family_of B.Kinds.start B.Kinds.answer_of) net r.machine.end) }
-    ensures comparable { IfOk result (λ r. IsComparable (family_of B.Kinds.start B.Kinds.answer_of) net r.machine.history) }
-    ensures room { IfOk result (λ r. TakesLeastRoom (family_of B.Kinds.start B.Kinds.answer_of) net r.machine.history r.machine.state) }
-    ensures streams { IfOk result (λ r. ApproachLeastSolution (family_of B.Kinds.start B.Kinds.answer_of) net r.machine.history r.machine.state) }
+    ensures closed { IfOk result (IsClosed (family B.Kinds.Kinds) B.Kinds.admits net) }
+    ensures within { IfOk result (λ r. StaysWithinCapacities (family B.Kinds.Kinds) net r.machine.history) }
+    ensures budget { IfOk result (λ r. EndSparesBudget (family B.Kinds.Kinds) net r.machine.end) }
+    ensures comparable { IfOk result (λ r. IsComparable (family B.Kinds.Kinds) net r.machine.history) }
+    ensures room { IfOk result (λ r. TakesLeastRoom (family B.Kinds.Kinds) net r.machine.history r.machine.state) }
+    ensures streams { IfOk result (λ r. ApproachLeastSolution (family B.Kinds.Kinds) net r.machine.history r.machine.state) }
     ensures cards { OnOk result (map B.card bodies.items ≡ cards_of net.processes) }
     ensures workers { (n : NetV) (bs : _) → result ≡ Err (WatchedFault.Workers n bs) → (n ≡ net) × (bs ≡ bodies) × ((workers ≡ 0) ⊎ (16 < workers)) }
     ensures many { (workers ≡ 0) ⊎ (16 < workers) → result ≡ Err (WatchedFault.Workers net bodies) }
@@ -156,12 +157,12 @@ pub fn run_watched_with_keeper<
     period: Duration,
     observer: &V,
 ) -> Result<WatchedRun<B::Kinds, H>, WatchedFault<B>>
-    ensures closed { IfOk result (IsClosed (family_of B.Kinds.start B.Kinds.answer_of) B.Kinds.admits net) }
-    ensures within { IfOk result (λ r. StaysWithinCapacities (family_of B.Kinds.start B.Kinds.answer_of) net r.machine.history) }
-    ensures budget { IfOk result (λ r. EndSparesBudget (family_of B.Kinds.start B.Kinds.answer_of) net r.machine.end) }
-    ensures comparable { IfOk result (λ r. IsComparable (family_of B.Kinds.start B.Kinds.answer_of) net r.machine.history) }
-    ensures room { IfOk result (λ r. TakesLeastRoom (family_of B.Kinds.start B.Kinds.answer_of) net r.machine.history r.machine.state) }
-    ensures streams { IfOk result (λ r. ApproachLeastSolution (family_of B.Kinds.start B.Kinds.answer_of) net r.machine.history r.machine.state) }
+    ensures closed { IfOk result (IsClosed (family B.Kinds.Kinds) B.Kinds.admits net) }
+    ensures within { IfOk result (λ r. StaysWithinCapacities (family B.Kinds.Kinds) net r.machine.history) }
+    ensures budget { IfOk result (λ r. EndSparesBudget (family B.Kinds.Kinds) net r.machine.end) }
+    ensures comparable { IfOk result (λ r. IsComparable (family B.Kinds.Kinds) net r.machine.history) }
+    ensures room { IfOk result (λ r. TakesLeastRoom (family B.Kinds.Kinds) net r.machine.history r.machine.state) }
+    ensures streams { IfOk result (λ r. ApproachLeastSolution (family B.Kinds.Kinds) net r.machine.history r.machine.state) }
     ensures cards { OnOk result (map B.card bodies.items ≡ cards_of net.processes) }
     ensures workers { (n : NetV) (bs : _) → result ≡ Err (WatchedFault.Workers n bs) → (n ≡ net) × (bs ≡ bodies) × ((workers ≡ 0) ⊎ (16 < workers)) }
     ensures many { (workers ≡ 0) ⊎ (16 < workers) → result ≡ Err (WatchedFault.Workers net bodies) }
@@ -235,12 +236,12 @@ fn run_machine<B: Body, H: Keeper + Send, R: Wait + Clock + Threads + Sync, G: G
 ) -> Result<WatchedRun<B::Kinds, H>, WatchedFault<B>>
     requires fresh { IsFresh machine }
     requires workers { (0 < workers) × (workers ≤ 16) }
-    ensures closed { IfOk result (IsClosed (family_of B.Kinds.start B.Kinds.answer_of) B.Kinds.admits machine.network) }
-    ensures within { IfOk result (λ r. StaysWithinCapacities (family_of B.Kinds.start B.Kinds.answer_of) machine.network r.machine.history) }
-    ensures budget { IfOk result (λ r. EndSparesBudget (family_of B.Kinds.start B.Kinds.answer_of) machine.network r.machine.end) }
-    ensures comparable { IfOk result (λ r. IsComparable (family_of B.Kinds.start B.Kinds.answer_of) machine.network r.machine.history) }
-    ensures room { IfOk result (λ r. TakesLeastRoom (family_of B.Kinds.start B.Kinds.answer_of) machine.network r.machine.history r.machine.state) }
-    ensures streams { IfOk result (λ r. ApproachLeastSolution (family_of B.Kinds.start B.Kinds.answer_of) machine.network r.machine.history r.machine.state) }
+    ensures closed { IfOk result (IsClosed (family B.Kinds.Kinds) B.Kinds.admits machine.network) }
+    ensures within { IfOk result (λ r. StaysWithinCapacities (family B.Kinds.Kinds) machine.network r.machine.history) }
+    ensures budget { IfOk result (λ r. EndSparesBudget (family B.Kinds.Kinds) machine.network r.machine.end) }
+    ensures comparable { IfOk result (λ r. IsComparable (family B.Kinds.Kinds) machine.network r.machine.history) }
+    ensures room { IfOk result (λ r. TakesLeastRoom (family B.Kinds.Kinds) machine.network r.machine.history r.machine.state) }
+    ensures streams { IfOk result (λ r. ApproachLeastSolution (family B.Kinds.Kinds) machine.network r.machine.history r.machine.state) }
     ensures workers { (n : NetV) (bs : _) → result ≢ Err (WatchedFault.Workers n bs) }
     ensures stopped { (n : NetV) (bs : _) → result ≢ Err (WatchedFault.Stopped n bs) }
     ensures open { (n : NetV) (bs : _) (fault : OpenFaultV) → result ≢ Err (WatchedFault.Open n bs fault) }
@@ -265,11 +266,11 @@ fn run_machine<B: Body, H: Keeper + Send, R: Wait + Clock + Threads + Sync, G: G
 
 /// Ghost lemma: what the laws say of a run, over or not.
 pub(crate) fn told_by_laws<K: Kinds, H: Keeper>(ran: &WatchedRun<K, H>)
-    ensures within { StaysWithinCapacities (family_of K.start K.answer_of) ran.now.machine.network ran.now.machine.history }
-    ensures budget { EndSparesBudget (family_of K.start K.answer_of) ran.now.machine.network ran.now.machine.end }
-    ensures comparable { IsComparable (family_of K.start K.answer_of) ran.now.machine.network ran.now.machine.history }
-    ensures room { TakesLeastRoom (family_of K.start K.answer_of) ran.now.machine.network ran.now.machine.history ran.now.machine.state }
-    ensures streams { ApproachLeastSolution (family_of K.start K.answer_of) ran.now.machine.network ran.now.machine.history ran.now.machine.state }
+    ensures within { StaysWithinCapacities (family K.Kinds) ran.now.machine.network ran.now.machine.history }
+    ensures budget { EndSparesBudget (family K.Kinds) ran.now.machine.network ran.now.machine.end }
+    ensures comparable { IsComparable (family K.Kinds) ran.now.machine.network ran.now.machine.history }
+    ensures room { TakesLeastRoom (family K.Kinds) ran.now.machine.network ran.now.machine.history ran.now.machine.state }
+    ensures streams { ApproachLeastSolution (family K.Kinds) ran.now.machine.network ran.now.machine.history ran.now.machine.state }
 {
     determinacy_of::<K>();
     least_room_of::<K>();
@@ -311,7 +312,7 @@ fn run_named<
     requires board { opening.board ≡ E.board }
     requires entries { (opening.entries.name ≡ E.name) × (opening.entries.parts ≡ E.parts) }
     requires overs { (opening.overs.name ≡ O.name) × (opening.overs.parts ≡ O.parts) }
-    ensures closed { IfOk result (IsClosed (family_of B.Kinds.start B.Kinds.answer_of) B.Kinds.admits E.net) }
+    ensures closed { IfOk result (IsClosed (family B.Kinds.Kinds) B.Kinds.admits E.net) }
     ensures workers { (n : NetV) (bs : _) → result ≢ Err (WatchedFault.Workers n bs) }
     ensures stopped { (n : NetV) (bs : _) → result ≢ Err (WatchedFault.Stopped n bs) }
     ensures open { (n : NetV) (bs : _) (fault : OpenFaultV) → result ≢ Err (WatchedFault.Open n bs fault) }
@@ -359,7 +360,7 @@ fn run_seated<
 ) -> Result<WatchedRun<B::Kinds, H>, Finished<B>>
     requires all { sum_by (λ (b : Shares). b.parts) slots.items ≡ 65536 }
     requires seats { (seats.items ≡ []) × (length slots.items ≤ vec_capacity seats) }
-    ensures { IfOk result (IsClosed (family_of B.Kinds.start B.Kinds.answer_of) B.Kinds.admits E.net) }
+    ensures { IfOk result (IsClosed (family B.Kinds.Kinds) B.Kinds.admits E.net) }
 {
     let slots = work_watched(rt, &monitor, gate, period, observer, slots);
     if let Some(finished) = leave_all(slots, &mut seats) {

@@ -1,6 +1,6 @@
 //! A run that has ended, that its observer stopped or that its crew left.
 ghost use Rattle.std.specs.Prelude.{◌≡◌, length};
-ghost use Rattle.kpn_model.specs.Network.{family_of};
+ghost use Rattle.kpn_model.specs.Families.{family};
 ghost use Rattle.kpn_monitor.specs.Kept.{IsClosed};
 
 use kpn_machine::{Chronicle, Standing};
@@ -92,7 +92,7 @@ impl<K: Kinds, H: Keeper> WatchedRun<K, H> {
     /// ```
     pub fn end(&self) -> Option<End>
         ensures end { result ≡ self.now.machine.end }
-        ensures closed { IsClosed (family_of K.start K.answer_of) K.admits self.now.machine.network self.now }
+        ensures closed { IsClosed (family K.Kinds) K.admits self.now.machine.network self.now }
     {
         self.chronicle.end()
     }

@@ -1,6 +1,6 @@
 //! A run that has ended.
 ghost use Rattle.std.specs.Prelude.{◌≡◌, Some, IsNone, length, MatchOption};
-ghost use Rattle.kpn_model.specs.Network.{family_of};
+ghost use Rattle.kpn_model.specs.Families.{family};
 ghost use Rattle.kpn_machine.specs.MachineView.{IsFaithful};
 ghost use Rattle.kpn_run.specs.Runs.{IsFinish};
 
@@ -108,8 +108,8 @@ impl<K: Kinds, H: Keeper> Finish<K, H> {
     pub fn end(&self) -> End
         ensures end { result ≡ self.now.cause }
         ensures stands { self.now.machine.end ≡ Some self.now.cause }
-        ensures faithful { IsFaithful (family_of K.start K.answer_of) K.admits self.now.machine }
-        ensures finish { IsFinish (family_of K.start K.answer_of) self.now.machine.network self.now }
+        ensures faithful { IsFaithful (family K.Kinds) K.admits self.now.machine }
+        ensures finish { IsFinish (family K.Kinds) self.now.machine.network self.now }
     {
         self.chronicle.end();
         self.end

@@ -1,6 +1,6 @@
 //! The report of a run that has ended.
 ghost use Rattle.std.specs.Prelude.{◌≡◌, IfOk};
-ghost use Rattle.kpn_model.specs.Network.{family_of};
+ghost use Rattle.kpn_model.specs.Families.{family};
 ghost use Rattle.kpn_report.specs.Reported.{IsReport};
 ghost use Rattle.kpn_run.specs.Reports.{IsEveryRuns, IsOutcome, TellsLeastSolution};
 
@@ -25,10 +25,10 @@ use std::alloc::{AllocError, Global};
 /// ```
 pub fn report<K: Kinds>(alloc: Global, finish: &Finish<K>) -> Result<Report, AllocError>
     ensures end { IfOk result (λ r. r.end ≡ finish.now.cause) }
-    ensures own { IfOk result (λ r. IsReport (family_of K.start K.answer_of) finish.now.machine.network finish.now.cause finish.now.machine.history finish.now.machine.state r.detail) }
-    ensures every { IfOk result (λ r. IsEveryRuns (family_of K.start K.answer_of) finish.now.machine.network finish.now.cause r.detail) }
-    ensures any_capacities { IfOk result (λ r. IsOutcome (family_of K.start K.answer_of) finish.now.machine.network finish.now.cause finish.now.machine.history r.detail) }
-    ensures streams { IfOk result (λ r. TellsLeastSolution (family_of K.start K.answer_of) finish.now.machine.network finish.now.cause r.detail) }
+    ensures own { IfOk result (λ r. IsReport (family K.Kinds) finish.now.machine.network finish.now.cause finish.now.machine.history finish.now.machine.state r.detail) }
+    ensures every { IfOk result (λ r. IsEveryRuns (family K.Kinds) finish.now.machine.network finish.now.cause r.detail) }
+    ensures any_capacities { IfOk result (λ r. IsOutcome (family K.Kinds) finish.now.machine.network finish.now.cause finish.now.machine.history r.detail) }
+    ensures streams { IfOk result (λ r. TellsLeastSolution (family K.Kinds) finish.now.machine.network finish.now.cause r.detail) }
 {
     determinacy_of::<K>();
     least_solution_of::<K>();

@@ -1,6 +1,7 @@
 //! The run of a network by many workers.
 ghost use Rattle.std.specs.Prelude.{◌≡◌, ◌≢◌, ◌<◌, ◌≤◌, ◌⊎◌, ℕ, false, [], length, map, vec_capacity, Err, IfOk, IfErr, IsTrue, OnOk};
-ghost use Rattle.kpn_model.specs.Network.{Network as NetV, family_of};
+ghost use Rattle.kpn_model.specs.Network.{Network as NetV};
+ghost use Rattle.kpn_model.specs.Families.{family};
 ghost use Rattle.kpn_machine.specs.declared.opening.OpenFault.{OpenFault as OpenFaultV};
 ghost use Rattle.kpn_machine.specs.Opening.{cards_of, IsOpenFault};
 ghost use Rattle.kpn_machine.specs.MachineView.{IsFresh};
@@ -104,12 +105,12 @@ pub fn run<B: Body, R: Wait + Clock + Threads + Sync, G: Gate>(
     workers: usize,
     gate: &G,
 ) -> Result<Finish<B::Kinds>, RunFault<B>>
-    ensures finish { IfOk result (IsFinish (family_of B.Kinds.start B.Kinds.answer_of) net) }
-    ensures within { IfOk result (λ f. StaysWithinCapacities (family_of B.Kinds.start B.Kinds.answer_of) net f.machine.history) }
-    ensures budget { IfOk result (λ f. SparesBudget (family_of B.Kinds.start B.Kinds.answer_of) net f.cause) }
-    ensures comparable { IfOk result (λ f. IsComparable (family_of B.Kinds.start B.Kinds.answer_of) net f.machine.history) }
-    ensures room { IfOk result (λ f. TakesLeastRoom (family_of B.Kinds.start B.Kinds.answer_of) net f.machine.history f.machine.state) }
-    ensures streams { IfOk result (λ f. ApproachLeastSolution (family_of B.Kinds.start B.Kinds.answer_of) net f.machine.history f.machine.state) }
+    ensures finish { IfOk result (IsFinish (family B.Kinds.Kinds) net) }
+    ensures within { IfOk result (λ f. StaysWithinCapacities (family B.Kinds.Kinds) net f.machine.history) }
+    ensures budget { IfOk result (λ f. SparesBudget (family B.Kinds.Kinds) net f.cause) }
+    ensures comparable { IfOk result (λ f. IsComparable (family B.Kinds.Kinds) net f.machine.history) }
+    ensures room { IfOk result (λ f. TakesLeastRoom (family B.Kinds.Kinds) net f.machine.history f.machine.state) }
+    ensures streams { IfOk result (λ f. ApproachLeastSolution (family B.Kinds.Kinds) net f.machine.history f.machine.state) }
     ensures cards { OnOk result (map B.card bodies.items ≡ cards_of net.processes) }
     ensures workers { (n : NetV) (bs : _) → result ≡ Err (RunFault.Workers n bs) → (n ≡ net) × (bs ≡ bodies) × ((workers ≡ 0) ⊎ (16 < workers)) }
     ensures many { (workers ≡ 0) ⊎ (16 < workers) → result ≡ Err (RunFault.Workers net bodies) }
@@ -136,12 +137,12 @@ pub fn run_with_keeper<B: Body, H: Keeper + Send, R: Wait + Clock + Threads + Sy
     workers: usize,
     gate: &G,
 ) -> Result<Finish<B::Kinds, H>, RunFault<B>>
-    ensures finish { IfOk result (IsFinish (family_of B.Kinds.start B.Kinds.answer_of) net) }
-    ensures within { IfOk result (λ f. StaysWithinCapacities (family_of B.Kinds.start B.Kinds.answer_of) net f.machine.history) }
-    ensures budget { IfOk result (λ f. SparesBudget (family_of B.Kinds.start B.Kinds.answer_of) net f.cause) }
-    ensures comparable { IfOk result (λ f. IsComparable (family_of B.Kinds.start B.Kinds.answer_of) net f.machine.history) }
-    ensures room { IfOk result (λ f. TakesLeastRoom (family_of B.Kinds.start B.Kinds.answer_of) net f.machine.history f.machine.state) }
-    ensures streams { IfOk result (λ f. ApproachLeastSolution (family_of B.Kinds.start B.Kinds.answer_of) net f.machine.history f.machine.state) }
+    ensures finish { IfOk result (IsFinish (family B.Kinds.Kinds) net) }
+    ensures within { IfOk result (λ f. StaysWithinCapacities (family B.Kinds.Kinds) net f.machine.history) }
+    ensures budget { IfOk result (λ f. SparesBudget (family B.Kinds.Kinds) net f.cause) }
+    ensures comparable { IfOk result (λ f. IsComparable (family B.Kinds.Kinds) net f.machine.history) }
+    ensures room { IfOk result (λ f. TakesLeastRoom (family B.Kinds.Kinds) net f.machine.history f.machine.state) }
+    ensures streams { IfOk result (λ f. ApproachLeastSolution (family B.Kinds.Kinds) net f.machine.history f.machine.state) }
     ensures cards { OnOk result (map B.card bodies.items ≡ cards_of net.processes) }
     ensures workers { (n : NetV) (bs : _) → result ≡ Err (RunFault.Workers n bs) → (n ≡ net) × (bs ≡ bodies) × ((workers ≡ 0) ⊎ (16 < workers)) }
     ensures many { (workers ≡ 0) ⊎ (16 < workers) → result ≡ Err (RunFault.Workers net bodies) }
@@ -200,12 +201,12 @@ fn run_bodies<B: Body, H: Keeper + Send, R: Wait + Clock + Threads + Sync, G: Ga
     gate: &G,
 ) -> Result<Finish<B::Kinds, H>, RunFault<B>>
     requires { (0 < workers) × (workers ≤ 16) }
-    ensures finish { IfOk result (IsFinish (family_of B.Kinds.start B.Kinds.answer_of) net) }
-    ensures within { IfOk result (λ f. StaysWithinCapacities (family_of B.Kinds.start B.Kinds.answer_of) net f.machine.history) }
-    ensures budget { IfOk result (λ f. SparesBudget (family_of B.Kinds.start B.Kinds.answer_of) net f.cause) }
-    ensures comparable { IfOk result (λ f. IsComparable (family_of B.Kinds.start B.Kinds.answer_of) net f.machine.history) }
-    ensures room { IfOk result (λ f. TakesLeastRoom (family_of B.Kinds.start B.Kinds.answer_of) net f.machine.history f.machine.state) }
-    ensures streams { IfOk result (λ f. ApproachLeastSolution (family_of B.Kinds.start B.Kinds.answer_of) net f.machine.history f.machine.state) }
+    ensures finish { IfOk result (IsFinish (family B.Kinds.Kinds) net) }
+    ensures within { IfOk result (λ f. StaysWithinCapacities (family B.Kinds.Kinds) net f.machine.history) }
+    ensures budget { IfOk result (λ f. SparesBudget (family B.Kinds.Kinds) net f.cause) }
+    ensures comparable { IfOk result (λ f. IsComparable (family B.Kinds.Kinds) net f.machine.history) }
+    ensures room { IfOk result (λ f. TakesLeastRoom (family B.Kinds.Kinds) net f.machine.history f.machine.state) }
+    ensures streams { IfOk result (λ f. ApproachLeastSolution (family B.Kinds.Kinds) net f.machine.history f.machine.state) }
     ensures cards { OnOk result (map B.card bodies.items ≡ cards_of net.processes) }
     ensures workers { (n : NetV) (bs : _) → result ≢ Err (RunFault.Workers n bs) }
     ensures open { (n : NetV) (bs : _) (fault : OpenFaultV) → result ≡ Err (RunFault.Open n bs fault) → (n ≡ net) × (bs.items ≡ bodies.items) × (fault ≢ OpenFault.Memory) × IsOpenFault net.processes (map B.card bodies.items) fault }
@@ -251,12 +252,12 @@ fn run_machine<B: Body, H: Keeper + Send, R: Wait + Clock + Threads + Sync, G: G
 ) -> Result<Finish<B::Kinds, H>, RunFault<B>>
     requires fresh { IsFresh machine }
     requires workers { (0 < workers) × (workers ≤ 16) }
-    ensures finish { IfOk result (IsFinish (family_of B.Kinds.start B.Kinds.answer_of) machine.network) }
-    ensures within { IfOk result (λ f. StaysWithinCapacities (family_of B.Kinds.start B.Kinds.answer_of) machine.network f.machine.history) }
-    ensures budget { IfOk result (λ f. SparesBudget (family_of B.Kinds.start B.Kinds.answer_of) machine.network f.cause) }
-    ensures comparable { IfOk result (λ f. IsComparable (family_of B.Kinds.start B.Kinds.answer_of) machine.network f.machine.history) }
-    ensures room { IfOk result (λ f. TakesLeastRoom (family_of B.Kinds.start B.Kinds.answer_of) machine.network f.machine.history f.machine.state) }
-    ensures streams { IfOk result (λ f. ApproachLeastSolution (family_of B.Kinds.start B.Kinds.answer_of) machine.network f.machine.history f.machine.state) }
+    ensures finish { IfOk result (IsFinish (family B.Kinds.Kinds) machine.network) }
+    ensures within { IfOk result (λ f. StaysWithinCapacities (family B.Kinds.Kinds) machine.network f.machine.history) }
+    ensures budget { IfOk result (λ f. SparesBudget (family B.Kinds.Kinds) machine.network f.cause) }
+    ensures comparable { IfOk result (λ f. IsComparable (family B.Kinds.Kinds) machine.network f.machine.history) }
+    ensures room { IfOk result (λ f. TakesLeastRoom (family B.Kinds.Kinds) machine.network f.machine.history f.machine.state) }
+    ensures streams { IfOk result (λ f. ApproachLeastSolution (family B.Kinds.Kinds) machine.network f.machine.history f.machine.state) }
     ensures workers { (n : NetV) (bs : _) → result ≢ Err (RunFault.Workers n bs) }
     ensures open { (n : NetV) (bs : _) (fault : OpenFaultV) → result ≢ Err (RunFault.Open n bs fault) }
     ensures lost { (a : Input) (b : _) → result ≡ Err (RunFault.Lost a b) → B.card b ≡ a.card }
@@ -293,11 +294,11 @@ fn opening_of<B: Body, H: Keeper>(
 
 /// Ghost lemma: what the laws say of a run that has ended.
 fn told_by_laws<K: Kinds, H: Keeper>(finish: &Finish<K, H>)
-    ensures within { StaysWithinCapacities (family_of K.start K.answer_of) finish.now.machine.network finish.now.machine.history }
-    ensures budget { SparesBudget (family_of K.start K.answer_of) finish.now.machine.network finish.now.cause }
-    ensures comparable { IsComparable (family_of K.start K.answer_of) finish.now.machine.network finish.now.machine.history }
-    ensures room { TakesLeastRoom (family_of K.start K.answer_of) finish.now.machine.network finish.now.machine.history finish.now.machine.state }
-    ensures streams { ApproachLeastSolution (family_of K.start K.answer_of) finish.now.machine.network finish.now.machine.history finish.now.machine.state }
+    ensures within { StaysWithinCapacities (family K.Kinds) finish.now.machine.network finish.now.machine.history }
+    ensures budget { SparesBudget (family K.Kinds) finish.now.machine.network finish.now.cause }
+    ensures comparable { IsComparable (family K.Kinds) finish.now.machine.network finish.now.machine.history }
+    ensures room { TakesLeastRoom (family K.Kinds) finish.now.machine.network finish.now.machine.history finish.now.machine.state }
+    ensures streams { ApproachLeastSolution (family K.Kinds) finish.now.machine.network finish.now.machine.history finish.now.machine.state }
 {
     determinacy_of::<K>();
     least_room_of::<K>();
@@ -336,7 +337,7 @@ fn run_named<
     requires board { opening.board ≡ E.board }
     requires entries { (opening.entries.name ≡ E.name) × (opening.entries.parts ≡ E.parts) }
     requires overs { (opening.overs.name ≡ O.name) × (opening.overs.parts ≡ O.parts) }
-    ensures finish { IfOk result (IsFinish (family_of B.Kinds.start B.Kinds.answer_of) E.net) }
+    ensures finish { IfOk result (IsFinish (family B.Kinds.Kinds) E.net) }
     ensures workers { (n : NetV) (bs : _) → result ≢ Err (RunFault.Workers n bs) }
     ensures open { (n : NetV) (bs : _) (fault : OpenFaultV) → result ≢ Err (RunFault.Open n bs fault) }
     ensures lost { (a : Input) (b : _) → result ≡ Err (RunFault.Lost a b) → B.card b ≡ a.card }
@@ -383,7 +384,7 @@ fn run_seated<
     requires all { seat.parts ≡ 65536 }
     requires slots { (slots.items ≡ []) × (workers ≤ vec_capacity slots) }
     requires seats { (seats.items ≡ []) × (workers ≤ vec_capacity seats) }
-    ensures { IfOk result (IsFinish (family_of B.Kinds.start B.Kinds.answer_of) E.net) }
+    ensures { IfOk result (IsFinish (family B.Kinds.Kinds) E.net) }
 {
     seat_all(seat, workers, hands, &mut slots);
     work_all(rt, &monitor, gate, &mut slots);

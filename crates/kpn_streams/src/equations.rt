@@ -1,5 +1,6 @@
 //! The equations of a network, solved by functions on streams.
-ghost use Rattle.kpn_model.specs.Network.{Family, family_of};
+ghost use Rattle.kpn_model.specs.Network.{Family};
+ghost use Rattle.kpn_model.specs.Families.{family};
 ghost use Rattle.kpn_streams.specs.Solving.{TestTellsPorts, TestTellsOrder, EquationByTest, FedIsAlone, FedIsAll, StepIsBelow, ApproximationsAreBelow, ApproximationsGrow, RunIsApproximated, LimitIsLeast, FixedIsComputed, SolvedIsSolution, SolutionSolves, SolvedIsComputed, OrderedIsComputed, AlikeComputeTheSame};
 
 use kpn_model::Kinds;
@@ -50,18 +51,18 @@ pub fn solving()
 
 /// Ghost lemma: the laws of [`solving`] for a family that is given as a type.
 pub fn solving_of<K: Kinds>()
-    ensures equation { EquationByTest (family_of K.start K.answer_of) }
-    ensures fed_alone { FedIsAlone (family_of K.start K.answer_of) }
-    ensures fed_all { FedIsAll (family_of K.start K.answer_of) }
-    ensures limit { LimitIsLeast (family_of K.start K.answer_of) }
-    ensures grow { ApproximationsGrow (family_of K.start K.answer_of) }
-    ensures below { ApproximationsAreBelow (family_of K.start K.answer_of) }
-    ensures approximated { RunIsApproximated (family_of K.start K.answer_of) }
-    ensures fixed { FixedIsComputed (family_of K.start K.answer_of) }
-    ensures solved { SolvedIsSolution (family_of K.start K.answer_of) }
-    ensures solves { SolutionSolves (family_of K.start K.answer_of) }
-    ensures computed { SolvedIsComputed (family_of K.start K.answer_of) }
-    ensures step { StepIsBelow (family_of K.start K.answer_of) }
-    ensures ordered { OrderedIsComputed (family_of K.start K.answer_of) }
-    ensures alike { AlikeComputeTheSame (family_of K.start K.answer_of) }
+    ensures equation { EquationByTest (family K.Kinds) }
+    ensures fed_alone { FedIsAlone (family K.Kinds) }
+    ensures fed_all { FedIsAll (family K.Kinds) }
+    ensures limit { LimitIsLeast (family K.Kinds) }
+    ensures grow { ApproximationsGrow (family K.Kinds) }
+    ensures below { ApproximationsAreBelow (family K.Kinds) }
+    ensures approximated { RunIsApproximated (family K.Kinds) }
+    ensures fixed { FixedIsComputed (family K.Kinds) }
+    ensures solved { SolvedIsSolution (family K.Kinds) }
+    ensures solves { SolutionSolves (family K.Kinds) }
+    ensures computed { SolvedIsComputed (family K.Kinds) }
+    ensures step { StepIsBelow (family K.Kinds) }
+    ensures ordered { OrderedIsComputed (family K.Kinds) }
+    ensures alike { AlikeComputeTheSame (family K.Kinds) }
 {}

@@ -1,7 +1,7 @@
 //! The run of Parks's case with a counter of five: its end, its growths and its length, as worked out by
 //! hand.
 ghost use Rattle.std.specs.Prelude.{◌≡◌, ◌<◌, All, IfSome, IsSome, Some, length, slice_get};
-ghost use Rattle.kpn_model.specs.Network.{family_of};
+ghost use Rattle.kpn_model.specs.Families.{family};
 ghost use Rattle.kpn_standard.specs.Standard.{standard};
 ghost use Rattle.kpn_body.specs.StandardKinds.{signature, Admitted};
 ghost use Rattle.kpn_machine.specs.Opening.{cards_of};
@@ -29,7 +29,7 @@ const GROWTHS: &[Entry] = &[
 /// sink takes 8 and stops; the copy and the weave then wait for more. With the two growths these are 6
 /// + 15 + 16 + 9 + 2 entries.
 fn compare<R: Abort, B: Body>(rt: &R, alloc: Global, net: Net<B::Kinds>, bodies: Vec<B>)
-    requires standard { (family_of B.Kinds.start B.Kinds.answer_of) ≡ standard }
+    requires standard { (family B.Kinds.Kinds) ≡ standard }
     requires network { net ≡ the_case }
 {
     let mut machine = match Machine::open(alloc, net, bodies) {
