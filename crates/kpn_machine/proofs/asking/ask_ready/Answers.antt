@@ -36,3 +36,6 @@ loop-asked-preserved g c =
         asked_more c.args.until before.so_far.0 c.react.result _ _ _ _ _ _ before.so_far.2 less one,
       );
     }
+
+pub react-requires-clause-process : goal.react-requires-clause-process
+react-requires-clause-process g c κs within = rw c.turn.ensures.same c.in-Some.ensures.within

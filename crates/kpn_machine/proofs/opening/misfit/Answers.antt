@@ -1,4 +1,5 @@
 -- The bodies' cards, one by one.
+use denote.Param.Send.{sendable}
 use Rattle.std.proofs.Common.{◌≡◌, sym, ap, ◌∙◌, arith, map, get_or, below_more}
 use Rattle.kpn_model.specs.Network.{no_process}
 use Rattle.std.proofs.lemmas.List.{length-map, ext_get_or}
@@ -30,3 +31,15 @@ returns-clause-none g c =
     let many = length-map c.args.bodies.now f in
     let all = length-map c.args.net.now.processes (λ p. p.card) in
     ext_get_or no_process.card _ _ (omega arith) (λ i l. c.loop-p.invariant i (omega arith) ∙ sym (card_at c.args.net.now.processes i))
+
+pub processes-requires : goal.processes-requires
+processes-requires g c = search sendable
+
+pub processes-p-end-requires : goal.processes-p-end-requires
+processes-p-end-requires g c = search sendable
+
+pub card-requires-in-loop-p : goal.card-requires-in-loop-p
+card-requires-in-loop-p g c = (search sendable, (search sendable, omega (arith, c.loop-p-test.true, c.processes-p-end.ensures.count)))
+
+pub returns-then-bodies-processes-clause-some : goal.returns-then-bodies-processes-clause-some
+returns-then-bodies-processes-clause-some g c = λ e. c.if-bodies-processes.true (omega (arith, e, length-map c.args.bodies.now g.B.Body.card, c.processes.ensures.count))

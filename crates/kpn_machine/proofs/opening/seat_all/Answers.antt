@@ -1,4 +1,5 @@
 -- The last body goes into its slot.
+use Rattle.std.proofs.lemmas.Grind.{common_steps}
 use Rattle.std.proofs.Common.{◌≡◌, ◌∙◌, arith, length, length-set}
 use Rattle.kpn_machine.proofs.Seats.{left_stays, seat_taken}
 use Rattle.kpn_machine.proofs.opening.seat_all.Goals as goal
@@ -28,3 +29,6 @@ loop-body-preserved g c =
       few = omega (arith, i.few, c.in-Some.ensures.len);
       room = c.in-Some.ensures.capacity ∙ i.room;
     }
+
+pub returns-clause-seated : goal.returns-clause-seated
+returns-clause-seated g c = grind (arith, common_steps)

@@ -1,3 +1,5 @@
+-- Each process starts in the local state of its card, with nothing read.
+use Rattle.std.proofs.lemmas.Grind.{common_steps}
 use Rattle.std.proofs.Common.{arith, sym, ap, ◌∙◌, ◌++◌, ◌∷◌, [], None, below_more}
 use Rattle.std.proofs.lemmas.List.{map_more}
 use Rattle.kpn_model.specs.Network.{no_process, family_of}
@@ -11,3 +13,6 @@ loop-p-preserved g c = record {
       ∙ (rw (c.start.ensures, c.card-card.ensures) (sym (map_more (starting (family_of g.K.Kinds.start g.K.Kinds.answer_of)) c.args.net.now.processes c.loop-p.p no_process (omega arith)))));
   admitted = below_more _ _ c.loop-p.invariant.admitted (rw c.card-card.ensures at c.starts.ensures);
 }
+
+pub returns-clause-items : goal.returns-clause-items
+returns-clause-items g c = grind (arith, common_steps)

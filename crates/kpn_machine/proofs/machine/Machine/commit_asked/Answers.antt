@@ -1,6 +1,8 @@
 -- A commit keeps the machine's invariant, and does what its clauses say.
+use Rattle.std.specs.Option.{option_map}
+use denote.Param.Send.{sendable}
 use Rattle.std.proofs.Common.{[], append-nil, sym, ◌∙◌, arith, refl}
-use Rattle.std.proofs.lemmas.List.{map-set}
+use Rattle.std.proofs.lemmas.List.{map-set, length-map}
 use Rattle.kpn_model.specs.Network.{family_of}
 use Rattle.kpn_machine.specs.MachineView.{IsOutAt}
 use Rattle.kpn_state.specs.declared.standing.Standing.TheVariants.{Ready}
@@ -95,3 +97,21 @@ work-outcome-requires-clause-busy g c κs within =
 
 pub work-outcome-requires-clause-waiting : goal.work-outcome-requires-clause-waiting
 work-outcome-requires-clause-waiting g c κs within = c.self.invariant.2
+
+pub answer-answer-requires : goal.answer-answer-requires
+answer-answer-requires g c = search sendable
+
+pub assure_valid-requires : goal.assure_valid-requires
+assure_valid-requires g c = search sendable
+
+pub into_body-requires : goal.into_body-requires
+into_body-requires g c = search sendable
+
+pub process-process-requires : goal.process-process-requires
+process-process-requires g c = search sendable
+
+pub index_mut-requires : goal.index_mut-requires
+index_mut-requires g c =
+    let out : IsOutAt c.self.inside.net c.self.inside.store.state c.self.inside.standings c.args.finished = rw (← c.self.view_is) at c.requires in
+    let sound = c.self.invariant.0 in
+    rw c.process-process.ensures (omega (arith, out_within sound c.args.finished out, sound.keeps.one_each, sound.many_bodies, length-map c.self.inside.bodies.items (option_map g.B.Body.card), c.self.inside.bodies.ok.0))

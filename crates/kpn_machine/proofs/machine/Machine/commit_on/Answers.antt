@@ -1,4 +1,6 @@
 -- The answer of a process that is out is worked on, and the process goes out again.
+use Rattle.std.proofs.lemmas.List.{length-set}
+use denote.Param.Send.{sendable}
 use Rattle.std.proofs.Common.{◌≡◌, arith, refl, sym, ◌∙◌}
 use Rattle.std.proofs.lemmas.List.{set-set, set-get_or}
 use Rattle.kpn_state.specs.declared.standing.Standing.TheVariants.{Ready, Out, Stopped}
@@ -67,3 +69,18 @@ unreachable-requires g c =
     let here = standing_set_same c.work_on.new.standings c.args.task.now.process Ready (omega (arith, out_within c.self.invariant.0 c.args.task.now out, did.many)) in
     let done = did.keeps.done c.args.task.now.process (rw c.process-process.ensures at (sym c.status.ensures ∙ c.in_default.is)) in
     cc
+
+pub assure_valid-requires : goal.assure_valid-requires
+assure_valid-requires g c = search sendable
+
+pub process-process-requires : goal.process-process-requires
+process-process-requires g c = search sendable
+
+pub returns-in_err-outcome-clause-cannot : goal.returns-in_err-outcome-clause-cannot
+returns-in_err-outcome-clause-cannot g c = rw (c.from_residual.ensures, ← c.self.view_is) (λ _. rw c.process-process.ensures at c.in_err-outcome.ensures.cannot)
+
+pub status-requires : goal.status-requires
+status-requires g c = let out : IsOutAt c.self.inside.net c.self.inside.store.state c.self.inside.standings c.args.task.now = rw (← c.self.view_is) at c.requires.out in let did = c.in_ok-outcome.ensures in rw c.process-process.ensures (omega (arith, out_within c.self.invariant.0 c.args.task.now out, did.keeps.one_each, did.keeps.processes, did.many, length-set c.work_on.new.standings c.process-process.result Ready))
+
+pub renew-requires : goal.renew-requires
+renew-requires g c = let out : IsOutAt c.self.inside.net c.self.inside.store.state c.self.inside.standings c.args.task.now = rw (← c.self.view_is) at c.requires.out in let did = c.in_ok-outcome.ensures in (search sendable, (search sendable, (search sendable, rw (← out.card) (rw c.process-process.ensures at (did.keeps.well_typed.locals _ _ _ (sym c.status.ensures ∙ c.in-Live.is))))))

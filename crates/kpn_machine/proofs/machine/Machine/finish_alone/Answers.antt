@@ -1,4 +1,5 @@
 -- While the run has not ended and no process is out, a ready process goes on.
+use denote.Param.Send.{sendable}
 use Rattle.std.proofs.Common.{◌≡◌, ◌≢◌, None, arith}
 use Rattle.kpn_model.specs.Network.{family_of}
 use Rattle.kpn_machine.proofs.Finishing.{none_is_out, none_counted, some_ready}
@@ -25,3 +26,9 @@ loop-self-smaller g c =
     let none : c.loop-self.self.end ≡ None = grind arith in
     let some : c.go_on.result ≢ 0 = λ zero. some_ready _ (faithful.some_busy none) (none_is_out _ c.loop-self.invariant.none_out) (c.go_on.ensures.stuck zero (omega arith)) in
     rw goes.network (omega (arith, more, rounds.1, faithful.few_commits, faithful.few_entries))
+
+pub least_room_of-requires : goal.least_room_of-requires
+least_room_of-requires g c = search sendable
+
+pub least_solution_of-requires : goal.least_solution_of-requires
+least_solution_of-requires g c = search sendable

@@ -1,4 +1,7 @@
 -- Ready processes that are asked one after the other, and what follows, are rounds of the machine.
+use Rattle.std.proofs.lemmas.Grind.{common_steps}
+use Rattle.std.proofs.lemmas.List.{length-map}
+use denote.Param.Send.{sendable}
 use Rattle.std.proofs.Common.{◌≡◌, ◌<◌, None, arith, length, map}
 use Rattle.std.specs.Option.{option_map}
 use Rattle.kpn_model.specs.Network.{family_of}
@@ -42,3 +45,17 @@ returns-clause-rounds g c =
     let all = gone (family_of g.B.Kinds.Kinds.start g.B.Kinds.Kinds.answer_of) g.B.Kinds.Kinds.admits c.self.inside.net (map (option_map g.B.Body.card) c.self.inside.bodies.items) c.self.inside.store c.ask_ready-asked.new.store c.settle-ended.new.store
     c.self.inside.standings c.ask_ready-asked.new.standings c.settle-ended.new.standings c.self.inside.end c.self.inside.commits c.ask_ready-asked.result c.self.invariant.0 none asked c.settle-ended.result.0 c.settle-ended.ensures.resolves c.settle-ended.ensures.keeps c.settle-ended.result.1 c.settle-ended.ensures.ended in
     (all.outcomes, all.count, rw (← c.self.view_is, c.note_end.ensures) all.rounds)
+
+pub assure_valid-requires : goal.assure_valid-requires
+assure_valid-requires g c = search sendable
+
+pub budget-budget-requires : goal.budget-budget-requires
+budget-budget-requires g c = search sendable
+
+pub ask_ready-asked-requires-clause-slots : goal.ask_ready-asked-requires-clause-slots
+ask_ready-asked-requires-clause-slots g c κs within =
+    let sound = c.self.invariant.0 in
+    rw c.as_slice.ensures.value (omega (arith, sound.keeps.one_each, sound.many_bodies, length-map c.self.inside.bodies.items (option_map g.B.Body.card)))
+
+pub returns-clause-stuck : goal.returns-clause-stuck
+returns-clause-stuck g c = grind (arith, common_steps)

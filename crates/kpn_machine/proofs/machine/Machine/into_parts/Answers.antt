@@ -1,4 +1,5 @@
 -- Each slot of a fresh machine has its body.
+use denote.Param.Send.{sendable}
 use Rattle.std.proofs.Common.{◌≡◌, ◌<◌, ◌+◌, length, get_or, sym, ap, ◌∙◌, arith, length-set, length-append}
 use Rattle.std.specs.Option.{option_map}
 use Rattle.std.proofs.lemmas.List.{length-map, ext_get_or}
@@ -66,3 +67,6 @@ returns-clause-bodies g c =
     let long = i.many in
     let same : length c.self.inside.net.processes ≡ length c.args.self.network.processes = ap (λ (x : MachineView). length x.network.processes) c.self.view_is in
     ext_get_or no_process.card _ _ (omega (arith, c.loop-p-test.false, c.loop-p.auto.p-end, c.processes-p-end.ensures.count)) (λ q below. i.back q (omega arith))
+
+pub processes-p-end-requires : goal.processes-p-end-requires
+processes-p-end-requires g c = search sendable

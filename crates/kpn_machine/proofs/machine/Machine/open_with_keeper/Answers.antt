@@ -1,4 +1,5 @@
 -- A machine that was just opened meets its invariant.
+use denote.Param.Send.{sendable}
 use Rattle.std.proofs.Common.{◌≡◌, length, map, ap, ◌∙◌, arith, rules}
 use Rattle.kpn_model.specs.Network.{family_of}
 use Rattle.std.proofs.lemmas.List.{length-map}
@@ -25,3 +26,15 @@ invariant_of-result g c =
 
 pub returns-clause-fresh : goal.returns-clause-fresh
 returns-clause-fresh g c = opened_fresh _ c.args.net (start (family_of g.B.Kinds.Kinds.start g.B.Kinds.Kinds.answer_of) c.args.net) (length c.args.net.processes) (search rules)
+
+pub misfit-requires : goal.misfit-requires
+misfit-requires g c = search sendable
+
+pub assure_valid-requires : goal.assure_valid-requires
+assure_valid-requires g c = search sendable
+
+pub budget-requires : goal.budget-requires
+budget-requires g c = search sendable
+
+pub seat_all-requires : goal.seat_all-requires
+seat_all-requires g c = let cards : map g.B.Body.card c.args.bodies.items ≡ cards_of c.args.net.processes = rw c.as_slice.ensures.value at c.in_default.ensures.none in let all = length-map c.args.net.processes (λ (p : Process). p.card) in let many = length-map c.args.bodies.items g.B.Body.card in let same = ap length cards in (search sendable, (search sendable, (search sendable, omega (arith, c.in-Ok.ensures.slots, all, many, same))))

@@ -1,0 +1,17 @@
+-- Found without an answer too, after a longer search.
+use Rattle.std.proofs.lemmas.Grind.{common_steps}
+use Rattle.std.proofs.Common.{arith}
+use denote.Param.Send.{sendable}
+use Rattle.kpn_machine.proofs.machine.is_out_with.Goals as goal
+
+pub returns-in-Ready : goal.returns-in-Ready
+returns-in-Ready g c = grind (arith, common_steps)
+
+pub returns-then-process-standings : goal.returns-then-process-standings
+returns-then-process-standings g c = grind (arith, common_steps)
+
+pub returns-then-same_local : goal.returns-then-same_local
+returns-then-same_local g c = grind (arith, common_steps)
+
+pub card-requires : goal.card-requires
+card-requires g c = (search sendable, (search sendable, grind arith))
