@@ -25,7 +25,11 @@ fn main(rt: HostRuntime) -> io::Result<ExitCode> {
     let choice = match read_words(alloc, texts.as_slice()) {
         Ok(choice) => choice,
         Err(fault) => {
-            eprint!(rt; "{fault}")?;
+            if fault.asks_for_help() {
+                print!(rt; "{fault}")?;
+            } else {
+                eprint!(rt; "{fault}")?;
+            }
             return Ok(ExitCode::from(fault.status().code()));
         }
     };
