@@ -11,7 +11,7 @@ use kpn_laws::{determinacy_of, least_room_of, least_solution_of};
 use kpn_machine::{Chronicle, Machine};
 use kpn_net::{End, Kinds, Net, NetFault};
 use kpn_report::{Entries, Tallied, places_of, text_of_entries};
-use kpn_run::{Open, RunFault, run_with_keeper};
+use kpn_run::{Open, RunFault, run};
 use kpn_state::Keeper;
 use std::alloc::{AllocError, Global};
 use std::rt::Clock;
@@ -152,7 +152,7 @@ fn tell_by_workers<B: Body, S: Sink, R: Wait + Clock + Threads + Sync>(
         bodies,
         workers,
     } = request;
-    match run_with_keeper::<B, Tallied, R, Open>(rt, alloc, net, bodies, workers, &Open) {
+    match run(rt, alloc, net, bodies, workers, &Open) {
         Ok(finish) => {
             let chronicle = finish.chronicle();
             say_told(alloc, chronicle, chronicle.keeper(), channel, sink)
