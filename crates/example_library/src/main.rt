@@ -79,7 +79,7 @@ fn print_streams<R: Print>(
     rt: &R,
     alloc: Global,
     run: &WatchedRun<Standard>,
-) -> Result<(), AllocError> {
+) -> Result<(), Failure> {
     let (xs, ys) = (words(alloc, run, "x3")?, words(alloc, run, "y")?);
     let _ = println!(rt; "x3,y");
     for (x, y) in xs.iter().zip(ys.iter()) {
@@ -97,7 +97,7 @@ fn play<R: Threads + Wait + Clock + Print + Eprint + Sync>(
     let bodies = bodies_of(alloc, &net)?;
     let period = Duration::from_millis(500);
     match run_watched(rt, alloc, net, bodies, 4, &Open, period, &Ticker { rt }) {
-        Ok(run) => Ok(print_streams(rt, alloc, &run)?),
+        Ok(run) => print_streams(rt, alloc, &run),
         Err(_) => Err(Failure::Run),
     }
 }
