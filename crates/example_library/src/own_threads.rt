@@ -1,6 +1,5 @@
 //! A network is run by threads of the program's own, each of which takes tasks, asks bodies and commits
 //! their answers as it likes.
-use crate::failure::Failure;
 use crate::words;
 use kpn_builder::{Builder, NewChannel};
 use kpn_compute::{CardBody, bodies_of};
@@ -52,14 +51,17 @@ impl<'a, R: Wait + Eprint + Sync> Crew<CardBody<Standard>> for Counting<'a, R> {
     }
 }
 
-fn make(made: &mut Builder) -> Result<Net<Standard>, Failure> {
+fn make(made: &mut Builder) -> Result<Net<Standard>, AllocError> {
     made.process("src", "count", &[1, 5])?;
     made.process("snk", "sink", &[5])?;
     made.channel(NewChannel::new("words", "src", "snk").capacity(2))?;
-    Ok(made.check()?)
+    let Ok(net) = made.check() else {
+        return Err(AllocError);
+    };
+    Ok(net)
 }
 
-fn network(alloc: Global) -> Result<Net<Standard>, Failure> {
+fn network(alloc: Global) -> Result<Net<Standard>, AllocError> {
     let mut made = Builder::new(alloc);
     make(&mut made)
 }
@@ -68,16 +70,15 @@ fn network(alloc: Global) -> Result<Net<Standard>, Failure> {
 pub(crate) fn show<R: Threads + Wait + Print + Eprint + Sync>(
     rt: &R,
     alloc: Global,
-) -> Result<(), Failure> {
+) -> Result<(), AllocError> {
     let net = network(alloc)?;
     let bodies = bodies_of(alloc, &net)?;
     let entries = AtomicU64::new(0);
     let crew = Counting { rt, entries };
     let Ok(run) = run_by_crew(rt, alloc, net, bodies, 3, &crew) else {
-        return Err(Failure::Run);
+        return Err(AllocError);
     };
-    print(rt, alloc, &crew.entries, &run)?;
-    Ok(())
+    print(rt, alloc, &crew.entries, &run)
 }
 
 /// Prints how many entries a run has, and what went through its channel.

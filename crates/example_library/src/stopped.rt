@@ -1,6 +1,5 @@
 //! A network that would count for a long time is run by two workers, and stopped when a deadline has
 //! passed.
-use crate::failure::Failure;
 use crate::words;
 use kpn_builder::{Builder, NewChannel};
 use kpn_compute::bodies_of;
@@ -42,15 +41,18 @@ impl<'a, R: Wait + Clock + Sync> Gate for Slowly<'a, R> {
     }
 }
 
-fn make(made: &mut Builder) -> Result<Net<Standard>, Failure> {
+fn make(made: &mut Builder) -> Result<Net<Standard>, AllocError> {
     made.set_budget(2_000_000);
     made.process("src", "count", &[1, 1_000_000])?;
     made.process("snk", "sink", &[1_000_000])?;
     made.channel(NewChannel::new("words", "src", "snk").capacity(16))?;
-    Ok(made.check()?)
+    let Ok(net) = made.check() else {
+        return Err(AllocError);
+    };
+    Ok(net)
 }
 
-fn network(alloc: Global) -> Result<Net<Standard>, Failure> {
+fn network(alloc: Global) -> Result<Net<Standard>, AllocError> {
     let mut made = Builder::new(alloc);
     make(&mut made)
 }
@@ -59,17 +61,17 @@ fn network(alloc: Global) -> Result<Net<Standard>, Failure> {
 pub(crate) fn show<R: Threads + Wait + Clock + Print + Sync>(
     rt: &R,
     alloc: Global,
-) -> Result<(), Failure> {
+) -> Result<(), AllocError> {
     let net = network(alloc)?;
     let bodies = bodies_of(alloc, &net)?;
     let Ok(start) = Instant::now(rt) else {
-        return Err(Failure::Clock);
+        return Err(AllocError);
     };
     let (gate, deadline) = (Slowly { rt }, Deadline { rt, start });
     let period = Duration::from_millis(5);
     match run_watched(rt, alloc, net, bodies, 2, &gate, period, &deadline) {
-        Ok(run) => Ok(print_first(rt, alloc, &run)?),
-        Err(_) => Err(Failure::Run),
+        Ok(run) => print_first(rt, alloc, &run),
+        Err(_) => Err(AllocError),
     }
 }
 
