@@ -93,7 +93,9 @@ def with_tokens(choices, request, network, has_formats):
     often = choices.choice([0, 0.2, 0.6])
     for it in tables(network, "channel"):
         is_input = is_name(it.get("from")) and kinds.get(it["from"]) in ("input", "input_flags")
-        if is_name(it.get("name")) and choices.random() < (0.9 if is_input else often):
+        # (an edited network may have two channels of one name, and a channel has one file)
+        is_new = is_name(it.get("name")) and it["name"] not in dict(request.tokens)
+        if is_new and choices.random() < (0.9 if is_input else often):
             file = f"in{len(request.tokens)}" + choices.choice(["", ".txt", ".csv"])
             tokens = tokens_for(choices, it.get("sort"))
             if has_formats and choices.random() < 0.2:
