@@ -1,10 +1,10 @@
 # Read by ./kpn and ./hox, which say in `top` where they lie: `ready NAME ARGUMENTS` brings the program, if it isn't there or
 # something of which it is made has changed since. Each call of a program waits for this, so it looks at no other crates than
-# those that tools/built.py noted beside the program, and starts one process alone.
+# those that tools/programs.py noted beside the program, and starts one process alone.
 ready() {
     program=$top/crates/$1/out/$1
     if [ ! -x "$program" ] || [ ! -e "$program.made_from" ] || [ ! -e "$program.crates" ] || [ -n "$(newer)" ]; then
-        "$top/tools/bring" "$@" || exit 1
+        "$top/tools/program" bring "$@" || exit 1
     fi
 }
 
