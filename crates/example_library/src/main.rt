@@ -3,9 +3,11 @@
 //! network that is stopped, and one that threads of the program's own run.
 #![tactic(auto)]
 
+mod failure;
 mod own_threads;
 mod stopped;
 
+use crate::failure::Failure;
 use kpn_builder::{Builder, NewChannel};
 use kpn_compute::bodies_of;
 use kpn_net::{Net, Token};
@@ -13,7 +15,6 @@ use kpn_observe::{Observer, Progress, WatchedRun, Wish, run_watched};
 use kpn_run::{Open, stream_of};
 use kpn_standard::Standard;
 use std::alloc::{AllocError, Global};
-use std::io;
 use std::process::ExitCode;
 use std::rt::Clock;
 use std::sync::Wait;
@@ -78,7 +79,7 @@ fn print_streams<R: Print>(
     rt: &R,
     alloc: Global,
     run: &WatchedRun<Standard>,
-) -> Result<(), AllocError> {
+) -> Result<(), Failure> {
     let (xs, ys) = (words(alloc, run, "x3")?, words(alloc, run, "y")?);
     let _ = println!(rt; "x3,y");
     for (x, y) in xs.iter().zip(ys.iter()) {
@@ -92,12 +93,12 @@ fn play<R: Threads + Wait + Clock + Print + Eprint + Sync>(
     rt: &R,
     alloc: Global,
     net: Net<Standard>,
-) -> Result<(), AllocError> {
+) -> Result<(), Failure> {
     let bodies = bodies_of(alloc, &net)?;
     let period = Duration::from_millis(500);
     match run_watched(rt, alloc, net, bodies, 4, &Open, period, &Ticker { rt }) {
         Ok(run) => print_streams(rt, alloc, &run),
-        Err(_) => Err(AllocError),
+        Err(_) => Err(Failure::Run),
     }
 }
 
@@ -106,10 +107,8 @@ fn show<R: Threads + Wait + Clock + Print + Eprint + Sync>(
     rt: &R,
     alloc: Global,
     made: &Builder,
-) -> Result<(), AllocError> {
-    let Ok(text) = made.to_toml() else {
-        return Err(AllocError);
-    };
+) -> Result<(), Failure> {
+    let text = made.to_toml()?;
     let _ = print!(rt; "{text}");
     match made.check() {
         Ok(net) => play(rt, alloc, net),
@@ -122,12 +121,24 @@ fn show<R: Threads + Wait + Clock + Print + Eprint + Sync>(
     }
 }
 
-fn main(rt: HostRuntime) -> io::Result<ExitCode> {
-    let alloc = rt.alloc();
+/// Makes the networks one after the other, and shows what goes through them.
+fn show_all<R: Threads + Wait + Clock + Print + Eprint + Sync>(
+    rt: &R,
+    alloc: Global,
+) -> Result<(), Failure> {
     let mut made = Builder::new(alloc);
-    let shown = make(&mut made).is_ok()
-        && show(&rt, alloc, &made).is_ok()
-        && stopped::show(&rt, alloc).is_ok()
-        && own_threads::show(&rt, alloc).is_ok();
-    Ok(ExitCode::from(if shown { 0 } else { 4 }))
+    make(&mut made)?;
+    show(rt, alloc, &made)?;
+    stopped::show(rt, alloc)?;
+    own_threads::show(rt, alloc)
+}
+
+fn main(rt: HostRuntime) -> ExitCode {
+    match show_all(&rt, rt.alloc()) {
+        Ok(()) => ExitCode::SUCCESS,
+        Err(failure) => {
+            let _ = eprintln!(rt; "example_library: {failure}");
+            ExitCode::from(4)
+        }
+    }
 }

@@ -1,5 +1,6 @@
 //! A network is run by threads of the program's own, each of which takes tasks, asks bodies and commits
 //! their answers as it likes.
+use crate::failure::Failure;
 use crate::words;
 use kpn_builder::{Builder, NewChannel};
 use kpn_compute::{CardBody, bodies_of};
@@ -51,17 +52,14 @@ impl<'a, R: Wait + Eprint + Sync> Crew<CardBody<Standard>> for Counting<'a, R> {
     }
 }
 
-fn make(made: &mut Builder) -> Result<Net<Standard>, AllocError> {
+fn make(made: &mut Builder) -> Result<Net<Standard>, Failure> {
     made.process("src", "count", &[1, 5])?;
     made.process("snk", "sink", &[5])?;
     made.channel(NewChannel::new("words", "src", "snk").capacity(2))?;
-    let Ok(net) = made.check() else {
-        return Err(AllocError);
-    };
-    Ok(net)
+    Ok(made.check()?)
 }
 
-fn network(alloc: Global) -> Result<Net<Standard>, AllocError> {
+fn network(alloc: Global) -> Result<Net<Standard>, Failure> {
     let mut made = Builder::new(alloc);
     make(&mut made)
 }
@@ -70,15 +68,16 @@ fn network(alloc: Global) -> Result<Net<Standard>, AllocError> {
 pub(crate) fn show<R: Threads + Wait + Print + Eprint + Sync>(
     rt: &R,
     alloc: Global,
-) -> Result<(), AllocError> {
+) -> Result<(), Failure> {
     let net = network(alloc)?;
     let bodies = bodies_of(alloc, &net)?;
     let entries = AtomicU64::new(0);
     let crew = Counting { rt, entries };
     let Ok(run) = run_by_crew(rt, alloc, net, bodies, 3, &crew) else {
-        return Err(AllocError);
+        return Err(Failure::Run);
     };
-    print(rt, alloc, &crew.entries, &run)
+    print(rt, alloc, &crew.entries, &run)?;
+    Ok(())
 }
 
 /// Prints how many entries a run has, and what went through its channel.

@@ -1,5 +1,6 @@
 //! A network that would count for a long time is run by two workers, and stopped when a deadline has
 //! passed.
+use crate::failure::Failure;
 use crate::words;
 use kpn_builder::{Builder, NewChannel};
 use kpn_compute::bodies_of;
@@ -41,18 +42,15 @@ impl<'a, R: Wait + Clock + Sync> Gate for Slowly<'a, R> {
     }
 }
 
-fn make(made: &mut Builder) -> Result<Net<Standard>, AllocError> {
+fn make(made: &mut Builder) -> Result<Net<Standard>, Failure> {
     made.set_budget(2_000_000);
     made.process("src", "count", &[1, 1_000_000])?;
     made.process("snk", "sink", &[1_000_000])?;
     made.channel(NewChannel::new("words", "src", "snk").capacity(16))?;
-    let Ok(net) = made.check() else {
-        return Err(AllocError);
-    };
-    Ok(net)
+    Ok(made.check()?)
 }
 
-fn network(alloc: Global) -> Result<Net<Standard>, AllocError> {
+fn network(alloc: Global) -> Result<Net<Standard>, Failure> {
     let mut made = Builder::new(alloc);
     make(&mut made)
 }
@@ -61,17 +59,17 @@ fn network(alloc: Global) -> Result<Net<Standard>, AllocError> {
 pub(crate) fn show<R: Threads + Wait + Clock + Print + Sync>(
     rt: &R,
     alloc: Global,
-) -> Result<(), AllocError> {
+) -> Result<(), Failure> {
     let net = network(alloc)?;
     let bodies = bodies_of(alloc, &net)?;
     let Ok(start) = Instant::now(rt) else {
-        return Err(AllocError);
+        return Err(Failure::Clock);
     };
     let (gate, deadline) = (Slowly { rt }, Deadline { rt, start });
     let period = Duration::from_millis(5);
     match run_watched(rt, alloc, net, bodies, 2, &gate, period, &deadline) {
-        Ok(run) => print_first(rt, alloc, &run),
-        Err(_) => Err(AllocError),
+        Ok(run) => Ok(print_first(rt, alloc, &run)?),
+        Err(_) => Err(Failure::Run),
     }
 }
 

@@ -1,0 +1,20 @@
+//! Why this program fails.
+use kpn_builder::TextFault;
+use kpn_net::NetFault;
+use std::alloc::AllocError;
+use thiserror::Error;
+
+/// Why a network was not made, not written or not run.
+#[derive(Debug, Drop, Error)]
+pub(crate) enum Failure {
+    #[error("memory was refused")]
+    Memory(#[from] AllocError),
+    #[error("the network has no text: {0}")]
+    Text(#[from] TextFault),
+    #[error("the network is refused: {0}")]
+    Net(#[from] NetFault),
+    #[error("the network was not run")]
+    Run,
+    #[error("the clock could not be read")]
+    Clock,
+}
