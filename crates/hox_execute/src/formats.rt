@@ -118,8 +118,8 @@ pub(crate) fn is_named(names: &[&str], channel: &str) -> bool
     names.iter().any(|name| *name == channel || *name == ALL)
 }
 
-/// Checks that each text says how files have tokens, for a channel of these pairs or for all, and of each channel and of
-/// all one at most.
+/// Checks that each text says how files have tokens, for a channel of these pairs or for all, and of each channel and
+/// of all one at most.
 ///
 /// Errors: the first text that does not; or else the first channel of which a later text says it too.
 pub(crate) fn check_formats<'a>(

@@ -53,9 +53,9 @@ pub struct Asked<'a> {
 
 /// Reads what is asked for, with the files of tokens.
 ///
-/// Errors: a text that names no channel and file, or no format; a format that is of no use; standard input that is named
-/// twice; two uses of files that can't stand beside each other; the first file that can't be read, or of which what
-/// stands before its tokens is refused; or memory was refused.
+/// Errors: a text that names no channel and file, or no format; a format that is of no use; standard input that is
+/// named twice; two uses of files that can't stand beside each other; the first file that can't be read, or of which
+/// what stands before its tokens is refused; or memory was refused.
 pub(crate) fn asked_of<'a, S: FileSystem>(
     alloc: Global,
     files: &S,

@@ -18,7 +18,7 @@ use kpn_network::Net;
 use kpn_observe::{WatchedFault, WatchedRun, run_watched_with_keeper};
 use kpn_report::Tallied;
 use kpn_run::{Prompt, RunFault as Fault, run_with_keeper};
-use kpn_state::Keeper;
+use kpn_state::{Keeper, Packed};
 use kpn_tokens::{Decimals, Layout};
 use std::alloc::{AllocError, Global};
 use std::rt::Clock;
@@ -129,7 +129,7 @@ fn execute_by_workers<K: Computes, R: Wait + Clock + Threads + Sync>(
     requires within { All (IsWithin net) outputs.now }
     ensures { IfOk result (TellsRun (family K.Kinds) net show.now outputs.now) }
 {
-    match run_with_keeper::<CardBody<K>, Tallied, R, Prompt>(
+    match run_with_keeper::<CardBody<K>, Packed, R, Prompt>(
         rt, alloc, net, bodies, workers, &Prompt,
     ) {
         Ok(finish) => {
@@ -164,7 +164,7 @@ fn execute_watched<K: Computes, R: Wait + Clock + Threads + Sync, P: Progress>(
 {
     let observer = OnBoard { progress };
     let period = Duration::from_millis(PERIOD);
-    match run_watched_with_keeper::<CardBody<K>, Tallied, R, Prompt, OnBoard<'_, P>>(
+    match run_watched_with_keeper::<CardBody<K>, Packed, R, Prompt, OnBoard<'_, P>>(
         rt, alloc, net, bodies, workers, &Prompt, period, &observer,
     ) {
         Ok(ran) => told_of_watched(alloc, &ran, show, outputs),
@@ -180,7 +180,7 @@ fn execute_watched<K: Computes, R: Wait + Clock + Threads + Sync, P: Progress>(
 /// contract says that a run has an end then.
 fn told_of_watched<K: Computes>(
     alloc: Global,
-    ran: &WatchedRun<K, Tallied>,
+    ran: &WatchedRun<K, Packed>,
     show: &[ChannelAs<Decimals>],
     outputs: &[ChannelAs<Layout>],
 ) -> Result<Told, RunFault>

@@ -44,7 +44,8 @@ struct Judged {
     report: String,
 }
 
-/// Returns what is told of a run that ended and whose entries are these, with the streams of the channels of `show` in the report.
+/// Returns what is told of a run that ended and whose entries are these, with the streams of the channels of `show` in
+/// the report.
 ///
 /// Errors: memory was refused.
 pub(crate) fn told_of<K: Kinds, H: Keeper, E: Entries>(

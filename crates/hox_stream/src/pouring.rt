@@ -291,8 +291,8 @@ fn first_starved<B: Body, S: Source>(
     None
 }
 
-/// The source whose turn it is of those for whose tokens a process waits: the first from this place on, or else the first
-/// of all.
+/// The source whose turn it is of those for whose tokens a process waits: the first from this place on, or else the
+/// first of all.
 fn next_starved<B: Body, S: Source>(
     flow: &Flow<B>,
     inlets: &[Inlet<S>],

@@ -248,9 +248,7 @@ impl Builder {
     /// Errors: the first fault of the sketch, or memory was refused.
     ///
     /// ```text
-    /// let Ok(net) = made.check() else {
-    ///     return Err(AllocError);
-    /// };
+    /// Ok(made.check()?)
     /// ```
     pub fn check<K: Kinds>(&self) -> Result<Net<K>, NetFault>
         ensures ok { IfOk result (λ n. (first_fault K.named K.signature self.now ≡ None) × (n ≡ net_of K.named self.now)) }
@@ -282,9 +280,7 @@ impl Builder {
     /// if memory was refused.
     ///
     /// ```text
-    /// let Ok(text) = made.to_toml() else {
-    ///     return Err(AllocError);
-    /// };
+    /// let text = made.to_toml()?;
     /// let _ = print!(rt; "{text}");
     /// ```
     pub fn to_toml(&self) -> Result<String, TextFault>

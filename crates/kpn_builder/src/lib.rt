@@ -6,9 +6,7 @@
 //! made.process("src", "count", &[1, 8])?;
 //! made.process("x3", "scale", &[3])?;
 //! made.channel(NewChannel::new("x", "src", "x3").capacity(4))?;
-//! let Ok(net) = made.check() else {
-//!     return Err(AllocError);
-//! };
+//! Ok(made.check()?)
 //! ```
 #![tactic(auto)]
 

@@ -24,7 +24,7 @@ use Rattle.kpn_commit.specs.Resolving.{Resolves}
 use Rattle.kpn_commit.specs.Works.{end_after}
 
 -- a process whose deed has a process at its other end is ready afterwards
-partner_ready : (net : Network) (d : Deed) (q : ℕ) → partner net d ≡ Some q → standing_after d ≡ Ready
+pub partner_ready : (net : Network) (d : Deed) (q : ℕ) → partner net d ≡ Some q → standing_after d ≡ Ready
 partner_ready net d q e = grind arith
 
 module _ {kinds : Family} {net : Network} where

@@ -11,6 +11,7 @@ ghost use Rattle.kpn_state.specs.Marks.{mark_lists};
 ghost use Rattle.kpn_state.specs.Standings.{StandingsFit, standing, is_busy, partner, HasChannel};
 ghost use Rattle.kpn_commit.specs.Waiting.{AreWaiting, HasMark, partner_marked};
 ghost use Rattle.kpn_commit.specs.Reactions.{Reacts, Resumes};
+ghost use Rattle.kpn_commit.specs.declared.react.Reaction.{Reaction as ReactionV};
 
 use crate::act::{advance, advance_on};
 use crate::parking::park;
@@ -153,6 +154,62 @@ pub(crate) fn react_on<K: Kinds, H: Keeper>(
     } else {
         Some(Reaction::Acts)
     }
+}
+
+/// Does the act of the answer of a ready process, and then the deed of the parked process that this enables; or parks or
+/// stops it. Returns whether it is still ready: then its standing was not touched. The history must have room for two
+/// entries.
+#[inline(always)]
+pub fn react_ready<K: Kinds, H: Keeper>(
+    net: &Net<K>,
+    store: &mut Store<H>,
+    standings: &mut Roster,
+    waiting: &mut Waiting,
+    process: usize,
+    answer: Answer,
+) -> bool
+    requires keeps { StandingsFit (family K.Kinds) K.admits net.now None store.old.state standings.old }
+    requires wants { wants (family K.Kinds) net.now store.old.state process ≡ Some answer }
+    requires ready { standing standings.old process ≡ Ready }
+    requires room { length store.old.history + 2 ≤ store.old.limit }
+    requires waiting { AreWaiting net.now store.old.state standings.old waiting.old }
+    ensures reacts { (r : ReactionV) × Reacts (family K.Kinds) net.now store.old standings.old process answer r store.new standings.new }
+    ensures ready { result ≡ true ↔ standing standings.new process ≡ Ready }
+    ensures keeps { StandingsFit (family K.Kinds) K.admits net.now None store.new.state standings.new }
+    ensures waiting { AreWaiting net.now store.new.state standings.new waiting.new }
+{
+    match react_on(net, store, standings, waiting, process, answer) {
+        Some(_reaction) => true,
+        None => {
+            park_or_stop(net, store, standings, waiting, process, anew(answer));
+            false
+        }
+    }
+}
+
+/// Parks a ready process with its answer, which can't be done or is a stop, or stops it. It is a function of its own, out of the
+/// way of an answer that is done.
+#[inline(never)]
+fn park_or_stop<K: Kinds, H: Keeper>(
+    net: &Net<K>,
+    store: &mut Store<H>,
+    standings: &mut Roster,
+    waiting: &mut Waiting,
+    process: usize,
+    answer: Answer,
+)
+    requires keeps { StandingsFit (family K.Kinds) K.admits net.now None store.old.state standings.old }
+    requires wants { wants (family K.Kinds) net.now store.old.state process ≡ Some answer }
+    requires ready { standing standings.old process ≡ Ready }
+    requires cannot { answer.act ≢ Stop → IsPossible (family K.Kinds) net.now store.old.state process answer.act → ⊥ }
+    requires room { length store.old.history + 2 ≤ store.old.limit }
+    requires waiting { AreWaiting net.now store.old.state standings.old waiting.old }
+    ensures reacts { (r : ReactionV) × Reacts (family K.Kinds) net.now store.old standings.old process answer r store.new standings.new }
+    ensures ready { standing standings.new process ≢ Ready }
+    ensures keeps { StandingsFit (family K.Kinds) K.admits net.now None store.new.state standings.new }
+    ensures waiting { AreWaiting net.now store.new.state standings.new waiting.new }
+{
+    let _ = react(net, store, standings, waiting, process, answer);
 }
 
 /// Does what a process answered when it was parked, if it can now be done, and returns whether it was;

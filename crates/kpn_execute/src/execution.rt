@@ -11,8 +11,8 @@ use kpn_laws::{determinacy_of, least_room_of, least_solution_of};
 use kpn_machine::{Chronicle, Machine};
 use kpn_net::{End, Kinds, Net, NetFault};
 use kpn_report::{Entries, Tallied, places_of, text_of_entries};
-use kpn_run::{Open, RunFault, run};
-use kpn_state::Keeper;
+use kpn_run::{Open, RunFault, run_with_keeper};
+use kpn_state::{Keeper, Packed};
 use std::alloc::{AllocError, Global};
 use std::rt::Clock;
 use std::sync::Wait;
@@ -114,8 +114,8 @@ fn tell<B: Body, S: Sink, R: Wait + Clock + Threads + Sync>(
     }
 }
 
-/// Runs a network in the calling thread and writes the report. `tell` calls it with bodies that fit, so a machine that is
-/// not opened was refused memory.
+/// Runs a network in the calling thread and writes the report. `tell` calls it with bodies that fit, so a machine that
+/// is not opened was refused memory.
 #[inline(never)]
 fn tell_alone<B: Body, S: Sink>(
     alloc: Global,
@@ -152,7 +152,7 @@ fn tell_by_workers<B: Body, S: Sink, R: Wait + Clock + Threads + Sync>(
         bodies,
         workers,
     } = request;
-    match run(rt, alloc, net, bodies, workers, &Open) {
+    match run_with_keeper::<B, Packed, R, Open>(rt, alloc, net, bodies, workers, &Open) {
         Ok(finish) => {
             let chronicle = finish.chronicle();
             say_told(alloc, chronicle, chronicle.keeper(), channel, sink)

@@ -76,9 +76,9 @@ fn rest<K: Kinds>(
     }
 }
 
-/// Asks ready processes, one after the other, until there are `until` entries or none is ready; if none is ready at first,
-/// lets the chosen channel grow, or finds why nothing goes on, and returns that. The history has afterwards the entries of
-/// this stretch alone. `again` is a process to be asked first, and then the one that would be asked next.
+/// Asks ready processes, one after the other, until there are `until` entries or none is ready; if none is ready at
+/// first, lets the chosen channel grow, or finds why nothing goes on, and returns that. The history has afterwards the
+/// entries of this stretch alone. `again` is a process to be asked first, and then the one that would be asked next.
 pub(crate) fn stretch<B: Body>(
     net: &Net<B::Kinds>,
     store: &mut Store<Unkept>,

@@ -12,7 +12,7 @@ ghost use Rattle.kpn_state.specs.declared.standing.Standing.TheVariants.{Ready};
 ghost use Rattle.kpn_state.specs.Standings.{StandingsFit, standing};
 
 use kpn_body::Body;
-use kpn_commit::react::react;
+use kpn_commit::react::react_ready;
 use kpn_model::{Act, Local, Status, Token};
 use kpn_network::Net;
 use kpn_state::{Keeper, Roster, Store, Waiting};
@@ -46,26 +46,25 @@ pub fn ask_ready<B: Body, H: Keeper>(
     ensures most { result ≤ most }
     ensures fewer { result < most → length store.new.history < until → (p : ℕ) → standing standings.new p ≢ Ready }
 {
-    let mut asked = 0;
-    while asked < most {
+    let mut left = most;
+    while left > 0 {
         if store.entries() >= until {
-            return asked;
+            return most - left;
         }
         let Some(process) = standings.turn(*again) else {
-            return asked;
+            return most - left;
         };
         let Question { body, local, last } = question_to(net, store, bodies, process);
         let answer = body.answer(local, last);
-        let goes_on = goes_on_after(answer.act, last);
-        let _ = react(net, store, standings, waiting, process, answer);
-        *again = if goes_on {
-            standings.if_ready(process)
+        let is_ready = react_ready(net, store, standings, waiting, process, answer);
+        *again = if is_ready && goes_on_after(answer.act, last) {
+            Some(process)
         } else {
             None
         };
-        asked += 1;
+        left -= 1;
     }
-    asked
+    most
 }
 
 /// What a process is asked: its body, with its local state and last token.

@@ -3,7 +3,7 @@ ghost use Rattle.std.specs.Prelude.{◌≡◌, ◌<◌, ◌^◌, IfSome, List, g
 
 use crate::tallied::Tallied;
 use kpn_model::Entry;
-use kpn_state::Wide;
+use kpn_state::{Keeper, Packed, Recall, Wide};
 
 /// The entries of a history: how many there are, each at its place, and their counts if they were counted while they
 /// were kept.
@@ -61,6 +61,26 @@ impl Entries for Wide {
     #[inline(always)]
     fn entry(&self, place: usize) -> Entry {
         self.as_slice()[place]
+    }
+
+    fn tallied(&self) -> Option<&Tallied> {
+        None
+    }
+}
+
+impl Entries for Packed {
+    ghost use Rattle.kpn_state.specs.Packed.{unpacked};
+    ghost use Rattle.std.specs.Prelude.{map};
+
+    ghost entries = { λ p. map unpacked p.items.items };
+
+    fn count(&self) -> usize {
+        Keeper::count(self)
+    }
+
+    #[inline(always)]
+    fn entry(&self, place: usize) -> Entry {
+        Recall::entry(self, place)
     }
 
     fn tallied(&self) -> Option<&Tallied> {

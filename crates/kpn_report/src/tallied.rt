@@ -112,12 +112,12 @@ impl Keeper for Tallied {
     }
 
     fn count(&self) -> usize {
-        self.packed.count()
+        Keeper::count(&self.packed)
     }
 
     #[inline(always)]
     fn keep(&mut self, entry: Entry) {
-        let _entries = self.packed.count();
+        let _entries = Keeper::count(&self.packed);
         count_entry(
             &mut self.steps,
             &mut self.puts,
@@ -133,12 +133,12 @@ impl Entries for Tallied {
     ghost entries = { λ t. t.entries };
 
     fn count(&self) -> usize {
-        self.packed.count()
+        Keeper::count(&self.packed)
     }
 
     #[inline(always)]
     fn entry(&self, place: usize) -> Entry {
-        self.packed.entry(place)
+        Recall::entry(&self.packed, place)
     }
 
     fn tallied(&self) -> Option<&Tallied> {

@@ -1,13 +1,15 @@
-//! Reports of machines that count their entries while they keep them, and of what several workers leave behind.
+//! Reports and streams of machines that keep their entries in 16 bytes each, counted or not, and of what several workers
+//! leave behind.
 use crate::checks::same;
 use crate::networks::{Parts, parts_of};
 use kpn_body::{Body, Standard};
 use kpn_compute::CardBody;
 use kpn_machine::{Chronicle, Machine};
 use kpn_net::Net;
-use kpn_report::{Tallied, places_of, text_of_entries};
+use kpn_net::Token::Word;
+use kpn_report::{Entries, Tallied, places_of, stream_of_entries, text_of_entries};
 use kpn_run::{Open, run, run_with_keeper};
-use kpn_state::Packed;
+use kpn_state::{Keeper, Packed};
 use std::alloc::{AllocError, Global};
 use std::process::Abort;
 use std::rt::Clock;
@@ -27,9 +29,9 @@ fn finished(alloc: Global, parts: Parts) -> Result<Chronicle<Standard, Tallied>,
 }
 
 /// The text of the report, with the stream of a channel.
-fn text_of(
+fn text_of<H: Keeper + Entries>(
     alloc: Global,
-    chronicle: &Chronicle<Standard, Tallied>,
+    chronicle: &Chronicle<Standard, H>,
     channel: usize,
 ) -> Result<Option<String>, AllocError> {
     let Some(end) = chronicle.end() else {
@@ -123,7 +125,7 @@ fn entries_of_two_workers_have_their_report(rt: HostRuntime) {
 }
 
 /// Runs the network of a text by so many workers, and compares the report, with the stream of a channel.
-fn shows_by<R: Wait + Clock + Threads + Sync + Abort>(
+fn shows_by<H: Keeper + Entries + Send, R: Wait + Clock + Threads + Sync + Abort>(
     rt: &R,
     alloc: Global,
     text: &str,
@@ -132,7 +134,7 @@ fn shows_by<R: Wait + Clock + Threads + Sync + Abort>(
     due: &str,
 ) {
     let Parts { net, bodies } = parts_of(rt, alloc, text);
-    let ran = run_with_keeper::<CardBody<Standard>, Tallied, R, Open>(
+    let ran = run_with_keeper::<CardBody<Standard>, H, R, Open>(
         rt, alloc, net, bodies, workers, &Open,
     );
     let Ok(finish) = ran else {
@@ -146,14 +148,40 @@ fn shows_by<R: Wait + Clock + Threads + Sync + Abort>(
 #[test]
 fn counted_entries_of_workers_have_their_report(rt: HostRuntime) {
     for workers in [2, 16] {
-        shows_by(&rt, rt.alloc(), COUNTER, workers, 0, reports::COUNTER);
-        shows_by(
-            &rt,
-            rt.alloc(),
-            COPIED_AND_WOVEN,
-            workers,
-            3,
-            reports::WOVEN,
-        );
+        shows_by::<Tallied, _>(&rt, rt.alloc(), COUNTER, workers, 0, reports::COUNTER);
     }
+    shows_by::<Tallied, _>(&rt, rt.alloc(), COPIED_AND_WOVEN, 2, 3, reports::WOVEN);
+}
+
+#[test]
+fn packed_entries_of_workers_have_their_report(rt: HostRuntime) {
+    for workers in [2, 16] {
+        shows_by::<Packed, _>(&rt, rt.alloc(), COUNTER, workers, 0, reports::COUNTER);
+    }
+    shows_by::<Packed, _>(&rt, rt.alloc(), COPIED_AND_WOVEN, 2, 3, reports::WOVEN);
+}
+
+#[test]
+fn packed_entries_have_their_streams(rt: HostRuntime) {
+    let alloc = rt.alloc();
+    let Parts { net, bodies } = parts_of(&rt, alloc, COUNTER);
+    let ran = run_with_keeper::<CardBody<Standard>, Packed, HostRuntime, Open>(
+        &rt, alloc, net, bodies, 2, &Open,
+    );
+    let Ok(finish) = ran else {
+        panic!(&rt; "no run");
+    };
+    let chronicle = finish.chronicle();
+    let tokens = stream_of_entries(alloc, chronicle.net(), chronicle.keeper(), 0);
+    let tokens = tokens.expect(&rt, "no memory");
+    same(
+        &rt,
+        "stream",
+        tokens.as_slice(),
+        &[Word(1), Word(2), Word(3)],
+    );
+    let none = stream_of_entries(alloc, chronicle.net(), chronicle.keeper(), 1);
+    let none = none.expect(&rt, "no memory");
+    same(&rt, "no channel", none.len(), 0);
+    drop(finish);
 }

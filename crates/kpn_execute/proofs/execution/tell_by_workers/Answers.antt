@@ -18,5 +18,5 @@ returns-in-Err-Lost g c = written c.say_lost.ensures (inl (record { several = c.
 
 pub unreachable-requires-in-Err-Open : goal.unreachable-requires-in-Err-Open
 unreachable-requires-in-Err-Open g c =
-    let misfit = c.run.ensures.open _ _ _ (c.in-Err-Open.is ∙ ap (λ x. Err x) c.in-Err-Open.field-0-is) in
+    let misfit = c.run_with_keeper.ensures.open _ _ _ (c.in-Err-Open.is ∙ ap (λ x. Err x) c.in-Err-Open.field-0-is) in
     not_refused _ _ _ c.requires.cards misfit.2 misfit.3
