@@ -91,7 +91,7 @@ impl<B: Body> Hand<B> {
     }
 
     /// Returns how many tasks there are.
-    pub(crate) fn len(&self) -> usize
+    pub fn len(&self) -> usize
         ensures len { result ≡ length self.now.tasks }
         ensures few { result ≤ 64 }
     {

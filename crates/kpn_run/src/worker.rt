@@ -77,7 +77,8 @@ pub(crate) fn work_in_rounds<
         if pace.in_place() > 0 && ask_in_place(rt, monitor, seat, &watch, &mut pace) {
             return None;
         }
-        let calls = call_all(hand, gate);
+        let calls = hand.len() as u64;
+        call_all(hand, gate);
         let most = if pace.is_timed() {
             pace.called(calls, watch.nanos(rt))
         } else {
@@ -139,16 +140,13 @@ fn go_on<B: Body, H: Keeper, E: EntryLedger, O: Ledger, R: Wait + Clock>(
     take_turn(rt, monitor, hand, watch, pace, turn);
 }
 
-// Calls all tasks of a hand, and asks the gate after each. Returns how many there were.
-fn call_all<B: Body, G: Gate>(hand: &mut Hand<B>, gate: &G) -> u64
+// Calls all tasks of a hand, and asks the gate after each.
+fn call_all<B: Body, G: Gate>(hand: &mut Hand<B>, gate: &G)
     ensures { hand.new.called ≡ length hand.new.tasks }
 {
-    let mut calls: u64 = 0;
     while let Some(process) = hand.call() {
         gate.before_commit(process);
-        calls = calls.saturating_add(1);
     }
-    calls
 }
 
 // Goes on, pauses or rests.
