@@ -3,3 +3,4 @@ pub mod Candidates
 pub mod Waiting
 pub mod Resolving
 pub mod Works
+pub mod Coherent

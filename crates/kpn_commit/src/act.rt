@@ -97,7 +97,7 @@ fn perform<K: Kinds, H: Keeper>(
 }
 
 /// Ghost lemma: the laws of the family for each answer of a card.
-fn obey<K: Kinds>(card: Card)
+fn laws_of<K: Kinds>(card: Card)
     requires signed { IsSome (K.signature card) }
     ensures names { (local : List ℕ) (last : Option TokenV) → K.admits card local last → NamesPort K.signature card (K.answer_of card local last).act }
     ensures leads { (local : List ℕ) (last : Option TokenV) (token : TokenV) → K.admits card local last → LeadsOn K.signature K.admits card (K.answer_of card local last) token }
@@ -131,7 +131,7 @@ pub fn advance<K: Kinds, H: Keeper>(
     ensures same_standings { IfNone result (standings.new ≡ standings.old) }
 {
     net.assure_valid();
-    obey::<K>(net.card(process));
+    laws_of::<K>(net.card(process));
     let deed = perform(net, store, process, answer)?;
     standings.update(process, standing_after(deed));
     Some(deed)
@@ -184,7 +184,7 @@ pub(crate) fn advance_on<K: Kinds, H: Keeper>(
     ensures same { IfNone result (store.new ≡ store.old) }
 {
     net.assure_valid();
-    obey::<K>(net.card(process));
+    laws_of::<K>(net.card(process));
     let deed = perform_on(net, store, process, answer)?;
     Some(deed)
 }

@@ -8,14 +8,15 @@ ghost use Rattle.kpn_model.specs.Valid.{IsOfSort};
 ghost use Rattle.kpn_model.specs.declared.kinds.Act.{Act as ActV};
 ghost use Rattle.kpn_state.specs.StateAndHistory.{state_and_history};
 ghost use Rattle.kpn_state.specs.declared.standing.Standing.TheVariants.{Out};
-ghost use Rattle.kpn_state.specs.Standings.{StandingsFit, standing};
-ghost use Rattle.kpn_commit.specs.Waiting.{AreWaiting};
+ghost use Rattle.kpn_state.specs.Standings.{standing};
+ghost use Rattle.kpn_commit.specs.Coherent.{IsCoherent, IsCoherentBut};
 
+use crate::core::Core;
 use crate::parking::unpark;
 use kpn_model::{Act, Kinds, Token};
 use kpn_network::Net;
 use kpn_state::standing::parked;
-use kpn_state::{Keeper, Roster, Store, Waiting};
+use kpn_state::{Keeper, Store};
 
 /// Whether a process can read at a port: its channel holds a token.
 fn can_read<K: Kinds, H: Keeper>(net: &Net<K>, store: &Store<H>, process: usize, port: u8) -> bool
@@ -66,24 +67,21 @@ fn can_do<K: Kinds, H: Keeper>(net: &Net<K>, store: &Store<H>, process: usize, a
 /// parked process can't go on.
 fn wake<K: Kinds, H: Keeper>(
     net: &Net<K>,
-    store: &Store<H>,
-    standings: &mut Roster,
-    waiting: &mut Waiting,
+    core: &mut Core<H>,
     process: usize,
 )
-    requires keeps { StandingsFit (family K.Kinds) K.admits net.now (Some process) store.now.state standings.old }
-    requires waiting { AreWaiting net.now store.now.state standings.old waiting.old }
-    ensures keeps { StandingsFit (family K.Kinds) K.admits net.now None store.now.state standings.new }
-    ensures none_sent { (p : ℕ) → standing standings.new p ≡ Out → standing standings.old p ≡ Out }
-    ensures waiting { AreWaiting net.now store.now.state standings.new waiting.new }
+    requires coherent { IsCoherentBut (family K.Kinds) K.admits net.now (Some process) core.old }
+    ensures store { core.new.store ≡ core.old.store }
+    ensures coherent { IsCoherent (family K.Kinds) K.admits net.now core.new }
+    ensures none_sent { (p : ℕ) → standing core.new.standings p ≡ Out → standing core.old.standings p ≡ Out }
 {
-    let Some(answer) = parked(standings.as_slice(), process) else {
+    let Some(answer) = parked(core.standings.as_slice(), process) else {
         return;
     };
-    if !can_do(net, store, process, answer.act) {
+    if !can_do(net, &core.store, process, answer.act) {
         return;
     }
-    unpark(net, store, standings, waiting, process, answer);
+    unpark(net, core, process, answer);
 }
 
 /// Appends a token to a channel, from outside of the network, and makes the reader of the channel ready
@@ -91,26 +89,22 @@ fn wake<K: Kinds, H: Keeper>(
 /// capacity, and the token must be of its sort.
 pub fn feed<K: Kinds, H: Keeper>(
     net: &Net<K>,
-    store: &mut Store<H>,
-    standings: &mut Roster,
-    waiting: &mut Waiting,
+    core: &mut Core<H>,
     channel: usize,
     token: Token,
 )
-    requires keeps { StandingsFit (family K.Kinds) K.admits net.now None store.old.state standings.old }
+    requires coherent { IsCoherent (family K.Kinds) K.admits net.now core.old }
     requires channel { channel < length net.now.channels }
     requires sort { IsOfSort (channel_of net.now channel).sort token }
-    requires space { length (tokens store.old.state channel) < capacity store.old.state channel }
-    requires waiting { AreWaiting net.now store.old.state standings.old waiting.old }
-    ensures fed { store.new ≡ state_and_history (with_channel store.old.state channel (tokens store.old.state channel ++ token ∷ []) (capacity store.old.state channel)) store.old.history store.old.limit }
-    ensures keeps { StandingsFit (family K.Kinds) K.admits net.now None store.new.state standings.new }
-    ensures none_sent { (p : ℕ) → standing standings.new p ≡ Out → standing standings.old p ≡ Out }
-    ensures waiting { AreWaiting net.now store.new.state standings.new waiting.new }
+    requires space { length (tokens core.old.store.state channel) < capacity core.old.store.state channel }
+    ensures fed { core.new.store ≡ state_and_history (with_channel core.old.store.state channel (tokens core.old.store.state channel ++ token ∷ []) (capacity core.old.store.state channel)) core.old.store.history core.old.store.limit }
+    ensures coherent { IsCoherent (family K.Kinds) K.admits net.now core.new }
+    ensures none_sent { (p : ℕ) → standing core.new.standings p ≡ Out → standing core.old.standings p ≡ Out }
 {
-    store.feed(channel, token);
-    if waiting.marks.reader_waits(channel) {
+    core.store.feed(channel, token);
+    if core.waiting.marks.reader_waits(channel) {
         let reader = net.ends(channel).reader;
-        wake(net, store, standings, waiting, reader);
+        wake(net, core, reader);
     }
 }
 
@@ -119,25 +113,21 @@ pub fn feed<K: Kinds, H: Keeper>(
 /// hold a token.
 pub fn drain<K: Kinds, H: Keeper>(
     net: &Net<K>,
-    store: &mut Store<H>,
-    standings: &mut Roster,
-    waiting: &mut Waiting,
+    core: &mut Core<H>,
     channel: usize,
 ) -> Token
-    requires keeps { StandingsFit (family K.Kinds) K.admits net.now None store.old.state standings.old }
+    requires coherent { IsCoherent (family K.Kinds) K.admits net.now core.old }
     requires channel { channel < length net.now.channels }
-    requires some { 0 < length (tokens store.old.state channel) }
-    requires waiting { AreWaiting net.now store.old.state standings.old waiting.old }
-    ensures token { tokens store.old.state channel ≡ result ∷ drop 1 (tokens store.old.state channel) }
-    ensures rest { store.new ≡ state_and_history (with_channel store.old.state channel (drop 1 (tokens store.old.state channel)) (capacity store.old.state channel)) store.old.history store.old.limit }
-    ensures keeps { StandingsFit (family K.Kinds) K.admits net.now None store.new.state standings.new }
-    ensures none_sent { (p : ℕ) → standing standings.new p ≡ Out → standing standings.old p ≡ Out }
-    ensures waiting { AreWaiting net.now store.new.state standings.new waiting.new }
+    requires some { 0 < length (tokens core.old.store.state channel) }
+    ensures token { tokens core.old.store.state channel ≡ result ∷ drop 1 (tokens core.old.store.state channel) }
+    ensures rest { core.new.store ≡ state_and_history (with_channel core.old.store.state channel (drop 1 (tokens core.old.store.state channel)) (capacity core.old.store.state channel)) core.old.store.history core.old.store.limit }
+    ensures coherent { IsCoherent (family K.Kinds) K.admits net.now core.new }
+    ensures none_sent { (p : ℕ) → standing core.new.standings p ≡ Out → standing core.old.standings p ≡ Out }
 {
-    let token = store.drain(channel);
-    if waiting.marks.writer_waits(channel) {
+    let token = core.store.drain(channel);
+    if core.waiting.marks.writer_waits(channel) {
         let writer = net.ends(channel).writer;
-        wake(net, store, standings, waiting, writer);
+        wake(net, core, writer);
     }
     token
 }

@@ -1,14 +1,16 @@
 //! Processes that are parked wait at a channel, whose mark says so.
-ghost use Rattle.std.specs.Prelude.{◌≡◌, ◌<◌, length, set, true};
+ghost use Rattle.std.specs.Prelude.{◌≡◌, ◌≢◌, ◌↔◌, ◌<◌, ◌+◌, ℕ, length, set, Contains, true, false};
 ghost use Rattle.kpn_model.specs.Families.{family};
 ghost use Rattle.kpn_model.specs.Semantics.{IsPossible};
 ghost use Rattle.kpn_state.specs.declared.standing.Standing.TheVariants.{Parked, Ready};
+ghost use Rattle.kpn_state.specs.Marks.{mark_lists};
 ghost use Rattle.kpn_state.specs.Standings.{standing, is_busy};
 ghost use Rattle.kpn_commit.specs.Waiting.{AreWaiting};
 
+use crate::core::Core;
 use kpn_model::{Act, Answer, Kinds};
 use kpn_network::Net;
-use kpn_state::{Keeper, Roster, Standing, Store, Waiting};
+use kpn_state::{Keeper, Standing, Waiting};
 
 /// Parks a process that was ready or out with its answer, and marks the channel at which it waits. If it
 /// waits to write, the channel becomes a candidate. It is a function of its own, out of the way of a commit
@@ -17,35 +19,34 @@ use kpn_state::{Keeper, Roster, Standing, Store, Waiting};
 #[inline(never)]
 pub fn park<K: Kinds, H: Keeper>(
     net: &Net<K>,
-    store: &Store<H>,
-    standings: &mut Roster,
-    waiting: &mut Waiting,
+    core: &mut Core<H>,
     process: usize,
     answer: Answer,
 )
-    requires process { process < length standings.old }
-    requires busy { is_busy (standing standings.old process) ≡ true }
-    requires channels { length store.now.state.channels ≡ length net.now.channels }
-    requires waiting { AreWaiting net.now store.now.state standings.old waiting.old }
-    ensures parked { standings.new ≡ set standings.old process (Parked answer) }
-    ensures waiting { AreWaiting net.now store.now.state standings.new waiting.new }
+    requires process { process < length core.old.standings }
+    requires busy { is_busy (standing core.old.standings process) ≡ true }
+    requires channels { length core.old.store.state.channels ≡ length net.now.channels }
+    requires waiting { AreWaiting net.now core.old.store.state core.old.standings core.old.waiting }
+    ensures store { core.new.store ≡ core.old.store }
+    ensures parked { core.new.standings ≡ set core.old.standings process (Parked answer) }
+    ensures waiting { AreWaiting net.now core.new.store.state core.new.standings core.new.waiting }
 {
     match answer.act {
         Act::Read(port) => {
             if let Some(channel) = net.in_of(process, usize::from(port)) {
-                waiting.marks.note_reader(channel, true);
+                core.waiting.marks.note_reader(channel, true);
             }
         }
         Act::Write(port, _) => {
             if let Some(channel) = net.out_of(process, usize::from(port)) {
-                let (_, capacity) = store.tokens_and_capacity(channel);
-                waiting.candidates.insert(capacity, channel);
-                waiting.marks.note_writer(channel, true);
+                let (_, capacity) = core.store.tokens_and_capacity(channel);
+                core.waiting.candidates.insert(capacity, channel);
+                core.waiting.marks.note_writer(channel, true);
             }
         }
         Act::Stop => {}
     }
-    standings.update(process, Standing::Parked(answer));
+    core.standings.update(process, Standing::Parked(answer));
 }
 
 /// Makes a parked process ready that can do what it answered. Its mark at the channel is removed
@@ -53,34 +54,46 @@ pub fn park<K: Kinds, H: Keeper>(
 #[inline(always)]
 pub fn unpark<K: Kinds, H: Keeper>(
     net: &Net<K>,
-    store: &Store<H>,
-    standings: &mut Roster,
-    waiting: &mut Waiting,
+    core: &mut Core<H>,
     process: usize,
     answer: Answer,
 )
-    requires process { process < length standings.old }
-    requires parked { standing standings.old process ≡ Parked answer }
-    requires possible { IsPossible (family K.Kinds) net.now store.now.state process answer.act }
-    requires channels { length store.now.state.channels ≡ length net.now.channels }
-    requires waiting { AreWaiting net.now store.now.state standings.old waiting.old }
-    ensures ready { standings.new ≡ set standings.old process Ready }
-    ensures waiting { AreWaiting net.now store.now.state standings.new waiting.new }
+    requires process { process < length core.old.standings }
+    requires parked { standing core.old.standings process ≡ Parked answer }
+    requires possible { IsPossible (family K.Kinds) net.now core.old.store.state process answer.act }
+    requires channels { length core.old.store.state.channels ≡ length net.now.channels }
+    requires waiting { AreWaiting net.now core.old.store.state core.old.standings core.old.waiting }
+    ensures store { core.new.store ≡ core.old.store }
+    ensures ready { core.new.standings ≡ set core.old.standings process Ready }
+    ensures waiting { AreWaiting net.now core.new.store.state core.new.standings core.new.waiting }
 {
     match answer.act {
         Act::Read(port) => {
             if let Some(read) = net.in_of(process, usize::from(port)) {
-                waiting.marks.note_reader(read, false);
+                core.waiting.marks.note_reader(read, false);
             }
         }
         Act::Write(port, _) => {
             if let Some(written) = net.out_of(process, usize::from(port)) {
-                let (_, capacity) = store.tokens_and_capacity(written);
-                waiting.candidates.remove(capacity, written);
-                waiting.marks.note_writer(written, false);
+                let (_, capacity) = core.store.tokens_and_capacity(written);
+                unlist(&mut core.waiting, capacity, written);
             }
         }
         Act::Stop => {}
     }
-    standings.update(process, Standing::Ready);
+    core.standings.update(process, Standing::Ready);
+}
+
+/// A channel whose writer is served is no candidate any more, and the writer has no mark there. `capacity` is the channel's,
+/// by which it was listed.
+#[inline(always)]
+pub(crate) fn unlist(waiting: &mut Waiting, capacity: usize, channel: usize)
+    requires { channel < length waiting.old.marks.writers }
+    ensures pairs { (x : ℕ × ℕ) → Contains waiting.new.candidates.pairs x ↔ ((x ≢ (capacity, channel)) × Contains waiting.old.candidates.pairs x) }
+    ensures many { Contains waiting.old.candidates.pairs (capacity, channel) → length waiting.new.candidates.pairs + 1 ≡ length waiting.old.candidates.pairs }
+    ensures limit { waiting.new.candidates.limit ≡ waiting.old.candidates.limit }
+    ensures marks { waiting.new.marks ≡ mark_lists waiting.old.marks.readers (set waiting.old.marks.writers channel false) }
+{
+    waiting.candidates.remove(capacity, channel);
+    waiting.marks.note_writer(channel, false);
 }

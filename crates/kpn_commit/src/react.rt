@@ -3,22 +3,22 @@
 ghost use Rattle.std.specs.Prelude.{◌≡◌, ◌≢◌, ◌↔◌, ◌<◌, ◌≤◌, ◌+◌, ℕ, length, set, Contains, Some, None, IfSome, IfNone, IsTrue, true, false};
 ghost use Rattle.kpn_model.specs.Families.{family};
 ghost use Rattle.kpn_model.specs.declared.kinds.Answer.{Answer as AnswerV};
-ghost use Rattle.kpn_model.specs.Semantics.{wants, status, capacity, IsPossible};
+ghost use Rattle.kpn_model.specs.Semantics.{wants, IsPossible};
 ghost use Rattle.kpn_model.specs.declared.kinds.Act.TheVariants.{Stop};
-ghost use Rattle.kpn_model.specs.declared.history.Status.TheVariants.{Done};
 ghost use Rattle.kpn_state.specs.declared.standing.Standing.TheVariants.{Parked, Ready};
-ghost use Rattle.kpn_state.specs.Marks.{mark_lists};
-ghost use Rattle.kpn_state.specs.Standings.{StandingsFit, standing, is_busy, partner, HasChannel};
+ghost use Rattle.kpn_state.specs.Standings.{standing, is_busy, partner, HasChannel};
+ghost use Rattle.kpn_commit.specs.Coherent.{IsCoherent, IsCoherentBut};
 ghost use Rattle.kpn_commit.specs.Waiting.{AreWaiting, HasMark, partner_marked};
 ghost use Rattle.kpn_commit.specs.Reactions.{Reacts, Resumes};
 ghost use Rattle.kpn_commit.specs.declared.react.Reaction.{Reaction as ReactionV};
 
 use crate::act::{advance, advance_on};
-use crate::parking::park;
+use crate::core::Core;
+use crate::parking::{park, unlist};
 use kpn_model::{Act, Answer, Deed, Kinds, Token};
 use kpn_network::Net;
 use kpn_state::standing::parked;
-use kpn_state::{Keeper, Marks, Roster, Store, Waiting};
+use kpn_state::{Keeper, Marks};
 
 /// What a process's answer led to. `Waits`: it could not be done, and the process is parked. `Acts`: it
 /// was done. `HandsOn`: it was done, and then the parked process at the other end of the channel did
@@ -35,21 +35,17 @@ pub enum Reaction {
 #[inline(always)]
 pub fn react<K: Kinds, H: Keeper>(
     net: &Net<K>,
-    store: &mut Store<H>,
-    standings: &mut Roster,
-    waiting: &mut Waiting,
+    core: &mut Core<H>,
     process: usize,
     answer: Answer,
 ) -> Reaction
-    requires keeps { StandingsFit (family K.Kinds) K.admits net.now None store.old.state standings.old }
-    requires process { process < length standings.old }
-    requires wants { wants (family K.Kinds) net.now store.old.state process ≡ Some answer }
-    requires busy { is_busy (standing standings.old process) ≡ true }
-    requires room { length store.old.history + 2 ≤ store.old.limit }
-    requires waiting { AreWaiting net.now store.old.state standings.old waiting.old }
-    ensures reacts { Reacts (family K.Kinds) net.now store.old standings.old process answer result store.new standings.new }
-    ensures keeps { StandingsFit (family K.Kinds) K.admits net.now None store.new.state standings.new }
-    ensures waiting { AreWaiting net.now store.new.state standings.new waiting.new }
+    requires coherent { IsCoherent (family K.Kinds) K.admits net.now core.old }
+    requires process { process < length core.old.standings }
+    requires wants { wants (family K.Kinds) net.now core.old.store.state process ≡ Some answer }
+    requires busy { is_busy (standing core.old.standings process) ≡ true }
+    requires room { length core.old.store.history + 2 ≤ core.old.store.limit }
+    ensures reacts { Reacts (family K.Kinds) net.now core.old.store core.old.standings process answer result core.new.store core.new.standings }
+    ensures coherent { IsCoherent (family K.Kinds) K.admits net.now core.new }
 {
     let next = answer.next;
     match answer.act {
@@ -58,21 +54,21 @@ pub fn react<K: Kinds, H: Keeper>(
                 next,
                 act: Act::Read(port),
             };
-            react_to(net, store, standings, waiting, process, answer)
+            react_to(net, core, process, answer)
         }
         Act::Write(port, token) => {
             let answer = Answer {
                 next,
                 act: Act::Write(port, token),
             };
-            react_to(net, store, standings, waiting, process, answer)
+            react_to(net, core, process, answer)
         }
         Act::Stop => {
             let answer = Answer {
                 next,
                 act: Act::Stop,
             };
-            react_to(net, store, standings, waiting, process, answer)
+            react_to(net, core, process, answer)
         }
     }
 }
@@ -82,33 +78,29 @@ pub fn react<K: Kinds, H: Keeper>(
 #[inline(always)]
 fn react_to<K: Kinds, H: Keeper>(
     net: &Net<K>,
-    store: &mut Store<H>,
-    standings: &mut Roster,
-    waiting: &mut Waiting,
+    core: &mut Core<H>,
     process: usize,
     answer: Answer,
 ) -> Reaction
-    requires keeps { StandingsFit (family K.Kinds) K.admits net.now None store.old.state standings.old }
-    requires process { process < length standings.old }
-    requires wants { wants (family K.Kinds) net.now store.old.state process ≡ Some answer }
-    requires busy { is_busy (standing standings.old process) ≡ true }
-    requires room { length store.old.history + 2 ≤ store.old.limit }
-    requires waiting { AreWaiting net.now store.old.state standings.old waiting.old }
-    ensures reacts { Reacts (family K.Kinds) net.now store.old standings.old process answer result store.new standings.new }
-    ensures keeps { StandingsFit (family K.Kinds) K.admits net.now None store.new.state standings.new }
-    ensures waiting { AreWaiting net.now store.new.state standings.new waiting.new }
+    requires coherent { IsCoherent (family K.Kinds) K.admits net.now core.old }
+    requires process { process < length core.old.standings }
+    requires wants { wants (family K.Kinds) net.now core.old.store.state process ≡ Some answer }
+    requires busy { is_busy (standing core.old.standings process) ≡ true }
+    requires room { length core.old.store.history + 2 ≤ core.old.store.limit }
+    ensures reacts { Reacts (family K.Kinds) net.now core.old.store core.old.standings process answer result core.new.store core.new.standings }
+    ensures coherent { IsCoherent (family K.Kinds) K.admits net.now core.new }
 {
-    let Some(deed) = advance(net, store, standings, process, answer) else {
-        park(net, store, standings, waiting, process, anew(answer));
+    let Some(deed) = advance(net, &mut core.store, &mut core.standings, process, answer) else {
+        park(net, core, process, rebuilt(answer));
         return Reaction::Waits;
     };
-    if !partner_waits(&waiting.marks, deed) {
+    if !partner_waits(&core.waiting.marks, deed) {
         return Reaction::Acts;
     }
     let Some(other) = partner(net, deed) else {
         return Reaction::Acts;
     };
-    if resume(net, store, standings, waiting, other) {
+    if resume(net, core, other) {
         Reaction::HandsOn
     } else {
         Reaction::Acts
@@ -122,34 +114,30 @@ fn react_to<K: Kinds, H: Keeper>(
 #[inline(always)]
 pub(crate) fn react_on<K: Kinds, H: Keeper>(
     net: &Net<K>,
-    store: &mut Store<H>,
-    standings: &mut Roster,
-    waiting: &mut Waiting,
+    core: &mut Core<H>,
     process: usize,
     answer: Answer,
 ) -> Option<Reaction>
-    requires keeps { StandingsFit (family K.Kinds) K.admits net.now None store.old.state standings.old }
-    requires process { process < length standings.old }
-    requires wants { wants (family K.Kinds) net.now store.old.state process ≡ Some answer }
-    requires busy { is_busy (standing standings.old process) ≡ true }
-    requires room { length store.old.history + 2 ≤ store.old.limit }
-    requires waiting { AreWaiting net.now store.old.state standings.old waiting.old }
-    ensures reacts { IfSome result (λ r. Reacts (family K.Kinds) net.now store.old standings.old process answer r store.new (set standings.new process Ready)) }
-    ensures stays { standing standings.new process ≡ standing standings.old process }
-    ensures many { length standings.new ≡ length standings.old }
-    ensures keeps { IfSome result (λ _. StandingsFit (family K.Kinds) K.admits net.now None store.new.state (set standings.new process Ready)) }
-    ensures waiting { IfSome result (λ _. AreWaiting net.now store.new.state (set standings.new process Ready) waiting.new) }
-    ensures cannot { IfNone result (answer.act ≢ Stop → IsPossible (family K.Kinds) net.now store.old.state process answer.act → ⊥) }
-    ensures same { IfNone result ((store.new ≡ store.old) × (standings.new ≡ standings.old) × (waiting.new ≡ waiting.old)) }
+    requires coherent { IsCoherent (family K.Kinds) K.admits net.now core.old }
+    requires process { process < length core.old.standings }
+    requires wants { wants (family K.Kinds) net.now core.old.store.state process ≡ Some answer }
+    requires busy { is_busy (standing core.old.standings process) ≡ true }
+    requires room { length core.old.store.history + 2 ≤ core.old.store.limit }
+    ensures reacts { IfSome result (λ r. Reacts (family K.Kinds) net.now core.old.store core.old.standings process answer r core.new.store (set core.new.standings process Ready)) }
+    ensures stays { standing core.new.standings process ≡ standing core.old.standings process }
+    ensures many { length core.new.standings ≡ length core.old.standings }
+    ensures coherent { IfSome result (λ _. IsCoherent (family K.Kinds) K.admits net.now (record core.new { standings = set core.new.standings process Ready })) }
+    ensures cannot { IfNone result (answer.act ≢ Stop → IsPossible (family K.Kinds) net.now core.old.store.state process answer.act → ⊥) }
+    ensures same { IfNone result (core.new ≡ core.old) }
 {
-    let deed = advance_on(net, store, standings, process, answer)?;
-    if !partner_waits(&waiting.marks, deed) {
+    let deed = advance_on(net, &mut core.store, &mut core.standings, process, answer)?;
+    if !partner_waits(&core.waiting.marks, deed) {
         return Some(Reaction::Acts);
     }
     let Some(other) = partner(net, deed) else {
         return Some(Reaction::Acts);
     };
-    if resume(net, store, standings, waiting, other) {
+    if resume(net, core, other) {
         Some(Reaction::HandsOn)
     } else {
         Some(Reaction::Acts)
@@ -162,26 +150,22 @@ pub(crate) fn react_on<K: Kinds, H: Keeper>(
 #[inline(always)]
 pub fn react_ready<K: Kinds, H: Keeper>(
     net: &Net<K>,
-    store: &mut Store<H>,
-    standings: &mut Roster,
-    waiting: &mut Waiting,
+    core: &mut Core<H>,
     process: usize,
     answer: Answer,
 ) -> bool
-    requires keeps { StandingsFit (family K.Kinds) K.admits net.now None store.old.state standings.old }
-    requires wants { wants (family K.Kinds) net.now store.old.state process ≡ Some answer }
-    requires ready { standing standings.old process ≡ Ready }
-    requires room { length store.old.history + 2 ≤ store.old.limit }
-    requires waiting { AreWaiting net.now store.old.state standings.old waiting.old }
-    ensures reacts { (r : ReactionV) × Reacts (family K.Kinds) net.now store.old standings.old process answer r store.new standings.new }
-    ensures ready { result ≡ true ↔ standing standings.new process ≡ Ready }
-    ensures keeps { StandingsFit (family K.Kinds) K.admits net.now None store.new.state standings.new }
-    ensures waiting { AreWaiting net.now store.new.state standings.new waiting.new }
+    requires coherent { IsCoherent (family K.Kinds) K.admits net.now core.old }
+    requires wants { wants (family K.Kinds) net.now core.old.store.state process ≡ Some answer }
+    requires ready { standing core.old.standings process ≡ Ready }
+    requires room { length core.old.store.history + 2 ≤ core.old.store.limit }
+    ensures reacts { (r : ReactionV) × Reacts (family K.Kinds) net.now core.old.store core.old.standings process answer r core.new.store core.new.standings }
+    ensures ready { result ≡ true ↔ standing core.new.standings process ≡ Ready }
+    ensures coherent { IsCoherent (family K.Kinds) K.admits net.now core.new }
 {
-    match react_on(net, store, standings, waiting, process, answer) {
+    match react_on(net, core, process, answer) {
         Some(_reaction) => true,
         None => {
-            park_or_stop(net, store, standings, waiting, process, anew(answer));
+            park_or_stop(net, core, process, rebuilt(answer));
             false
         }
     }
@@ -192,24 +176,20 @@ pub fn react_ready<K: Kinds, H: Keeper>(
 #[inline(never)]
 fn park_or_stop<K: Kinds, H: Keeper>(
     net: &Net<K>,
-    store: &mut Store<H>,
-    standings: &mut Roster,
-    waiting: &mut Waiting,
+    core: &mut Core<H>,
     process: usize,
     answer: Answer,
 )
-    requires keeps { StandingsFit (family K.Kinds) K.admits net.now None store.old.state standings.old }
-    requires wants { wants (family K.Kinds) net.now store.old.state process ≡ Some answer }
-    requires ready { standing standings.old process ≡ Ready }
-    requires cannot { answer.act ≢ Stop → IsPossible (family K.Kinds) net.now store.old.state process answer.act → ⊥ }
-    requires room { length store.old.history + 2 ≤ store.old.limit }
-    requires waiting { AreWaiting net.now store.old.state standings.old waiting.old }
-    ensures reacts { (r : ReactionV) × Reacts (family K.Kinds) net.now store.old standings.old process answer r store.new standings.new }
-    ensures ready { standing standings.new process ≢ Ready }
-    ensures keeps { StandingsFit (family K.Kinds) K.admits net.now None store.new.state standings.new }
-    ensures waiting { AreWaiting net.now store.new.state standings.new waiting.new }
+    requires coherent { IsCoherent (family K.Kinds) K.admits net.now core.old }
+    requires wants { wants (family K.Kinds) net.now core.old.store.state process ≡ Some answer }
+    requires ready { standing core.old.standings process ≡ Ready }
+    requires cannot { answer.act ≢ Stop → IsPossible (family K.Kinds) net.now core.old.store.state process answer.act → ⊥ }
+    requires room { length core.old.store.history + 2 ≤ core.old.store.limit }
+    ensures reacts { (r : ReactionV) × Reacts (family K.Kinds) net.now core.old.store core.old.standings process answer r core.new.store core.new.standings }
+    ensures ready { standing core.new.standings process ≢ Ready }
+    ensures coherent { IsCoherent (family K.Kinds) K.admits net.now core.new }
 {
-    let _ = react(net, store, standings, waiting, process, answer);
+    let _ = react(net, core, process, answer);
 }
 
 /// Does what a process answered when it was parked, if it can now be done, and returns whether it was;
@@ -219,53 +199,37 @@ fn park_or_stop<K: Kinds, H: Keeper>(
 #[inline(never)]
 fn resume<K: Kinds, H: Keeper>(
     net: &Net<K>,
-    store: &mut Store<H>,
-    standings: &mut Roster,
-    waiting: &mut Waiting,
+    core: &mut Core<H>,
     process: usize,
 ) -> bool
-    requires keeps { StandingsFit (family K.Kinds) K.admits net.now (Some process) store.old.state standings.old }
-    requires room { length store.old.history < store.old.limit }
-    requires waiting { AreWaiting net.now store.old.state standings.old waiting.old }
-    ensures resumes { IsTrue result → Resumes (family K.Kinds) K.admits net.now store.old standings.old process store.new standings.new }
-    ensures cannot { result ≡ false → (a : AnswerV) → standing standings.old process ≡ Parked a → IsPossible (family K.Kinds) net.now store.old.state process a.act → ⊥ }
-    ensures same { result ≡ false → store.new ≡ store.old }
-    ensures same_standings { result ≡ false → standings.new ≡ standings.old }
-    ensures waiting { AreWaiting net.now store.new.state standings.new waiting.new }
+    requires coherent { IsCoherentBut (family K.Kinds) K.admits net.now (Some process) core.old }
+    requires room { length core.old.store.history < core.old.store.limit }
+    ensures resumes { IsTrue result → Resumes (family K.Kinds) K.admits net.now core.old.store core.old.standings process core.new.store core.new.standings }
+    ensures cannot { result ≡ false → (a : AnswerV) → standing core.old.standings process ≡ Parked a → IsPossible (family K.Kinds) net.now core.old.store.state process a.act → ⊥ }
+    ensures same { result ≡ false → core.new ≡ core.old }
+    ensures waiting { AreWaiting net.now core.new.store.state core.new.standings core.new.waiting }
 {
-    let Some(wanted) = parked(standings.as_slice(), process) else {
+    let Some(wanted) = parked(core.standings.as_slice(), process) else {
         return false;
     };
-    let Some(deed) = advance(net, store, standings, process, wanted) else {
+    let Some(deed) = advance(net, &mut core.store, &mut core.standings, process, wanted) else {
         return false;
     };
     match deed {
-        Deed::Put { channel, .. } => unlist(store, waiting, channel),
-        Deed::Took { channel, .. } => waiting.marks.note_reader(channel, false),
+        Deed::Put { channel, .. } => {
+            let (_, capacity) = core.store.tokens_and_capacity(channel);
+            unlist(&mut core.waiting, capacity, channel);
+        }
+        Deed::Took { channel, .. } => core.waiting.marks.note_reader(channel, false),
         Deed::Stopped => {}
     }
     true
 }
 
-/// Once its writer was served, a channel is no candidate any more, and the writer has no mark there.
-#[inline(always)]
-fn unlist<H: Keeper>(store: &Store<H>, waiting: &mut Waiting, channel: usize)
-    requires channels { channel < length store.now.state.channels }
-    requires marks { channel < length waiting.old.marks.writers }
-    ensures pairs { (x : ℕ × ℕ) → Contains waiting.new.candidates.pairs x ↔ ((x ≢ (capacity store.now.state channel, channel)) × Contains waiting.old.candidates.pairs x) }
-    ensures many { Contains waiting.old.candidates.pairs (capacity store.now.state channel, channel) → length waiting.new.candidates.pairs + 1 ≡ length waiting.old.candidates.pairs }
-    ensures limit { waiting.new.candidates.limit ≡ waiting.old.candidates.limit }
-    ensures marks { waiting.new.marks ≡ mark_lists waiting.old.marks.readers (set waiting.old.marks.writers channel false) }
-{
-    let (_, capacity) = store.tokens_and_capacity(channel);
-    waiting.candidates.remove(capacity, channel);
-    waiting.marks.note_writer(channel, false);
-}
-
 /// Returns the answer, put together of its parts. To park a copy of the whole, all its bytes would have to
 /// be kept at hand while it is tried whether the answer can be done, and mostly it can.
 #[inline(always)]
-fn anew(answer: Answer) -> Answer
+fn rebuilt(answer: Answer) -> Answer
     ensures { result ≡ answer }
 {
     let next = answer.next;

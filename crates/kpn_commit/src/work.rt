@@ -4,18 +4,19 @@ ghost use Rattle.kpn_model.specs.Families.{family};
 ghost use Rattle.kpn_model.specs.Semantics.{wants, IsPossible};
 ghost use Rattle.kpn_model.specs.declared.kinds.Act.TheVariants.{Stop};
 ghost use Rattle.kpn_state.specs.declared.standing.Standing.TheVariants.{Ready};
-ghost use Rattle.kpn_state.specs.Standings.{StandingsFit, standing, is_busy};
-ghost use Rattle.kpn_commit.specs.Waiting.{AreWaiting};
+ghost use Rattle.kpn_state.specs.Standings.{standing, is_busy};
+ghost use Rattle.kpn_commit.specs.Coherent.{IsCoherent};
 ghost use Rattle.kpn_commit.specs.Resolving.{Resolves};
 ghost use Rattle.kpn_commit.specs.Works.{Works, outcome_of, end_after, resolution_entries};
 ghost use Rattle.std.specs.List.{list_any};
 
+use crate::core::Core;
 use crate::outcome::Outcome;
 use crate::react::{Reaction, react, react_on};
 use crate::resolution::{Resolution, resolve};
 use kpn_model::{Answer, End, Kinds};
 use kpn_network::Net;
-use kpn_state::{Keeper, Roster, Store, Waiting};
+use kpn_state::Keeper;
 
 /// How many entries were appended after the reaction.
 fn resolution_entries(resolution: Resolution) -> usize
@@ -62,20 +63,16 @@ fn end_after(resolution: Resolution, budget: u64, entries: u64) -> Option<End>
 #[inline(always)]
 pub fn settle<K: Kinds, H: Keeper>(
     net: &Net<K>,
-    store: &mut Store<H>,
-    standings: &mut Roster,
-    waiting: &mut Waiting,
+    core: &mut Core<H>,
 ) -> (Resolution, Option<End>)
-    requires keeps { StandingsFit (family K.Kinds) K.admits net.now None store.old.state standings.old }
-    requires room { list_any is_busy standings.old ≡ false → length store.old.history + 2 ≤ store.old.limit }
-    requires waiting { AreWaiting net.now store.old.state standings.old waiting.old }
-    ensures resolves { Resolves (family K.Kinds) net.now store.old standings.old result.0 store.new standings.new }
-    ensures ended { result.1 ≡ end_after result.0 net.now.budget (length store.new.history) }
-    ensures keeps { StandingsFit (family K.Kinds) K.admits net.now None store.new.state standings.new }
-    ensures waiting { AreWaiting net.now store.new.state standings.new waiting.new }
+    requires coherent { IsCoherent (family K.Kinds) K.admits net.now core.old }
+    requires room { list_any is_busy core.old.standings ≡ false → length core.old.store.history + 2 ≤ core.old.store.limit }
+    ensures resolves { Resolves (family K.Kinds) net.now core.old.store core.old.standings result.0 core.new.store core.new.standings }
+    ensures ended { result.1 ≡ end_after result.0 net.now.budget (length core.new.store.history) }
+    ensures coherent { IsCoherent (family K.Kinds) K.admits net.now core.new }
 {
-    let resolution = resolve(net, store, standings, waiting);
-    let ended = end_after(resolution, net.budget(), store.entries() as u64);
+    let resolution = resolve(net, core);
+    let ended = end_after(resolution, net.budget(), core.store.entries() as u64);
     (resolution, ended)
 }
 
@@ -84,24 +81,20 @@ pub fn settle<K: Kinds, H: Keeper>(
 #[inline(always)]
 pub fn work<K: Kinds, H: Keeper>(
     net: &Net<K>,
-    store: &mut Store<H>,
-    standings: &mut Roster,
-    waiting: &mut Waiting,
+    core: &mut Core<H>,
     process: usize,
     answer: Answer,
 ) -> (Outcome, Option<End>)
-    requires keeps { StandingsFit (family K.Kinds) K.admits net.now None store.old.state standings.old }
-    requires process { process < length standings.old }
-    requires wants { wants (family K.Kinds) net.now store.old.state process ≡ Some answer }
-    requires busy { is_busy (standing standings.old process) ≡ true }
-    requires room { length store.old.history + 3 ≤ store.old.limit }
-    requires waiting { AreWaiting net.now store.old.state standings.old waiting.old }
-    ensures works { Works (family K.Kinds) net.now store.old standings.old process answer result.0 store.new standings.new result.1 }
-    ensures keeps { StandingsFit (family K.Kinds) K.admits net.now None store.new.state standings.new }
-    ensures waiting { AreWaiting net.now store.new.state standings.new waiting.new }
+    requires coherent { IsCoherent (family K.Kinds) K.admits net.now core.old }
+    requires process { process < length core.old.standings }
+    requires wants { wants (family K.Kinds) net.now core.old.store.state process ≡ Some answer }
+    requires busy { is_busy (standing core.old.standings process) ≡ true }
+    requires room { length core.old.store.history + 3 ≤ core.old.store.limit }
+    ensures works { Works (family K.Kinds) net.now core.old.store core.old.standings process answer result.0 core.new.store core.new.standings result.1 }
+    ensures coherent { IsCoherent (family K.Kinds) K.admits net.now core.new }
 {
-    let reaction = react(net, store, standings, waiting, process, answer);
-    let (resolution, end) = settle(net, store, standings, waiting);
+    let reaction = react(net, core, process, answer);
+    let (resolution, end) = settle(net, core);
     (outcome_of(reaction, resolution), end)
 }
 
@@ -112,30 +105,26 @@ pub fn work<K: Kinds, H: Keeper>(
 #[inline(always)]
 pub fn work_on<K: Kinds, H: Keeper>(
     net: &Net<K>,
-    store: &mut Store<H>,
-    standings: &mut Roster,
-    waiting: &mut Waiting,
+    core: &mut Core<H>,
     process: usize,
     answer: Answer,
 ) -> Option<Outcome>
-    requires keeps { StandingsFit (family K.Kinds) K.admits net.now None store.old.state standings.old }
-    requires process { process < length standings.old }
-    requires wants { wants (family K.Kinds) net.now store.old.state process ≡ Some answer }
-    requires busy { is_busy (standing standings.old process) ≡ true }
-    requires room { length store.old.history + 3 ≤ store.old.limit }
-    requires waiting { AreWaiting net.now store.old.state standings.old waiting.old }
-    ensures works { IfSome result (λ outcome. Works (family K.Kinds) net.now store.old standings.old process answer outcome store.new (set standings.new process Ready) None) }
-    ensures stays { standing standings.new process ≡ standing standings.old process }
-    ensures many { length standings.new ≡ length standings.old }
-    ensures keeps { IfSome result (λ _. StandingsFit (family K.Kinds) K.admits net.now None store.new.state (set standings.new process Ready)) }
-    ensures waiting { IfSome result (λ _. AreWaiting net.now store.new.state (set standings.new process Ready) waiting.new) }
-    ensures cannot { IfNone result (length store.old.history + 2 < net.now.budget → answer.act ≢ Stop → IsPossible (family K.Kinds) net.now store.old.state process answer.act → ⊥) }
-    ensures same { IfNone result ((store.new ≡ store.old) × (standings.new ≡ standings.old) × (waiting.new ≡ waiting.old)) }
+    requires coherent { IsCoherent (family K.Kinds) K.admits net.now core.old }
+    requires process { process < length core.old.standings }
+    requires wants { wants (family K.Kinds) net.now core.old.store.state process ≡ Some answer }
+    requires busy { is_busy (standing core.old.standings process) ≡ true }
+    requires room { length core.old.store.history + 3 ≤ core.old.store.limit }
+    ensures works { IfSome result (λ outcome. Works (family K.Kinds) net.now core.old.store core.old.standings process answer outcome core.new.store (set core.new.standings process Ready) None) }
+    ensures stays { standing core.new.standings process ≡ standing core.old.standings process }
+    ensures many { length core.new.standings ≡ length core.old.standings }
+    ensures coherent { IfSome result (λ _. IsCoherent (family K.Kinds) K.admits net.now (record core.new { standings = set core.new.standings process Ready })) }
+    ensures cannot { IfNone result (length core.old.store.history + 2 < net.now.budget → answer.act ≢ Stop → IsPossible (family K.Kinds) net.now core.old.store.state process answer.act → ⊥) }
+    ensures same { IfNone result (core.new ≡ core.old) }
 {
-    let entries = store.entries() as u64;
+    let entries = core.store.entries() as u64;
     if net.budget().saturating_sub(2) <= entries {
         return None;
     }
-    let reaction = react_on(net, store, standings, waiting, process, answer)?;
+    let reaction = react_on(net, core, process, answer)?;
     Some(outcome_of(reaction, Resolution::Busy))
 }

@@ -12,6 +12,8 @@ use Rattle.kpn_model.specs.Valid.{IsOfSort}
 use Rattle.kpn_state.specs.declared.standing.Standing.{Standing}
 use Rattle.kpn_state.specs.declared.standing.Standing.TheVariants.{Out}
 use Rattle.kpn_state.specs.Standings.{standing, StandingsFit}
+use Rattle.kpn_commit.specs.Waiting.{AreWaiting}
+use Rattle.kpn_commit.specs.declared.core.Core.{Core}
 use Rattle.kpn_flow.specs.declared.counts.Counts.{Counts}
 use Rattle.kpn_flow.specs.Events.{Event, Flows, entries_of}
 use Rattle.kpn_flow.specs.Preloaded.{StopsAtOnce, IsAtEnds}
@@ -66,6 +68,11 @@ pub record IsReached (kinds : Family) (net : Network) (inputs outputs : List ℕ
 pub record IsSettledIn (kinds : Family) (admits : Card → List ℕ → Option Token → Type 0) (net : Network) (M : State) (standings : List Standing) : Type 0 where
   pub keeps : StandingsFit kinds admits net None M standings
   pub none_out : (p : ℕ) → standing standings p ≢ Out
+
+-- the same of a core, whose marks agree with it
+pub record IsSettled {H : Type 0} (kinds : Family) (admits : Card → List ℕ → Option Token → Type 0) (net : Network) (core : Core H) : Type 0 where
+  pub fits : IsSettledIn kinds admits net core.store.state core.standings
+  pub waiting : AreWaiting net core.store.state core.standings core.waiting
 
 -- each process has a body of its card
 pub record HasAllBodies (net : Network) (bodies : List (Option Card)) : Type 0 where

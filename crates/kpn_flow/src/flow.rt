@@ -21,11 +21,11 @@ use crate::opening::{Lists, lists_of};
 use crate::pause::Pause;
 use crate::waits::{all_wait_to_read, holds_up, starves};
 use kpn_body::Body;
-use kpn_commit::outside;
+use kpn_commit::{Core, outside};
 use kpn_machine::opening::{Start, prepare, seat_all};
 use kpn_model::{Sort, Token};
 use kpn_network::Net;
-use kpn_state::{Roster, Standing, Store, Unkept, Waiting};
+use kpn_state::{Standing, Unkept};
 use std::alloc::Global;
 use std::marker::Model;
 
@@ -37,9 +37,7 @@ use std::marker::Model;
 /// all tokens from the start, as `assure_one_run` says (docs/endless.md).
 pub struct Flow<B: Body> {
     net: Net<B::Kinds>,
-    store: Store<Unkept>,
-    standings: Roster,
-    waiting: Waiting,
+    core: Core<Unkept>,
     bodies: Vec<Option<B>>,
     inputs: Vec<usize>,
     unended: Vec<usize>,
@@ -53,9 +51,7 @@ impl<B: Body> Drop for Flow<B> {
     fn drop(self) {
         let Flow {
             net: _,
-            store: _,
-            standings: _,
-            waiting: _,
+            core: _,
             bodies: _,
             inputs: _,
             unended: _,
@@ -73,9 +69,9 @@ impl<B: Body> Model for Flow<B> {
 
     ghost Value = { FlowView };
 
-    ghost view = { λ m. flow_view m.net m.store.state m.standings m.inputs.items m.unended.items m.outputs.items m.counts };
+    ghost view = { λ m. flow_view m.net m.core.store.state m.core.standings m.inputs.items m.unended.items m.outputs.items m.counts };
 
-    ghost invariant = { λ m. IsFlowing (family B.Kinds.Kinds) B.Kinds.admits (flow_view m.net m.store.state m.standings m.inputs.items m.unended.items m.outputs.items m.counts) (map (option_map B.card) m.bodies.items) m.store.limit × AreWaiting m.net m.store.state m.standings m.waiting };
+    ghost invariant = { λ m. IsFlowing (family B.Kinds.Kinds) B.Kinds.admits (flow_view m.net m.core.store.state m.core.standings m.inputs.items m.unended.items m.outputs.items m.counts) (map (option_map B.card) m.bodies.items) m.core.store.limit × AreWaiting m.net m.core.store.state m.core.standings m.core.waiting };
 }
 
 /// Why a flow was not opened, with the network and the bodies handed back.
@@ -129,12 +125,7 @@ impl<B: Body> Flow<B> {
             });
         };
         net.assure_valid();
-        let Start {
-            store,
-            standings,
-            waiting,
-            mut slots,
-        } = begun;
+        let Start { core, mut slots } = begun;
         let Lists {
             inputs,
             unended,
@@ -143,9 +134,7 @@ impl<B: Body> Flow<B> {
         seat_all(&mut bodies, &mut slots);
         Ok(Flow {
             net,
-            store,
-            standings,
-            waiting,
+            core,
             bodies: slots,
             inputs,
             unended,
@@ -177,7 +166,7 @@ impl<B: Body> Flow<B> {
     pub fn standings(&self) -> &[Standing]
         ensures { result.now ≡ self.now.standings }
     {
-        self.standings.as_slice()
+        self.core.standings.as_slice()
     }
 
     /// Returns how many entries the flow has made since it was opened; `u64::MAX` if they are as many or
@@ -230,7 +219,7 @@ impl<B: Body> Flow<B> {
         ensures parked { result ≡ starves self.now.network self.now.standings channel }
         ensures starving { IsTrue result → IsStarving (family B.Kinds.Kinds) self.now.network self.now.state (channel_of self.now.network channel).reader channel }
     {
-        starves(&self.net, self.standings.as_slice(), channel)
+        starves(&self.net, self.core.standings.as_slice(), channel)
     }
 
     /// Returns whether the writer of a channel is parked with a write to it: it wants to write to it, and
@@ -239,7 +228,7 @@ impl<B: Body> Flow<B> {
         ensures parked { result ≡ holds_up self.now.network self.now.standings channel }
         ensures blocked { IsTrue result → IsBlocked (family B.Kinds.Kinds) self.now.network self.now.state (channel_of self.now.network channel).writer channel }
     {
-        holds_up(&self.net, self.standings.as_slice(), channel)
+        holds_up(&self.net, self.core.standings.as_slice(), channel)
     }
 
     /// Returns whether a channel holds fewer tokens than its capacity; `false` if there is no such channel.
@@ -255,7 +244,7 @@ impl<B: Body> Flow<B> {
         if channel >= self.net.channels() {
             return false;
         }
-        let (held, capacity) = self.store.tokens_and_capacity(channel);
+        let (held, capacity) = self.core.store.tokens_and_capacity(channel);
         held < capacity
     }
 
@@ -266,7 +255,7 @@ impl<B: Body> Flow<B> {
         ensures waits { result ≡ list_all waits_to_read self.now.standings }
         ensures exhausted { IsTrue result → IsExhausted (family B.Kinds.Kinds) self.now.network self.now.state }
     {
-        all_wait_to_read(self.standings.as_slice())
+        all_wait_to_read(self.core.standings.as_slice())
     }
 
     /// Ghost lemma: what holds of each flow at each time. It was led to its state by events, of which
@@ -303,9 +292,7 @@ impl<B: Body> Flow<B> {
     {
         go_on(
             &self.net,
-            &mut self.store,
-            &mut self.standings,
-            &mut self.waiting,
+            &mut self.core,
             self.bodies.as_slice(),
             self.unended.as_slice(),
             self.outputs.as_slice(),
@@ -374,15 +361,13 @@ impl<B: Body> Flow<B> {
         ensures fed { IsTrue result → Happens (family B.Kinds.Kinds) self.old.network self.old.state (Fed channel token) self.new.state }
         ensures full { result ≡ false → (self.new ≡ self.old) × (capacity self.old.state channel ≤ length (tokens self.old.state channel)) }
     {
-        let (held, capacity) = self.store.tokens_and_capacity(channel);
+        let (held, capacity) = self.core.store.tokens_and_capacity(channel);
         if held >= capacity {
             return false;
         }
         outside::feed(
             &self.net,
-            &mut self.store,
-            &mut self.standings,
-            &mut self.waiting,
+            &mut self.core,
             channel,
             token,
         );
@@ -404,15 +389,13 @@ impl<B: Body> Flow<B> {
         ensures drained { IfSome result (λ token. Happens (family B.Kinds.Kinds) self.old.network self.old.state (Drained channel token) self.new.state) }
         ensures empty { IfNone result ((self.new ≡ self.old) × (tokens self.old.state channel ≡ [])) }
     {
-        let (held, _) = self.store.tokens_and_capacity(channel);
+        let (held, _) = self.core.store.tokens_and_capacity(channel);
         if held == 0 {
             return None;
         }
         let token = outside::drain(
             &self.net,
-            &mut self.store,
-            &mut self.standings,
-            &mut self.waiting,
+            &mut self.core,
             channel,
         );
         Some(token)

@@ -1,16 +1,16 @@
 //! Stretch after stretch.
 ghost use Rattle.std.specs.Prelude.{◌≡◌, ◌≤◌, ◌+◌, map, option_map};
 ghost use Rattle.kpn_model.specs.Families.{family};
-ghost use Rattle.kpn_commit.specs.Waiting.{AreWaiting};
-ghost use Rattle.kpn_flow.specs.Flows.{IsSettledIn, HasAllBodies};
+ghost use Rattle.kpn_flow.specs.Flows.{IsSettled, HasAllBodies};
 ghost use Rattle.kpn_flow.specs.Pauses.{Advances, TellWants};
 
 use crate::counts::Counts;
 use crate::pause::Pause;
 use crate::stretch::stretch;
 use kpn_body::Body;
+use kpn_commit::Core;
 use kpn_network::Net;
-use kpn_state::{Roster, Store, Unkept, Waiting};
+use kpn_state::Unkept;
 
 /// How many entries a flow has room for; after a stretch of fewer it forgets them.
 pub(crate) const ROOM: usize = 1 << 20;
@@ -33,24 +33,20 @@ fn entries_of_stretch(left: u64) -> usize
 /// entries.
 pub(crate) fn go_on<B: Body>(
     net: &Net<B::Kinds>,
-    store: &mut Store<Unkept>,
-    standings: &mut Roster,
-    waiting: &mut Waiting,
+    core: &mut Core<Unkept>,
     bodies: &[Option<B>],
     inputs: &[usize],
     outputs: &[usize],
     counts: &mut Counts,
     most: u64,
 ) -> Pause
-    requires fits { IsSettledIn (family B.Kinds.Kinds) B.Kinds.admits net.now store.old.state standings.old }
+    requires settled { IsSettled (family B.Kinds.Kinds) B.Kinds.admits net.now core.old }
     requires bodies { HasAllBodies net.now (map (option_map B.card) bodies.now) }
-    requires room { 1048576 ≤ store.old.limit }
-    requires waiting { AreWaiting net.now store.old.state standings.old waiting.old }
-    ensures fits { IsSettledIn (family B.Kinds.Kinds) B.Kinds.admits net.now store.new.state standings.new }
-    ensures waiting { AreWaiting net.now store.new.state standings.new waiting.new }
-    ensures limit { store.new.limit ≡ store.old.limit }
-    ensures advances { Advances (family B.Kinds.Kinds) net.now inputs.now outputs.now counts.old counts.new store.old.state store.new.state most result }
-    ensures told { TellWants (family B.Kinds.Kinds) net.now store.new.state standings.new result }
+    requires room { 1048576 ≤ core.old.store.limit }
+    ensures settled { IsSettled (family B.Kinds.Kinds) B.Kinds.admits net.now core.new }
+    ensures limit { core.new.store.limit ≡ core.old.store.limit }
+    ensures advances { Advances (family B.Kinds.Kinds) net.now inputs.now outputs.now counts.old counts.new core.old.store.state core.new.store.state most result }
+    ensures told { TellWants (family B.Kinds.Kinds) net.now core.new.store.state core.new.standings result }
 {
     let mut done = 0;
     let mut grown = 0;
@@ -58,9 +54,7 @@ pub(crate) fn go_on<B: Body>(
     while most - done >= 2 {
         let pause = stretch(
             net,
-            store,
-            standings,
-            waiting,
+            core,
             bodies,
             inputs,
             outputs,
@@ -71,8 +65,8 @@ pub(crate) fn go_on<B: Body>(
             counts.add(done, grown);
             return pause;
         }
-        done += store.entries() as u64;
-        grown += store.growths() as u64;
+        done += core.store.entries() as u64;
+        grown += core.store.growths() as u64;
     }
     counts.add(done, grown);
     Pause::Cut

@@ -4,19 +4,19 @@ ghost use Rattle.std.specs.List.{list_any};
 ghost use Rattle.kpn_model.specs.Families.{family};
 ghost use Rattle.kpn_state.specs.declared.standing.Standing.TheVariants.{Ready};
 ghost use Rattle.kpn_state.specs.Standings.{standing, is_busy};
-ghost use Rattle.kpn_commit.specs.Waiting.{AreWaiting};
-ghost use Rattle.kpn_flow.specs.Flows.{IsSettledIn, HasAllBodies};
+ghost use Rattle.kpn_flow.specs.Flows.{IsSettled, HasAllBodies};
 ghost use Rattle.kpn_flow.specs.Pauses.{OpenRun, IsAwaited, IsRest, TellWants};
 ghost use Rattle.kpn_flow.specs.Waits.{holds_up, is_not_parked, starves};
 
 use crate::pause::Pause;
 use crate::waits::{any_holds_up, any_starves};
 use kpn_body::Body;
+use kpn_commit::Core;
 use kpn_commit::resolution::{Resolution, resolve};
 use kpn_machine::asking::ask_ready;
 use kpn_model::Kinds;
 use kpn_network::Net;
-use kpn_state::{Roster, Standing, Store, Unkept, Waiting};
+use kpn_state::{Standing, Unkept};
 
 /// What is awaited from outside, as the standings tell: that an input is fed, or else that an output is
 /// drained; `None` if neither lets a process go on.
@@ -45,31 +45,27 @@ fn awaited<K: Kinds>(
 #[inline(never)]
 fn rest<K: Kinds>(
     net: &Net<K>,
-    store: &mut Store<Unkept>,
-    standings: &mut Roster,
-    waiting: &mut Waiting,
+    core: &mut Core<Unkept>,
     inputs: &[usize],
     outputs: &[usize],
 ) -> Option<Pause>
-    requires fits { IsSettledIn (family K.Kinds) K.admits net.now store.old.state standings.old }
-    requires idle { list_any is_busy standings.old ≡ false }
-    requires waiting { AreWaiting net.now store.old.state standings.old waiting.old }
-    requires room { 2 ≤ store.old.limit }
-    requires emptied { store.old.history ≡ [] }
-    ensures fits { IsSettledIn (family K.Kinds) K.admits net.now store.new.state standings.new }
-    ensures waiting { AreWaiting net.now store.new.state standings.new waiting.new }
-    ensures limit { store.new.limit ≡ store.old.limit }
-    ensures run { OpenRun (family K.Kinds) net.now inputs.now outputs.now store.old.state store.new.history store.new.state }
-    ensures few { length store.new.history ≤ 2 }
-    ensures rests { IfSome result (IsRest (family K.Kinds) net.now inputs.now outputs.now store.new.state) }
-    ensures none { IfSome result (λ _. store.new.history ≡ []) }
-    ensures told { IfSome result (TellWants (family K.Kinds) net.now store.new.state standings.new) }
-    ensures goes { IfNone result (sum_by is_not_parked standings.new + 1 ≤ sum_by is_not_parked standings.old + 2 * length store.new.history) }
+    requires settled { IsSettled (family K.Kinds) K.admits net.now core.old }
+    requires idle { list_any is_busy core.old.standings ≡ false }
+    requires room { 2 ≤ core.old.store.limit }
+    requires emptied { core.old.store.history ≡ [] }
+    ensures settled { IsSettled (family K.Kinds) K.admits net.now core.new }
+    ensures limit { core.new.store.limit ≡ core.old.store.limit }
+    ensures run { OpenRun (family K.Kinds) net.now inputs.now outputs.now core.old.store.state core.new.store.history core.new.store.state }
+    ensures few { length core.new.store.history ≤ 2 }
+    ensures rests { IfSome result (IsRest (family K.Kinds) net.now inputs.now outputs.now core.new.store.state) }
+    ensures none { IfSome result (λ _. core.new.store.history ≡ []) }
+    ensures told { IfSome result (TellWants (family K.Kinds) net.now core.new.store.state core.new.standings) }
+    ensures goes { IfNone result (sum_by is_not_parked core.new.standings + 1 ≤ sum_by is_not_parked core.old.standings + 2 * length core.new.store.history) }
 {
-    if let Some(pause) = awaited(net, standings.as_slice(), inputs, outputs) {
+    if let Some(pause) = awaited(net, core.standings.as_slice(), inputs, outputs) {
         return Some(pause);
     }
-    match resolve(net, store, standings, waiting) {
+    match resolve(net, core) {
         Resolution::Ended(end) => Some(Pause::Over(end)),
         Resolution::Enlarged => None,
         Resolution::Busy => unreachable!(),
@@ -81,38 +77,32 @@ fn rest<K: Kinds>(
 /// entries of this stretch alone. `again` is a process to be asked first, and then the one that would be asked next.
 pub(crate) fn stretch<B: Body>(
     net: &Net<B::Kinds>,
-    store: &mut Store<Unkept>,
-    standings: &mut Roster,
-    waiting: &mut Waiting,
+    core: &mut Core<Unkept>,
     bodies: &[Option<B>],
     inputs: &[usize],
     outputs: &[usize],
     again: &mut Option<usize>,
     until: usize,
 ) -> Option<Pause>
-    requires fits { IsSettledIn (family B.Kinds.Kinds) B.Kinds.admits net.now store.old.state standings.old }
+    requires settled { IsSettled (family B.Kinds.Kinds) B.Kinds.admits net.now core.old }
     requires bodies { HasAllBodies net.now (map (option_map B.card) bodies.now) }
     requires some { 1 ≤ until }
-    requires room { until + 1 ≤ store.old.limit }
-    requires waiting { AreWaiting net.now store.old.state standings.old waiting.old }
-    requires again { IfSome again.old (λ p. standing standings.old p ≡ Ready) }
-    ensures fits { IsSettledIn (family B.Kinds.Kinds) B.Kinds.admits net.now store.new.state standings.new }
-    ensures waiting { AreWaiting net.now store.new.state standings.new waiting.new }
-    ensures limit { store.new.limit ≡ store.old.limit }
-    ensures run { OpenRun (family B.Kinds.Kinds) net.now inputs.now outputs.now store.old.state store.new.history store.new.state }
-    ensures few { length store.new.history ≤ until + 1 }
-    ensures rests { IfSome result (IsRest (family B.Kinds.Kinds) net.now inputs.now outputs.now store.new.state) }
-    ensures none { IfSome result (λ _. store.new.history ≡ []) }
-    ensures told { IfSome result (TellWants (family B.Kinds.Kinds) net.now store.new.state standings.new) }
-    ensures goes { IfNone result (sum_by is_not_parked standings.new + 1 ≤ sum_by is_not_parked standings.old + 2 * length store.new.history) }
-    ensures again { IfSome again.new (λ p. standing standings.new p ≡ Ready) }
+    requires room { until + 1 ≤ core.old.store.limit }
+    requires again { IfSome again.old (λ p. standing core.old.standings p ≡ Ready) }
+    ensures settled { IsSettled (family B.Kinds.Kinds) B.Kinds.admits net.now core.new }
+    ensures limit { core.new.store.limit ≡ core.old.store.limit }
+    ensures run { OpenRun (family B.Kinds.Kinds) net.now inputs.now outputs.now core.old.store.state core.new.store.history core.new.store.state }
+    ensures few { length core.new.store.history ≤ until + 1 }
+    ensures rests { IfSome result (IsRest (family B.Kinds.Kinds) net.now inputs.now outputs.now core.new.store.state) }
+    ensures none { IfSome result (λ _. core.new.store.history ≡ []) }
+    ensures told { IfSome result (TellWants (family B.Kinds.Kinds) net.now core.new.store.state core.new.standings) }
+    ensures goes { IfNone result (sum_by is_not_parked core.new.standings + 1 ≤ sum_by is_not_parked core.old.standings + 2 * length core.new.store.history) }
+    ensures again { IfSome again.new (λ p. standing core.new.standings p ≡ Ready) }
 {
-    store.forget();
+    core.store.forget();
     let asked = ask_ready(
         net,
-        store,
-        standings,
-        waiting,
+        core,
         bodies,
         again,
         u64::MAX,
@@ -122,5 +112,5 @@ pub(crate) fn stretch<B: Body>(
         return None;
     }
     *again = None;
-    rest(net, store, standings, waiting, inputs, outputs)
+    rest(net, core, inputs, outputs)
 }

@@ -5,17 +5,18 @@ ghost use Rattle.kpn_model.specs.Families.{family};
 ghost use Rattle.kpn_model.specs.Semantics.{status};
 ghost use Rattle.kpn_model.specs.declared.history.Status.TheVariants.{Done, Live};
 ghost use Rattle.kpn_commit.specs.declared.react.Reaction.{Reaction as ReactionV};
-ghost use Rattle.kpn_commit.specs.Waiting.{AreWaiting};
+ghost use Rattle.kpn_commit.specs.Coherent.{IsCoherent};
 ghost use Rattle.kpn_machine.specs.Asking.{AreAsked};
 ghost use Rattle.kpn_machine.specs.MachineView.{HasBodies};
 ghost use Rattle.kpn_state.specs.declared.standing.Standing.TheVariants.{Ready};
-ghost use Rattle.kpn_state.specs.Standings.{StandingsFit, standing};
+ghost use Rattle.kpn_state.specs.Standings.{standing};
 
 use kpn_body::Body;
+use kpn_commit::Core;
 use kpn_commit::react::react_ready;
 use kpn_model::{Act, Local, Status, Token};
 use kpn_network::Net;
-use kpn_state::{Keeper, Roster, Store, Waiting};
+use kpn_state::{Keeper, Store};
 
 /// Asks ready processes where their bodies lie, one after the other, and does what each answers or parks it, until
 /// `most` were asked, there are `until` entries or no process is ready. Returns how many were asked.
@@ -25,38 +26,34 @@ use kpn_state::{Keeper, Roster, Store, Waiting};
 #[inline(always)]
 pub fn ask_ready<B: Body, H: Keeper>(
     net: &Net<B::Kinds>,
-    store: &mut Store<H>,
-    standings: &mut Roster,
-    waiting: &mut Waiting,
+    core: &mut Core<H>,
     bodies: &[Option<B>],
     again: &mut Option<usize>,
     most: u64,
     until: usize,
 ) -> u64
-    requires keeps { StandingsFit (family B.Kinds.Kinds) B.Kinds.admits net.now None store.old.state standings.old }
-    requires waiting { AreWaiting net.now store.old.state standings.old waiting.old }
+    requires coherent { IsCoherent (family B.Kinds.Kinds) B.Kinds.admits net.now core.old }
     requires slots { length bodies.now ≡ length net.now.processes }
-    requires bodies { HasBodies net.now standings.old (map (option_map B.card) bodies.now) }
-    requires again { IfSome again.old (λ p. standing standings.old p ≡ Ready) }
-    requires room { until + 1 ≤ store.old.limit }
-    ensures asked { (reactions : List ReactionV) × (length reactions ≡ result) × AreAsked (family B.Kinds.Kinds) B.Kinds.admits net.now until store.old standings.old reactions store.new standings.new }
-    ensures keeps { StandingsFit (family B.Kinds.Kinds) B.Kinds.admits net.now None store.new.state standings.new }
-    ensures waiting { AreWaiting net.now store.new.state standings.new waiting.new }
-    ensures again { IfSome again.new (λ p. standing standings.new p ≡ Ready) }
+    requires bodies { HasBodies net.now core.old.standings (map (option_map B.card) bodies.now) }
+    requires again { IfSome again.old (λ p. standing core.old.standings p ≡ Ready) }
+    requires room { until + 1 ≤ core.old.store.limit }
+    ensures asked { (reactions : List ReactionV) × (length reactions ≡ result) × AreAsked (family B.Kinds.Kinds) B.Kinds.admits net.now until core.old.store core.old.standings reactions core.new.store core.new.standings }
+    ensures coherent { IsCoherent (family B.Kinds.Kinds) B.Kinds.admits net.now core.new }
+    ensures again { IfSome again.new (λ p. standing core.new.standings p ≡ Ready) }
     ensures most { result ≤ most }
-    ensures fewer { result < most → length store.new.history < until → (p : ℕ) → standing standings.new p ≢ Ready }
+    ensures fewer { result < most → length core.new.store.history < until → (p : ℕ) → standing core.new.standings p ≢ Ready }
 {
     let mut left = most;
     while left > 0 {
-        if store.entries() >= until {
+        if core.store.entries() >= until {
             return most - left;
         }
-        let Some(process) = standings.turn(*again) else {
+        let Some(process) = core.standings.turn(*again) else {
             return most - left;
         };
-        let Question { body, local, last } = question_to(net, store, bodies, process);
+        let Question { body, local, last } = question_to(net, &core.store, bodies, process);
         let answer = body.answer(local, last);
-        let is_ready = react_ready(net, store, standings, waiting, process, answer);
+        let is_ready = react_ready(net, core, process, answer);
         *again = if is_ready && goes_on_after(answer.act, last) {
             Some(process)
         } else {

@@ -22,13 +22,13 @@ use crate::chronicle::Chronicle;
 use crate::equality::{same_card, same_last, same_local};
 use crate::opening::{OpenFault, Start, misfit, prepare, seat_all};
 use kpn_body::{Body, Finished, Task};
-use kpn_commit::Outcome;
+use kpn_commit::{Core, Outcome};
 use kpn_commit::work::{settle, work, work_on};
 use kpn_laws::{least_room_of, least_solution_of, typed_runs, valid_runs};
 use kpn_model::{Answer, Card, End, Entry, Kinds, Local, Status, Token};
 use kpn_network::Net;
 use kpn_state::standing::all_ready;
-use kpn_state::{Keeper, Roster, Standing, Store, Waiting, Wide};
+use kpn_state::{Keeper, Roster, Standing, Store, Wide};
 use std::alloc::Global;
 use std::marker::Model;
 
@@ -36,10 +36,7 @@ use std::marker::Model;
 /// answers committed. Its entries are kept as they are handed out, unless it is opened with another keeper.
 pub struct Machine<B: Body, H: Keeper = Wide> {
     net: Net<B::Kinds>,
-    store: Store<H>,
-    standings: Roster,
-    /// The candidates for a growth, and the marks of parked processes at their channels.
-    waiting: Waiting,
+    core: Core<H>,
     /// The body of each process, but those of processes that are out.
     bodies: Vec<Option<B>>,
     /// The emptied vector in which the bodies came, for `into_parts`.
@@ -56,9 +53,7 @@ impl<B: Body, H: Keeper> Drop for Machine<B, H> {
     fn drop(self) {
         let Machine {
             net: _,
-            store: _,
-            standings: _,
-            waiting: _,
+            core: _,
             bodies: _,
             spare: _,
             end: _,
@@ -77,9 +72,9 @@ impl<B: Body, H: Keeper> Model for Machine<B, H> {
 
     ghost Value = { MachineView };
 
-    ghost view = { λ m. machine_view m.net m.store.state m.store.history m.standings m.end m.commits };
+    ghost view = { λ m. machine_view m.net m.core.store.state m.core.store.history m.core.standings m.end m.commits };
 
-    ghost invariant = { λ m. IsSound (family B.Kinds.Kinds) B.Kinds.admits (machine_view m.net m.store.state m.store.history m.standings m.end m.commits) m.store.limit (map (option_map B.card) m.bodies.items) × HasSpareCapacity m.net m.spare.items (vec_capacity m.spare) × AreWaiting m.net m.store.state m.standings m.waiting };
+    ghost invariant = { λ m. IsSound (family B.Kinds.Kinds) B.Kinds.admits (machine_view m.net m.core.store.state m.core.store.history m.core.standings m.end m.commits) m.core.store.limit (map (option_map B.card) m.bodies.items) × HasSpareCapacity m.net m.spare.items (vec_capacity m.spare) × AreWaiting m.net m.core.store.state m.core.standings m.core.waiting };
 }
 
 /// Why a machine was not opened, with the network and the bodies handed back.
@@ -128,7 +123,7 @@ impl<B: Body> Machine<B> {
     pub fn history(&self) -> &[Entry]
         ensures { result.now ≡ self.now.history }
     {
-        self.store.history()
+        self.core.store.history()
     }
 }
 
@@ -163,18 +158,11 @@ impl<B: Body, H: Keeper> Machine<B, H> {
                 fault: OpenFault::Memory,
             });
         };
-        let Start {
-            store,
-            standings,
-            waiting,
-            mut slots,
-        } = start;
+        let Start { core, mut slots } = start;
         seat_all(&mut bodies, &mut slots);
         Ok(Machine {
             net,
-            store,
-            standings,
-            waiting,
+            core,
             bodies: slots,
             spare: bodies,
             end: None,
@@ -205,7 +193,7 @@ impl<B: Body, H: Keeper> Machine<B, H> {
     pub fn keeper(&self) -> &H
         ensures { H.entries result.now ≡ self.now.history }
     {
-        self.store.keeper()
+        self.core.store.keeper()
     }
 
     /// Returns how many entries there are so far.
@@ -213,7 +201,7 @@ impl<B: Body, H: Keeper> Machine<B, H> {
     pub fn entries(&self) -> usize
         ensures { result ≡ length self.now.history }
     {
-        self.store.entries()
+        self.core.store.entries()
     }
 
     /// Returns how many of the entries so far are growths.
@@ -221,7 +209,7 @@ impl<B: Body, H: Keeper> Machine<B, H> {
     pub fn growths(&self) -> usize
         ensures { result ≡ length (growths_of self.now.history) }
     {
-        self.store.growths()
+        self.core.store.growths()
     }
 
     /// Returns the network.
@@ -235,21 +223,21 @@ impl<B: Body, H: Keeper> Machine<B, H> {
     pub fn standings(&self) -> &[Standing]
         ensures { result.now ≡ self.now.standings }
     {
-        self.standings.as_slice()
+        self.core.standings.as_slice()
     }
 
     /// Returns how many processes are ready.
     pub fn ready(&self) -> usize
         ensures { result ≡ count_by is_ready self.now.standings }
     {
-        self.standings.ready()
+        self.core.standings.ready()
     }
 
     /// Returns how many processes are out.
     pub fn out(&self) -> usize
         ensures { result ≡ count_by is_out self.now.standings }
     {
-        self.standings.out()
+        self.core.standings.out()
     }
 
     /// Returns whether the machine is as it was opened: no entry, no commit, no end, and every process
@@ -257,10 +245,10 @@ impl<B: Body, H: Keeper> Machine<B, H> {
     pub fn is_fresh(&self) -> bool
         ensures { IsTrue result ↔ IsFresh self.now }
     {
-        self.store.entries() == 0
+        self.core.store.entries() == 0
             && self.commits == 0
             && self.end.is_none()
-            && all_ready(self.standings.as_slice())
+            && all_ready(self.core.standings.as_slice())
     }
 
     /// Returns how many answers were taken.
@@ -283,8 +271,8 @@ impl<B: Body, H: Keeper> Machine<B, H> {
         if self.end.is_some() {
             return None;
         }
-        let process = self.standings.send_out()?;
-        Some(take_out(&self.net, &self.store, &mut self.bodies, process))
+        let process = self.core.standings.send_out()?;
+        Some(take_out(&self.net, &self.core.store, &mut self.bodies, process))
     }
 }
 
@@ -355,8 +343,8 @@ impl<B: Body, H: Keeper> Machine<B, H> {
     {
         is_out_with(
             &self.net,
-            &self.store,
-            self.standings.as_slice(),
+            &self.core.store,
+            self.core.standings.as_slice(),
             finished.process(),
             finished.card(),
             finished.local(),
@@ -371,8 +359,8 @@ impl<B: Body, H: Keeper> Machine<B, H> {
     {
         is_out_with(
             &self.net,
-            &self.store,
-            self.standings.as_slice(),
+            &self.core.store,
+            self.core.standings.as_slice(),
             task.process(),
             task.card(),
             task.local(),
@@ -426,14 +414,12 @@ impl<B: Body, H: Keeper> Machine<B, H> {
         self.bodies[process] = Some(finished.into_body());
         self.commits += 1;
         if self.end.is_some() {
-            lay_back(&mut self.standings, process);
+            lay_back(&mut self.core.standings, process);
             return Outcome::LaidBack;
         }
         let (outcome, end) = work(
             &self.net,
-            &mut self.store,
-            &mut self.standings,
-            &mut self.waiting,
+            &mut self.core,
             process,
             answer,
         );
@@ -462,14 +448,12 @@ impl<B: Body, H: Keeper> Machine<B, H> {
         let process = task.process();
         let outcome = work_on(
             &self.net,
-            &mut self.store,
-            &mut self.standings,
-            &mut self.waiting,
+            &mut self.core,
             process,
             answer,
         )?;
         self.commits += 1;
-        let Status::Live { local, last } = self.store.status(process) else {
+        let Status::Live { local, last } = self.core.store.status(process) else {
             unreachable!()
         };
         task.renew(*local, *last);
@@ -486,7 +470,7 @@ impl<B: Body, H: Keeper> Machine<B, H> {
     {
         let process = task.process();
         self.bodies[process] = Some(task.into_body());
-        lay_back(&mut self.standings, process);
+        lay_back(&mut self.core.standings, process);
     }
 }
 
@@ -509,9 +493,7 @@ impl<B: Body, H: Keeper> Machine<B, H> {
     {
         let Machine {
             net,
-            store: _,
-            standings: _,
-            waiting: _,
+            core: _,
             mut bodies,
             mut spare,
             end: _,
@@ -536,15 +518,18 @@ impl<B: Body, H: Keeper> Machine<B, H> {
         self.assure_faithful();
         let Machine {
             net,
-            store,
-            standings,
-            waiting: _,
+            core,
             bodies: _,
             spare: _,
             end,
             commits,
             again: _,
         } = self;
+        let Core {
+            store,
+            standings,
+            waiting: _,
+        } = core;
         Chronicle::new(net, store, standings, end, commits)
     }
 }
@@ -575,9 +560,7 @@ impl<B: Body, H: Keeper> Machine<B, H> {
         let mut again = self.asked_last();
         let asked = ask_ready(
             &self.net,
-            &mut self.store,
-            &mut self.standings,
-            &mut self.waiting,
+            &mut self.core,
             self.bodies.as_slice(),
             &mut again,
             most,
@@ -585,9 +568,7 @@ impl<B: Body, H: Keeper> Machine<B, H> {
         );
         let (_, ended) = settle(
             &self.net,
-            &mut self.store,
-            &mut self.standings,
-            &mut self.waiting,
+            &mut self.core,
         );
         self.commits += asked;
         note_end(&mut self.end, ended);
@@ -623,7 +604,7 @@ impl<B: Body, H: Keeper> Machine<B, H> {
     fn asked_last(&self) -> Option<usize>
         ensures { IfSome result (λ p. standing self.now.standings p ≡ Ready) }
     {
-        self.standings.if_ready(self.again?)
+        self.core.standings.if_ready(self.again?)
     }
 
     // Whether more answers are to be taken: fewer than `most` were, and the run has not ended.

@@ -13,6 +13,7 @@ ghost use Rattle.kpn_machine.specs.Opening.{starting, filled, cards_of, IsOpenFa
 
 use crate::equality::same_card;
 use kpn_body::Body;
+use kpn_commit::Core;
 use kpn_model::{Card, Kinds, Status};
 use kpn_network::Net;
 use kpn_state::{Keeper, Ring, Roster, Store, Waiting};
@@ -130,9 +131,7 @@ fn empty_slots<B: Body>(alloc: Global, count: usize) -> Result<Vec<Option<B>>, A
 /// processes, nobody who waits, and an empty slot for each body.
 #[derive(Drop)]
 pub struct Start<B: Body, H: Keeper> {
-    pub store: Store<H>,
-    pub standings: Roster,
-    pub waiting: Waiting,
+    pub core: Core<H>,
     pub slots: Vec<Option<B>>,
 }
 
@@ -144,19 +143,20 @@ pub fn prepare<B: Body, H: Keeper>(
     net: &Net<B::Kinds>,
     limit: usize,
 ) -> Result<Start<B, H>, AllocError>
-    ensures store { IfOk result (λ r. r.store ≡ state_and_history (start (family B.Kinds.Kinds) net.now) [] limit) }
-    ensures standings { IfOk result (λ r. r.standings ≡ replicate (length net.now.processes) Ready) }
-    ensures candidates { IfOk result (λ r. r.waiting.candidates ≡ candidate_list [] (length net.now.processes)) }
-    ensures marks { IfOk result (λ r. r.waiting.marks ≡ mark_lists (replicate (length net.now.channels) false) (replicate (length net.now.channels) false)) }
+    ensures store { IfOk result (λ r. r.core.store ≡ state_and_history (start (family B.Kinds.Kinds) net.now) [] limit) }
+    ensures standings { IfOk result (λ r. r.core.standings ≡ replicate (length net.now.processes) Ready) }
+    ensures candidates { IfOk result (λ r. r.core.waiting.candidates ≡ candidate_list [] (length net.now.processes)) }
+    ensures marks { IfOk result (λ r. r.core.waiting.marks ≡ mark_lists (replicate (length net.now.channels) false) (replicate (length net.now.channels) false)) }
     ensures slots { IfOk result (λ r. length r.slots.items ≡ length net.now.processes) }
     ensures admitted { OnOk result ((p : ℕ) → p < length net.now.processes → B.Kinds.admits (card_of net.now p) (B.Kinds.start (card_of net.now p)) None) }
 {
-    Ok(Start {
+    let core = Core {
         store: start_store(alloc, net, limit)?,
         standings: Roster::new(alloc, net.processes())?,
         waiting: Waiting::new(alloc, net.processes(), net.channels())?,
-        slots: empty_slots(alloc, net.processes())?,
-    })
+    };
+    let slots = empty_slots(alloc, net.processes())?;
+    Ok(Start { core, slots })
 }
 
 /// Moves each body into the slot of its number. There must be as many slots as bodies.

@@ -12,15 +12,15 @@ use Rattle.kpn_commit.proofs.parking.unpark.Goals.{in-Read+in-Some, in-Read+in_d
 pub note_reader-requires : goal.note_reader-requires
 note_reader-requires g c = let l = c.requires.waiting.marks.each_reader in omega (arith, l, c.in-Some.ensures.within)
 
-pub note_writer-requires : goal.note_writer-requires
-note_writer-requires g c = let l = c.requires.waiting.marks.each_writer in omega (arith, l, c.in-Some-out_of.ensures.within)
+pub unlist-requires : goal.unlist-requires
+unlist-requires g c = let l = c.requires.waiting.marks.each_writer in omega (arith, l, c.in-Some-out_of.ensures.within)
 
 pub returns-clause-waiting : goal.returns-clause-waiting
 returns-clause-waiting g c =
     let net = c.args.net.now in
     let p = c.args.process in
     let k = c.requires.waiting in
-    let was = standing c.args.standings.now p in
+    let was = standing c.args.core.now.standings p in
     let parked = c.requires.parked in
     let idle = busy_waits_not net p Ready refl in
     rw c.update.ensures
@@ -29,18 +29,18 @@ returns-clause-waiting g c =
           let read : expected_by net p was ≡ Some w.in-Some.read = rw (parked, w.in-Read.is, ← w.from.ensures, ← w.in_of.ensures.is) w.in-Some.is in
           let no_write : awaited_by net p was ≡ None = rw (parked, w.in-Read.is) in
           let not_counted : waits_to_write was ≡ false = rw (parked, w.in-Read.is) in
-          rw (w.waiting-is, w.note_reader.ensures) (done_reading k p Ready c.requires.process idle w.in-Some.read w.in-Some.ensures.within no_write not_counted read)
+          rw (w.core-is, w.note_reader.ensures) (done_reading k p Ready c.requires.process idle w.in-Some.read w.in-Some.ensures.within no_write not_counted read)
       | in-Read+in_default w ↦ absurd (none_some _ (rw (← w.from.ensures, ← w.in_of.ensures.is, w.in_default.is) at (rw w.in-Read.is at c.requires.possible).1))
       | in-Write+in-Some-out_of w ↦
           let written : awaited_by net p was ≡ Some w.in-Some-out_of.written = rw (parked, w.in-Write.is, ← w.from-in-Write.ensures, ← w.out_of.ensures.is) w.in-Some-out_of.is in
           let no_read : expected_by net p was ≡ None = rw (parked, w.in-Write.is) in
-          rw (w.waiting-is, w.note_writer.ensures)
-          (done_writing k p Ready c.requires.process idle _ w.in-Some-out_of.written w.remove.new.self (λ d _. refl) written no_read
-          (rw w.tokens_and_capacity-capacity.ensures.capacity at w.remove.ensures.pairs) (rw w.tokens_and_capacity-capacity.ensures.capacity at w.remove.ensures.many) w.remove.ensures.limit)
+          rw (w.core-is, w.unlist.ensures.marks)
+          (done_writing k p Ready c.requires.process idle _ w.in-Some-out_of.written w.unlist.new.waiting.candidates (λ d _. refl) written no_read
+          (rw w.tokens_and_capacity-capacity.ensures.capacity at w.unlist.ensures.pairs) (rw w.tokens_and_capacity-capacity.ensures.capacity at w.unlist.ensures.many) w.unlist.ensures.limit)
       | in-Write+in_default-out_of w ↦ absurd (none_some _ (rw (← w.from-in-Write.ensures, ← w.out_of.ensures.is, w.in_default-out_of.is) at (rw w.in-Write.is at c.requires.possible).1))
       | in-Stop w ↦
           let no_write : awaited_by net p was ≡ None = rw (parked, w.in-Stop.is) in
           let no_read : expected_by net p was ≡ None = rw (parked, w.in-Stop.is) in
           let not_counted : waits_to_write was ≡ false = rw (parked, w.in-Stop.is) in
-          rw w.waiting-is (waits_nowhere k p Ready c.requires.process (record { no_write = no_write; no_read = no_read; not_counted = not_counted }) refl refl)
+          rw w.core-is (waits_nowhere k p Ready c.requires.process (record { no_write = no_write; no_read = no_read; not_counted = not_counted }) refl refl)
     ])

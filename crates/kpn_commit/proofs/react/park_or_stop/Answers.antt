@@ -6,4 +6,4 @@ use Rattle.kpn_commit.proofs.react.park_or_stop.Goals as goal
 pub returns-clause-ready : goal.returns-clause-ready
 returns-clause-ready g c =
     let ready = c.requires.ready in
-    left_unready _ _ _ _ _ _ c.requires.wants c.requires.cannot c.react.result _ _ (standing_within c.args.standings.now c.args.process (λ e. cc)) c.react.ensures.reacts
+    left_unready _ _ _ _ _ _ c.requires.wants c.requires.cannot c.react.result _ _ (standing_within c.args.core.now.standings c.args.process (λ e. cc)) c.react.ensures.reacts

@@ -23,40 +23,54 @@ returns-then-resume-clause-reacts g c =
       second = acted _ _ c.in-Some-partner.other r.wanted r.deed (did.keeps.wanted c.in-Some-partner.other r.wanted r.parked) r.is_deed r.entry r.moves;
     }
 
-pub returns-then-resume-clause-keeps : goal.returns-then-resume-clause-keeps
-returns-then-resume-clause-keeps g c =
+pub returns-then-resume-clause-coherent : goal.returns-then-resume-clause-coherent
+returns-then-resume-clause-coherent g c =
     let r = c.if-resume.ensures.resumes refl in
     let did = c.in-Some.ensures in
-    keeps_handed c.requires.keeps c.args.process c.args.answer c.in-Some.deed c.in-Some-partner.other r.wanted r.deed r.keeps c.requires.process did.is_deed
-    (rw did.standing at r.parked) (rw did.entry at r.is_deed) (rw did.standing at r.moves)
+    record {
+      keeps =
+          keeps_handed c.requires.coherent.keeps c.args.process c.args.answer c.in-Some.deed c.in-Some-partner.other r.wanted r.deed r.keeps c.requires.process did.is_deed
+          (rw did.standing at r.parked) (rw did.entry at r.is_deed) (rw did.standing at r.moves);
+      waiting = c.if-resume.ensures.waiting;
+    }
 
-pub returns-else-resume-clause-keeps : goal.returns-else-resume-clause-keeps
-returns-else-resume-clause-keeps g c =
-    rw (c.if-resume.ensures.same refl, c.if-resume.ensures.same_standings refl)
-    (keeps_all c.in-Some.ensures.keeps
-    (λ q a e at can.
-    let is : q ≡ c.in-Some-partner.other = cc (c.in-Some-partner.ensures) in
-    c.if-resume.ensures.cannot refl a (rw is at at) (rw is at can)))
+pub returns-else-resume-clause-coherent : goal.returns-else-resume-clause-coherent
+returns-else-resume-clause-coherent g c =
+    record {
+      keeps =
+          rw (c.if-resume.ensures.same refl)
+          (keeps_all c.in-Some.ensures.keeps
+          (λ q a e at can.
+          let is : q ≡ c.in-Some-partner.other = cc (c.in-Some-partner.ensures) in
+          c.if-resume.ensures.cannot refl a (rw is at at) (rw is at can)));
+      waiting = c.if-resume.ensures.waiting;
+    }
 
 pub partner_waits-requires : goal.partner_waits-requires
-partner_waits-requires g c = has_mark c.requires.waiting.marks c.in-Some.deed c.in-Some.ensures.channel
+partner_waits-requires g c = has_mark c.requires.coherent.waiting.marks c.in-Some.deed c.in-Some.ensures.channel
 
-pub returns-in_default-partner-clause-waiting : goal.returns-in_default-partner-clause-waiting
-returns-in_default-partner-clause-waiting g c =
-    rw (c.in-Some.ensures.entry, c.in-Some.ensures.standing) (acted_waiting (family_of g.K.Kinds.start g.K.Kinds.answer_of) c.requires.waiting c.args.process c.args.answer.next c.in-Some.deed c.requires.process c.requires.busy)
+pub returns-in_default-partner-clause-coherent : goal.returns-in_default-partner-clause-coherent
+returns-in_default-partner-clause-coherent g c =
+    record {
+      keeps = rw (← c.in_default-partner.ensures) at c.in-Some.ensures.keeps;
+      waiting = rw (c.in-Some.ensures.entry, c.in-Some.ensures.standing) (acted_waiting (family_of g.K.Kinds.start g.K.Kinds.answer_of) c.requires.coherent.waiting c.args.process c.args.answer.next c.in-Some.deed c.requires.process c.requires.busy);
+    }
 
-pub returns-then-not-partner_waits-clause-keeps : goal.returns-then-not-partner_waits-clause-keeps
-returns-then-not-partner_waits-clause-keeps g c =
+pub returns-then-not-partner_waits-clause-coherent : goal.returns-then-not-partner_waits-clause-coherent
+returns-then-not-partner_waits-clause-coherent g c =
     let did = c.in-Some.ensures in
-    keeps_all did.keeps
-    (λ q a e at can.
-    others_blocked c.requires.waiting.marks (keeps_sparing c.requires.keeps c.args.process) c.args.answer c.in-Some.deed c.requires.process did.is_deed (sym c.partner_waits.ensures ∙ c.if-not-partner_waits.true) q a
-    (rw did.standing at at) (rw did.entry at can))
+    record {
+      keeps =
+          keeps_all did.keeps
+          (λ q a e at can.
+          others_blocked c.requires.coherent.waiting.marks (keeps_sparing c.requires.coherent.keeps c.args.process) c.args.answer c.in-Some.deed c.requires.process did.is_deed (sym c.partner_waits.ensures ∙ c.if-not-partner_waits.true) q a
+          (rw did.standing at at) (rw did.entry at can));
+      waiting = rw (did.entry, did.standing) (acted_waiting (family_of g.K.Kinds.start g.K.Kinds.answer_of) c.requires.coherent.waiting c.args.process c.args.answer.next c.in-Some.deed c.requires.process c.requires.busy);
+    }
 
-pub returns-then-not-partner_waits-clause-waiting : goal.returns-then-not-partner_waits-clause-waiting
-returns-then-not-partner_waits-clause-waiting g c =
-    rw (c.in-Some.ensures.entry, c.in-Some.ensures.standing) (acted_waiting (family_of g.K.Kinds.start g.K.Kinds.answer_of) c.requires.waiting c.args.process c.args.answer.next c.in-Some.deed c.requires.process c.requires.busy)
-
-pub resume-requires-clause-waiting : goal.resume-requires-clause-waiting
-resume-requires-clause-waiting g c κs within =
-    rw (c.in-Some.ensures.entry, c.in-Some.ensures.standing) (acted_waiting (family_of g.K.Kinds.start g.K.Kinds.answer_of) c.requires.waiting c.args.process c.args.answer.next c.in-Some.deed c.requires.process c.requires.busy)
+pub resume-requires-clause-coherent : goal.resume-requires-clause-coherent
+resume-requires-clause-coherent g c κs within =
+    record {
+      keeps = rw (← c.in-Some-partner.ensures) at c.in-Some.ensures.keeps;
+      waiting = rw (c.in-Some.ensures.entry, c.in-Some.ensures.standing) (acted_waiting (family_of g.K.Kinds.start g.K.Kinds.answer_of) c.requires.coherent.waiting c.args.process c.args.answer.next c.in-Some.deed c.requires.process c.requires.busy);
+    }

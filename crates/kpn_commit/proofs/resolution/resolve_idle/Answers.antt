@@ -10,91 +10,89 @@ use Rattle.kpn_commit.proofs.resolution.resolve_idle.Goals as goal
 
 pub returns-then-all_stopped-clause-resolves : goal.returns-then-all_stopped-clause-resolves
 returns-then-all_stopped-clause-resolves g c =
-    let k = c.requires.keeps in
+    let k = c.requires.coherent.keeps in
     (c.requires.idle, refl, refl, (idle_quiet k c.requires.idle, all_done k (sym c.all_stopped.ensures ∙ c.if-all_stopped.true)))
 
 pub returns-in_default-clause-resolves : goal.returns-in_default-clause-resolves
 returns-in_default-clause-resolves g c =
-    let k = c.requires.keeps in (
+    let k = c.requires.coherent.keeps in (
       c.requires.idle,
       refl,
       refl,
       (
         idle_quiet k c.requires.idle,
         some_live k (sym c.all_stopped.ensures ∙ c.if-all_stopped.false),
-        none_blocked k c.requires.idle (chosen c.requires.waiting.candidates c.in_default.ensures.ordered _ c.in_default.ensures.first),
+        none_blocked k c.requires.idle (chosen c.requires.coherent.waiting.candidates c.in_default.ensures.ordered _ c.in_default.ensures.first),
       ),
     )
 
 pub returns-then-capacity-ceiling-clause-resolves : goal.returns-then-capacity-ceiling-clause-resolves
 returns-then-capacity-ceiling-clause-resolves g c =
     let idle = c.requires.idle in
-    let k = c.requires.keeps in
-    let best = chosen c.requires.waiting.candidates c.in-Some.ensures.ordered _ c.in-Some.ensures.first in
+    let k = c.requires.coherent.keeps in
+    let best = chosen c.requires.coherent.waiting.candidates c.in-Some.ensures.ordered _ c.in-Some.ensures.first in
     let most = k.greatest c.in-Some.channel in
     (idle, refl, refl, (smallest_artificial k idle c.in-Some.channel c.in-Some.writer best, (c.in-Some.channel, smallest_chosen k idle c.in-Some.channel c.in-Some.writer best, omega arith)))
 
 pub returns-in_default-grow-clause-resolves : goal.returns-in_default-grow-clause-resolves
 returns-in_default-grow-clause-resolves g c =
     let idle = c.requires.idle in
-    let k = c.requires.keeps in
-    let best = chosen c.requires.waiting.candidates c.in-Some.ensures.ordered _ c.in-Some.ensures.first in
+    let k = c.requires.coherent.keeps in
+    let best = chosen c.requires.coherent.waiting.candidates c.in-Some.ensures.ordered _ c.in-Some.ensures.first in
     let parked = rw c.as_slice.ensures.value at c.in-Some-parked.ensures.some in
-    let to_is : c.enlarged-to.result ≡ min (capacity c.args.store.now.state c.in-Some.channel + c.args.net.now.step) c.args.net.now.ceiling = rw (← c.tokens_and_capacity-capacity.ensures.capacity, ← c.step.ensures, ← c.ceiling-2.ensures) c.enlarged-to.ensures in
+    let to_is : c.enlarged-to.result ≡ min (capacity c.args.core.now.store.state c.in-Some.channel + c.args.net.now.step) c.args.net.now.ceiling = rw (← c.tokens_and_capacity-capacity.ensures.capacity, ← c.step.ensures, ← c.ceiling-2.ensures) c.enlarged-to.ensures in
     (idle, c.in_default-grow.ensures.err, refl, record { channel = c.in-Some.channel; to = c.enlarged-to.result; next = _; grows = growth k c.in-Some.channel c.in-Some.writer c.enlarged-to.result best.0 c.in-Some-parked.answer parked idle best (omega arith) to_is })
 
 pub choose-requires-after_bounds : goal.choose-requires-after_bounds
-choose-requires-after_bounds g c κs within = candidate_within c.requires.waiting.candidates
+choose-requires-after_bounds g c κs within = candidate_within c.requires.coherent.waiting.candidates
 
 pub unlist-requires : goal.unlist-requires
-unlist-requires g c = let l = c.requires.waiting.marks.each_writer in omega (arith, l, c.in-Some.ensures.channel)
+unlist-requires g c = let l = c.requires.coherent.waiting.marks.each_writer in omega (arith, l, c.in-Some.ensures.channel)
 
 pub unreachable-requires : goal.unreachable-requires
 unreachable-requires g c =
-    let best = chosen c.requires.waiting.candidates c.in-Some.ensures.ordered _ c.in-Some.ensures.first in
-    let w = waiting_writer c.args.net.now c.in-Some.writer c.in-Some.channel (standing c.args.standings.now c.in-Some.writer) best.0 in
+    let best = chosen c.requires.coherent.waiting.candidates c.in-Some.ensures.ordered _ c.in-Some.ensures.first in
+    let w = waiting_writer c.args.net.now c.in-Some.writer c.in-Some.channel (standing c.args.core.now.standings c.in-Some.writer) best.0 in
     (rw c.as_slice.ensures.value at c.in_default-parked.ensures.none) w.answer w.parked
 
 pub advance-requires-clause-keeps : goal.advance-requires-clause-keeps
 advance-requires-clause-keeps g c κs within =
-    let best = chosen c.requires.waiting.candidates c.in-Some.ensures.ordered _ c.in-Some.ensures.first in
+    let best = chosen c.requires.coherent.waiting.candidates c.in-Some.ensures.ordered _ c.in-Some.ensures.first in
     rw c.in-Ok.ensures.ok
-    (keeps_enlarged c.requires.keeps c.in-Some.channel c.in-Some.writer c.enlarged-to.result best.0 (omega (arith, c.enlarged-to.ensures, c.tokens_and_capacity-capacity.ensures.capacity)) (omega (arith, c.enlarged-to.ensures, c.ceiling-2.ensures)))
+    (keeps_enlarged c.requires.coherent.keeps c.in-Some.channel c.in-Some.writer c.enlarged-to.result best.0 (omega (arith, c.enlarged-to.ensures, c.tokens_and_capacity-capacity.ensures.capacity)) (omega (arith, c.enlarged-to.ensures, c.ceiling-2.ensures)))
 
 pub unreachable-requires-in_default-advance : goal.unreachable-requires-in_default-advance
 unreachable-requires-in_default-advance g c =
-    let best = chosen c.requires.waiting.candidates c.in-Some.ensures.ordered _ c.in-Some.ensures.first in
+    let best = chosen c.requires.coherent.waiting.candidates c.in-Some.ensures.ordered _ c.in-Some.ensures.first in
     let parked = rw c.as_slice.ensures.value at c.in-Some-parked.ensures.some in
     c.in_default-advance.ensures.cannot
     (rw c.in-Ok.ensures.ok
-    (put_possible c.requires.keeps c.in-Some.channel c.in-Some.writer c.enlarged-to.result best.0 c.in-Some-parked.answer parked
+    (put_possible c.requires.coherent.keeps c.in-Some.channel c.in-Some.writer c.enlarged-to.result best.0 c.in-Some-parked.answer parked
     (omega (arith, c.assure_valid.ensures.valid.some_step, c.enlarged-to.ensures, c.tokens_and_capacity-capacity.ensures.capacity, c.tokens_and_capacity-capacity.ensures.within, c.tokens_and_capacity-capacity.ensures.tokens))))
 
 pub returns-clause-resolves : goal.returns-clause-resolves
 returns-clause-resolves g c =
     let did = c.in-Some-advance.ensures in
-    let best = chosen c.requires.waiting.candidates c.in-Some.ensures.ordered _ c.in-Some.ensures.first in
+    let best = chosen c.requires.coherent.waiting.candidates c.in-Some.ensures.ordered _ c.in-Some.ensures.first in
     let parked = rw c.as_slice.ensures.value at c.in-Some-parked.ensures.some in
-    let to_is : c.enlarged-to.result ≡ min (capacity c.args.store.now.state c.in-Some.channel + c.args.net.now.step) c.args.net.now.ceiling = rw (← c.tokens_and_capacity-capacity.ensures.capacity, ← c.step.ensures, ← c.ceiling-2.ensures) c.enlarged-to.ensures in (
+    let to_is : c.enlarged-to.result ≡ min (capacity c.args.core.now.store.state c.in-Some.channel + c.args.net.now.step) c.args.net.now.ceiling = rw (← c.tokens_and_capacity-capacity.ensures.capacity, ← c.step.ensures, ← c.ceiling-2.ensures) c.enlarged-to.ensures in (
       c.requires.idle,
       rw (did.entry, did.standing, c.in-Ok.ensures.ok)
-          (grows_and_puts c.requires.keeps c.in-Some.channel c.in-Some.writer c.enlarged-to.result best.0 c.in-Some-parked.answer parked c.requires.idle best (omega arith) to_is c.args.store.now.history c.args.store.now.limit c.in-Some-advance.field-0 (rw c.in-Ok.ensures.ok at did.is_deed)),
+          (grows_and_puts c.requires.coherent.keeps c.in-Some.channel c.in-Some.writer c.enlarged-to.result best.0 c.in-Some-parked.answer parked c.requires.idle best (omega arith) to_is c.args.core.now.store.history c.args.core.now.store.limit c.in-Some-advance.field-0 (rw c.in-Ok.ensures.ok at did.is_deed)),
     )
 
-pub returns-clause-keeps : goal.returns-clause-keeps
-returns-clause-keeps g c =
+pub returns-clause-coherent : goal.returns-clause-coherent
+returns-clause-coherent g c =
     let did = c.in-Some-advance.ensures in
-    let best = chosen c.requires.waiting.candidates c.in-Some.ensures.ordered _ c.in-Some.ensures.first in
+    let best = chosen c.requires.coherent.waiting.candidates c.in-Some.ensures.ordered _ c.in-Some.ensures.first in
     let parked = rw c.as_slice.ensures.value at c.in-Some-parked.ensures.some in
-    rw (did.entry, did.standing, c.in-Ok.ensures.ok)
-    (keeps_after_put c.requires.keeps c.in-Some.channel c.in-Some.writer c.enlarged-to.result best.0 c.in-Some-parked.answer parked c.requires.waiting c.in-Some-advance.field-0
-    (omega (arith, c.enlarged-to.ensures, c.tokens_and_capacity-capacity.ensures.capacity)) (omega (arith, c.enlarged-to.ensures, c.ceiling-2.ensures)) (rw c.in-Ok.ensures.ok at did.is_deed) (rw (did.entry, did.standing, c.in-Ok.ensures.ok) at did.keeps))
-
-pub returns-clause-waiting : goal.returns-clause-waiting
-returns-clause-waiting g c =
-    let did = c.in-Some-advance.ensures in
-    let best = chosen c.requires.waiting.candidates c.in-Some.ensures.ordered _ c.in-Some.ensures.first in
-    let parked = rw c.as_slice.ensures.value at c.in-Some-parked.ensures.some in
-    rw (did.entry, did.standing, c.in-Ok.ensures.ok, c.unlist.ensures.marks)
-    (waiting_after_put c.requires.keeps c.in-Some.channel c.in-Some.writer c.enlarged-to.result best.0 c.in-Some-parked.answer parked c.requires.waiting c.in-Some-advance.field-0 c.unlist.new.waiting.candidates
-    (rw c.tokens_and_capacity-capacity.ensures.capacity at c.unlist.ensures.pairs) (rw c.tokens_and_capacity-capacity.ensures.capacity at c.unlist.ensures.many) c.unlist.ensures.limit)
+    record {
+      keeps =
+          rw (did.entry, did.standing, c.in-Ok.ensures.ok)
+          (keeps_after_put c.requires.coherent.keeps c.in-Some.channel c.in-Some.writer c.enlarged-to.result best.0 c.in-Some-parked.answer parked c.requires.coherent.waiting c.in-Some-advance.field-0
+          (omega (arith, c.enlarged-to.ensures, c.tokens_and_capacity-capacity.ensures.capacity)) (omega (arith, c.enlarged-to.ensures, c.ceiling-2.ensures)) (rw c.in-Ok.ensures.ok at did.is_deed) (rw (did.entry, did.standing, c.in-Ok.ensures.ok) at did.keeps));
+      waiting =
+          rw (did.entry, did.standing, c.in-Ok.ensures.ok, c.unlist.ensures.marks)
+          (waiting_after_put c.requires.coherent.keeps c.in-Some.channel c.in-Some.writer c.enlarged-to.result best.0 c.in-Some-parked.answer parked c.requires.coherent.waiting c.in-Some-advance.field-0 c.unlist.new.waiting.candidates
+          (rw c.tokens_and_capacity-capacity.ensures.capacity at c.unlist.ensures.pairs) (rw c.tokens_and_capacity-capacity.ensures.capacity at c.unlist.ensures.many) c.unlist.ensures.limit);
+    }

@@ -4,23 +4,21 @@ use Rattle.std.specs.List.{sum_by}
 use Rattle.kpn_model.specs.Network.{family_of}
 use Rattle.kpn_state.specs.declared.standing.Standing.TheVariants.{Ready}
 use Rattle.kpn_state.specs.Standings.{standing}
-use Rattle.kpn_commit.specs.Waiting.{AreWaiting}
-use Rattle.kpn_flow.specs.Flows.{IsSettledIn}
+use Rattle.kpn_flow.specs.Flows.{IsSettled}
 use Rattle.kpn_flow.specs.Waits.{is_not_parked}
 use Rattle.kpn_flow.proofs.Stretches.{Ran}
 use Rattle.kpn_flow.proofs.going.go_on.Given as goal
 
 abbrev pub invariant-loop-done : goal.invariant-loop-done
 invariant-loop-done g l = record {
-  fits : IsSettledIn (family_of g.B.Kinds.Kinds.start g.B.Kinds.Kinds.answer_of) g.B.Kinds.Kinds.admits l.net l.store.state l.standings;
-  waiting : AreWaiting l.net l.store.state l.standings l.waiting;
-  limit : l.store.limit ≡ l.initial.store.limit;
+  settled : IsSettled (family_of g.B.Kinds.Kinds.start g.B.Kinds.Kinds.answer_of) g.B.Kinds.Kinds.admits l.net l.core;
+  limit : l.core.store.limit ≡ l.initial.core.store.limit;
   few : l.done ≤ l.most;
   counts : l.counts ≡ l.initial.counts;
   few_grown : l.grown ≤ l.done;
-  again : IfSome l.again (λ p. standing l.standings p ≡ Ready);
-  ran : Ran (family_of g.B.Kinds.Kinds.start g.B.Kinds.Kinds.answer_of) l.net l.inputs l.outputs l.initial.store.state l.store.state l.done l.grown;
+  again : IfSome l.again (λ p. standing l.core.standings p ≡ Ready);
+  ran : Ran (family_of g.B.Kinds.Kinds.start g.B.Kinds.Kinds.answer_of) l.net l.inputs l.outputs l.initial.core.store.state l.core.store.state l.done l.grown;
 }
 
 abbrev pub decreases-loop-done : goal.decreases-loop-done
-decreases-loop-done g l = 2 * (l.most - l.done) + sum_by is_not_parked l.standings
+decreases-loop-done g l = 2 * (l.most - l.done) + sum_by is_not_parked l.core.standings

@@ -8,10 +8,10 @@ use Rattle.kpn_flow.proofs.stretch.rest.Goals as goal
 
 pub returns-in-Some-clause-rests : goal.returns-in-Some-clause-rests
 returns-in-Some-clause-rests g c =
-    awaited_rests (family_of g.K.Kinds.start g.K.Kinds.answer_of) g.K.Kinds.admits c.args.net.now c.args.store.now.state c.args.standings.now c.requires.fits.keeps c.args.inputs.now c.args.outputs.now c.requires.idle c.in-Some.pause (rw c.as_slice.ensures.value at c.in-Some.ensures.some)
+    awaited_rests (family_of g.K.Kinds.start g.K.Kinds.answer_of) g.K.Kinds.admits c.args.net.now c.args.core.now.store.state c.args.core.now.standings c.requires.settled.fits.keeps c.args.inputs.now c.args.outputs.now c.requires.idle c.in-Some.pause (rw c.as_slice.ensures.value at c.in-Some.ensures.some)
 
 pub returns-in-Some-clause-told : goal.returns-in-Some-clause-told
-returns-in-Some-clause-told g c = told (family_of g.K.Kinds.start g.K.Kinds.answer_of) g.K.Kinds.admits c.args.net.now c.args.store.now.state c.args.standings.now c.requires.fits.keeps c.in-Some.pause c.requires.idle
+returns-in-Some-clause-told g c = told (family_of g.K.Kinds.start g.K.Kinds.answer_of) g.K.Kinds.admits c.args.net.now c.args.core.now.store.state c.args.core.now.standings c.requires.settled.fits.keeps c.in-Some.pause c.requires.idle
 
 pub returns-in-Ended-clause-rests : goal.returns-in-Ended-clause-rests
 returns-in-Ended-clause-rests g c =
@@ -19,21 +19,30 @@ returns-in-Ended-clause-rests g c =
     let resolves = c.in-Ended.ensures.resolves in
     rw resolves.1 (
       resolves.3,
-      none_can_help kinds g.K.Kinds.admits c.args.net.now c.args.store.now.state c.args.standings.now c.requires.fits.keeps c.requires.idle c.args.inputs.now c.args.outputs.now (rw c.as_slice.ensures.value at c.in_default.ensures.not_fed) (rw c.as_slice.ensures.value at c.in_default.ensures.not_drained),
+      none_can_help kinds g.K.Kinds.admits c.args.net.now c.args.core.now.store.state c.args.core.now.standings c.requires.settled.fits.keeps c.requires.idle c.args.inputs.now c.args.outputs.now (rw c.as_slice.ensures.value at c.in_default.ensures.not_fed) (rw c.as_slice.ensures.value at c.in_default.ensures.not_drained),
     )
 
 pub returns-in-Ended-clause-told : goal.returns-in-Ended-clause-told
 returns-in-Ended-clause-told g c =
     let resolves = c.in-Ended.ensures.resolves in
-    rw (resolves.1, resolves.2) (told (family_of g.K.Kinds.start g.K.Kinds.answer_of) g.K.Kinds.admits c.args.net.now c.args.store.now.state c.args.standings.now c.requires.fits.keeps (Over c.in-Ended.end) c.requires.idle)
+    rw (resolves.1, resolves.2) (told (family_of g.K.Kinds.start g.K.Kinds.answer_of) g.K.Kinds.admits c.args.net.now c.args.core.now.store.state c.args.core.now.standings c.requires.settled.fits.keeps (Over c.in-Ended.end) c.requires.idle)
 
-pub returns-in-Enlarged-clause-fits : goal.returns-in-Enlarged-clause-fits
-returns-in-Enlarged-clause-fits g c =
-    resolved_settled (family_of g.K.Kinds.start g.K.Kinds.answer_of) g.K.Kinds.admits c.args.net.now c.args.store.now c.args.standings.now Enlarged c.resolve.new.store c.resolve.new.standings c.requires.fits.none_out c.in-Enlarged.ensures.resolves c.in-Enlarged.ensures.keeps
+pub returns-in-Ended-clause-settled : goal.returns-in-Ended-clause-settled
+returns-in-Ended-clause-settled g c =
+    let resolves = c.in-Ended.ensures.resolves in
+    record { fits = rw (resolves.1, resolves.2) c.requires.settled.fits; waiting = c.in-Ended.ensures.coherent.waiting }
+
+pub returns-in-Enlarged-clause-settled : goal.returns-in-Enlarged-clause-settled
+returns-in-Enlarged-clause-settled g c =
+    record {
+      fits =
+          resolved_settled (family_of g.K.Kinds.start g.K.Kinds.answer_of) g.K.Kinds.admits c.args.net.now c.args.core.now.store c.args.core.now.standings Enlarged c.resolve.new.core.store c.resolve.new.core.standings c.requires.settled.fits.none_out c.in-Enlarged.ensures.resolves c.in-Enlarged.ensures.coherent.keeps;
+      waiting = c.in-Enlarged.ensures.coherent.waiting;
+    }
 
 pub returns-in-Enlarged-clause-run : goal.returns-in-Enlarged-clause-run
 returns-in-Enlarged-clause-run g c =
     let kinds = family_of g.K.Kinds.start g.K.Kinds.answer_of in
-    let none = none_can_help kinds g.K.Kinds.admits c.args.net.now c.args.store.now.state c.args.standings.now c.requires.fits.keeps c.requires.idle c.args.inputs.now c.args.outputs.now
+    let none = none_can_help kinds g.K.Kinds.admits c.args.net.now c.args.core.now.store.state c.args.core.now.standings c.requires.settled.fits.keeps c.requires.idle c.args.inputs.now c.args.outputs.now
     (rw c.as_slice.ensures.value at c.in_default.ensures.not_fed) (rw c.as_slice.ensures.value at c.in_default.ensures.not_drained) in
-    (alone kinds c.args.net.now c.args.inputs.now c.args.outputs.now c.args.store.now c.resolve.new.store c.args.standings.now c.resolve.new.standings 1 1 c.requires.emptied (enlarged_turned kinds c.args.net.now c.args.inputs.now c.args.outputs.now c.args.store.now c.args.standings.now c.resolve.new.store c.resolve.new.standings none c.in-Enlarged.ensures.resolves.1)).run
+    (alone kinds c.args.net.now c.args.inputs.now c.args.outputs.now c.args.core.now.store c.resolve.new.core.store c.args.core.now.standings c.resolve.new.core.standings 1 1 c.requires.emptied (enlarged_turned kinds c.args.net.now c.args.inputs.now c.args.outputs.now c.args.core.now.store c.args.core.now.standings c.resolve.new.core.store c.resolve.new.core.standings none c.in-Enlarged.ensures.resolves.1)).run

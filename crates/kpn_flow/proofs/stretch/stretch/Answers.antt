@@ -6,10 +6,21 @@ use Rattle.kpn_flow.specs.Pauses.{OpenRun}
 use Rattle.kpn_flow.proofs.Turning.{alone, asked_few, asked_limit, asked_nobody, asked_settled, asked_turned, asked_none_out, none_busy}
 use Rattle.kpn_flow.proofs.stretch.stretch.Goals as goal
 
-pub returns-then-asked-gt0-clause-fits : goal.returns-then-asked-gt0-clause-fits
-returns-then-asked-gt0-clause-fits g c =
+pub returns-then-asked-gt0-clause-settled : goal.returns-then-asked-gt0-clause-settled
+returns-then-asked-gt0-clause-settled g c =
     let asked = c.ask_ready-asked.ensures.asked in
-    asked_settled (family_of g.B.Kinds.Kinds.start g.B.Kinds.Kinds.answer_of) g.B.Kinds.Kinds.admits c.args.net.now c.args.until asked.0 _ _ _ _ c.requires.fits.none_out asked.2 c.ask_ready-asked.ensures.keeps
+    record {
+      fits = asked_settled (family_of g.B.Kinds.Kinds.start g.B.Kinds.Kinds.answer_of) g.B.Kinds.Kinds.admits c.args.net.now c.args.until asked.0 _ _ _ _ c.requires.settled.fits.none_out asked.2 c.ask_ready-asked.ensures.coherent.keeps;
+      waiting = c.ask_ready-asked.ensures.coherent.waiting;
+    }
+
+pub rest-requires-clause-settled : goal.rest-requires-clause-settled
+rest-requires-clause-settled g c κs within =
+    let asked = c.ask_ready-asked.ensures.asked in
+    record {
+      fits = asked_settled (family_of g.B.Kinds.Kinds.start g.B.Kinds.Kinds.answer_of) g.B.Kinds.Kinds.admits c.args.net.now c.args.until asked.0 _ _ _ _ c.requires.settled.fits.none_out asked.2 c.ask_ready-asked.ensures.coherent.keeps;
+      waiting = c.ask_ready-asked.ensures.coherent.waiting;
+    }
 
 pub returns-then-asked-gt0-clause-limit : goal.returns-then-asked-gt0-clause-limit
 returns-then-asked-gt0-clause-limit g c =
@@ -20,8 +31,8 @@ pub returns-then-asked-gt0-clause-run : goal.returns-then-asked-gt0-clause-run
 returns-then-asked-gt0-clause-run g c =
     let kinds = family_of g.B.Kinds.Kinds.start g.B.Kinds.Kinds.answer_of in
     let asked = c.ask_ready-asked.ensures.asked in
-    subst (λ (x : StateAndHistory). OpenRun kinds c.args.net.now c.args.inputs.now c.args.outputs.now x.state c.ask_ready-asked.new.store.history c.ask_ready-asked.new.store.state) c.forget.ensures
-    (alone kinds c.args.net.now c.args.inputs.now c.args.outputs.now c.forget.new.self c.ask_ready-asked.new.store c.args.standings.now c.ask_ready-asked.new.standings (length asked.0) 0 (ap (λ (x : StateAndHistory). x.history) c.forget.ensures)
+    subst (λ (x : StateAndHistory). OpenRun kinds c.args.net.now c.args.inputs.now c.args.outputs.now x.state c.ask_ready-asked.new.core.store.history c.ask_ready-asked.new.core.store.state) c.forget.ensures
+    (alone kinds c.args.net.now c.args.inputs.now c.args.outputs.now c.forget.new.self c.ask_ready-asked.new.core.store c.args.core.now.standings c.ask_ready-asked.new.core.standings (length asked.0) 0 (ap (λ (x : StateAndHistory). x.history) c.forget.ensures)
     (asked_turned kinds c.args.net.now c.args.inputs.now c.args.outputs.now g.B.Kinds.Kinds.admits c.args.until asked.0 _ _ _ _ asked.2)).run
 
 pub returns-then-asked-gt0-clause-few : goal.returns-then-asked-gt0-clause-few
@@ -34,7 +45,7 @@ pub returns-then-asked-gt0-clause-goes : goal.returns-then-asked-gt0-clause-goes
 returns-then-asked-gt0-clause-goes g c =
     let kinds = family_of g.B.Kinds.Kinds.start g.B.Kinds.Kinds.answer_of in
     let asked = c.ask_ready-asked.ensures.asked in
-    let goes = (alone kinds c.args.net.now c.args.inputs.now c.args.outputs.now c.forget.new.self c.ask_ready-asked.new.store c.args.standings.now c.ask_ready-asked.new.standings (length asked.0) 0 (ap (λ (x : StateAndHistory). x.history) c.forget.ensures)
+    let goes = (alone kinds c.args.net.now c.args.inputs.now c.args.outputs.now c.forget.new.self c.ask_ready-asked.new.core.store c.args.core.now.standings c.ask_ready-asked.new.core.standings (length asked.0) 0 (ap (λ (x : StateAndHistory). x.history) c.forget.ensures)
     (asked_turned kinds c.args.net.now c.args.inputs.now c.args.outputs.now g.B.Kinds.Kinds.admits c.args.until asked.0 _ _ _ _ asked.2)).goes in
     omega (arith, asked.1, c.if-asked-gt0.true)
 
@@ -44,5 +55,5 @@ rest-requires-clause-idle g c κs within =
     let asked = c.ask_ready-asked.ensures.asked in
     let none : length asked.0 ≡ 0 = omega (arith, asked.1, c.if-asked-gt0.false) in
     let same = ap (λ (x : StateAndHistory). length x.history) (asked_nobody kinds g.B.Kinds.Kinds.admits c.args.net.now c.args.until asked.0 _ _ _ _ none asked.2 ∙ c.forget.ensures) in
-    none_busy c.ask_ready-asked.new.standings (asked_none_out kinds g.B.Kinds.Kinds.admits c.args.net.now c.args.until asked.0 _ _ _ _ c.requires.fits.none_out asked.2)
+    none_busy c.ask_ready-asked.new.core.standings (asked_none_out kinds g.B.Kinds.Kinds.admits c.args.net.now c.args.until asked.0 _ _ _ _ c.requires.settled.fits.none_out asked.2)
     (c.ask_ready-asked.ensures.fewer (omega (arith, c.if-asked-gt0.false)) (omega (arith, same, c.requires.some)))

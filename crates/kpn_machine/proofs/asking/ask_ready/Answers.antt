@@ -13,19 +13,18 @@ loop-left-preserved g c =
     let before = c.loop-left.invariant in
     let family = family_of g.B.Kinds.Kinds.start g.B.Kinds.Kinds.answer_of in
     let reacts = c.react_ready-is_ready.ensures.reacts in
-    let one : IsAsked family g.B.Kinds.Kinds.admits c.args.net.now c.loop-left.store c.loop-left.standings reacts.0 c.react_ready-is_ready.new.store c.react_ready-is_ready.new.standings =
+    let one : IsAsked family g.B.Kinds.Kinds.admits c.args.net.now c.loop-left.core.store c.loop-left.core.standings reacts.0 c.react_ready-is_ready.new.core.store c.react_ready-is_ready.new.core.standings =
     record {
       process = c.in-Some.process;
       ready = c.in-Some.ensures.some;
       answer = c.answer-answer.result;
       wanted = rw (c.question_to-last.ensures.status, c.answer-answer.ensures, c.question_to-last.ensures.card) refl;
       reacts = rw c.turn.ensures.same at reacts.1;
-      keeps = c.react_ready-is_ready.ensures.keeps;
+      keeps = c.react_ready-is_ready.ensures.coherent.keeps;
     } in
-    let less : length c.loop-left.store.history < c.args.until = omega (arith, c.if-entries-until.false, c.entries.ensures) in
+    let less : length c.loop-left.core.store.history < c.args.until = omega (arith, c.if-entries-until.false, c.entries.ensures) in
     record {
-      keeps = one.keeps;
-      waiting = c.react_ready-is_ready.ensures.waiting;
+      coherent = c.react_ready-is_ready.ensures.coherent;
       bodies = bodies_stay _ one before.bodies;
       limit = (asked_moves one).limit ∙ before.limit;
       again = grind arith;

@@ -8,19 +8,16 @@ use Rattle.kpn_flow.proofs.flow.Flow.advance.Goals as goal
 pub invariant_of-self : goal.invariant_of-self
 invariant_of-self g c =
     let a = c.go_on.ensures.advances in (
-      flowing_run (family_of g.B.Kinds.Kinds.start g.B.Kinds.Kinds.answer_of) g.B.Kinds.Kinds.admits c.self.inside.net c.self.inside.inputs.items c.self.inside.unended.items c.self.inside.outputs.items _ _ c.self.inside.store.state c.go_on.new.store.state c.self.inside.standings c.go_on.new.standings (map (option_map g.B.Body.card) c.self.inside.bodies.items) c.self.inside.store.limit c.go_on.new.store.limit c.self.inside.counts c.go_on.new.counts a.entries c.self.invariant.0
-          a.run a.counts c.go_on.ensures.fits c.go_on.ensures.limit,
-      c.go_on.ensures.waiting,
+      flowing_run (family_of g.B.Kinds.Kinds.start g.B.Kinds.Kinds.answer_of) g.B.Kinds.Kinds.admits c.self.inside.net c.self.inside.inputs.items c.self.inside.unended.items c.self.inside.outputs.items _ _ c.self.inside.core.store.state c.go_on.new.core.store.state c.self.inside.core.standings c.go_on.new.core.standings (map (option_map g.B.Body.card) c.self.inside.bodies.items) c.self.inside.core.store.limit c.go_on.new.core.store.limit c.self.inside.counts c.go_on.new.counts a.entries c.self.invariant.0
+          a.run a.counts c.go_on.ensures.settled.fits c.go_on.ensures.limit,
+      c.go_on.ensures.settled.waiting,
     )
 
-pub go_on-requires-clause-fits : goal.go_on-requires-clause-fits
-go_on-requires-clause-fits g c κs within = c.self.invariant.0.fits
+pub go_on-requires-clause-settled : goal.go_on-requires-clause-settled
+go_on-requires-clause-settled g c κs within = record { fits = c.self.invariant.0.fits; waiting = c.self.invariant.1 }
 
 pub go_on-requires-clause-room : goal.go_on-requires-clause-room
 go_on-requires-clause-room g c κs within = omega (arith, c.self.invariant.0.limit_is)
-
-pub go_on-requires-clause-waiting : goal.go_on-requires-clause-waiting
-go_on-requires-clause-waiting g c κs within = c.self.invariant.1
 
 pub returns-clause-same : goal.returns-clause-same
 returns-clause-same g c = rw (← c.self.view_is) (record { network = refl; inputs = refl; unended = refl; outputs = refl })

@@ -13,24 +13,21 @@ pub invariant_of-self : goal.invariant_of-self
 invariant_of-self g c =
     let kinds = family_of g.B.Kinds.Kinds.start g.B.Kinds.Kinds.answer_of in
     let net = c.self.inside.net in
-    let M = c.self.inside.store.state in
+    let M = c.self.inside.core.store.state in
     let outputs = c.self.inside.outputs.items in
     let flow = c.self.invariant.0 in
     let output : is_among outputs c.args.channel ≡ true = rw (← c.self.view_is) at c.requires in
-    let leaves : c.drain-token.new.store.state ≡ with_channel M c.args.channel (drop 1 (tokens M c.args.channel)) (capacity M c.args.channel) = ap (λ (x : StateAndHistory). x.state) c.drain-token.ensures.rest in (
-      flowing_on kinds g.B.Kinds.Kinds.admits net c.self.inside.inputs.items c.self.inside.unended.items outputs M c.drain-token.new.store.state c.self.inside.standings c.drain-token.new.standings (map (option_map g.B.Body.card) c.self.inside.bodies.items) c.self.inside.store.limit c.drain-token.new.store.limit c.self.inside.counts (Drained c.args.channel c.drain-token.result) flow
-          ((drop 1 (tokens M c.args.channel), c.drain-token.ensures.token), leaves) (output, tt) refl (record { keeps = c.drain-token.ensures.keeps; none_out = λ q e. flow.fits.none_out q (c.drain-token.ensures.none_sent q e) }) (ap (λ (x : StateAndHistory). x.limit) c.drain-token.ensures.rest),
-      c.drain-token.ensures.waiting,
+    let leaves : c.drain-token.new.core.store.state ≡ with_channel M c.args.channel (drop 1 (tokens M c.args.channel)) (capacity M c.args.channel) = ap (λ (x : StateAndHistory). x.state) c.drain-token.ensures.rest in (
+      flowing_on kinds g.B.Kinds.Kinds.admits net c.self.inside.inputs.items c.self.inside.unended.items outputs M c.drain-token.new.core.store.state c.self.inside.core.standings c.drain-token.new.core.standings (map (option_map g.B.Body.card) c.self.inside.bodies.items) c.self.inside.core.store.limit c.drain-token.new.core.store.limit c.self.inside.counts (Drained c.args.channel c.drain-token.result) flow
+          ((drop 1 (tokens M c.args.channel), c.drain-token.ensures.token), leaves) (output, tt) refl (record { keeps = c.drain-token.ensures.coherent.keeps; none_out = λ q e. flow.fits.none_out q (c.drain-token.ensures.none_sent q e) }) (ap (λ (x : StateAndHistory). x.limit) c.drain-token.ensures.rest),
+      c.drain-token.ensures.coherent.waiting,
     )
 
 pub returns-clause-drained : goal.returns-clause-drained
 returns-clause-drained g c = rw (← c.self.view_is) ((_, c.drain-token.ensures.token), ap (λ (x : StateAndHistory). x.state) c.drain-token.ensures.rest)
 
-pub drain-token-requires-clause-keeps : goal.drain-token-requires-clause-keeps
-drain-token-requires-clause-keeps g c κs within = c.self.invariant.0.fits.keeps
-
-pub drain-token-requires-clause-waiting : goal.drain-token-requires-clause-waiting
-drain-token-requires-clause-waiting g c κs within = c.self.invariant.1
+pub drain-token-requires-clause-coherent : goal.drain-token-requires-clause-coherent
+drain-token-requires-clause-coherent g c κs within = record { keeps = c.self.invariant.0.fits.keeps; waiting = c.self.invariant.1 }
 
 pub returns-clause-same : goal.returns-clause-same
 returns-clause-same g c = rw (← c.self.view_is) (record { network = refl; inputs = refl; unended = refl; outputs = refl })

@@ -13,7 +13,7 @@ pub invariant_of-self : goal.invariant_of-self
 invariant_of-self g c =
     let kinds = family_of g.B.Kinds.Kinds.start g.B.Kinds.Kinds.answer_of in
     let net = c.self.inside.net in
-    let M = c.self.inside.store.state in
+    let M = c.self.inside.core.store.state in
     let inputs = c.self.inside.inputs.items in
     let unended = c.self.inside.unended.items in
     let flow = c.self.invariant.0 in
@@ -21,11 +21,11 @@ invariant_of-self g c =
     let input : is_among inputs c.args.channel ≡ true = flow.unended c.args.channel going in
     let there = (flow.ends.only_fed c.args.channel input).0 in
     let within : c.args.channel < length M.channels = omega (arith, there, flow.fits.keeps.channels) in
-    let leaves : c.feed.new.store.state ≡ with_channel M c.args.channel (tokens M c.args.channel ++ c.args.token ∷ []) (capacity M c.args.channel) = ap (λ (x : StateAndHistory). x.state) c.feed.ensures.fed in
+    let leaves : c.feed.new.core.store.state ≡ with_channel M c.args.channel (tokens M c.args.channel ++ c.args.token ∷ []) (capacity M c.args.channel) = ap (λ (x : StateAndHistory). x.state) c.feed.ensures.fed in
     let space : length (tokens M c.args.channel) < capacity M c.args.channel = omega (arith, c.tokens_and_capacity-held.ensures.tokens, c.tokens_and_capacity-held.ensures.capacity, c.if-held-capacity.false) in (
-      flowing_on kinds g.B.Kinds.Kinds.admits net inputs unended c.self.inside.outputs.items M c.feed.new.store.state c.self.inside.standings c.feed.new.standings (map (option_map g.B.Body.card) c.self.inside.bodies.items) c.self.inside.store.limit c.feed.new.store.limit c.self.inside.counts (Fed c.args.channel c.args.token) flow
-          (within, space, leaves) (input, tt) refl (record { keeps = c.feed.ensures.keeps; none_out = λ q e. flow.fits.none_out q (c.feed.ensures.none_sent q e) }) (ap (λ (x : StateAndHistory). x.limit) c.feed.ensures.fed),
-      c.feed.ensures.waiting,
+      flowing_on kinds g.B.Kinds.Kinds.admits net inputs unended c.self.inside.outputs.items M c.feed.new.core.store.state c.self.inside.core.standings c.feed.new.core.standings (map (option_map g.B.Body.card) c.self.inside.bodies.items) c.self.inside.core.store.limit c.feed.new.core.store.limit c.self.inside.counts (Fed c.args.channel c.args.token) flow
+          (within, space, leaves) (input, tt) refl (record { keeps = c.feed.ensures.coherent.keeps; none_out = λ q e. flow.fits.none_out q (c.feed.ensures.none_sent q e) }) (ap (λ (x : StateAndHistory). x.limit) c.feed.ensures.fed),
+      c.feed.ensures.coherent.waiting,
     )
 
 pub tokens_and_capacity-held-requires : goal.tokens_and_capacity-held-requires
@@ -35,8 +35,8 @@ tokens_and_capacity-held-requires g c =
     let there = (flow.ends.only_fed c.args.channel (flow.unended c.args.channel going)).0 in
     omega (arith, there, flow.fits.keeps.channels)
 
-pub feed-requires-clause-keeps : goal.feed-requires-clause-keeps
-feed-requires-clause-keeps g c κs within = c.self.invariant.0.fits.keeps
+pub feed-requires-clause-coherent : goal.feed-requires-clause-coherent
+feed-requires-clause-coherent g c κs within = record { keeps = c.self.invariant.0.fits.keeps; waiting = c.self.invariant.1 }
 
 pub feed-requires-clause-channel : goal.feed-requires-clause-channel
 feed-requires-clause-channel g c κs within =
@@ -47,9 +47,6 @@ feed-requires-clause-channel g c κs within =
 
 pub feed-requires-clause-sort : goal.feed-requires-clause-sort
 feed-requires-clause-sort g c κs within = rw (← c.self.view_is) at c.requires.sort
-
-pub feed-requires-clause-waiting : goal.feed-requires-clause-waiting
-feed-requires-clause-waiting g c κs within = c.self.invariant.1
 
 pub returns-clause-same : goal.returns-clause-same
 returns-clause-same g c = rw (← c.self.view_is) (record { network = refl; inputs = refl; unended = refl; outputs = refl })

@@ -6,5 +6,5 @@ use Rattle.kpn_flow.proofs.flow.Flow.is_starved.Goals as goal
 
 pub returns-clause-starving : goal.returns-clause-starving
 returns-clause-starving g c = rw (← c.self.view_is) (λ e.
-    starving_there (family_of g.B.Kinds.Kinds.start g.B.Kinds.Kinds.answer_of) g.B.Kinds.Kinds.admits c.self.inside.net c.self.inside.store.state c.self.inside.standings c.self.invariant.0.fits.keeps c.args.channel
+    starving_there (family_of g.B.Kinds.Kinds.start g.B.Kinds.Kinds.answer_of) g.B.Kinds.Kinds.admits c.self.inside.net c.self.inside.core.store.state c.self.inside.core.standings c.self.invariant.0.fits.keeps c.args.channel
     (rw c.as_slice.ensures.value at (sym c.starves.ensures ∙ e)))

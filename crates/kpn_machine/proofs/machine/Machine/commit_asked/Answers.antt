@@ -23,7 +23,7 @@ overflow_add-self g c =
 
 pub invariant_of-self : goal.invariant_of-self
 invariant_of-self g c =
-    let out : IsOutAt c.self.inside.net c.self.inside.store.state c.self.inside.standings c.args.finished = rw (← c.self.view_is) at c.requires in (
+    let out : IsOutAt c.self.inside.net c.self.inside.core.store.state c.self.inside.core.standings c.args.finished = rw (← c.self.view_is) at c.requires in (
       rw (map-set, c.lay_back.ensures, c.process-process.ensures, c.into_body.ensures) (sound_back c.self.invariant.0 c.args.finished out (some_of _ (sym c.is_some.ensures ∙ c.if-is_some.true))),
       c.self.invariant.1,
       rw (c.lay_back.ensures, c.process-process.ensures) (waiting_moved c.self.invariant.2 c.args.finished.process _ (rw out.out) refl),
@@ -34,26 +34,26 @@ returns-then-is_some-clause-appends g c = rw (← c.self.view_is) (record { entr
 
 pub returns-then-is_some-clause-back : goal.returns-then-is_some-clause-back
 returns-then-is_some-clause-back g c =
-    let out : IsOutAt c.self.inside.net c.self.inside.store.state c.self.inside.standings c.args.finished = rw (← c.self.view_is) at c.requires in
-    let here = standing_set_same c.self.inside.standings c.args.finished.process Ready (out_within c.self.invariant.0 c.args.finished out) in
+    let out : IsOutAt c.self.inside.net c.self.inside.core.store.state c.self.inside.core.standings c.args.finished = rw (← c.self.view_is) at c.requires in
+    let here = standing_set_same c.self.inside.core.standings c.args.finished.process Ready (out_within c.self.invariant.0 c.args.finished out) in
     rw (c.lay_back.ensures, c.process-process.ensures, here) (λ e. cc)
 
 pub invariant_of-self-2 : goal.invariant_of-self-2
 invariant_of-self-2 g c =
-    let out : IsOutAt c.self.inside.net c.self.inside.store.state c.self.inside.standings c.args.finished = rw (← c.self.view_is) at c.requires in
+    let out : IsOutAt c.self.inside.net c.self.inside.core.store.state c.self.inside.core.standings c.args.finished = rw (← c.self.view_is) at c.requires in
     let none = none_of _ (sym c.is_some.ensures ∙ c.if-is_some.false) in
     let w = rw (c.process-process.ensures, c.answer-answer.ensures) at c.work-outcome.ensures.works in (
-      rw (map-set, c.process-process.ensures, c.into_body.ensures) (worked c.self.invariant.0 c.args.finished out none _ _ _ _ _ _ w c.work-outcome.ensures.keeps).sound,
+      rw (map-set, c.process-process.ensures, c.into_body.ensures) (worked c.self.invariant.0 c.args.finished out none _ _ _ _ _ _ w c.work-outcome.ensures.coherent.keeps).sound,
       c.self.invariant.1,
-      c.work-outcome.ensures.waiting,
+      c.work-outcome.ensures.coherent.waiting,
     )
 
 pub returns : goal.returns
 returns g c =
-    let out : IsOutAt c.self.inside.net c.self.inside.store.state c.self.inside.standings c.args.finished = rw (← c.self.view_is) at c.requires in
+    let out : IsOutAt c.self.inside.net c.self.inside.core.store.state c.self.inside.core.standings c.args.finished = rw (← c.self.view_is) at c.requires in
     let none = none_of _ (sym c.is_some.ensures ∙ c.if-is_some.false) in
     let works = rw (c.process-process.ensures, c.answer-answer.ensures) at c.work-outcome.ensures.works in
-    let w = worked c.self.invariant.0 c.args.finished out none _ _ _ _ _ _ works c.work-outcome.ensures.keeps in
+    let w = worked c.self.invariant.0 c.args.finished out none _ _ _ _ _ _ works c.work-outcome.ensures.coherent.keeps in
     record {
       commits = rw (← c.self.view_is) w.commits;
       appends = rw (← c.self.view_is) w.appends;
@@ -65,7 +65,7 @@ returns g c =
 
 pub lay_back-requires : goal.lay_back-requires
 lay_back-requires g c =
-    let out : IsOutAt c.self.inside.net c.self.inside.store.state c.self.inside.standings c.args.finished = rw (← c.self.view_is) at c.requires in
+    let out : IsOutAt c.self.inside.net c.self.inside.core.store.state c.self.inside.core.standings c.args.finished = rw (← c.self.view_is) at c.requires in
     rw c.process-process.ensures (out_within c.self.invariant.0 c.args.finished out)
 
 pub returns-then-is_some-clause-commits : goal.returns-then-is_some-clause-commits
@@ -80,23 +80,20 @@ returns-then-is_some-clause-ends g c = rw (← c.self.view_is) (λ none. absurd 
 pub returns-then-is_some-clause-others : goal.returns-then-is_some-clause-others
 returns-then-is_some-clause-others g c =
     rw (← c.self.view_is, c.lay_back.ensures, c.process-process.ensures)
-    (λ p ne. let same = standing_set_other c.self.inside.standings c.args.finished.process p Ready ne in (λ is. sym same ∙ is, λ was. same ∙ was))
+    (λ p ne. let same = standing_set_other c.self.inside.core.standings c.args.finished.process p Ready ne in (λ is. sym same ∙ is, λ was. same ∙ was))
 
-pub work-outcome-requires-clause-keeps : goal.work-outcome-requires-clause-keeps
-work-outcome-requires-clause-keeps g c κs within = c.self.invariant.0.keeps
+pub work-outcome-requires-clause-coherent : goal.work-outcome-requires-clause-coherent
+work-outcome-requires-clause-coherent g c κs within = record { keeps = c.self.invariant.0.keeps; waiting = c.self.invariant.2 }
 
 pub work-outcome-requires-clause-process : goal.work-outcome-requires-clause-process
 work-outcome-requires-clause-process g c κs within =
-    let out : IsOutAt c.self.inside.net c.self.inside.store.state c.self.inside.standings c.args.finished = rw (← c.self.view_is) at c.requires in
+    let out : IsOutAt c.self.inside.net c.self.inside.core.store.state c.self.inside.core.standings c.args.finished = rw (← c.self.view_is) at c.requires in
     rw c.process-process.ensures (out_within c.self.invariant.0 c.args.finished out)
 
 pub work-outcome-requires-clause-busy : goal.work-outcome-requires-clause-busy
 work-outcome-requires-clause-busy g c κs within =
-    let out : IsOutAt c.self.inside.net c.self.inside.store.state c.self.inside.standings c.args.finished = rw (← c.self.view_is) at c.requires in
+    let out : IsOutAt c.self.inside.net c.self.inside.core.store.state c.self.inside.core.standings c.args.finished = rw (← c.self.view_is) at c.requires in
     rw (c.process-process.ensures, out.out) refl
-
-pub work-outcome-requires-clause-waiting : goal.work-outcome-requires-clause-waiting
-work-outcome-requires-clause-waiting g c κs within = c.self.invariant.2
 
 pub answer-answer-requires : goal.answer-answer-requires
 answer-answer-requires g c = search sendable
@@ -112,6 +109,6 @@ process-process-requires g c = search sendable
 
 pub index_mut-requires : goal.index_mut-requires
 index_mut-requires g c =
-    let out : IsOutAt c.self.inside.net c.self.inside.store.state c.self.inside.standings c.args.finished = rw (← c.self.view_is) at c.requires in
+    let out : IsOutAt c.self.inside.net c.self.inside.core.store.state c.self.inside.core.standings c.args.finished = rw (← c.self.view_is) at c.requires in
     let sound = c.self.invariant.0 in
     rw c.process-process.ensures (omega (arith, out_within sound c.args.finished out, sound.keeps.one_each, sound.many_bodies, length-map c.self.inside.bodies.items (option_map g.B.Body.card), c.self.inside.bodies.ok.0))

@@ -21,53 +21,50 @@ overflow_add-self g c =
     let small = valid.small_budget in
     omega arith
 
-pub work_on-requires-clause-keeps : goal.work_on-requires-clause-keeps
-work_on-requires-clause-keeps g c κs within = c.self.invariant.0.keeps
+pub work_on-requires-clause-coherent : goal.work_on-requires-clause-coherent
+work_on-requires-clause-coherent g c κs within = record { keeps = c.self.invariant.0.keeps; waiting = c.self.invariant.2 }
 
 pub work_on-requires-clause-process : goal.work_on-requires-clause-process
 work_on-requires-clause-process g c κs within =
-    let out : IsOutAt c.self.inside.net c.self.inside.store.state c.self.inside.standings c.args.task.now = rw (← c.self.view_is) at c.requires.out in
+    let out : IsOutAt c.self.inside.net c.self.inside.core.store.state c.self.inside.core.standings c.args.task.now = rw (← c.self.view_is) at c.requires.out in
     rw c.process-process.ensures (out_within c.self.invariant.0 c.args.task.now out)
 
 pub work_on-requires-clause-busy : goal.work_on-requires-clause-busy
 work_on-requires-clause-busy g c κs within =
-    let out : IsOutAt c.self.inside.net c.self.inside.store.state c.self.inside.standings c.args.task.now = rw (← c.self.view_is) at c.requires.out in
+    let out : IsOutAt c.self.inside.net c.self.inside.core.store.state c.self.inside.core.standings c.args.task.now = rw (← c.self.view_is) at c.requires.out in
     rw (c.process-process.ensures, out.out) refl
-
-pub work_on-requires-clause-waiting : goal.work_on-requires-clause-waiting
-work_on-requires-clause-waiting g c κs within = c.self.invariant.2
 
 pub work_on-requires-clause-wants : goal.work_on-requires-clause-wants
 work_on-requires-clause-wants g c κs within =
-    let out : IsOutAt c.self.inside.net c.self.inside.store.state c.self.inside.standings c.args.task.now = rw (← c.self.view_is) at c.requires.out in
+    let out : IsOutAt c.self.inside.net c.self.inside.core.store.state c.self.inside.core.standings c.args.task.now = rw (← c.self.view_is) at c.requires.out in
     rw (c.process-process.ensures, c.requires.answer, out.live, out.card) refl
 
 pub invariant_of-self-2 : goal.invariant_of-self-2
 invariant_of-self-2 g c =
-    let out : IsOutAt c.self.inside.net c.self.inside.store.state c.self.inside.standings c.args.task.now = rw (← c.self.view_is) at c.requires.out in
+    let out : IsOutAt c.self.inside.net c.self.inside.core.store.state c.self.inside.core.standings c.args.task.now = rw (← c.self.view_is) at c.requires.out in
     let none = none_of _ (sym c.is_some.ensures ∙ c.if-is_some.false) in
     let did = rw (c.process-process.ensures, c.requires.answer) at c.in_ok-outcome.ensures in
-    let w = went_on c.self.invariant.0 c.args.task.now out none c.in_ok-outcome.outcome _ _ _ _ did.stays did.many did.works did.keeps _ _ (rw c.process-process.ensures at (sym c.status.ensures ∙ c.in-Live.is)) in
-    let stand : standing c.work_on.new.standings c.args.task.now.process ≡ Out = did.stays ∙ out.out in (
+    let w = went_on c.self.invariant.0 c.args.task.now out none c.in_ok-outcome.outcome _ _ _ _ did.stays did.many did.works did.coherent.keeps _ _ (rw c.process-process.ensures at (sym c.status.ensures ∙ c.in-Live.is)) in
+    let stand : standing c.work_on.new.core.standings c.args.task.now.process ≡ Out = did.stays ∙ out.out in (
       w.sound,
       c.self.invariant.1,
-      rw (set-set, ← stand, set-get_or c.work_on.new.standings c.args.task.now.process Stopped) at (waiting_moved did.waiting c.args.task.now.process Out (rw (standing_set_same c.work_on.new.standings c.args.task.now.process Ready (omega (arith, out_within c.self.invariant.0 c.args.task.now out, did.many))) refl) refl),
+      rw (set-set, ← stand, set-get_or c.work_on.new.core.standings c.args.task.now.process Stopped) at (waiting_moved did.coherent.waiting c.args.task.now.process Out (rw (standing_set_same c.work_on.new.core.standings c.args.task.now.process Ready (omega (arith, out_within c.self.invariant.0 c.args.task.now out, did.many))) refl) refl),
     )
 
 pub returns-clause-goes : goal.returns-clause-goes
 returns-clause-goes g c =
-    let out : IsOutAt c.self.inside.net c.self.inside.store.state c.self.inside.standings c.args.task.now = rw (← c.self.view_is) at c.requires.out in
+    let out : IsOutAt c.self.inside.net c.self.inside.core.store.state c.self.inside.core.standings c.args.task.now = rw (← c.self.view_is) at c.requires.out in
     let none = none_of _ (sym c.is_some.ensures ∙ c.if-is_some.false) in
     let did = rw (c.process-process.ensures, c.requires.answer) at c.in_ok-outcome.ensures in
-    let w = went_on c.self.invariant.0 c.args.task.now out none c.in_ok-outcome.outcome _ _ _ _ did.stays did.many did.works did.keeps _ _ (rw c.process-process.ensures at (sym c.status.ensures ∙ c.in-Live.is)) in
+    let w = went_on c.self.invariant.0 c.args.task.now out none c.in_ok-outcome.outcome _ _ _ _ did.stays did.many did.works did.coherent.keeps _ _ (rw c.process-process.ensures at (sym c.status.ensures ∙ c.in-Live.is)) in
     rw (← c.self.view_is, c.renew.ensures) w.goes
 
 pub unreachable-requires : goal.unreachable-requires
 unreachable-requires g c =
-    let out : IsOutAt c.self.inside.net c.self.inside.store.state c.self.inside.standings c.args.task.now = rw (← c.self.view_is) at c.requires.out in
+    let out : IsOutAt c.self.inside.net c.self.inside.core.store.state c.self.inside.core.standings c.args.task.now = rw (← c.self.view_is) at c.requires.out in
     let did = rw c.process-process.ensures at c.in_ok-outcome.ensures in
-    let here = standing_set_same c.work_on.new.standings c.args.task.now.process Ready (omega (arith, out_within c.self.invariant.0 c.args.task.now out, did.many)) in
-    let done = did.keeps.done c.args.task.now.process (rw c.process-process.ensures at (sym c.status.ensures ∙ c.in_default.is)) in
+    let here = standing_set_same c.work_on.new.core.standings c.args.task.now.process Ready (omega (arith, out_within c.self.invariant.0 c.args.task.now out, did.many)) in
+    let done = did.coherent.keeps.done c.args.task.now.process (rw c.process-process.ensures at (sym c.status.ensures ∙ c.in_default.is)) in
     cc
 
 pub assure_valid-requires : goal.assure_valid-requires
@@ -80,7 +77,7 @@ pub returns-in_err-outcome-clause-cannot : goal.returns-in_err-outcome-clause-ca
 returns-in_err-outcome-clause-cannot g c = rw (c.from_residual.ensures, ← c.self.view_is) (λ _. rw c.process-process.ensures at c.in_err-outcome.ensures.cannot)
 
 pub status-requires : goal.status-requires
-status-requires g c = let out : IsOutAt c.self.inside.net c.self.inside.store.state c.self.inside.standings c.args.task.now = rw (← c.self.view_is) at c.requires.out in let did = c.in_ok-outcome.ensures in rw c.process-process.ensures (omega (arith, out_within c.self.invariant.0 c.args.task.now out, did.keeps.one_each, did.keeps.processes, did.many, length-set c.work_on.new.standings c.process-process.result Ready))
+status-requires g c = let out : IsOutAt c.self.inside.net c.self.inside.core.store.state c.self.inside.core.standings c.args.task.now = rw (← c.self.view_is) at c.requires.out in let did = c.in_ok-outcome.ensures in rw c.process-process.ensures (omega (arith, out_within c.self.invariant.0 c.args.task.now out, did.coherent.keeps.one_each, did.coherent.keeps.processes, did.many, length-set c.work_on.new.core.standings c.process-process.result Ready))
 
 pub renew-requires : goal.renew-requires
-renew-requires g c = let out : IsOutAt c.self.inside.net c.self.inside.store.state c.self.inside.standings c.args.task.now = rw (← c.self.view_is) at c.requires.out in let did = c.in_ok-outcome.ensures in (search sendable, (search sendable, (search sendable, rw (← out.card) (rw c.process-process.ensures at (did.keeps.well_typed.locals _ _ _ (sym c.status.ensures ∙ c.in-Live.is))))))
+renew-requires g c = let out : IsOutAt c.self.inside.net c.self.inside.core.store.state c.self.inside.core.standings c.args.task.now = rw (← c.self.view_is) at c.requires.out in let did = c.in_ok-outcome.ensures in (search sendable, (search sendable, (search sendable, rw (← out.card) (rw c.process-process.ensures at (did.coherent.keeps.well_typed.locals _ _ _ (sym c.status.ensures ∙ c.in-Live.is))))))

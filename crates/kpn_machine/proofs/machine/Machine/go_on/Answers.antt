@@ -9,20 +9,23 @@ use Rattle.kpn_machine.proofs.Rounds.{gone, room_after}
 use Rattle.kpn_machine.proofs.Sound.{commits_fit}
 use Rattle.kpn_machine.proofs.machine.Machine.go_on.Goals as goal
 
+pub ask_ready-asked-requires-clause-coherent : goal.ask_ready-asked-requires-clause-coherent
+ask_ready-asked-requires-clause-coherent g c κs within = record { keeps = c.self.invariant.0.keeps; waiting = c.self.invariant.2 }
+
 pub settle-ended-requires-clause-room : goal.settle-ended-requires-clause-room
 settle-ended-requires-clause-room g c κs within =
     let asked = rw c.budget-budget.ensures at c.ask_ready-asked.ensures.asked in
     let none : c.self.inside.end ≡ None = rw (← c.self.view_is) at c.requires in
-    let less : length c.self.inside.store.history < c.self.inside.net.budget = rw none at c.self.invariant.0.ends in
-    room_after (family_of g.B.Kinds.Kinds.start g.B.Kinds.Kinds.answer_of) g.B.Kinds.Kinds.admits c.self.inside.net asked.0 c.self.inside.store c.ask_ready-asked.new.store c.self.inside.standings c.ask_ready-asked.new.standings
+    let less : length c.self.inside.core.store.history < c.self.inside.net.budget = rw none at c.self.invariant.0.ends in
+    room_after (family_of g.B.Kinds.Kinds.start g.B.Kinds.Kinds.answer_of) g.B.Kinds.Kinds.admits c.self.inside.net asked.0 c.self.inside.core.store c.ask_ready-asked.new.core.store c.self.inside.core.standings c.ask_ready-asked.new.core.standings
     (omega (arith, c.self.invariant.0.limit_is)) (λ idle. omega (arith, c.self.invariant.0.limit_is)) asked.2
 
 pub overflow_add-self : goal.overflow_add-self
 overflow_add-self g c =
     let asked = rw c.budget-budget.ensures at c.ask_ready-asked.ensures.asked in
     let none : c.self.inside.end ≡ None = rw (← c.self.view_is) at c.requires in
-    let all = gone (family_of g.B.Kinds.Kinds.start g.B.Kinds.Kinds.answer_of) g.B.Kinds.Kinds.admits c.self.inside.net (map (option_map g.B.Body.card) c.self.inside.bodies.items) c.self.inside.store c.ask_ready-asked.new.store c.settle-ended.new.store
-    c.self.inside.standings c.ask_ready-asked.new.standings c.settle-ended.new.standings c.self.inside.end c.self.inside.commits c.ask_ready-asked.result c.self.invariant.0 none asked c.settle-ended.result.0 c.settle-ended.ensures.resolves c.settle-ended.ensures.keeps c.settle-ended.result.1 c.settle-ended.ensures.ended in
+    let all = gone (family_of g.B.Kinds.Kinds.start g.B.Kinds.Kinds.answer_of) g.B.Kinds.Kinds.admits c.self.inside.net (map (option_map g.B.Body.card) c.self.inside.bodies.items) c.self.inside.core.store c.ask_ready-asked.new.core.store c.settle-ended.new.core.store
+    c.self.inside.core.standings c.ask_ready-asked.new.core.standings c.settle-ended.new.core.standings c.self.inside.end c.self.inside.commits c.ask_ready-asked.result c.self.invariant.0 none asked c.settle-ended.result.0 c.settle-ended.ensures.resolves c.settle-ended.ensures.coherent.keeps c.settle-ended.result.1 c.settle-ended.ensures.ended in
     let valid = c.assure_valid.ensures.valid in
     let few = all.sound.few in
     let fit = commits_fit all.sound in
@@ -34,16 +37,16 @@ pub invariant_of-self : goal.invariant_of-self
 invariant_of-self g c =
     let asked = rw c.budget-budget.ensures at c.ask_ready-asked.ensures.asked in
     let none : c.self.inside.end ≡ None = rw (← c.self.view_is) at c.requires in
-    let all = gone (family_of g.B.Kinds.Kinds.start g.B.Kinds.Kinds.answer_of) g.B.Kinds.Kinds.admits c.self.inside.net (map (option_map g.B.Body.card) c.self.inside.bodies.items) c.self.inside.store c.ask_ready-asked.new.store c.settle-ended.new.store
-    c.self.inside.standings c.ask_ready-asked.new.standings c.settle-ended.new.standings c.self.inside.end c.self.inside.commits c.ask_ready-asked.result c.self.invariant.0 none asked c.settle-ended.result.0 c.settle-ended.ensures.resolves c.settle-ended.ensures.keeps c.settle-ended.result.1 c.settle-ended.ensures.ended in
-    (rw c.note_end.ensures all.sound, c.self.invariant.1, c.settle-ended.ensures.waiting)
+    let all = gone (family_of g.B.Kinds.Kinds.start g.B.Kinds.Kinds.answer_of) g.B.Kinds.Kinds.admits c.self.inside.net (map (option_map g.B.Body.card) c.self.inside.bodies.items) c.self.inside.core.store c.ask_ready-asked.new.core.store c.settle-ended.new.core.store
+    c.self.inside.core.standings c.ask_ready-asked.new.core.standings c.settle-ended.new.core.standings c.self.inside.end c.self.inside.commits c.ask_ready-asked.result c.self.invariant.0 none asked c.settle-ended.result.0 c.settle-ended.ensures.resolves c.settle-ended.ensures.coherent.keeps c.settle-ended.result.1 c.settle-ended.ensures.ended in
+    (rw c.note_end.ensures all.sound, c.self.invariant.1, c.settle-ended.ensures.coherent.waiting)
 
 pub returns-clause-rounds : goal.returns-clause-rounds
 returns-clause-rounds g c =
     let asked = rw c.budget-budget.ensures at c.ask_ready-asked.ensures.asked in
     let none : c.self.inside.end ≡ None = rw (← c.self.view_is) at c.requires in
-    let all = gone (family_of g.B.Kinds.Kinds.start g.B.Kinds.Kinds.answer_of) g.B.Kinds.Kinds.admits c.self.inside.net (map (option_map g.B.Body.card) c.self.inside.bodies.items) c.self.inside.store c.ask_ready-asked.new.store c.settle-ended.new.store
-    c.self.inside.standings c.ask_ready-asked.new.standings c.settle-ended.new.standings c.self.inside.end c.self.inside.commits c.ask_ready-asked.result c.self.invariant.0 none asked c.settle-ended.result.0 c.settle-ended.ensures.resolves c.settle-ended.ensures.keeps c.settle-ended.result.1 c.settle-ended.ensures.ended in
+    let all = gone (family_of g.B.Kinds.Kinds.start g.B.Kinds.Kinds.answer_of) g.B.Kinds.Kinds.admits c.self.inside.net (map (option_map g.B.Body.card) c.self.inside.bodies.items) c.self.inside.core.store c.ask_ready-asked.new.core.store c.settle-ended.new.core.store
+    c.self.inside.core.standings c.ask_ready-asked.new.core.standings c.settle-ended.new.core.standings c.self.inside.end c.self.inside.commits c.ask_ready-asked.result c.self.invariant.0 none asked c.settle-ended.result.0 c.settle-ended.ensures.resolves c.settle-ended.ensures.coherent.keeps c.settle-ended.result.1 c.settle-ended.ensures.ended in
     (all.outcomes, all.count, rw (← c.self.view_is, c.note_end.ensures) all.rounds)
 
 pub assure_valid-requires : goal.assure_valid-requires

@@ -18,12 +18,12 @@ use Rattle.kpn_machine.proofs.machine.Machine.into_parts.Goals as goal
 
 pub loop-p-init : goal.loop-p-init
 loop-p-init g c =
-    let ready : list_all is_ready c.self.inside.standings ≡ true = rw (← c.self.view_is) at c.requires.all_ready in
+    let ready : list_all is_ready c.self.inside.core.standings ≡ true = rw (← c.self.view_is) at c.requires.all_ready in
     let all = length-map c.self.inside.bodies.items (option_map g.B.Body.card) in
     let sound = c.self.invariant.0 in
     let spare = c.self.invariant.1 in
     rw (← c.self.view_is) (record {
-      kept = λ q from below. sound.has_bodies q below (ready_not_out_at c.self.inside.standings q ready) ∙ ap (λ (x : Card). Some x) (sym (card_at c.self.inside.net.processes q));
+      kept = λ q from below. sound.has_bodies q below (ready_not_out_at c.self.inside.core.standings q ready) ∙ ap (λ (x : Card). Some x) (sym (card_at c.self.inside.net.processes q));
       back = λ q below. absurd (omega arith);
       many = ap length spare.emptied;
       slots = sym all ∙ sound.many_bodies;

@@ -1,5 +1,5 @@
 -- A channel and its capacity are removed, and one mark.
-use Rattle.kpn_commit.proofs.resolution.unlist.Goals as goal
+use Rattle.kpn_commit.proofs.parking.unlist.Goals as goal
 
 pub returns-clause-pairs : goal.returns-clause-pairs
 returns-clause-pairs c = c.remove.ensures.pairs
