@@ -3,6 +3,7 @@ ghost use Rattle.std.specs.Prelude.{◌≡◌, ◌++◌, ◌<◌, OnOk, length, 
 ghost use Rattle.kpn_model.specs.NamesAndLines.{lines_upto};
 ghost use Rattle.hox_run.specs.Cuts.{after_verdict, left_at, left_line, left_text};
 
+use crate::ended::Ended;
 use crate::shown::{ChannelAs, channel_name, push_streams};
 use kpn_model::{End, Kinds, Place};
 use kpn_network::Net;
@@ -20,19 +21,15 @@ use std::fmt::Write;
 pub(crate) fn push_after_verdict<K: Kinds, E: Entries>(
     alloc: Global,
     out: &mut String,
-    net: &Net<K>,
-    history: &E,
-    standings: &[Standing],
-    places: &[Place],
-    end: End,
+    run: &Ended<'_, K, E>,
     show: &[ChannelAs<Decimals>],
 ) -> Result<(), AllocError>
-    ensures { OnOk result (string_bytes out.new ≡ string_bytes out.old ++ after_verdict net.now end (E.entries history.now) (left_at standings.now places.now) show.now) }
+    ensures { OnOk result (string_bytes out.new ≡ string_bytes out.old ++ after_verdict run.now.net.now run.now.end (E.entries run.now.history.now) (left_at run.now.standings.now run.now.places.now) show.now) }
 {
-    match end {
+    match run.end {
         End::Budget => {
-            push_left(out, net, standings, places)?;
-            push_streams(alloc, out, net, history, show, "prefix ")
+            push_left(out, run.net, run.standings, run.places)?;
+            push_streams(alloc, out, run, show, "prefix ")
         }
         End::Terminated | End::Deadlock | End::Ceiling | End::Memory => Ok(()),
     }

@@ -3,6 +3,7 @@
 #![tactic(auto)]
 
 mod cut;
+mod ended;
 mod files;
 mod notes;
 mod progress;
@@ -16,5 +17,5 @@ pub use notes::{Notes, SourceNote};
 pub use progress::{Progress, Silent, SoFar};
 pub use running::execute;
 pub use serving::serve;
-pub use shown::ChannelAs;
+pub use shown::{ChannelAs, Wanted};
 pub use telling::Told;

@@ -7,6 +7,7 @@ ghost use Rattle.hox_run.specs.Cuts.{left_at};
 ghost use Rattle.hox_run.specs.Notes.{AreNotes, has_put, is_place_of_stopped, is_put_on, is_source, is_taken_from, source_of, sources_upto, spent, taken_count};
 
 use crate::cut::left_at;
+use crate::ended::Ended;
 use kpn_model::{Deed, End, Entry, Kinds, Place, Text};
 use kpn_network::Net;
 use kpn_report::Entries;
@@ -35,23 +36,19 @@ pub struct Notes {
 /// Errors: memory was refused.
 pub(crate) fn notes_of<K: Kinds, E: Entries>(
     alloc: Global,
-    net: &Net<K>,
-    history: &E,
-    standings: &[Standing],
-    places: &[Place],
-    end: End,
+    run: &Ended<'_, K, E>,
 ) -> Result<Notes, AllocError>
-    ensures { IfOk result (AreNotes net.now end (E.entries history.now) (left_at standings.now places.now)) }
+    ensures { IfOk result (AreNotes run.now.net.now run.now.end (E.entries run.now.history.now) (left_at run.now.standings.now run.now.places.now)) }
 {
     let mut sources = Vec::new(alloc);
-    for c in 0..net.channels() {
-        if is_source(net, history, standings, places, c) {
-            sources.push(source_of(alloc, net, history, c)?)?;
+    for c in 0..run.net.channels() {
+        if is_source(run, c) {
+            sources.push(source_of(alloc, run.net, run.history, c)?)?;
         }
     }
     Ok(Notes {
         sources,
-        budget: spent(net, end),
+        budget: spent(run.net, run.end),
     })
 }
 
@@ -67,17 +64,14 @@ fn spent<K: Kinds>(net: &Net<K>, end: End) -> Option<u64>
 
 /// Whether the writer of a channel has stopped, and put nothing on it.
 fn is_source<K: Kinds, E: Entries>(
-    net: &Net<K>,
-    history: &E,
-    standings: &[Standing],
-    places: &[Place],
+    run: &Ended<'_, K, E>,
     c: usize,
 ) -> bool
-    requires { c < length net.now.channels }
-    ensures { result ≡ is_source net.now (E.entries history.now) (left_at standings.now places.now) c }
+    requires { c < length run.now.net.now.channels }
+    ensures { result ≡ is_source run.now.net.now (E.entries run.now.history.now) (left_at run.now.standings.now run.now.places.now) c }
 {
-    let left = left_at(standings, places, net.ends(c).writer);
-    is_stopped(left) && !has_put(history, c)
+    let left = left_at(run.standings, run.places, run.net.ends(c).writer);
+    is_stopped(left) && !has_put(run.history, c)
 }
 
 /// Whether a process was left stopped.

@@ -8,7 +8,7 @@ ghost use Rattle.hox_run.specs.Cuts.{IsWithin};
 ghost use Rattle.hox_run.specs.Telling.{TellsRun};
 
 use crate::progress::{OnBoard, Progress, tell_of};
-use crate::shown::ChannelAs;
+use crate::shown::Wanted;
 use crate::telling::{Told, told_of};
 use hox_network::RunFault;
 use kpn_body::Body;
@@ -19,7 +19,6 @@ use kpn_observe::{WatchedFault, WatchedRun, run_watched_with_keeper};
 use kpn_report::Tallied;
 use kpn_run::{Prompt, RunFault as Fault, run_with_keeper};
 use kpn_state::{Keeper, Packed};
-use kpn_tokens::{Decimals, Layout};
 use std::alloc::{AllocError, Global};
 use std::rt::Clock;
 use std::sync::Wait;
@@ -33,8 +32,7 @@ const PIECE: u64 = 100_000;
 const PERIOD: u64 = 100;
 
 /// Runs a network by 1 to 16 workers, and returns what is told of the run: its exit status, its report with
-/// the verdict on it and the streams of the channels of `show`, and the stream of each channel of
-/// `outputs` as a file. A single worker is the calling thread.
+/// the verdict on it and the streams that are wanted of it. A single worker is the calling thread.
 ///
 /// If the run came to its own end, the same is told of each run of the network that is over, whatever the
 /// schedule and the number of workers (Kahn 1974). A run that was cut by its budget gives the streams as far as
@@ -47,24 +45,23 @@ pub fn execute<K: Computes, R: Wait + Clock + Threads + Sync, P: Progress>(
     alloc: Global,
     net: Net<K>,
     workers: usize,
-    show: &[ChannelAs<Decimals>],
-    outputs: &[ChannelAs<Layout>],
+    wanted: Wanted<'_>,
     progress: &P,
 ) -> Result<Told, RunFault>
     requires workers { (1 ≤ workers) × (workers ≤ 16) }
-    requires within { All (IsWithin net) outputs.now }
-    ensures told { IfOk result (TellsRun (family K.Kinds) net show.now outputs.now) }
+    requires within { All (IsWithin net) wanted.outputs.now }
+    ensures told { IfOk result (TellsRun (family K.Kinds) net wanted.show.now wanted.outputs.now) }
     ensures lost { result ≡ Err RunFault.Lost → 1 < workers }
 {
     let Ok(bodies) = bodies_of(alloc, &net) else {
         return Err(RunFault::Memory);
     };
     if workers == 1 {
-        execute_alone(alloc, net, bodies, show, outputs, progress).map_err(|_| RunFault::Memory)
+        execute_alone(alloc, net, bodies, wanted, progress).map_err(|_| RunFault::Memory)
     } else if progress.is_wanted() {
-        execute_watched(rt, alloc, net, bodies, workers, show, outputs, progress)
+        execute_watched(rt, alloc, net, bodies, workers, wanted, progress)
     } else {
-        execute_by_workers(rt, alloc, net, bodies, workers, show, outputs)
+        execute_by_workers(rt, alloc, net, bodies, workers, wanted)
     }
 }
 
@@ -73,12 +70,11 @@ fn execute_alone<K: Computes, P: Progress>(
     alloc: Global,
     net: Net<K>,
     bodies: Vec<CardBody<K>>,
-    show: &[ChannelAs<Decimals>],
-    outputs: &[ChannelAs<Layout>],
+    wanted: Wanted<'_>,
     progress: &P,
 ) -> Result<Told, AllocError>
-    requires within { All (IsWithin net) outputs.now }
-    ensures { IfOk result (TellsRun (family K.Kinds) net show.now outputs.now) }
+    requires within { All (IsWithin net) wanted.outputs.now }
+    ensures { IfOk result (TellsRun (family K.Kinds) net wanted.show.now wanted.outputs.now) }
 {
     let Ok(mut machine) = Machine::<CardBody<K>, Tallied>::open_with_keeper(alloc, net, bodies)
     else {
@@ -86,7 +82,7 @@ fn execute_alone<K: Computes, P: Progress>(
     };
     finish(&mut machine, progress);
     let chronicle = machine.into_chronicle();
-    told_of(alloc, &chronicle, chronicle.keeper(), show, outputs)
+    told_of(alloc, &chronicle, chronicle.keeper(), wanted)
 }
 
 /// Runs to an end in the calling thread, a piece at a time. No process may be out.
@@ -121,20 +117,19 @@ fn execute_by_workers<K: Computes, R: Wait + Clock + Threads + Sync>(
     net: Net<K>,
     bodies: Vec<CardBody<K>>,
     workers: usize,
-    show: &[ChannelAs<Decimals>],
-    outputs: &[ChannelAs<Layout>],
+    wanted: Wanted<'_>,
 ) -> Result<Told, RunFault>
     requires cards { map ⟦<CardBody<K> as Body>⟧.card bodies.items ≡ map (λ p. p.card) net.processes }
     requires workers { (1 < workers) × (workers ≤ 16) }
-    requires within { All (IsWithin net) outputs.now }
-    ensures { IfOk result (TellsRun (family K.Kinds) net show.now outputs.now) }
+    requires within { All (IsWithin net) wanted.outputs.now }
+    ensures { IfOk result (TellsRun (family K.Kinds) net wanted.show.now wanted.outputs.now) }
 {
     match run_with_keeper::<CardBody<K>, Packed, R, Prompt>(
         rt, alloc, net, bodies, workers, &Prompt,
     ) {
         Ok(finish) => {
             let chronicle = finish.chronicle();
-            told_of(alloc, chronicle, chronicle.keeper(), show, outputs).map_err(
+            told_of(alloc, chronicle, chronicle.keeper(), wanted).map_err(
                 |_| RunFault::Memory,
             )
         }
@@ -153,21 +148,20 @@ fn execute_watched<K: Computes, R: Wait + Clock + Threads + Sync, P: Progress>(
     net: Net<K>,
     bodies: Vec<CardBody<K>>,
     workers: usize,
-    show: &[ChannelAs<Decimals>],
-    outputs: &[ChannelAs<Layout>],
+    wanted: Wanted<'_>,
     progress: &P,
 ) -> Result<Told, RunFault>
     requires cards { map ⟦<CardBody<K> as Body>⟧.card bodies.items ≡ map (λ p. p.card) net.processes }
     requires workers { (1 < workers) × (workers ≤ 16) }
-    requires within { All (IsWithin net) outputs.now }
-    ensures { IfOk result (TellsRun (family K.Kinds) net show.now outputs.now) }
+    requires within { All (IsWithin net) wanted.outputs.now }
+    ensures { IfOk result (TellsRun (family K.Kinds) net wanted.show.now wanted.outputs.now) }
 {
     let observer = OnBoard { progress };
     let period = Duration::from_millis(PERIOD);
     match run_watched_with_keeper::<CardBody<K>, Packed, R, Prompt, OnBoard<'_, P>>(
         rt, alloc, net, bodies, workers, &Prompt, period, &observer,
     ) {
-        Ok(ran) => told_of_watched(alloc, &ran, show, outputs),
+        Ok(ran) => told_of_watched(alloc, &ran, wanted),
         Err(WatchedFault::Memory { .. }) => Err(RunFault::Memory),
         Err(WatchedFault::Stopped { .. }) => Err(RunFault::Lost),
         Err(WatchedFault::Lost { .. }) => Err(RunFault::Lost),
@@ -181,15 +175,14 @@ fn execute_watched<K: Computes, R: Wait + Clock + Threads + Sync, P: Progress>(
 fn told_of_watched<K: Computes>(
     alloc: Global,
     ran: &WatchedRun<K, Packed>,
-    show: &[ChannelAs<Decimals>],
-    outputs: &[ChannelAs<Layout>],
+    wanted: Wanted<'_>,
 ) -> Result<Told, RunFault>
-    requires within { All (IsWithin ran.now.machine.network) outputs.now }
-    ensures { IfOk result (TellsRun (family K.Kinds) ran.now.machine.network show.now outputs.now) }
+    requires within { All (IsWithin ran.now.machine.network) wanted.outputs.now }
+    ensures { IfOk result (TellsRun (family K.Kinds) ran.now.machine.network wanted.show.now wanted.outputs.now) }
 {
     if ran.end().is_none() {
         return Err(RunFault::Lost);
     }
     let chronicle = ran.chronicle();
-    told_of(alloc, chronicle, chronicle.keeper(), show, outputs).map_err(|_| RunFault::Memory)
+    told_of(alloc, chronicle, chronicle.keeper(), wanted).map_err(|_| RunFault::Memory)
 }

@@ -10,7 +10,7 @@ ghost use Rattle.hox_run.specs.Serving.{AreNamed, GivesRun, IsNamed, names_of};
 
 use crate::progress::Progress;
 use crate::running::execute;
-use crate::shown::ChannelAs;
+use crate::shown::{ChannelAs, Wanted};
 use crate::telling::Told;
 use hox_network::{Fault, Request, RunFault, StreamAs, channel_names, prepare};
 use kpn_compute::Computes;
@@ -59,15 +59,11 @@ fn serve_prepared<K: Computes, R: Wait + Clock + Threads + Sync, P: Progress>(
 {
     let show = shown_in(alloc, &net, request.show.as_slice())?;
     let outputs = outputs_in(alloc, &net, request.outputs.as_slice())?;
-    match execute(
-        rt,
-        alloc,
-        net,
-        request.workers,
-        show.as_slice(),
-        outputs.as_slice(),
-        progress,
-    ) {
+    let wanted = Wanted {
+        show: show.as_slice(),
+        outputs: outputs.as_slice(),
+    };
+    match execute(rt, alloc, net, request.workers, wanted, progress) {
         Ok(told) => Ok(told),
         Err(RunFault::Memory) => Err(Fault::Memory),
         Err(RunFault::Lost) => Err(Fault::Lost),

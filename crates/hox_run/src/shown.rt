@@ -5,10 +5,11 @@ ghost use Rattle.kpn_model.specs.History.{each_channel, stream};
 ghost use Rattle.kpn_model.specs.NamesAndLines.{channel_name};
 ghost use Rattle.hox_run.specs.Cuts.{before_verdict, streams_text, token_part, tokens_line};
 
+use crate::ended::Ended;
 use kpn_model::{End, Kinds, Token};
 use kpn_network::Net;
 use kpn_report::{Entries, stream_of_entries};
-use kpn_tokens::{Decimals, append_token};
+use kpn_tokens::{Decimals, Layout, append_token};
 use std::alloc::{AllocError, Global};
 use std::str;
 
@@ -19,22 +20,27 @@ pub struct ChannelAs<W> {
     pub written: W,
 }
 
+/// What is wanted of a run: the channels whose streams the report shows, and those whose streams become files.
+#[derive(Clone, Copy)]
+pub struct Wanted<'a> {
+    pub show: &'a [ChannelAs<Decimals>],
+    pub outputs: &'a [ChannelAs<Layout>],
+}
+
 /// Appends, of a run with this end that has a report, a line `stream` for each channel of `show`.
 ///
 /// Errors: memory was refused.
 pub(crate) fn push_before_verdict<K: Kinds, E: Entries>(
     alloc: Global,
     out: &mut String,
-    net: &Net<K>,
-    history: &E,
-    end: End,
+    run: &Ended<'_, K, E>,
     show: &[ChannelAs<Decimals>],
 ) -> Result<(), AllocError>
-    ensures { OnOk result (string_bytes out.new ≡ string_bytes out.old ++ before_verdict net.now end (E.entries history.now) show.now) }
+    ensures { OnOk result (string_bytes out.new ≡ string_bytes out.old ++ before_verdict run.now.net.now run.now.end (E.entries run.now.history.now) show.now) }
 {
-    match end {
+    match run.end {
         End::Terminated | End::Deadlock | End::Ceiling => {
-            push_streams(alloc, out, net, history, show, "stream ")
+            push_streams(alloc, out, run, show, "stream ")
         }
         End::Budget | End::Memory => Ok(()),
     }
@@ -46,15 +52,14 @@ pub(crate) fn push_before_verdict<K: Kinds, E: Entries>(
 pub(crate) fn push_streams<K: Kinds, E: Entries>(
     alloc: Global,
     out: &mut String,
-    net: &Net<K>,
-    history: &E,
+    run: &Ended<'_, K, E>,
     channels: &[ChannelAs<Decimals>],
     word: &str,
 ) -> Result<(), AllocError>
-    ensures { OnOk result (string_bytes out.new ≡ string_bytes out.old ++ streams_text net.now word.now (E.entries history.now) channels.now) }
+    ensures { OnOk result (string_bytes out.new ≡ string_bytes out.old ++ streams_text run.now.net.now word.now (E.entries run.now.history.now) channels.now) }
 {
     for channel in channels {
-        push_stream(alloc, out, net, history, *channel, word)?;
+        push_stream(alloc, out, run, *channel, word)?;
     }
     Ok(())
 }
@@ -63,15 +68,14 @@ pub(crate) fn push_streams<K: Kinds, E: Entries>(
 fn push_stream<K: Kinds, E: Entries>(
     alloc: Global,
     out: &mut String,
-    net: &Net<K>,
-    history: &E,
+    run: &Ended<'_, K, E>,
     channel: ChannelAs<Decimals>,
     word: &str,
 ) -> Result<(), AllocError>
-    ensures { OnOk result (string_bytes out.new ≡ string_bytes out.old ++ tokens_line net.now word.now (slice_index_or (each_channel net.now (λ b. stream net.now (E.entries history.now) b)) channel.channel []) channel) }
+    ensures { OnOk result (string_bytes out.new ≡ string_bytes out.old ++ tokens_line run.now.net.now word.now (slice_index_or (each_channel run.now.net.now (λ b. stream run.now.net.now (E.entries run.now.history.now) b)) channel.channel []) channel) }
 {
-    let tokens = stream_of_entries(alloc, net, history, channel.channel)?;
-    push_line(alloc, out, net, tokens.as_slice(), channel, word)
+    let tokens = stream_of_entries(alloc, run.net, run.history, channel.channel)?;
+    push_line(alloc, out, run.net, tokens.as_slice(), channel, word)
 }
 
 /// Appends a line with these tokens of a channel.

@@ -12,9 +12,10 @@ ghost use Rattle.hox_run.specs.Cuts.{IsWithin, after_verdict, before_verdict, le
 ghost use Rattle.hox_run.specs.Telling.{TellsRun, places_in, status_of_verdict, status_with};
 
 use crate::cut::push_after_verdict;
+use crate::ended::Ended;
 use crate::files::{StreamFile, stream_files};
 use crate::notes::{Notes, notes_of};
-use crate::shown::{ChannelAs, push_before_verdict};
+use crate::shown::{ChannelAs, Wanted, push_before_verdict};
 use kpn_front::Status;
 use kpn_laws::{determinacy_of, least_room_of, least_solution_of};
 use kpn_machine::Chronicle;
@@ -22,7 +23,7 @@ use kpn_model::{End, Kinds, Place, Verdict};
 use kpn_network::Net;
 use kpn_report::{Entries, places_of, text_of_entries};
 use kpn_state::{Keeper, Standing};
-use kpn_tokens::{Decimals, Layout};
+use kpn_tokens::Decimals;
 use kpn_verdict::{verdict_of, verdict_text};
 use std::alloc::{AllocError, Global};
 
@@ -44,21 +45,20 @@ struct Judged {
     report: String,
 }
 
-/// Returns what is told of a run that ended and whose entries are these, with the streams of the channels of `show` in
-/// the report.
+/// Returns what is told of a run that ended and whose entries are these, with the streams of the channels that are
+/// wanted.
 ///
 /// Errors: memory was refused.
 pub(crate) fn told_of<K: Kinds, H: Keeper, E: Entries>(
     alloc: Global,
     chronicle: &Chronicle<K, H>,
     history: &E,
-    show: &[ChannelAs<Decimals>],
-    outputs: &[ChannelAs<Layout>],
+    wanted: Wanted<'_>,
 ) -> Result<Told, AllocError>
     requires ended { IsSome chronicle.now.end }
     requires entries { E.entries history.now ≡ chronicle.now.history }
-    requires within { All (IsWithin chronicle.now.network) outputs.now }
-    ensures { IfOk result (TellsRun (family K.Kinds) chronicle.now.network show.now outputs.now) }
+    requires within { All (IsWithin chronicle.now.network) wanted.outputs.now }
+    ensures { IfOk result (TellsRun (family K.Kinds) chronicle.now.network wanted.show.now wanted.outputs.now) }
 {
     let Some(end) = chronicle.end() else {
         unreachable!()
@@ -69,42 +69,35 @@ pub(crate) fn told_of<K: Kinds, H: Keeper, E: Entries>(
     let net = chronicle.net();
     let standings = chronicle.standings();
     let places = places_of(alloc, net, standings)?;
-    let judged = judge(alloc, net, history, standings, places.as_slice(), end, show)?;
-    let outputs = stream_files(alloc, net, history, outputs)?;
+    let run = Ended {
+        net,
+        history,
+        standings,
+        places: places.as_slice(),
+        end,
+    };
+    let judged = judge(alloc, &run, wanted.show)?;
+    let outputs = stream_files(alloc, net, history, wanted.outputs)?;
     Ok(Told {
         status: status_with(judged.verdict, outputs.as_slice()),
         report: judged.report,
         outputs,
-        notes: notes_of(alloc, net, history, standings, places.as_slice(), end)?,
+        notes: notes_of(alloc, &run)?,
     })
 }
 
 /// The report of a run, and the verdict on it.
 fn judge<K: Kinds, E: Entries>(
     alloc: Global,
-    net: &Net<K>,
-    history: &E,
-    standings: &[Standing],
-    places: &[Place],
-    end: End,
+    run: &Ended<'_, K, E>,
     show: &[ChannelAs<Decimals>],
 ) -> Result<Judged, AllocError>
-    ensures verdict { IfOk result (λ judged. IsVerdict net.now places.now end judged.verdict) }
-    ensures report { IfOk result (λ judged. (kinds : Family) (M : State) → (has_report end ≡ true → places.now ≡ places_in kinds net.now M) → string_bytes judged.report ≡ report_text kinds net.now end (E.entries history.now) M None ++ before_verdict net.now end (E.entries history.now) show.now ++ verdict_line net.now places.now judged.verdict ++ after_verdict net.now end (E.entries history.now) (left_at standings.now places.now) show.now) }
+    ensures verdict { IfOk result (λ judged. IsVerdict run.now.net.now run.now.places.now run.now.end judged.verdict) }
+    ensures report { IfOk result (λ judged. (kinds : Family) (M : State) → (has_report run.now.end ≡ true → run.now.places.now ≡ places_in kinds run.now.net.now M) → string_bytes judged.report ≡ report_text kinds run.now.net.now run.now.end (E.entries run.now.history.now) M None ++ before_verdict run.now.net.now run.now.end (E.entries run.now.history.now) show.now ++ verdict_line run.now.net.now run.now.places.now judged.verdict ++ after_verdict run.now.net.now run.now.end (E.entries run.now.history.now) (left_at run.now.standings.now run.now.places.now) show.now) }
 {
-    let verdict = verdict_of(net, places, end);
-    let mut report = text_of_entries(alloc, net, history, places, end, None)?;
-    push_judged(
-        alloc,
-        &mut report,
-        net,
-        history,
-        standings,
-        places,
-        end,
-        show,
-        verdict,
-    )?;
+    let verdict = verdict_of(run.net, run.places, run.end);
+    let mut report = text_of_entries(alloc, run.net, run.history, run.places, run.end, None)?;
+    push_judged(alloc, &mut report, run, show, verdict)?;
     Ok(Judged { verdict, report })
 }
 
@@ -112,19 +105,15 @@ fn judge<K: Kinds, E: Entries>(
 fn push_judged<K: Kinds, E: Entries>(
     alloc: Global,
     out: &mut String,
-    net: &Net<K>,
-    history: &E,
-    standings: &[Standing],
-    places: &[Place],
-    end: End,
+    run: &Ended<'_, K, E>,
     show: &[ChannelAs<Decimals>],
     verdict: Verdict,
 ) -> Result<(), AllocError>
-    ensures { OnOk result (string_bytes out.new ≡ string_bytes out.old ++ before_verdict net.now end (E.entries history.now) show.now ++ verdict_line net.now places.now verdict ++ after_verdict net.now end (E.entries history.now) (left_at standings.now places.now) show.now) }
+    ensures { OnOk result (string_bytes out.new ≡ string_bytes out.old ++ before_verdict run.now.net.now run.now.end (E.entries run.now.history.now) show.now ++ verdict_line run.now.net.now run.now.places.now verdict ++ after_verdict run.now.net.now run.now.end (E.entries run.now.history.now) (left_at run.now.standings.now run.now.places.now) show.now) }
 {
-    push_before_verdict(alloc, out, net, history, end, show)?;
-    push_line(alloc, out, net, places, verdict)?;
-    push_after_verdict(alloc, out, net, history, standings, places, end, show)
+    push_before_verdict(alloc, out, run, show)?;
+    push_line(alloc, out, run.net, run.places, verdict)?;
+    push_after_verdict(alloc, out, run, show)
 }
 
 /// Appends the line of a verdict.

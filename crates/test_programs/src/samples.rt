@@ -7,7 +7,7 @@ use hox_network::{
     AllKinds, Fault, FileFault, KINDS, PresetFault, Request, StreamAs, TokenFile, channel_names,
     load_by_ports, prepare, read_whole, sketch_by_ports,
 };
-use hox_run::{Notes, Progress, Silent, SoFar, Told, execute, serve};
+use hox_run::{Notes, Progress, Silent, SoFar, Told, Wanted, execute, serve};
 use kpn_message::messages_of_sketch;
 use kpn_net::{Listed, Net, Sort, Text, Token, TokenSketch};
 use kpn_tokens::{Decimals, Layout, RecordFault};
@@ -324,7 +324,11 @@ fn a_network_is_run_by_two(rt: HostRuntime) {
     };
     let names = channel_names(rt.alloc(), &net).expect(&rt, "no memory");
     are_x_and_y(&rt, "channels", names.as_slice());
-    let told = execute(&rt, rt.alloc(), net, 2, &[], &[], &Silent);
+    let wanted = Wanted {
+        show: &[],
+        outputs: &[],
+    };
+    let told = execute(&rt, rt.alloc(), net, 2, wanted, &Silent);
     let Ok(told) = told else {
         panic!(rt; "no memory");
     };
