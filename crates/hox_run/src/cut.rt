@@ -4,9 +4,10 @@ ghost use Rattle.kpn_model.specs.NamesAndLines.{lines_upto};
 ghost use Rattle.hox_run.specs.Cuts.{after_verdict, left_at, left_line, left_text};
 
 use crate::ended::Ended;
-use crate::shown::{ChannelAs, channel_name, push_streams};
+use crate::shown::{ChannelAs, push_streams};
 use kpn_model::{End, Kinds, Place};
 use kpn_network::Net;
+use kpn_network::names::channel_name;
 use kpn_report::Entries;
 use kpn_state::Standing;
 use kpn_tokens::Decimals;

@@ -2,12 +2,12 @@
 ghost use Rattle.std.specs.Prelude.{◌≡◌, ◌++◌, [], OnOk, slice_index_or, string_bytes};
 ghost use Rattle.std.specs.List.{flat_map};
 ghost use Rattle.kpn_model.specs.History.{each_channel, stream};
-ghost use Rattle.kpn_model.specs.NamesAndLines.{channel_name};
 ghost use Rattle.hox_run.specs.Cuts.{before_verdict, streams_text, token_part, tokens_line};
 
 use crate::ended::Ended;
 use kpn_model::{End, Kinds, Token};
 use kpn_network::Net;
+use kpn_network::names::channel_name;
 use kpn_report::{Entries, stream_of_entries};
 use kpn_tokens::{Decimals, Layout, append_token};
 use std::alloc::{AllocError, Global};
@@ -126,16 +126,5 @@ fn push_bytes(out: &mut String, bytes: &[u8]) -> Result<(), AllocError>
     match str::from_utf8(bytes) {
         Ok(text) => out.push_str(text),
         Err(_) => Err(AllocError),
-    }
-}
-
-/// The name of a channel; nothing if the network has no such channel.
-pub(crate) fn channel_name<K: Kinds>(net: &Net<K>, c: usize) -> &str
-    ensures { result.now ≡ channel_name net.now c }
-{
-    if c < net.channels() {
-        net.channel_name(c)
-    } else {
-        ""
     }
 }

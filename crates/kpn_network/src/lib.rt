@@ -7,6 +7,7 @@
 //! ```
 #![tactic(auto)]
 
+pub mod names;
 pub mod net;
 mod ports;
 

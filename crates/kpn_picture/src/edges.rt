@@ -2,7 +2,7 @@
 ghost use Rattle.std.specs.Prelude.{◌≡◌, ◌++◌, ◌<◌, OnOk, length, string_bytes};
 ghost use Rattle.kpn_model.specs.Network.{channel_of};
 ghost use Rattle.kpn_model.specs.Waits.{is_jammed};
-ghost use Rattle.kpn_model.specs.NamesAndLines.{process_name, channel_name, lines_upto};
+ghost use Rattle.kpn_model.specs.NamesAndLines.{lines_upto};
 ghost use Rattle.kpn_picture.specs.Picture.{arrow, edge_opening, edge_look, has_grown, capacity_text, capacity_part, held_part, held_tokens, last_capacity, port_part, tail_part, head_part, has_rows, stays, edge_label, edge_attributes, edge_line};
 
 use crate::looks::{edge_look, row_part, sort_part};
@@ -10,29 +10,10 @@ use crate::picture::Left;
 use crate::rows::{has_rows, stays};
 use kpn_model::Kinds;
 use kpn_network::Net;
+use kpn_network::names::{channel_name, process_name};
 use kpn_verdict::is_jammed;
 use std::alloc::AllocError;
 use std::fmt::Write;
-
-pub(crate) fn process_name<K: Kinds>(net: &Net<K>, p: usize) -> &str
-    ensures { result.now ≡ process_name net.now p }
-{
-    if p < net.processes() {
-        net.process_name(p)
-    } else {
-        ""
-    }
-}
-
-pub(crate) fn channel_name<K: Kinds>(net: &Net<K>, c: usize) -> &str
-    ensures { result.now ≡ channel_name net.now c }
-{
-    if c < net.channels() {
-        net.channel_name(c)
-    } else {
-        ""
-    }
-}
 
 /// Appends the starting capacity of a channel, and the one that it grew to.
 fn push_capacities(out: &mut String, at_first: usize, last: usize) -> Result<(), AllocError>

@@ -6,11 +6,11 @@ ghost use Rattle.kpn_model.specs.NamesAndLines.{lines_upto};
 ghost use Rattle.kpn_picture.specs.Titles.{below};
 ghost use Rattle.kpn_picture.specs.Picture.{argument_part, box_opening, kind_text, place_label, node_line};
 
-use crate::edges::{channel_name, process_name};
 use crate::looks::{process_look, push_closing};
 use crate::titles::Titled;
 use kpn_model::{Card, Kinds, Place};
 use kpn_network::Net;
+use kpn_network::names::{channel_name, process_name};
 use kpn_verdict::{is_on_cycle, place_at};
 use std::alloc::AllocError;
 use std::fmt::Write;

@@ -1,24 +1,14 @@
 //! The lines of a report.
 ghost use Rattle.std.specs.Prelude.{◌≡◌, ◌++◌, ◌<◌, OnOk, IfOk, length, string_bytes};
 ghost use Rattle.std.specs.List.{flat_map};
-ghost use Rattle.kpn_model.specs.NamesAndLines.{channel_name, lines_upto};
+ghost use Rattle.kpn_model.specs.NamesAndLines.{lines_upto};
 ghost use Rattle.kpn_report.specs.Text.{process_line, channel_line, growth_line, token_part, end_text, end_line, stream_line};
 
 use kpn_model::{End, Kinds, Place, Token};
 use kpn_network::Net;
+use kpn_network::names::channel_name;
 use std::alloc::{AllocError, Global};
 use std::fmt::Write;
-
-/// The name of a channel; nothing if the network has no such channel.
-fn channel_name<K: Kinds>(net: &Net<K>, c: usize) -> &str
-    ensures { result.now ≡ channel_name net.now c }
-{
-    if c < net.channels() {
-        net.channel_name(c)
-    } else {
-        ""
-    }
-}
 
 /// Appends the line of a process: its place, and the number of its deeds.
 fn push_process<K: Kinds>(

@@ -1,11 +1,11 @@
 //! The text of a verdict.
 ghost use Rattle.std.specs.Prelude.{◌≡◌, ◌++◌, OnOk, IfOk, string_bytes};
-ghost use Rattle.kpn_model.specs.NamesAndLines.{channel_name, process_name};
 ghost use Rattle.kpn_verdict.specs.VerdictText.{circle_text, verdict_line, verdict_words, wait_text};
 
 use crate::waits::{place_at, waits_for};
 use kpn_model::{Kinds, Place, Verdict};
 use kpn_network::Net;
+use kpn_network::names::{channel_name, process_name};
 use std::alloc::{AllocError, Global};
 use std::fmt::Write;
 
@@ -107,27 +107,5 @@ fn push_wait<K: Kinds>(
             write!(out, " {name} {channel}")
         }
         Some(Place::Stopped) | None => write!(out, " {name}"),
-    }
-}
-
-/// The name of a process; nothing if the network has no such process.
-fn process_name<K: Kinds>(net: &Net<K>, p: usize) -> &str
-    ensures { result.now ≡ process_name net.now p }
-{
-    if p < net.processes() {
-        net.process_name(p)
-    } else {
-        ""
-    }
-}
-
-/// The name of a channel; nothing if the network has no such channel.
-fn channel_name<K: Kinds>(net: &Net<K>, c: usize) -> &str
-    ensures { result.now ≡ channel_name net.now c }
-{
-    if c < net.channels() {
-        net.channel_name(c)
-    } else {
-        ""
     }
 }

@@ -8,6 +8,7 @@ use kpn_net::{
     Card, Check, Ends, Kinds, Listed, Local, Net, NetFault, Signature, Sketch, Sort, Text, Token,
     TokenSketch, read_sketch,
 };
+use kpn_network::names;
 use std::alloc::Global;
 use std::process::Abort;
 
@@ -126,6 +127,13 @@ fn compare_counter<R: Abort>(rt: &R, net: &Net<CountAndSink>) {
         net.channel_name(0),
     ];
     same(rt, "names", names, ["src", "snk", "c0"]);
+    let or_nothing = [
+        names::process_name(net, 1),
+        names::process_name(net, 2),
+        names::channel_name(net, 0),
+        names::channel_name(net, 1),
+    ];
+    same(rt, "names or nothing", or_nothing, ["snk", "", "c0", ""]);
     let sizes = [net.capacity(0), net.step(), net.ceiling()];
     same(rt, "sizes", (sizes, net.budget()), ([1, 1, 65535], 10000));
 }
