@@ -6,6 +6,7 @@ use kpn_report::Entries;
 use kpn_state::Standing;
 
 /// A run that ended: its network, its entries, where each process stood and what it waited for, and how it ended.
+#[derive(Drop)]
 pub(crate) struct Ended<'a, K: Kinds, E: Entries> {
     pub(crate) net: &'a Net<K>,
     pub(crate) history: &'a E,
