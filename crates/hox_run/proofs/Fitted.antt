@@ -1,5 +1,5 @@
 -- Tokens that fit a layout, or don't.
-use Rattle.std.proofs.Common.{◌≡◌, ◌+◌, ◌<◌, ℕ, Bool, true, false, cond, nat_lt, not, inl, inr, List, [], ◌∷◌, Option, Some, None, is_some, length, take, unwrap_or, refl, ap, sym, subst, ◌∙◌, arith}
+use Rattle.std.proofs.Common.{◌≡◌, ◌+◌, ◌<◌, ℕ, Bool, true, false, cond, nat_lt, not, inl, inr, List, [], ◌∷◌, Option, Some, None, is_some, length, take, unwrap_or, refl, ap, sym, ◌∙◌, arith}
 use Rattle.std.proofs.lemmas.Bool.{cases_Bool, ltb-true}
 use Rattle.std.proofs.lemmas.List.Sums.{sum_by-append}
 use Rattle.std.specs.List.{count_by, position, position_or_len}

@@ -24,8 +24,6 @@ use Rattle.kpn_model.specs.Verdicts.{IsVerdict}
 use Rattle.kpn_laws.proofs.ReportedStreams.{each_stream}
 use Rattle.kpn_report.specs.Text.{end_line, digest_text, report_text}
 use Rattle.kpn_verdict.specs.VerdictText.{verdict_line}
-use Rattle.kpn_tokens.specs.declared.layouts.Layout.TheVariants.{Lines}
-use Rattle.kpn_tokens.specs.Records.{record_text}
 use Rattle.kpn_tokens.specs.declared.layouts.Decimals.{Decimals}
 use Rattle.kpn_tokens.specs.declared.layouts.Layout.{Layout}
 use Rattle.hox_run.specs.declared.files.StreamFile.{StreamFile}

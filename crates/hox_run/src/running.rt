@@ -45,12 +45,12 @@ pub fn execute<K: Computes, R: Wait + Clock + Threads + Sync, P: Progress>(
     alloc: Global,
     net: Net<K>,
     workers: usize,
-    wanted: Wanted<'_>,
+    wanted: &Wanted<'_>,
     progress: &P,
 ) -> Result<Told, RunFault>
     requires workers { (1 ≤ workers) × (workers ≤ 16) }
-    requires within { All (IsWithin net) wanted.outputs.now }
-    ensures told { IfOk result (TellsRun (family K.Kinds) net wanted.show.now wanted.outputs.now) }
+    requires within { All (IsWithin net) wanted.now.outputs.now }
+    ensures told { IfOk result (TellsRun (family K.Kinds) net wanted.now.show.now wanted.now.outputs.now) }
     ensures lost { result ≡ Err RunFault.Lost → 1 < workers }
 {
     let Ok(bodies) = bodies_of(alloc, &net) else {
@@ -70,11 +70,11 @@ fn execute_alone<K: Computes, P: Progress>(
     alloc: Global,
     net: Net<K>,
     bodies: Vec<CardBody<K>>,
-    wanted: Wanted<'_>,
+    wanted: &Wanted<'_>,
     progress: &P,
 ) -> Result<Told, AllocError>
-    requires within { All (IsWithin net) wanted.outputs.now }
-    ensures { IfOk result (TellsRun (family K.Kinds) net wanted.show.now wanted.outputs.now) }
+    requires within { All (IsWithin net) wanted.now.outputs.now }
+    ensures { IfOk result (TellsRun (family K.Kinds) net wanted.now.show.now wanted.now.outputs.now) }
 {
     let Ok(mut machine) = Machine::<CardBody<K>, Tallied>::open_with_keeper(alloc, net, bodies)
     else {
@@ -117,12 +117,12 @@ fn execute_by_workers<K: Computes, R: Wait + Clock + Threads + Sync>(
     net: Net<K>,
     bodies: Vec<CardBody<K>>,
     workers: usize,
-    wanted: Wanted<'_>,
+    wanted: &Wanted<'_>,
 ) -> Result<Told, RunFault>
     requires cards { map ⟦<CardBody<K> as Body>⟧.card bodies.items ≡ map (λ p. p.card) net.processes }
     requires workers { (1 < workers) × (workers ≤ 16) }
-    requires within { All (IsWithin net) wanted.outputs.now }
-    ensures { IfOk result (TellsRun (family K.Kinds) net wanted.show.now wanted.outputs.now) }
+    requires within { All (IsWithin net) wanted.now.outputs.now }
+    ensures { IfOk result (TellsRun (family K.Kinds) net wanted.now.show.now wanted.now.outputs.now) }
 {
     match run_with_keeper::<CardBody<K>, Packed, R, Prompt>(
         rt, alloc, net, bodies, workers, &Prompt,
@@ -148,13 +148,13 @@ fn execute_watched<K: Computes, R: Wait + Clock + Threads + Sync, P: Progress>(
     net: Net<K>,
     bodies: Vec<CardBody<K>>,
     workers: usize,
-    wanted: Wanted<'_>,
+    wanted: &Wanted<'_>,
     progress: &P,
 ) -> Result<Told, RunFault>
     requires cards { map ⟦<CardBody<K> as Body>⟧.card bodies.items ≡ map (λ p. p.card) net.processes }
     requires workers { (1 < workers) × (workers ≤ 16) }
-    requires within { All (IsWithin net) wanted.outputs.now }
-    ensures { IfOk result (TellsRun (family K.Kinds) net wanted.show.now wanted.outputs.now) }
+    requires within { All (IsWithin net) wanted.now.outputs.now }
+    ensures { IfOk result (TellsRun (family K.Kinds) net wanted.now.show.now wanted.now.outputs.now) }
 {
     let observer = OnBoard { progress };
     let period = Duration::from_millis(PERIOD);
@@ -175,10 +175,10 @@ fn execute_watched<K: Computes, R: Wait + Clock + Threads + Sync, P: Progress>(
 fn told_of_watched<K: Computes>(
     alloc: Global,
     ran: &WatchedRun<K, Packed>,
-    wanted: Wanted<'_>,
+    wanted: &Wanted<'_>,
 ) -> Result<Told, RunFault>
-    requires within { All (IsWithin ran.now.machine.network) wanted.outputs.now }
-    ensures { IfOk result (TellsRun (family K.Kinds) ran.now.machine.network wanted.show.now wanted.outputs.now) }
+    requires within { All (IsWithin ran.now.machine.network) wanted.now.outputs.now }
+    ensures { IfOk result (TellsRun (family K.Kinds) ran.now.machine.network wanted.now.show.now wanted.now.outputs.now) }
 {
     if ran.end().is_none() {
         return Err(RunFault::Lost);

@@ -63,7 +63,7 @@ fn serve_prepared<K: Computes, R: Wait + Clock + Threads + Sync, P: Progress>(
         show: show.as_slice(),
         outputs: outputs.as_slice(),
     };
-    match execute(rt, alloc, net, request.workers, wanted, progress) {
+    match execute(rt, alloc, net, request.workers, &wanted, progress) {
         Ok(told) => Ok(told),
         Err(RunFault::Memory) => Err(Fault::Memory),
         Err(RunFault::Lost) => Err(Fault::Lost),

@@ -53,12 +53,12 @@ pub(crate) fn told_of<K: Kinds, H: Keeper, E: Entries>(
     alloc: Global,
     chronicle: &Chronicle<K, H>,
     history: &E,
-    wanted: Wanted<'_>,
+    wanted: &Wanted<'_>,
 ) -> Result<Told, AllocError>
     requires ended { IsSome chronicle.now.end }
     requires entries { E.entries history.now ≡ chronicle.now.history }
-    requires within { All (IsWithin chronicle.now.network) wanted.outputs.now }
-    ensures { IfOk result (TellsRun (family K.Kinds) chronicle.now.network wanted.show.now wanted.outputs.now) }
+    requires within { All (IsWithin chronicle.now.network) wanted.now.outputs.now }
+    ensures { IfOk result (TellsRun (family K.Kinds) chronicle.now.network wanted.now.show.now wanted.now.outputs.now) }
 {
     let Some(end) = chronicle.end() else {
         unreachable!()

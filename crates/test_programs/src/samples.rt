@@ -328,7 +328,7 @@ fn a_network_is_run_by_two(rt: HostRuntime) {
         show: &[],
         outputs: &[],
     };
-    let told = execute(&rt, rt.alloc(), net, 2, wanted, &Silent);
+    let told = execute(&rt, rt.alloc(), net, 2, &wanted, &Silent);
     let Ok(told) = told else {
         panic!(rt; "no memory");
     };

@@ -4,4 +4,4 @@ use Rattle.hox_run.specs.Notes.{sources_upto}
 use Rattle.hox_run.proofs.notes.notes_of.Given as goal
 
 abbrev pub invariant-loop-c : goal.invariant-loop-c
-invariant-loop-c g l = l.sources.items ≡ sources_upto l.run.net (g.E.Entries.entries l.run.history) (left_at l.run.standings l.run.places) l.c
+invariant-loop-c g l = l.sources.items ≡ sources_upto l.run.net.now (g.E.Entries.entries l.run.history.now) (left_at l.run.standings.now l.run.places.now) l.c

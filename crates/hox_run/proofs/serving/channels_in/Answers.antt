@@ -1,6 +1,6 @@
 -- One name more, or one that no channel has.
 use Rattle.std.proofs.Common.{◌≡◌, ◌++◌, ◌∷◌, [], inr, refl, rules}
-use Rattle.hox_run.proofs.Named.{lacks, named_all, named_more, within_more}
+use Rattle.hox_run.proofs.Named.{lacks, named_more, within_more}
 use Rattle.hox_run.proofs.serving.channels_in.Goals as goal
 
 pub returns-in_default-clause-missing : goal.returns-in_default-clause-missing

@@ -24,9 +24,9 @@ returns g c =
     let places_are = c.as_slice.ensures.value in
     let standings_are = c.standings-standings.ensures in
     let judged = moved (λ net E ps. IsVerdict net ps cause verdict) s.network _ s.history _ places _ net_is history_is places_are c.in_ok-judged.ensures.verdict in
-    let told = moved (λ net E ps. (has_report cause ≡ true → ps ≡ places_in kinds net s.state) → string_bytes report ≡ report_text kinds net cause E s.state None ++ before_verdict net cause E c.args.wanted.show.now ++ verdict_line net ps verdict ++ after_verdict net cause E (left_at s.standings ps) c.args.wanted.show.now)
+    let told = moved (λ net E ps. (has_report cause ≡ true → ps ≡ places_in kinds net s.state) → string_bytes report ≡ report_text kinds net cause E s.state None ++ before_verdict net cause E c.args.wanted.now.show.now ++ verdict_line net ps verdict ++ after_verdict net cause E (left_at s.standings ps) c.args.wanted.now.show.now)
     s.network _ s.history _ places _ net_is history_is places_are (rw standings_are at (c.in_ok-judged.ensures.report kinds s.state)) in
-    told_so kinds g.K.Kinds.admits s cause places verdict c.args.wanted.show.now c.args.wanted.outputs.now _ faithful
+    told_so kinds g.K.Kinds.admits s cause places verdict c.args.wanted.now.show.now c.args.wanted.now.outputs.now _ faithful
     (c.least_room_of.ensures.each_run _ _ _ faithful.run) (c.least_solution_of.ensures.each_run _ _ _ faithful.run)
     c.determinacy_of.ensures.all_comparable c.determinacy_of.ensures.one_digest (sym c.in-Some.ensures.end)
     (rw (c.net-net.ensures, c.standings-standings.ensures) at c.in_ok-places.ensures)
@@ -34,4 +34,4 @@ returns g c =
     (rw c.as_slice-2.ensures.value at c.status_with.ensures)
     told
     (rw (c.net-net.ensures, c.requires.entries) at c.in_ok-outputs.ensures)
-    (rw (c.net-net.ensures, c.requires.entries, c.standings-standings.ensures, c.as_slice-3.ensures.value) at c.in_ok-notes_of.ensures)
+    (rw (c.net-net.ensures, c.requires.entries, c.standings-standings.ensures, c.as_slice.ensures.value) at c.in_ok-notes_of.ensures)
