@@ -1,11 +1,12 @@
 -- A list that is tabulated: what a change of one item or of none leaves, what bounds an item, and the list as a whole.
-use Rattle.std.proofs.Common.{◌≡◌, ◌≢◌, ◌<◌, ◌≤◌, ⊎_elim, ℕ, List, get_or, set, map, ◌∙◌, arith, get_or-set_same, get_or-set_other}
+use Rattle.std.proofs.Common.{◌≡◌, ◌≢◌, ◌<◌, ◌≤◌, ⊎_elim, ℕ, List, get_or, set, map, ◌∙◌, arith, get_or-set_same, get_or-set_other, ◌+◌, ◌++◌, ◌∷◌, [], length, sym, ap}
 use Rattle.std.proofs.lemmas.Bool.{cases_eq, cases_lt}
-use Rattle.std.proofs.lemmas.List.{get_or_past}
+use Rattle.std.proofs.lemmas.List.{get_or_past, get_or_append_left}
 use Rattle.std.proofs.lemmas.List.FromFn.{fill_by_all}
 use Rattle.std.proofs.lemmas.Simd.{map-map}
 use Rattle.std.specs.List.{range_with_len}
 use Rattle.std.proofs.Math.ListN.{length-set}
+use Rattle.std.proofs.Math.Seq.{get_or-append_seam}
 use Rattle.kpn_report.specs.Tally.{Tabulates}
 
 module _ {X : Type 0} (none : X) (n : ℕ) (f : ℕ → X) (xs : List X) (k : Tabulates none n f xs) where
@@ -28,3 +29,14 @@ module _ {X : Type 0} (none : X) (n : ℕ) (f : ℕ → X) (xs : List X) (k : Ta
 
   pub parts : {Y : Type 0} (g : X → Y) → map g xs ≡ map (λ i. g (f i)) (range_with_len 0 n)
   parts g = rw listed (map-map g f (range_with_len 0 n))
+
+-- one item more, which is what f gives
+pub one_more :
+    {X : Type 0} (none : X) (f : ℕ → X) (n : ℕ) (xs : List X) (x : X) → length xs ≡ n → ((b : ℕ) → b < n → get_or xs b none ≡ f b) → x ≡ f n
+    → (b : ℕ) → b < n + 1 → get_or (xs ++ x ∷ []) b none ≡ f b
+one_more none f n xs x count each last b l =
+    ⊎_elim (λ less. rw (get_or_append_left xs (x ∷ []) none b (omega (arith, count, less))) (each b less))
+      (λ out.
+        let here : b ≡ length xs = omega (arith, count, out, l) in
+        rw (here, get_or-append_seam xs x [] none) (last ∙ ap f (sym count)))
+      (cases_lt b n)

@@ -3,13 +3,17 @@ use Rattle.std.proofs.Common.{◌≡◌, ◌≢◌, ◌<◌, ◌≤◌, ◌+◌,
 use Rattle.std.proofs.lemmas.List.{take_more}
 use Rattle.std.proofs.lemmas.List.FromFn.{fill_by_all}
 use Rattle.kpn_model.specs.declared.token.Token.{Token}
+use Rattle.kpn_model.specs.declared.history.End.{End}
 use Rattle.kpn_model.specs.declared.history.Deed.TheVariants.{Took, Put, Stopped}
 use Rattle.kpn_model.specs.declared.history.Entry.{Entry}
 use Rattle.kpn_model.specs.declared.history.Entry.TheVariants.{Did, Grew}
-use Rattle.kpn_model.specs.Network.{Network}
-use Rattle.kpn_model.specs.History.{each_channel, deeds, put_on, stream, taken, growths}
+use Rattle.kpn_model.specs.Network.{Network, Family, channel_of}
+use Rattle.kpn_model.specs.Semantics.{State, wants}
+use Rattle.kpn_model.specs.History.{each_channel, deeds, put_on, stream, taken, growths, each_process, place_of, grown, digest}
 use Rattle.kpn_laws.proofs.Views.{deeds_push_same, deeds_push_other, deeds_push_grew, put_on-append, taken-append, growths-append, grown_push}
 use Rattle.kpn_report.specs.declared.channel_counts.ChannelCounts.{ChannelCounts}
+use Rattle.kpn_report.specs.declared.detail.Detail.{Detail}
+use Rattle.kpn_report.specs.Reported.{digest_with}
 use Rattle.kpn_report.specs.Tally.{counts_of, no_counts, counts_at, Tabulates, CountsSteps, KeepsCounts, KeepsStreams, steps_after, counts_after, streams_after}
 use Rattle.kpn_report.proofs.Tables.{changed, unchanged, at_most}
 
@@ -109,3 +113,11 @@ pub put_next :
     (history : List Entry) (i : ℕ) (d : Entry) → i < length history → (c : ℕ) (first old new : List Token) → old ≡ first ++ put_on (take i history) c
     → new ≡ old ++ put_on (get_or history i d ∷ []) c → new ≡ first ++ put_on (take (i + 1) history) c
 put_next history i d within c first old new e is = rw (take_more history i d within, is, e) (simp pushes)
+
+-- a detail of which each part is that of the digest
+pub digest_of :
+    (kinds : Family) (net : Network) (cause : End) (E : List Entry) (M : State) {d : Detail} → d.places ≡ each_process net (λ p. place_of net p (wants kinds net M p))
+    → d.steps ≡ each_process net (λ p. length (deeds E p)) → d.capacities ≡ each_channel net (λ c. grown (channel_of net c).capacity (growths E) c)
+    → d.streams ≡ each_channel net (λ c. stream net E c) → d.rests ≡ each_channel net (λ c. drop (length (taken E c)) (stream net E c)) → d.growths ≡ growths E
+    → d.entries ≡ length E → digest_with cause d ≡ digest kinds net cause E M
+digest_of kinds net cause E M p s c t r g e = rw (p, s, c, t, r, g, e) refl

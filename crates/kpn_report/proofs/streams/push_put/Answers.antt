@@ -8,3 +8,6 @@ returns-in_ok-push c = grind (arith, common_steps)
 
 pub returns : goal.returns
 returns c = search rules
+
+pub returns-else-channel-len : goal.returns-else-channel-len
+returns-else-channel-len c = grind (arith, common_steps)

@@ -1,4 +1,5 @@
 -- One more entry; and no count is greater than the number of entries.
+use Rattle.std.proofs.lemmas.Grind.{common_steps}
 use Rattle.std.proofs.Common.{◌≡◌, ◌<◌, arith, length, map}
 use Rattle.kpn_state.specs.Packed.{unpacked}
 use Rattle.kpn_report.proofs.Counting.{few_steps, few_puts, few_takes, counted_more}
@@ -24,3 +25,6 @@ invariant_of-self c =
     let counted = c.count_entry.ensures in
     let more = counted_more (map unpacked c.self.inside.packed.items.items) _ _ _ _ c.self.invariant c.args.entry in
     rw (c.keep.ensures.entries, counted.steps, counted.puts, counted.takes, counted.grew) more
+
+pub keep-requires-clause-room : goal.keep-requires-clause-room
+keep-requires-clause-room c = grind (arith, common_steps)
