@@ -1,5 +1,6 @@
 -- The process went out again.
-use Rattle.std.proofs.Common.{◌∙◌, ◌≡◌, ◌∷◌, List, ap, sym, Some}
+use Rattle.std.proofs.lemmas.Grind.{common_steps}
+use Rattle.std.proofs.Common.{◌∙◌, ◌≡◌, ◌∷◌, List, ap, sym, Some, arith}
 use Rattle.std.specs.Prelude.{slice_get}
 use Rattle.kpn_model.specs.Network.{family_of}
 use Rattle.kpn_body.specs.Input.{Input}
@@ -20,3 +21,6 @@ returns-then-stay-clause-gave g c =
     (c.requires.out st.0 first)
     c.assure_faithful-then-stay.ensures.faithful
     st.7
+
+pub returns-then-stay-clause-most : goal.returns-then-stay-clause-most
+returns-then-stay-clause-most g c = grind (arith, common_steps)

@@ -1,4 +1,5 @@
 -- What the answer appended is published and booked.
+use Rattle.std.proofs.lemmas.Grind.{common_steps}
 use Rattle.std.proofs.Common.{◌∙◌, ◌+◌, ap, sym, subst, arith}
 use Rattle.kpn_model.specs.Network.{Network, family_of}
 use Rattle.std.specs.Prelude.{IsSome}
@@ -53,3 +54,6 @@ returns-clause-seat g c = c.add_entries.ensures.seat ∙ ap (λ k. record c.args
 pub returns-clause-committed : goal.returns-clause-committed
 returns-clause-committed g c =
     subst (λ (n : Network). WasCommitted (family_of g.B.Kinds.Kinds.start g.B.Kinds.Kinds.answer_of) g.B.Kinds.Kinds.admits n c.args.finished c.give_one-outcome.result) c.self.invariant.0.network c.give_one-outcome.ensures.committed
+
+pub add_entries-requires : goal.add_entries-requires
+add_entries-requires g c = grind (arith, common_steps)

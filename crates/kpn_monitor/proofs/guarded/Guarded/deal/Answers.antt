@@ -1,4 +1,5 @@
 -- The first task went out, and then others; or none did.
+use Rattle.std.proofs.lemmas.Grind.{common_steps}
 use Rattle.std.proofs.Common.{◌≡◌, ◌∙◌, ◌++◌, ◌∷◌, List, [], ap, sym, arith}
 use Rattle.kpn_model.specs.Network.{family_of}
 use Rattle.std.specs.Prelude.{Some}
@@ -33,3 +34,21 @@ returns-in-Some-Task-clause-tasks g c = λ is. ((c.in-Some-Task.ensures.task c.i
 pub returns-in-Some-Task-clause-seat : goal.returns-in-Some-Task-clause-seat
 returns-in-Some-Task-clause-seat g c =
     let same = (c.in-Some-Task.ensures.task c.in-Some-Task.first (ap Some c.in-Some-Task.field-0-is)).0 in (ap (λ (s : Shares). s.parts) same, ap (λ (s : Shares). s.entries) same)
+
+pub returns-in-Some-Task-clause-most : goal.returns-in-Some-Task-clause-most
+returns-in-Some-Task-clause-most g c = grind (arith, common_steps)
+
+pub returns-in-Some-Over-clause-over : goal.returns-in-Some-Over-clause-over
+returns-in-Some-Over-clause-over g c = grind (arith, common_steps)
+
+pub deal_more-requires-in-Some-Task-clause-some : goal.deal_more-requires-in-Some-Task-clause-some
+deal_more-requires-in-Some-Task-clause-some g c = grind (arith, common_steps)
+
+pub returns-then-most-eq0-clause-over : goal.returns-then-most-eq0-clause-over
+returns-then-most-eq0-clause-over g c = grind (arith, common_steps)
+
+pub returns-in-None-clause-nothing : goal.returns-in-None-clause-nothing
+returns-in-None-clause-nothing g c = grind (arith, common_steps)
+
+pub returns-then-most-eq0-clause-nothing : goal.returns-then-most-eq0-clause-nothing
+returns-then-most-eq0-clause-nothing g c = grind (arith, common_steps)

@@ -1,4 +1,5 @@
 -- One more task was dealt.
+use Rattle.std.proofs.lemmas.Grind.{common_steps}
 use Rattle.std.proofs.Common.{◌∙◌, ◌++◌, ◌∷◌, [], ap, arith, length, append-nil, append_assoc, refl, sym, List}
 use Rattle.kpn_model.specs.Network.{family_of}
 use Rattle.kpn_body.specs.Input.{Input}
@@ -50,3 +51,12 @@ returns-then-not-deal_one-clause-out g c =
 
 pub returns-after-loop-i-clause-many : goal.returns-after-loop-i-clause-many
 returns-after-loop-i-clause-many g c = c.loop-i.invariant.bound
+
+pub returns-then-not-deal_one-clause-some : goal.returns-then-not-deal_one-clause-some
+returns-then-not-deal_one-clause-some g c = grind (arith, common_steps)
+
+pub returns-then-not-deal_one-clause-many : goal.returns-then-not-deal_one-clause-many
+returns-then-not-deal_one-clause-many g c = grind (arith, common_steps)
+
+pub returns-then-not-deal_one-clause-taken : goal.returns-then-not-deal_one-clause-taken
+returns-then-not-deal_one-clause-taken g c = grind (arith, common_steps)

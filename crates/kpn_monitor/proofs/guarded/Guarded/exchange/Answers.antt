@@ -1,4 +1,6 @@
 -- All answers were given, and then tasks were dealt.
+use Rattle.std.proofs.lemmas.Grind.{common_steps}
+use Rattle.std.proofs.Common.{arith}
 use Rattle.kpn_monitor.proofs.guarded.Guarded.exchange.Goals as goal
 
 pub returns-in-None-clause-machine : goal.returns-in-None-clause-machine
@@ -13,3 +15,9 @@ returns-in-None-clause-machine g c =
       rw dealt.rest.1 given.ended,
       dealt.out.2,
     )
+
+pub returns-in-None-clause-taken : goal.returns-in-None-clause-taken
+returns-in-None-clause-taken g c = grind (arith, common_steps)
+
+pub returns-in-None-clause-tasks : goal.returns-in-None-clause-tasks
+returns-in-None-clause-tasks g c = grind (arith, common_steps)

@@ -1,5 +1,8 @@
 -- A task that stays is the last of those that went out again.
-use Rattle.std.proofs.Common.{◌≡◌, ◌<◌, ◌∙◌, ◌+◌, ◌-◌, ◌++◌, ◌∷◌, [], length, length-set, refl, sym, ap, arith, get_or, take, drop, Some}
+use Rattle.std.specs.Prelude.{slice_get}
+use Rattle.kpn_body.specs.Input.{Input}
+use Rattle.std.proofs.lemmas.Grind.{common_steps}
+use Rattle.std.proofs.Common.{◌≡◌, ◌<◌, ◌∙◌, ◌+◌, ◌-◌, ◌++◌, ◌∷◌, [], length, length-set, refl, sym, ap, arith, get_or, take, drop, Some, List}
 use Rattle.kpn_monitor.specs.Places.{tasks_in}
 use Rattle.kpn_monitor.proofs.Placing.{first_task, stay_laid, moved_first, moved_rest, tasks_append}
 use Rattle.kpn_monitor.proofs.places.Places.stay.Goals as goal
@@ -42,3 +45,39 @@ returns-clause-stays g c = λ yes.
       rw (← c.self.view_is) (omega arith),
       c.in-Some-commit_on.ensures.goes,
     )
+
+pub commit_on-requires-clause-out : goal.commit_on-requires-clause-out
+commit_on-requires-clause-out g c κs within =
+    let h = c.self.invariant.0 in
+    let given = c.self.inside.given in
+    let places = c.self.inside.places.items in
+    let called : 0 < length c.self.inside.answers.items - given = rw (← c.self.view_is) at c.requires.called in
+    let at : get_or places given c.index_mut.result.now ≡ Some c.in-Some.task = sym c.index_mut.ensures.value ∙ c.in-Some.is in
+    c.requires.out c.in-Some.task (rw (← c.self.view_is) (ap (λ (l : List Input). slice_get l 0) (first_task h c.in-Some.task c.index_mut.result.now (omega arith) at)))
+
+pub invariant_of-self : goal.invariant_of-self
+invariant_of-self g c = grind (arith, common_steps)
+
+pub unreachable-requires : goal.unreachable-requires
+unreachable-requires g c = grind (arith, common_steps)
+
+pub returns-in_default-commit_on-clause-same : goal.returns-in_default-commit_on-clause-same
+returns-in_default-commit_on-clause-same g c = grind (arith, common_steps)
+
+pub commit_on-requires-clause-answer : goal.commit_on-requires-clause-answer
+commit_on-requires-clause-answer g c = grind (arith, common_steps)
+
+pub index_mut-requires : goal.index_mut-requires
+index_mut-requires g c = grind (arith, common_steps)
+
+pub index-answer-requires : goal.index-answer-requires
+index-answer-requires g c = grind (arith, common_steps)
+
+pub returns-clause-same : goal.returns-clause-same
+returns-clause-same g c = grind (arith, common_steps)
+
+pub returns-in_default-commit_on-clause-stays : goal.returns-in_default-commit_on-clause-stays
+returns-in_default-commit_on-clause-stays g c = grind (arith, common_steps)
+
+pub move_up-requires-clause-within : goal.move_up-requires-clause-within
+move_up-requires-clause-within g c = grind (arith, common_steps)

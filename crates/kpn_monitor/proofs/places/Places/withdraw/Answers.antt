@@ -1,4 +1,5 @@
 -- The last of the tasks that went out again comes back.
+use Rattle.std.proofs.lemmas.Grind.{common_steps}
 use Rattle.std.proofs.Common.{◌≡◌, ◌∙◌, ◌+◌, ◌-◌, sym, arith, get_or, Some}
 use Rattle.std.proofs.lemmas.List.{take-set-le}
 use Rattle.kpn_monitor.proofs.Placing.{last_taken, last_task, withdraw_laid, none_when, some_when}
@@ -21,3 +22,6 @@ returns-clause-last g c =
     some_when c.take.result _ (λ i is.
     let at : get_or c.self.inside.places.items k c.index_mut.result.now ≡ Some i = sym c.index_mut.ensures.value ∙ sym c.take.ensures.value ∙ is in
     rw (← c.self.view_is, take-set-le k c.self.inside.places.items k c.take.new.self (omega arith)) (last_task c.self.invariant.0 k c.index_mut.result.now i one at))
+
+pub returns-clause-some : goal.returns-clause-some
+returns-clause-some g c = grind (arith, common_steps)
