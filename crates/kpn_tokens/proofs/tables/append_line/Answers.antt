@@ -1,4 +1,5 @@
-use Rattle.std.proofs.Common.{◌≡◌, ◌<◌, ◌++◌, ◌∙◌, false, None, append_assoc, get_or, length, take, rules, sym, ap}
+use Rattle.std.proofs.Common.{◌≡◌, ◌<◌, ◌++◌, ◌∙◌, false, None, append_assoc, get_or, length, take, rules, sym, ap, arith}
+use Rattle.std.proofs.lemmas.Grind.{common_steps}
 use Rattle.kpn_tokens.specs.declared.layouts.Cell.{Cell}
 use Rattle.kpn_tokens.specs.Rows.{cell_text, cells_text, separator_before}
 use Rattle.kpn_tokens.proofs.Cells.{cells_more}
@@ -20,3 +21,6 @@ loop-place-preserved c =
     let appended : c.append_cell.new.out.items ≡ c.loop-place.out.items ++ one = c.in_ok-append_cell.ensures in
     let before : c.loop-place.out.items ≡ old ++ so_far = c.loop-place.invariant in
     appended ∙ ap (λ l. l ++ one) before ∙ append_assoc old so_far one ∙ sym (ap (λ l. old ++ l) more)
+
+pub returns : goal.returns
+returns c = grind (arith, common_steps)
