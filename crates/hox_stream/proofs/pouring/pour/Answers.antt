@@ -1,5 +1,6 @@
 -- Nothing is fed, but the source is read on, or the input ends.
-use Rattle.std.proofs.Common.{◌≡◌, false, refl, sym, ◌∙◌, rules}
+use Rattle.std.proofs.Common.{◌≡◌, false, refl, sym, ◌∙◌, rules, arith}
+use Rattle.std.proofs.lemmas.Grind.{common_steps}
 use Rattle.kpn_model.specs.Network.{family_of}
 use Rattle.hox_stream.proofs.Flowed.{pours_ended, pours_none, pours_read}
 use Rattle.hox_stream.proofs.Reading.{never_wants, wants, wants_not}
@@ -35,3 +36,6 @@ returns-then-ne-clause-pours g c = pours_none (family_of g.B.Kinds.Kinds.start g
 
 pub returns-else-ne-clause-read : goal.returns-else-ne-clause-read
 returns-else-ne-clause-read g c = λ more. never_wants c.args.inlet.now (wants_not c.args.inlet.now c.in-Record.ensures.next.4) more
+
+pub returns-in_ok-read_on-in-Wanting-clause-pours : goal.returns-in_ok-read_on-in-Wanting-clause-pours
+returns-in_ok-read_on-in-Wanting-clause-pours g c = grind (arith, common_steps)

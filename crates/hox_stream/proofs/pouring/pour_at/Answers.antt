@@ -1,5 +1,6 @@
 -- The source at its place is poured.
-use Rattle.std.proofs.Common.{◌≡◌, true, get_or, sym, subst, rules}
+use Rattle.std.proofs.Common.{◌≡◌, true, get_or, sym, subst, rules, arith}
+use Rattle.std.proofs.lemmas.Grind.{common_steps}
 use Rattle.std.proofs.lemmas.List.{get_or_default}
 use Rattle.kpn_model.specs.Network.{family_of}
 use Rattle.kpn_flow.specs.Flows.{is_among}
@@ -63,3 +64,9 @@ returns-in-Err-OtherSort-clause-only_if_wanted g c =
 pub returns-in-Err-Memory-clause-only_if_wanted : goal.returns-in-Err-Memory-clause-only_if_wanted
 returns-in-Err-Memory-clause-only_if_wanted g c =
     only_there c.args.inlets.now c.args.k (get_or c.args.inlets.now c.args.k c.index-inlets-k.result) c.pour.new.inlet c.requires.within (get_or_default c.args.inlets.now c.args.k c.index-inlets-k.result no_inlet c.requires.within) c.pour.ensures.only_if_wanted
+
+pub offset_bounds-inlets-k : goal.offset_bounds-inlets-k
+offset_bounds-inlets-k g c = grind (arith, common_steps)
+
+pub returns-in-Err-Refused-clause-others : goal.returns-in-Err-Refused-clause-others
+returns-in-Err-Refused-clause-others g c = grind (arith, common_steps)

@@ -1,5 +1,6 @@
 -- A record is taken, and its token is fed.
-use Rattle.std.proofs.Common.{refl}
+use Rattle.std.proofs.Common.{refl, arith}
+use Rattle.std.proofs.lemmas.Grind.{common_steps}
 use Rattle.kpn_model.specs.Network.{family_of}
 use Rattle.kpn_tokens.specs.Records.{listed}
 use Rattle.hox_stream.proofs.Flowed.{pours_none, same_net_of}
@@ -17,3 +18,6 @@ returns-clause-pours g c = record {
   flows = rw c.channel.ensures at (c.if-not-feed_said.ensures.flows refl);
   at_ends = rw c.channel.ensures at (c.if-not-feed_said.ensures.at_ends refl);
 }
+
+pub returns-clause-unread : goal.returns-clause-unread
+returns-clause-unread g c = grind (arith, common_steps)

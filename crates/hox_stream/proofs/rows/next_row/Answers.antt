@@ -1,5 +1,6 @@
 -- A row takes the first token of one column after another.
-use Rattle.std.proofs.Common.{◌≡◌, ◌<◌, ◌+◌, ◌∙◌, ◌++◌, ◌∷◌, List, [], get_or, length, map, set, take, rules, sym, ap}
+use Rattle.std.proofs.Common.{◌≡◌, ◌<◌, ◌+◌, ◌∙◌, ◌++◌, ◌∷◌, List, [], get_or, length, map, set, take, rules, sym, ap, arith}
+use Rattle.std.proofs.lemmas.Grind.{common_steps}
 use Rattle.std.proofs.lemmas.List.{get_or_default}
 use Rattle.kpn_tokens.specs.declared.layouts.Cell.{Cell}
 use Rattle.kpn_tokens.specs.Tables.{first_cell}
@@ -36,3 +37,9 @@ loop-k-preserved c =
 
 pub returns-clause-heads : goal.returns-clause-heads
 returns-clause-heads c = ap heads_of c.loop-k.invariant.lanes ∙ walked_heads c.args.lanes.now c.loop-k.k
+
+pub returns-clause-row : goal.returns-clause-row
+returns-clause-row c = grind (arith, common_steps)
+
+pub returns-clause-lanes : goal.returns-clause-lanes
+returns-clause-lanes c = grind (arith, common_steps)

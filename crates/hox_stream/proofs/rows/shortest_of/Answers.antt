@@ -1,5 +1,6 @@
 -- The shortest column so far, and the next one.
-use Rattle.std.proofs.Common.{◌≡◌, ◌<◌, ◌+◌, ◌++◌, ◌∷◌, [], get_or, length, min, take, rules, ap, ◌∙◌}
+use Rattle.std.proofs.Common.{◌≡◌, ◌<◌, ◌+◌, ◌++◌, ◌∷◌, [], get_or, length, min, take, rules, ap, ◌∙◌, arith}
+use Rattle.std.proofs.lemmas.Grind.{common_steps}
 use Rattle.std.proofs.lemmas.List.{get_or_default, take_more}
 use Rattle.hox_stream.specs.Tables.{shortest}
 use Rattle.hox_stream.specs.Views.{LaneView, no_lane}
@@ -17,3 +18,6 @@ loop-lane-preserved c =
     let so_far = shortest (c.args.first.now ∷ take i others) in
     rw (next, shortest_more c.args.first.now (take i others) (get_or others i no_lane))
     (c.min-count.ensures ∙ ap (λ n. min n c.waiting.result) c.loop-lane.invariant ∙ ap (λ n. min so_far n) waiting)
+
+pub returns : goal.returns
+returns c = grind (arith, common_steps)

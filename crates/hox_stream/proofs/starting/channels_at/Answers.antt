@@ -17,3 +17,6 @@ loop-k-preserved g c =
       within = none_more (is_no_channel c.args.net.now) c.loop-k.channels.items c.in_ok-channel.channel c.push.new.self.items before.within found.within is;
       idle = none_more (is_busy (family_of g.B.Kinds.Kinds.start g.B.Kinds.Kinds.answer_of) c.args.net.now c.args.way) c.loop-k.channels.items c.in_ok-channel.channel c.push.new.self.items before.idle found.idle is;
     }
+
+pub returns-clause-named : goal.returns-clause-named
+returns-clause-named g c = grind (arith, common_steps)

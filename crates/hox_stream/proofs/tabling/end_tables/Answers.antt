@@ -1,5 +1,6 @@
 -- One table after another is ended.
 use Rattle.std.proofs.Common.{◌≡◌, ◌<◌, ◌≤◌, ◌+◌, ℕ, IfSome, Option, true, length, set, sym, ◌∙◌, subst, arith}
+use Rattle.std.proofs.lemmas.Grind.{common_steps}
 use Rattle.std.proofs.lemmas.List.{get_or_default}
 use Rattle.hox_stream.specs.Streams.{table_at}
 use Rattle.hox_stream.specs.Views.{no_table}
@@ -27,3 +28,6 @@ pub returns-in-Some-clause-finish : goal.returns-in-Some-clause-finish
 returns-in-Some-clause-finish g c =
     let bad = subst (λ (o : Option ℕ). IfSome o (λ k. (k < c.loop-k.k) × (c.loop-k.k ≤ length c.loop-k.tables) × ((table_at c.loop-k.tables k).has_failed ≡ true))) c.in-Some.is c.loop-k.invariant.failed_at in
     λ kinds s ins sinks first. c.finish_of.ensures kinds s ins sinks c.loop-k.tables first (omega (arith, bad.0, bad.1)) bad.2
+
+pub offset_bounds-tables-k : goal.offset_bounds-tables-k
+offset_bounds-tables-k g c = grind (arith, common_steps)

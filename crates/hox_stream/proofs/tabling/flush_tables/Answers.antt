@@ -1,5 +1,6 @@
 -- One table after another is flushed.
 use Rattle.std.proofs.Common.{◌≡◌, ◌<◌, ◌+◌, ℕ, IfSome, Option, true, length, set, sym, ◌∙◌, subst, arith}
+use Rattle.std.proofs.lemmas.Grind.{common_steps}
 use Rattle.std.proofs.lemmas.List.{get_or_default}
 use Rattle.hox_stream.specs.Views.{no_table}
 use Rattle.hox_stream.proofs.Flushed.{FlushesTables, IsTableFailedAt, err_means, tables_failed, tables_next, tables_none}
@@ -26,3 +27,12 @@ pub returns-in-Some-clause-finish : goal.returns-in-Some-clause-finish
 returns-in-Some-clause-finish g c =
     let bad = subst (λ (o : Option ℕ). IfSome o (IsTableFailedAt c.loop-k.tables)) c.in-Some.is c.loop-k.invariant.failed_at in
     λ kinds s ins sinks first. c.finish_of.ensures kinds s ins sinks c.loop-k.tables first bad.0 bad.1
+
+pub returns-in-Some-clause-written : goal.returns-in-Some-clause-written
+returns-in-Some-clause-written g c = grind (arith, common_steps)
+
+pub offset_bounds-tables-k : goal.offset_bounds-tables-k
+offset_bounds-tables-k g c = grind (arith, common_steps)
+
+pub returns-in-None-clause-written : goal.returns-in-None-clause-written
+returns-in-None-clause-written g c = grind (arith, common_steps)

@@ -1,5 +1,6 @@
 -- The column at its place is written.
 use Rattle.std.proofs.Common.{◌≡◌, ◌<◌, ◌∙◌, length, length-set, set, refl, subst, sym, ap, arith}
+use Rattle.std.proofs.lemmas.Grind.{common_steps}
 use Rattle.std.proofs.lemmas.List.{get_or_default, get_or-set_same}
 use Rattle.kpn_model.specs.Network.{family_of}
 use Rattle.hox_stream.specs.Streams.{table_at}
@@ -35,3 +36,9 @@ returns-in-Err-clause-finish g c = λ ins sinks first.
     let long : c.args.k < length tables = subst (λ n. c.args.k < n) (sym (length-set c.args.tables.now c.args.k c.tell_lane.new.table)) c.requires in
     let here : table_at tables c.args.k ≡ c.tell_lane.new.table = get_or-set_same c.args.tables.now c.args.k c.tell_lane.new.table no_table c.requires in
     c.finish_of.ensures (family_of g.B.Kinds.Kinds.start g.B.Kinds.Kinds.answer_of) c.tell_lane.new.flow ins sinks tables first long (subst (λ (t : TableView). IsTableFault t c.in-Err.fault) (sym here) c.in-Err.ensures.fault)
+
+pub offset_bounds-tables-k-2 : goal.offset_bounds-tables-k-2
+offset_bounds-tables-k-2 g c = grind (arith, common_steps)
+
+pub offset_bounds-tables-k : goal.offset_bounds-tables-k
+offset_bounds-tables-k g c = grind (arith, common_steps)

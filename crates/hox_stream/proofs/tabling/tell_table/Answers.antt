@@ -1,5 +1,6 @@
 -- One column after another is written.
-use Rattle.std.proofs.Common.{◌≡◌, false, refl, sym, ◌∙◌}
+use Rattle.std.proofs.Common.{◌≡◌, false, refl, sym, ◌∙◌, arith}
+use Rattle.std.proofs.lemmas.Grind.{common_steps}
 use Rattle.kpn_model.specs.Network.{family_of}
 use Rattle.hox_stream.proofs.Streamed.{streams_both, streams_none}
 use Rattle.hox_stream.proofs.tabling.tell_table.Goals as goal
@@ -30,3 +31,6 @@ loop-place-preserved g c =
                 c.in-Ok.ensures.none (cc) ∙ c.loop-place.invariant.none w.if-has_moved.false
           ];
     }
+
+pub offset_bounds-tables-k : goal.offset_bounds-tables-k
+offset_bounds-tables-k g c = grind (arith, common_steps)

@@ -1,5 +1,6 @@
 -- One sink after another is flushed.
 use Rattle.std.proofs.Common.{◌≡◌, ◌<◌, ◌+◌, ℕ, Option, true, length, set, sym, ◌∙◌, subst, arith}
+use Rattle.std.proofs.lemmas.Grind.{common_steps}
 use Rattle.std.proofs.lemmas.List.{get_or_default}
 use Rattle.hox_stream.specs.Views.{no_outlet}
 use Rattle.hox_stream.proofs.Flushed.{Flushes, err_means, flushes_failed, flushes_next, flushes_none}
@@ -21,3 +22,12 @@ loop-k-preserved g c =
           subst (λ (f : Option ℕ). Flushes c.args.outlets.now (set outs c.loop-k.k q) (c.loop-k.k + 1) f) (sym w.failed-is) (flushes_failed c.args.outlets.now outs c.loop-k.k _ q within at c.flush.ensures.writes c.flush.ensures.written c.flush.ensures.still c.loop-k.failed failed c.loop-k.invariant)
       | else-is_err w ↦ subst (λ (f : Option ℕ). Flushes c.args.outlets.now (set outs c.loop-k.k q) (c.loop-k.k + 1) f) (sym w.failed-is) (flushes_next c.args.outlets.now outs c.loop-k.k _ q within at c.flush.ensures.writes c.flush.ensures.written c.flush.ensures.still c.loop-k.failed c.loop-k.invariant)
     ]
+
+pub returns-in-Some-clause-written : goal.returns-in-Some-clause-written
+returns-in-Some-clause-written g c = grind (arith, common_steps)
+
+pub offset_bounds-outlets-k : goal.offset_bounds-outlets-k
+offset_bounds-outlets-k g c = grind (arith, common_steps)
+
+pub returns-in-None-clause-written : goal.returns-in-None-clause-written
+returns-in-None-clause-written g c = grind (arith, common_steps)

@@ -1,4 +1,6 @@
 -- The sink at its place is written.
+use Rattle.std.proofs.Common.{arith}
+use Rattle.std.proofs.lemmas.Grind.{common_steps}
 use Rattle.std.proofs.lemmas.List.{get_or_default}
 use Rattle.kpn_model.specs.Network.{family_of}
 use Rattle.hox_stream.specs.Views.{no_outlet}
@@ -20,3 +22,12 @@ returns-in-Err-Memory-clause-streams g c = λ ins tables.
 pub returns-in-Err-Misfit-clause-streams : goal.returns-in-Err-Misfit-clause-streams
 returns-in-Err-Misfit-clause-streams g c = λ ins tables.
     streams_told (family_of g.B.Kinds.Kinds.start g.B.Kinds.Kinds.answer_of) _ _ ins c.args.outlets.now tables c.args.k _ c.tell.new.outlet c.requires (get_or_default c.args.outlets.now c.args.k c.index-outlets-k.result no_outlet c.requires) c.tell.ensures.tells
+
+pub offset_bounds-outlets-k : goal.offset_bounds-outlets-k
+offset_bounds-outlets-k g c = grind (arith, common_steps)
+
+pub returns-in-Err-Misfit-clause-finish : goal.returns-in-Err-Misfit-clause-finish
+returns-in-Err-Misfit-clause-finish g c = grind (arith, common_steps)
+
+pub returns-in-Err-Failed-clause-finish : goal.returns-in-Err-Failed-clause-finish
+returns-in-Err-Failed-clause-finish g c = grind (arith, common_steps)

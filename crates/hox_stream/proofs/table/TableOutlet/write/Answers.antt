@@ -1,5 +1,6 @@
 -- Tokens are taken into a column, and then rows are written.
-use Rattle.std.proofs.Common.{◌≡◌, List, ap, subst, sym, ◌∙◌}
+use Rattle.std.proofs.Common.{◌≡◌, List, ap, subst, sym, ◌∙◌, arith}
+use Rattle.std.proofs.lemmas.Grind.{common_steps}
 use Rattle.hox_stream.specs.Lanes.{TakesIn}
 use Rattle.hox_stream.specs.Tables.{RowsGo, lane_at, only_at, shortest}
 use Rattle.hox_stream.specs.Views.{LaneView, TableView}
@@ -24,3 +25,6 @@ returns-clause-writes g c =
     let count : c.shortest-count.result ≡ shortest q.lanes = c.shortest-count.ensures ∙ ap (λ (l : List LaneView). shortest l) (c.as_slice.ensures.value ∙ ap (λ (t : TableView). t.lanes) c.self-2.view_is) in
     let takes = ok_means (TakesIn (lane_at p c.args.place) (lane_at q c.args.place) c.args.tokens.now) c.take.result (sym c.is_err.ensures.value ∙ c.if-is_err.false) c.take.ensures.takes in
     writes_taken p q c.write_rows.new.self c.args.place c.requires c.args.tokens.now c.take.ensures.others takes (subst (λ n. RowsGo q c.write_rows.new.self n) count c.write_rows.ensures.rows)
+
+pub end_of_write-requires : goal.end_of_write-requires
+end_of_write-requires g c = grind (arith, common_steps)

@@ -1,5 +1,6 @@
 -- First the sinks are flushed, and then the tables behind them.
-use Rattle.std.proofs.Common.{◌∙◌, sym}
+use Rattle.std.proofs.Common.{◌∙◌, sym, arith}
+use Rattle.std.proofs.lemmas.Grind.{common_steps}
 use Rattle.hox_stream.proofs.Paired.{written_back}
 use Rattle.hox_stream.proofs.Streamed.{streams_both}
 use Rattle.hox_stream.proofs.telling.Outs.flush_all.Goals as goal
@@ -61,3 +62,6 @@ returns-clause-still g c =
     let many = sym (c.flush_sinks-sinks.ensures.still.0 ∙ c.as_mut_slice.ensures.len) in
     let much = sym (c.flush_tables-tables.ensures.still.0 ∙ c.as_mut_slice-2.ensures.len) in
     rw (← c.self.view_is, written_back _ sinks _ many, written_back _ tables _ much) (rw c.as_mut_slice.ensures.value at c.flush_sinks-sinks.ensures.still, rw c.as_mut_slice-2.ensures.value at c.flush_tables-tables.ensures.still)
+
+pub returns-clause-finish : goal.returns-clause-finish
+returns-clause-finish g c = grind (arith, common_steps)

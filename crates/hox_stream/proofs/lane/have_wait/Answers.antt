@@ -1,0 +1,7 @@
+-- Found without an answer too, after a longer search.
+use Rattle.std.proofs.Common.{arith}
+use Rattle.std.proofs.lemmas.Grind.{common_steps}
+use Rattle.hox_stream.proofs.lane.have_wait.Goals as goal
+
+pub loop-token-preserved : goal.loop-token-preserved
+loop-token-preserved c = grind (arith, common_steps)
