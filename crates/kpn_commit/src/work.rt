@@ -122,7 +122,7 @@ pub fn work_on<K: Kinds, H: Keeper>(
     ensures same { IfNone result (core.new ≡ core.old) }
 {
     let entries = core.store.entries() as u64;
-    if net.budget().saturating_sub(2) <= entries {
+    if net.budget() <= entries.saturating_add(2) {
         return None;
     }
     let reaction = react_on(net, core, process, answer)?;

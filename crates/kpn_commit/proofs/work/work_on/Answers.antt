@@ -14,7 +14,7 @@ returns-clause-works g c =
     let l = c.react_on.new.core.standings in
     let p = c.args.process in
     let there : p < length l = omega (arith, c.requires.process, c.react_on.ensures.many) in
-    let left : length s.history + 2 < c.args.net.now.budget = omega (arith, c.if-saturating_sub-entries.false, c.saturating_sub.ensures, c.budget.ensures, c.entries-entries.ensures) in
+    let left : length s.history + 2 < c.args.net.now.budget = omega (arith, c.if-budget-saturating_add.false, c.saturating_add.ensures, c.budget.ensures, c.entries-entries.ensures) in
     record {
       reaction = c.in_ok-reaction.reaction;
       between = c.react_on.new.core.store;
