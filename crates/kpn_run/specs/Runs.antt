@@ -8,6 +8,8 @@ use Rattle.kpn_model.specs.Semantics.{State}
 use Rattle.kpn_model.specs.Determinacy.{IsRun, IsFinal, AreAllPrefixComparable}
 use Rattle.kpn_model.specs.Moments.{IsWithin}
 use Rattle.kpn_model.specs.Endings.{MayEnd}
+use Rattle.kpn_laws.specs.RoomOfRun.{TakesLeastRoom}
+use Rattle.kpn_laws.specs.StreamsOfRun.{ApproachLeastSolution}
 use Rattle.kpn_machine.specs.MachineView.{MachineView}
 use Rattle.kpn_monitor.specs.Views.{Shares}
 
@@ -36,6 +38,21 @@ SparesBudget kinds net cause = (F : List Entry) (N : State) (b : End) → IsFina
 -- the deeds and the streams of this history and of any run of the network, from any starting capacities, are prefix-comparable
 abbrev pub IsComparable : Family → Network → List Entry → Type 0
 IsComparable kinds net history = (sizes : ℕ → ℕ) (F : List Entry) (N : State) → IsRun kinds (resized net sizes) F N → AreAllPrefixComparable net (resized net sizes) history F
+
+-- what holds of each run of this network, over or not: no channel is above its capacity at any moment, the run and any other are
+-- prefix-comparable, it takes no more room than the network needs, and its streams approach the least solution of the network's
+-- equations
+pub record KeepsLaws (kinds : Family) (net : Network) (s : MachineView) : Type 0 where
+  pub within : StaysWithinCapacities kinds net s.history
+  pub comparable : IsComparable kinds net s.history
+  pub room : TakesLeastRoom kinds net s.history s.state
+  pub streams : ApproachLeastSolution kinds net s.history s.state
+
+-- all that is promised of a run of this network that has ended
+pub record IsFinishedRun (kinds : Family) (net : Network) (f : FinishView) : Type 0 where
+  pub finish : IsFinish kinds net f
+  pub budget : SparesBudget kinds net f.cause
+  pub laws : KeepsLaws kinds net f.machine
 
 -- what contracts see of a worker's slot: its seat, and whether an answer of the worker was refused
 pub record AtSlot : Type 0 where

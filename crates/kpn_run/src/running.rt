@@ -5,9 +5,7 @@ ghost use Rattle.kpn_model.specs.Families.{family};
 ghost use Rattle.kpn_machine.specs.declared.opening.OpenFault.{OpenFault as OpenFaultV};
 ghost use Rattle.kpn_machine.specs.Opening.{cards_of, IsOpenFault};
 ghost use Rattle.kpn_machine.specs.MachineView.{IsFresh};
-ghost use Rattle.kpn_laws.specs.RoomOfRun.{TakesLeastRoom};
-ghost use Rattle.kpn_laws.specs.StreamsOfRun.{ApproachLeastSolution};
-ghost use Rattle.kpn_run.specs.Runs.{IsFinish, IsComparable, SparesBudget, StaysWithinCapacities};
+ghost use Rattle.kpn_run.specs.Runs.{IsFinish, IsFinishedRun};
 ghost use Rattle.kpn_body.specs.Input.{Input};
 
 use crate::boxed::{BoxedBody, Boxes, box_all, unbox_all};
@@ -77,14 +75,15 @@ impl<B: Body> RunFault<B> {
 /// Runs a network from its start to an end, by 1 to 16 workers and with a body for each process in
 /// order.
 ///
-/// The history is a run of the sequential machine, with as many entries as the workers have receipts;
-/// after each prefix of it no channel holds more tokens than its capacity. It does not end by `Budget`
-/// if some run that is over has fewer entries than the budget. The deeds of each process, and the
-/// streams, in this history and in any run from any starting capacities are prefix-comparable (Kahn
-/// 1974). If capacity b suffices for the network, no channel of capacity b or more grows in the run
-/// (Parks 1995; docs/least-room.md). The streams of the run are below every solution of the network's
-/// equations, and if it terminated or ended in a deadlock they are the least solution (Kahn 1974;
-/// docs/least-solution.md).
+/// Clause `run` has these fields. `finish`: the history is a run of the sequential machine, with as
+/// many entries as the workers have receipts, and its end is justified. `budget`: it does not end by
+/// `Budget` if some run that is over has fewer entries than the budget. `laws.within`: after each
+/// prefix of the history no channel holds more tokens than its capacity. `laws.comparable`: the deeds
+/// of each process, and the streams, in this history and in any run from any starting capacities are
+/// prefix-comparable (Kahn 1974). `laws.room`: if capacity b suffices for the network, no channel of
+/// capacity b or more grows in the run (Parks 1995; docs/least-room.md). `laws.streams`: the streams of
+/// the run are below every solution of the network's equations, and if it terminated or ended in a
+/// deadlock they are the least solution (Kahn 1974; docs/least-solution.md).
 ///
 /// The calling thread is one worker, and each other has a thread of its own; if a thread can't be
 /// started, that worker runs in the calling thread. The call returns when all workers have met the end.
@@ -105,12 +104,7 @@ pub fn run<B: Body, R: Wait + Clock + Threads + Sync, G: Gate>(
     workers: usize,
     gate: &G,
 ) -> Result<Finish<B::Kinds>, RunFault<B>>
-    ensures finish { IfOk result (IsFinish (family B.Kinds.Kinds) net) }
-    ensures within { IfOk result (λ f. StaysWithinCapacities (family B.Kinds.Kinds) net f.machine.history) }
-    ensures budget { IfOk result (λ f. SparesBudget (family B.Kinds.Kinds) net f.cause) }
-    ensures comparable { IfOk result (λ f. IsComparable (family B.Kinds.Kinds) net f.machine.history) }
-    ensures room { IfOk result (λ f. TakesLeastRoom (family B.Kinds.Kinds) net f.machine.history f.machine.state) }
-    ensures streams { IfOk result (λ f. ApproachLeastSolution (family B.Kinds.Kinds) net f.machine.history f.machine.state) }
+    ensures run { IfOk result (IsFinishedRun (family B.Kinds.Kinds) net) }
     ensures cards { OnOk result (map B.card bodies.items ≡ cards_of net.processes) }
     ensures workers { (n : NetV) (bs : _) → result ≡ Err (RunFault.Workers n bs) → (n ≡ net) × (bs ≡ bodies) × ((workers ≡ 0) ⊎ (16 < workers)) }
     ensures many { (workers ≡ 0) ⊎ (16 < workers) → result ≡ Err (RunFault.Workers net bodies) }
@@ -137,12 +131,7 @@ pub fn run_with_keeper<B: Body, H: Keeper + Send, R: Wait + Clock + Threads + Sy
     workers: usize,
     gate: &G,
 ) -> Result<Finish<B::Kinds, H>, RunFault<B>>
-    ensures finish { IfOk result (IsFinish (family B.Kinds.Kinds) net) }
-    ensures within { IfOk result (λ f. StaysWithinCapacities (family B.Kinds.Kinds) net f.machine.history) }
-    ensures budget { IfOk result (λ f. SparesBudget (family B.Kinds.Kinds) net f.cause) }
-    ensures comparable { IfOk result (λ f. IsComparable (family B.Kinds.Kinds) net f.machine.history) }
-    ensures room { IfOk result (λ f. TakesLeastRoom (family B.Kinds.Kinds) net f.machine.history f.machine.state) }
-    ensures streams { IfOk result (λ f. ApproachLeastSolution (family B.Kinds.Kinds) net f.machine.history f.machine.state) }
+    ensures run { IfOk result (IsFinishedRun (family B.Kinds.Kinds) net) }
     ensures cards { OnOk result (map B.card bodies.items ≡ cards_of net.processes) }
     ensures workers { (n : NetV) (bs : _) → result ≡ Err (RunFault.Workers n bs) → (n ≡ net) × (bs ≡ bodies) × ((workers ≡ 0) ⊎ (16 < workers)) }
     ensures many { (workers ≡ 0) ⊎ (16 < workers) → result ≡ Err (RunFault.Workers net bodies) }
@@ -201,12 +190,7 @@ fn run_bodies<B: Body, H: Keeper + Send, R: Wait + Clock + Threads + Sync, G: Ga
     gate: &G,
 ) -> Result<Finish<B::Kinds, H>, RunFault<B>>
     requires { (0 < workers) × (workers ≤ 16) }
-    ensures finish { IfOk result (IsFinish (family B.Kinds.Kinds) net) }
-    ensures within { IfOk result (λ f. StaysWithinCapacities (family B.Kinds.Kinds) net f.machine.history) }
-    ensures budget { IfOk result (λ f. SparesBudget (family B.Kinds.Kinds) net f.cause) }
-    ensures comparable { IfOk result (λ f. IsComparable (family B.Kinds.Kinds) net f.machine.history) }
-    ensures room { IfOk result (λ f. TakesLeastRoom (family B.Kinds.Kinds) net f.machine.history f.machine.state) }
-    ensures streams { IfOk result (λ f. ApproachLeastSolution (family B.Kinds.Kinds) net f.machine.history f.machine.state) }
+    ensures run { IfOk result (IsFinishedRun (family B.Kinds.Kinds) net) }
     ensures cards { OnOk result (map B.card bodies.items ≡ cards_of net.processes) }
     ensures workers { (n : NetV) (bs : _) → result ≢ Err (RunFault.Workers n bs) }
     ensures open { (n : NetV) (bs : _) (fault : OpenFaultV) → result ≡ Err (RunFault.Open n bs fault) → (n ≡ net) × (bs.items ≡ bodies.items) × (fault ≢ OpenFault.Memory) × IsOpenFault net.processes (map B.card bodies.items) fault }
@@ -252,12 +236,7 @@ fn run_machine<B: Body, H: Keeper + Send, R: Wait + Clock + Threads + Sync, G: G
 ) -> Result<Finish<B::Kinds, H>, RunFault<B>>
     requires fresh { IsFresh machine }
     requires workers { (0 < workers) × (workers ≤ 16) }
-    ensures finish { IfOk result (IsFinish (family B.Kinds.Kinds) machine.network) }
-    ensures within { IfOk result (λ f. StaysWithinCapacities (family B.Kinds.Kinds) machine.network f.machine.history) }
-    ensures budget { IfOk result (λ f. SparesBudget (family B.Kinds.Kinds) machine.network f.cause) }
-    ensures comparable { IfOk result (λ f. IsComparable (family B.Kinds.Kinds) machine.network f.machine.history) }
-    ensures room { IfOk result (λ f. TakesLeastRoom (family B.Kinds.Kinds) machine.network f.machine.history f.machine.state) }
-    ensures streams { IfOk result (λ f. ApproachLeastSolution (family B.Kinds.Kinds) machine.network f.machine.history f.machine.state) }
+    ensures run { IfOk result (IsFinishedRun (family B.Kinds.Kinds) machine.network) }
     ensures workers { (n : NetV) (bs : _) → result ≢ Err (RunFault.Workers n bs) }
     ensures open { (n : NetV) (bs : _) (fault : OpenFaultV) → result ≢ Err (RunFault.Open n bs fault) }
     ensures lost { (a : Input) (b : _) → result ≡ Err (RunFault.Lost a b) → B.card b ≡ a.card }
@@ -294,11 +273,7 @@ fn opening_of<B: Body, H: Keeper>(
 
 /// Ghost lemma: what the laws say of a run that has ended.
 fn told_by_laws<K: Kinds, H: Keeper>(finish: &Finish<K, H>)
-    ensures within { StaysWithinCapacities (family K.Kinds) finish.now.machine.network finish.now.machine.history }
-    ensures budget { SparesBudget (family K.Kinds) finish.now.machine.network finish.now.cause }
-    ensures comparable { IsComparable (family K.Kinds) finish.now.machine.network finish.now.machine.history }
-    ensures room { TakesLeastRoom (family K.Kinds) finish.now.machine.network finish.now.machine.history finish.now.machine.state }
-    ensures streams { ApproachLeastSolution (family K.Kinds) finish.now.machine.network finish.now.machine.history finish.now.machine.state }
+    ensures { IsFinishedRun (family K.Kinds) finish.now.machine.network finish.now }
 {
     determinacy_of::<K>();
     least_room_of::<K>();

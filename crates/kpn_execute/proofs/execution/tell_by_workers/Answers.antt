@@ -7,7 +7,7 @@ use Rattle.kpn_execute.proofs.execution.tell_by_workers.Goals as goal
 
 pub returns-in-Ok : goal.returns-in-Ok
 returns-in-Ok g c =
-    let same = ap (λ (s : MachineView). s.network) c.chronicle-chronicle.ensures ∙ c.in-Ok.ensures.finish.network in
+    let same = ap (λ (s : MachineView). s.network) c.chronicle-chronicle.ensures ∙ c.in-Ok.ensures.run.finish.network in
     written_of (λ s t told. inr (rw same at told)) c.say_told.ensures
 
 pub returns-in-Err-Memory : goal.returns-in-Err-Memory

@@ -2,41 +2,20 @@
 use Rattle.std.proofs.Common.{◌∙◌, ap, map, subst, sym}
 use Rattle.std.specs.Prelude.{IfOk}
 use Rattle.std.proofs.lemmas.Result.{IfOk-weaker}
-use Rattle.kpn_model.specs.Network.{Network, family_of}
-use Rattle.kpn_laws.specs.RoomOfRun.{TakesLeastRoom}
-use Rattle.kpn_laws.specs.StreamsOfRun.{ApproachLeastSolution}
+use Rattle.kpn_model.specs.Network.{Network}
+use Rattle.kpn_model.specs.Families.{family}
 use Rattle.kpn_machine.specs.declared.opening.OpenFault.{OpenFault}
 use Rattle.kpn_machine.specs.Opening.{cards_of, IsOpenFault}
 use Rattle.kpn_machine.specs.MachineView.{MachineView}
-use Rattle.kpn_run.specs.Runs.{IsFinish, StaysWithinCapacities, SparesBudget, IsComparable}
+use Rattle.kpn_run.specs.Runs.{IsFinishedRun}
 use Rattle.kpn_run.proofs.running.run_bodies.Goals as goal
 
-pub returns-clause-finish : goal.returns-clause-finish
-returns-clause-finish g c =
-    subst (λ (n : Network). IfOk c.run_machine.result (IsFinish (family_of g.B.Kinds.Kinds.start g.B.Kinds.Kinds.answer_of) n)) (ap (λ (m : MachineView). m.network) c.in-Ok.ensures.opened) c.run_machine.ensures.finish
-
-pub returns-clause-within : goal.returns-clause-within
-returns-clause-within g c =
-    subst (λ (n : Network). IfOk c.run_machine.result (λ f. StaysWithinCapacities (family_of g.B.Kinds.Kinds.start g.B.Kinds.Kinds.answer_of) n f.machine.history)) (ap (λ (m : MachineView). m.network) c.in-Ok.ensures.opened) c.run_machine.ensures.within
-
-pub returns-clause-budget : goal.returns-clause-budget
-returns-clause-budget g c =
-    subst (λ (n : Network). IfOk c.run_machine.result (λ f. SparesBudget (family_of g.B.Kinds.Kinds.start g.B.Kinds.Kinds.answer_of) n f.cause)) (ap (λ (m : MachineView). m.network) c.in-Ok.ensures.opened) c.run_machine.ensures.budget
-
-pub returns-clause-comparable : goal.returns-clause-comparable
-returns-clause-comparable g c =
-    subst (λ (n : Network). IfOk c.run_machine.result (λ f. IsComparable (family_of g.B.Kinds.Kinds.start g.B.Kinds.Kinds.answer_of) n f.machine.history)) (ap (λ (m : MachineView). m.network) c.in-Ok.ensures.opened) c.run_machine.ensures.comparable
-
-pub returns-clause-room : goal.returns-clause-room
-returns-clause-room g c =
-    subst (λ (n : Network). IfOk c.run_machine.result (λ f. TakesLeastRoom (family_of g.B.Kinds.Kinds.start g.B.Kinds.Kinds.answer_of) n f.machine.history f.machine.state)) (ap (λ (m : MachineView). m.network) c.in-Ok.ensures.opened) c.run_machine.ensures.room
-
-pub returns-clause-streams : goal.returns-clause-streams
-returns-clause-streams g c =
-    subst (λ (n : Network). IfOk c.run_machine.result (λ f. ApproachLeastSolution (family_of g.B.Kinds.Kinds.start g.B.Kinds.Kinds.answer_of) n f.machine.history f.machine.state)) (ap (λ (m : MachineView). m.network) c.in-Ok.ensures.opened) c.run_machine.ensures.streams
+pub returns-clause-run : goal.returns-clause-run
+returns-clause-run g c =
+    subst (λ (n : Network). IfOk c.run_machine.result (IsFinishedRun (family g.B.Kinds.Kinds) n)) (ap (λ (m : MachineView). m.network) c.in-Ok.ensures.opened) c.run_machine.ensures.run
 
 pub returns-clause-cards : goal.returns-clause-cards
-returns-clause-cards g c = IfOk-weaker c.run_machine.result _ _ (λ f is. c.in-Ok.ensures.cards) c.run_machine.ensures.finish
+returns-clause-cards g c = IfOk-weaker c.run_machine.result _ _ (λ f is. c.in-Ok.ensures.cards) c.run_machine.ensures.run
 
 pub returns-clause-workers : goal.returns-clause-workers
 returns-clause-workers g c = λ n bs is. absurd (c.run_machine.ensures.workers n bs is)

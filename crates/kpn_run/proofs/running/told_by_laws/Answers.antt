@@ -1,28 +1,30 @@
 -- Each prefix of the history is a run of a valid network.
 use Rattle.std.proofs.Common.{sym, subst}
-use Rattle.kpn_model.specs.Network.{Network, family_of}
+use Rattle.kpn_model.specs.Network.{Network}
+use Rattle.kpn_model.specs.Families.{family}
 use Rattle.kpn_model.specs.Semantics.{start}
 use Rattle.kpn_model.specs.Determinacy.{IsRun}
 use Rattle.kpn_model.specs.Valid.{IsValid}
 use Rattle.kpn_run.proofs.running.told_by_laws.Goals as goal
 
-pub returns-clause-within : goal.returns-clause-within
-returns-clause-within g c = λ E F is.
-    let kinds = (family_of g.K.Kinds.start g.K.Kinds.answer_of) in
+pub returns : goal.returns
+returns g c =
+    let kinds = family g.K.Kinds in
     let machine = c.args.finish.now.machine in
     let net = machine.network in
-    let run = subst (λ l. IsRun kinds net l machine.state) (sym is) c.end.ensures.finish.run in
-    let front = c.determinacy_of.ensures.prefixes net (start kinds net) machine.state E F run in
+    let finish = c.end.ensures.finish in
+    let laws = c.determinacy_of.ensures in
     let valid = subst (λ (n : Network). IsValid g.K.Kinds.signature n) c.net.ensures c.assure_valid.ensures.valid in
-    (front.0, front.1, c.valid_runs.ensures.within g.K.Kinds.signature kinds net valid E front.0 front.1)
-
-pub returns-clause-budget : goal.returns-clause-budget
-returns-clause-budget g c = λ F N b over short.
-    let f = c.end.ensures.finish in
-    let machine = c.args.finish.now.machine in
-    c.determinacy_of.ensures.budget machine.network machine.history F machine.state N c.args.finish.now.cause b f.run f.justified over short
-
-pub returns-clause-comparable : goal.returns-clause-comparable
-returns-clause-comparable g c = λ sizes F N run.
-    let machine = c.args.finish.now.machine in
-    c.determinacy_of.ensures.all_comparable machine.network sizes machine.history F machine.state N c.end.ensures.finish.run run
+    record {
+      finish = finish;
+      budget = λ F N b over short. laws.budget net machine.history F machine.state N c.args.finish.now.cause b finish.run finish.justified over short;
+      laws = record {
+        within = λ E F is.
+            let run = subst (λ l. IsRun kinds net l machine.state) (sym is) finish.run in
+            let front = laws.prefixes net (start kinds net) machine.state E F run in
+            (front.0, front.1, c.valid_runs.ensures.within g.K.Kinds.signature kinds net valid E front.0 front.1);
+        comparable = λ sizes F N run. laws.all_comparable net sizes machine.history F machine.state N finish.run run;
+        room = c.least_room_of.ensures.each_run net machine.history machine.state finish.run;
+        streams = c.least_solution_of.ensures.each_run net machine.history machine.state finish.run;
+      };
+    }
