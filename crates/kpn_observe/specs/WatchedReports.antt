@@ -1,16 +1,26 @@
 -- What a watched run says of its end, and what is reported of it.
-use Rattle.std.specs.Prelude.{◌≡◌, Option, Some}
+use Rattle.std.specs.Prelude.{◌≡◌, ℕ, List, Option, Some}
+use Rattle.kpn_model.specs.declared.token.Token.{Token}
+use Rattle.kpn_model.specs.declared.kinds.Card.{Card}
 use Rattle.kpn_model.specs.declared.history.End.{End}
 use Rattle.kpn_model.specs.Network.{Family, Network}
 use Rattle.kpn_machine.specs.MachineView.{MachineView}
 use Rattle.kpn_report.specs.declared.detail.Detail.{Detail}
 use Rattle.kpn_report.specs.Reported.{IsReport}
-use Rattle.kpn_run.specs.Runs.{SparesBudget}
+use Rattle.kpn_monitor.specs.Views.{ClosedView}
+use Rattle.kpn_monitor.specs.Kept.{IsClosed}
+use Rattle.kpn_run.specs.Runs.{SparesBudget, KeepsLaws}
 use Rattle.kpn_run.specs.Reports.{IsEveryRuns, IsOutcome, TellsLeastSolution}
 
 -- a run that ended did not end because of its budget, if some run that is over has fewer entries
 abbrev pub EndSparesBudget : Family → Network → Option End → Type 0
 EndSparesBudget kinds net end = (cause : End) → end ≡ Some cause → SparesBudget kinds net cause
+
+-- all that is promised of a run of this network that was watched, over or not
+pub record IsWatchedRun (kinds : Family) (admits : Card → List ℕ → Option Token → Type 0) (net : Network) (a : ClosedView) : Type 0 where
+  pub closed : IsClosed kinds admits net a
+  pub budget : EndSparesBudget kinds net a.machine.end
+  pub laws : KeepsLaws kinds net a.machine
 
 -- this end and this detail are the report of what the machine left behind, which ended for this cause; and so of every run of its
 -- network that is over

@@ -2,43 +2,20 @@
 use Rattle.std.proofs.Common.{◌∙◌, ap, map, subst, sym}
 use Rattle.std.specs.Prelude.{IfOk}
 use Rattle.std.proofs.lemmas.Result.{IfOk-weaker}
-use Rattle.kpn_model.specs.Network.{Network, family_of}
-use Rattle.kpn_laws.specs.RoomOfRun.{TakesLeastRoom}
-use Rattle.kpn_laws.specs.StreamsOfRun.{ApproachLeastSolution}
+use Rattle.kpn_model.specs.Network.{Network}
+use Rattle.kpn_model.specs.Families.{family}
 use Rattle.kpn_machine.specs.declared.opening.OpenFault.{OpenFault}
 use Rattle.kpn_machine.specs.Opening.{cards_of, IsOpenFault}
 use Rattle.kpn_machine.specs.MachineView.{MachineView}
-use Rattle.kpn_monitor.specs.Kept.{IsClosed}
-use Rattle.kpn_run.specs.Runs.{StaysWithinCapacities, IsComparable}
-use Rattle.kpn_observe.specs.WatchedReports.{EndSparesBudget}
+use Rattle.kpn_observe.specs.WatchedReports.{IsWatchedRun}
 use Rattle.kpn_observe.proofs.running.run_watched_with_keeper.Goals as goal
 
-pub returns-clause-closed : goal.returns-clause-closed
-returns-clause-closed g c =
-    subst (λ (n : Network). IfOk c.run_machine.result (IsClosed (family_of g.B.Kinds.Kinds.start g.B.Kinds.Kinds.answer_of) g.B.Kinds.Kinds.admits n)) (ap (λ (m : MachineView). m.network) c.in-Ok.ensures.opened) c.run_machine.ensures.closed
-
-pub returns-clause-within : goal.returns-clause-within
-returns-clause-within g c =
-    subst (λ (n : Network). IfOk c.run_machine.result (λ r. StaysWithinCapacities (family_of g.B.Kinds.Kinds.start g.B.Kinds.Kinds.answer_of) n r.machine.history)) (ap (λ (m : MachineView). m.network) c.in-Ok.ensures.opened) c.run_machine.ensures.within
-
-pub returns-clause-budget : goal.returns-clause-budget
-returns-clause-budget g c =
-    subst (λ (n : Network). IfOk c.run_machine.result (λ r. EndSparesBudget (family_of g.B.Kinds.Kinds.start g.B.Kinds.Kinds.answer_of) n r.machine.end)) (ap (λ (m : MachineView). m.network) c.in-Ok.ensures.opened) c.run_machine.ensures.budget
-
-pub returns-clause-comparable : goal.returns-clause-comparable
-returns-clause-comparable g c =
-    subst (λ (n : Network). IfOk c.run_machine.result (λ r. IsComparable (family_of g.B.Kinds.Kinds.start g.B.Kinds.Kinds.answer_of) n r.machine.history)) (ap (λ (m : MachineView). m.network) c.in-Ok.ensures.opened) c.run_machine.ensures.comparable
-
-pub returns-clause-room : goal.returns-clause-room
-returns-clause-room g c =
-    subst (λ (n : Network). IfOk c.run_machine.result (λ r. TakesLeastRoom (family_of g.B.Kinds.Kinds.start g.B.Kinds.Kinds.answer_of) n r.machine.history r.machine.state)) (ap (λ (m : MachineView). m.network) c.in-Ok.ensures.opened) c.run_machine.ensures.room
-
-pub returns-clause-streams : goal.returns-clause-streams
-returns-clause-streams g c =
-    subst (λ (n : Network). IfOk c.run_machine.result (λ r. ApproachLeastSolution (family_of g.B.Kinds.Kinds.start g.B.Kinds.Kinds.answer_of) n r.machine.history r.machine.state)) (ap (λ (m : MachineView). m.network) c.in-Ok.ensures.opened) c.run_machine.ensures.streams
+pub returns-clause-run : goal.returns-clause-run
+returns-clause-run g c =
+    subst (λ (n : Network). IfOk c.run_machine.result (IsWatchedRun (family g.B.Kinds.Kinds) g.B.Kinds.Kinds.admits n)) (ap (λ (m : MachineView). m.network) c.in-Ok.ensures.opened) c.run_machine.ensures.run
 
 pub returns-clause-cards : goal.returns-clause-cards
-returns-clause-cards g c = IfOk-weaker c.run_machine.result _ _ (λ r is. c.in-Ok.ensures.cards) c.run_machine.ensures.closed
+returns-clause-cards g c = IfOk-weaker c.run_machine.result _ _ (λ r is. c.in-Ok.ensures.cards) c.run_machine.ensures.run
 
 pub returns-clause-workers : goal.returns-clause-workers
 returns-clause-workers g c = λ n bs is. absurd (c.run_machine.ensures.workers n bs is)

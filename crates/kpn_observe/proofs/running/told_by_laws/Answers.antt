@@ -1,31 +1,34 @@
 -- Each prefix of the history is a run of a valid network.
 use Rattle.std.proofs.Common.{sym, subst}
-use Rattle.kpn_model.specs.Network.{Network, family_of}
+use Rattle.kpn_model.specs.Network.{Network}
+use Rattle.kpn_model.specs.Families.{family}
 use Rattle.kpn_model.specs.Semantics.{start}
 use Rattle.kpn_model.specs.Determinacy.{IsRun}
 use Rattle.kpn_model.specs.Valid.{IsValid}
 use Rattle.kpn_observe.proofs.WatchedReports.{ends_so}
 use Rattle.kpn_observe.proofs.running.told_by_laws.Goals as goal
 
-pub returns-clause-within : goal.returns-clause-within
-returns-clause-within g c = λ E F is.
-    let kinds = (family_of g.K.Kinds.start g.K.Kinds.answer_of) in
+pub returns : goal.returns
+returns g c =
+    let kinds = family g.K.Kinds in
     let machine = c.args.ran.now.machine in
     let net = machine.network in
-    let run = subst (λ l. IsRun kinds net l machine.state) (sym is) c.end.ensures.closed.faithful.run in
-    let front = c.determinacy_of.ensures.prefixes net (start kinds net) machine.state E F run in
+    let closed = c.end.ensures.closed in
+    let run = closed.faithful.run in
+    let laws = c.determinacy_of.ensures in
     let valid = subst (λ (n : Network). IsValid g.K.Kinds.signature n) c.net.ensures c.assure_valid.ensures.valid in
-    (front.0, front.1, c.valid_runs.ensures.within g.K.Kinds.signature kinds net valid E front.0 front.1)
-
-pub returns-clause-budget : goal.returns-clause-budget
-returns-clause-budget g c = λ cause ended F N b over short.
-    let kinds = (family_of g.K.Kinds.start g.K.Kinds.answer_of) in
-    let faithful = c.end.ensures.closed.faithful in
-    let machine = c.args.ran.now.machine in
-    let justified = ends_so kinds machine.network machine.history machine.state machine.end cause ended faithful.justified in
-    c.determinacy_of.ensures.budget machine.network machine.history F machine.state N cause b faithful.run justified over short
-
-pub returns-clause-comparable : goal.returns-clause-comparable
-returns-clause-comparable g c = λ sizes F N run.
-    let machine = c.args.ran.now.machine in
-    c.determinacy_of.ensures.all_comparable machine.network sizes machine.history F machine.state N c.end.ensures.closed.faithful.run run
+    record {
+      closed = closed;
+      budget = λ cause ended F N b over short.
+          let justified = ends_so kinds net machine.history machine.state machine.end cause ended closed.faithful.justified in
+          laws.budget net machine.history F machine.state N cause b run justified over short;
+      laws = record {
+        within = λ E F is.
+            let whole = subst (λ l. IsRun kinds net l machine.state) (sym is) run in
+            let front = laws.prefixes net (start kinds net) machine.state E F whole in
+            (front.0, front.1, c.valid_runs.ensures.within g.K.Kinds.signature kinds net valid E front.0 front.1);
+        comparable = λ sizes F N other. laws.all_comparable net sizes machine.history F machine.state N run other;
+        room = c.least_room_of.ensures.each_run net machine.history machine.state run;
+        streams = c.least_solution_of.ensures.each_run net machine.history machine.state run;
+      };
+    }
