@@ -1,4 +1,5 @@
-use Rattle.std.proofs.Common.{rules}
+use Rattle.std.proofs.Common.{rules, arith}
+use Rattle.std.proofs.lemmas.Grind.{common_steps}
 use Rattle.hox_network.proofs.Copied.{copied_more}
 use Rattle.hox_network.proofs.names.channel_names.Goals as goal
 
@@ -7,3 +8,6 @@ loop-c-preserved g c = copied_more _ _ _ _ _ c.loop-c.invariant c.in_ok-push.ens
 
 pub loop-c-init : goal.loop-c-init
 loop-c-init g c = search rules
+
+pub returns : goal.returns
+returns g c = grind (arith, common_steps)

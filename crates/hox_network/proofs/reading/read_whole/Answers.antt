@@ -1,4 +1,5 @@
 use Rattle.std.proofs.Common.{◌≤◌, ◌++◌, ◌-◌, length, rules, take, arith}
+use Rattle.std.proofs.lemmas.Grind.{common_steps}
 use Rattle.std.proofs.KnownBytes.{Consumes-trans}
 use Rattle.std.proofs.lemmas.List.{length-append}
 use Rattle.hox_network.specs.declared.reading.TheConstants.{LONGEST_FILE}
@@ -17,3 +18,9 @@ returns-then-is_err-clause-taken g c =
 
 pub returns-in-Err-clause-unfailed : goal.returns-in-Err-clause-unfailed
 returns-in-Err-clause-unfailed g c = search rules
+
+pub loop-chunk-preserved : goal.loop-chunk-preserved
+loop-chunk-preserved g c = grind (arith, common_steps)
+
+pub returns-in-Ok-eq0-clause-ok : goal.returns-in-Ok-eq0-clause-ok
+returns-in-Ok-eq0-clause-ok g c = grind (arith, common_steps)
