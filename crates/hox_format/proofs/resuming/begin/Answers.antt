@@ -1,5 +1,6 @@
 -- What was read to where the records begin is the front of the file.
-use Rattle.std.proofs.Common.{◌≡◌, ◌≤◌, List, drop, length, Option, Some, IfSome, Ok, Err, ap, rules, subst, ◌∙◌}
+use Rattle.std.proofs.Common.{◌≡◌, ◌≤◌, List, drop, length, Option, Some, IfSome, Ok, Err, ap, rules, subst, ◌∙◌, arith}
+use Rattle.std.proofs.lemmas.Grind.{common_steps}
 use Rattle.hox_format.specs.declared.bodies.Body.{Body}
 use Rattle.hox_format.specs.Bodies.{IsBodyResult, IsWithin, body_bytes}
 use Rattle.hox_format.specs.Forms.{form}
@@ -40,3 +41,6 @@ returns-in-Ok-Err-clause-refused g c =
       subst (λ l. IsBodyResult (form c.args.format.now) c.args.place c.args.count l front.is_last (Err fault)) c.as_slice.ensures.value tells,
       front_of (g.S.Source.remaining c.args.source) front.held.items front.is_last (g.S.Source.remaining front.source) c.pieces.invariant.front,
     )
+
+pub returns-in_err-read_on-in-Ok-Ok-None-clause-refused : goal.returns-in_err-read_on-in-Ok-Ok-None-clause-refused
+returns-in_err-read_on-in-Ok-Ok-None-clause-refused g c = grind (arith, common_steps)
