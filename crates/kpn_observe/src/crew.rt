@@ -7,9 +7,12 @@ ghost use Rattle.kpn_body.specs.Input.{Input};
 ghost use Rattle.kpn_machine.specs.Commits.{entries_appended};
 ghost use Rattle.kpn_machine.specs.Opening.{cards_of, IsOpenFault};
 ghost use Rattle.kpn_machine.specs.MachineView.{IsFresh};
+ghost use Rattle.kpn_laws.specs.RoomOfRun.{TakesLeastRoom};
+ghost use Rattle.kpn_laws.specs.StreamsOfRun.{ApproachLeastSolution};
 ghost use Rattle.kpn_monitor.specs.Views.{Shares};
 ghost use Rattle.kpn_monitor.specs.Kept.{HasEnded, IsClosed, WasCommitted, WasTaken};
-ghost use Rattle.kpn_observe.specs.WatchedReports.{IsWatchedRun};
+ghost use Rattle.kpn_run.specs.Runs.{IsComparable, StaysWithinCapacities};
+ghost use Rattle.kpn_observe.specs.WatchedReports.{EndSparesBudget, IsWatchedRun};
 
 use crate::running::told_by_laws;
 use crate::watched::WatchedRun;
@@ -157,12 +160,11 @@ pub trait Crew<B: Body>: Sync {
 /// thread can't be started, the calling thread does its work.
 ///
 /// The crew may take tasks, ask bodies and commit answers as it likes, pause, and leave before the end. Whatever
-/// it does, all that is known of a watched run is known of its history (`run_watched`), by the same fields of
-/// clause `run`: it is a run of the sequential machine, an end, if there is one, is justified (`closed`), after
-/// each prefix no channel holds more tokens than its capacity (`laws.within`), and its streams and those of any
-/// run from any starting capacities are prefix-comparable (`laws.comparable`; Kahn 1974). If capacity b suffices
-/// for the network, no channel of capacity b or more grows in it (`laws.room`; Parks 1995); its streams are below
-/// every solution of the network's equations (`laws.streams`). If it has ended, it has not ended by `Budget` if
+/// it does, all that is known of a watched run is known of its history (`run_watched`), by the same clauses: it is a run of the sequential machine, an end, if there is one, is justified (`closed`), after
+/// each prefix no channel holds more tokens than its capacity (`within`), and its streams and those of any
+/// run from any starting capacities are prefix-comparable (`comparable`; Kahn 1974). If capacity b suffices
+/// for the network, no channel of capacity b or more grows in it (`room`; Parks 1995); its streams are below
+/// every solution of the network's equations (`streams`). If it has ended, it has not ended by `Budget` if
 /// some run that is over has fewer entries than the budget (`budget`).
 ///
 /// Errors: the bodies are not one for each process, with its card (`Bodies`, `Card`), and network and bodies
@@ -182,7 +184,12 @@ pub fn run_by_crew<B: Body, R: Threads + Sync, C: Crew<B>>(
     seats: u16,
     crew: &C,
 ) -> Result<WatchedRun<B::Kinds>, OpenRefused<B>>
-    ensures run { IfOk result (IsWatchedRun (family B.Kinds.Kinds) B.Kinds.admits net) }
+    ensures closed { IfOk result (IsClosed (family B.Kinds.Kinds) B.Kinds.admits net) }
+    ensures within { IfOk result (λ r. StaysWithinCapacities (family B.Kinds.Kinds) net r.machine.history) }
+    ensures budget { IfOk result (λ r. EndSparesBudget (family B.Kinds.Kinds) net r.machine.end) }
+    ensures comparable { IfOk result (λ r. IsComparable (family B.Kinds.Kinds) net r.machine.history) }
+    ensures room { IfOk result (λ r. TakesLeastRoom (family B.Kinds.Kinds) net r.machine.history r.machine.state) }
+    ensures streams { IfOk result (λ r. ApproachLeastSolution (family B.Kinds.Kinds) net r.machine.history r.machine.state) }
     ensures cards { OnOk result (map B.card bodies.items ≡ cards_of net.processes) }
     ensures net_back { IfErr result (λ refused. refused.net ≡ net) }
     ensures cards_back { IfErr result (λ refused. map B.card refused.bodies.items ≡ map B.card bodies.items) }

@@ -6,10 +6,13 @@ ghost use Rattle.kpn_model.specs.Families.{family};
 ghost use Rattle.kpn_machine.specs.declared.opening.OpenFault.{OpenFault as OpenFaultV};
 ghost use Rattle.kpn_machine.specs.Opening.{cards_of, IsOpenFault};
 ghost use Rattle.kpn_machine.specs.MachineView.{IsFresh};
+ghost use Rattle.kpn_laws.specs.RoomOfRun.{TakesLeastRoom};
+ghost use Rattle.kpn_laws.specs.StreamsOfRun.{ApproachLeastSolution};
 ghost use Rattle.kpn_monitor.specs.Views.{Shares};
 ghost use Rattle.kpn_monitor.specs.Kept.{IsClosed};
 ghost use Rattle.kpn_body.specs.Input.{Input};
-ghost use Rattle.kpn_observe.specs.WatchedReports.{IsWatchedRun};
+ghost use Rattle.kpn_run.specs.Runs.{IsComparable, StaysWithinCapacities};
+ghost use Rattle.kpn_observe.specs.WatchedReports.{EndSparesBudget, IsWatchedRun};
 
 use crate::bell::Bell;
 use crate::observer::{Observer, Wish, observe};
@@ -70,16 +73,16 @@ pub enum WatchedFault<B: Body> {
 /// an observer once in each period how far the run has come: until its end, or until the observer
 /// wishes to stop.
 ///
-/// Clause `run` has these fields. `closed`: the history is a run of the sequential machine, with as many
+/// Clause `closed`: the history is a run of the sequential machine, with as many
 /// entries as the workers have receipts, and an end, if there is one, is justified. `budget`: if it has
 /// ended, it has not ended by `Budget` if some run that is over has fewer entries than the budget. And
-/// `laws`, all that is known of the history of `kpn_run::run`, stopped or not. `laws.within`: after each
-/// prefix of the history no channel holds more tokens than its capacity. `laws.comparable`: the deeds of
+/// all that is known of the history of `kpn_run::run`, stopped or not. `within`: after each
+/// prefix of the history no channel holds more tokens than its capacity. `comparable`: the deeds of
 /// each process, and the streams, in this history and in any run from any starting capacities are
 /// prefix-comparable, so that of what has come out of a channel here and in another run, one begins with
 /// the other; and every run that terminates or ends in a deadlock brings at least this (Kahn 1974).
-/// `laws.room`: if capacity b suffices for the network, no channel of capacity b or more grows in it
-/// (Parks 1995). `laws.streams`: its streams are below every solution of the network's equations.
+/// `room`: if capacity b suffices for the network, no channel of capacity b or more grows in it
+/// (Parks 1995). `streams`: its streams are below every solution of the network's equations.
 ///
 /// The observer is called once before the start, with no entries; then in a thread of its own; and once
 /// more when the workers are done. Once it wishes to stop, each worker finishes what it holds and takes
@@ -105,7 +108,12 @@ pub fn run_watched<B: Body, R: Wait + Clock + Threads + Sync, G: Gate, V: Observ
     period: Duration,
     observer: &V,
 ) -> Result<WatchedRun<B::Kinds>, WatchedFault<B>>
-    ensures run { IfOk result (IsWatchedRun (family B.Kinds.Kinds) B.Kinds.admits net) }
+    ensures closed { IfOk result (IsClosed (family B.Kinds.Kinds) B.Kinds.admits net) }
+    ensures within { IfOk result (λ r. StaysWithinCapacities (family B.Kinds.Kinds) net r.machine.history) }
+    ensures budget { IfOk result (λ r. EndSparesBudget (family B.Kinds.Kinds) net r.machine.end) }
+    ensures comparable { IfOk result (λ r. IsComparable (family B.Kinds.Kinds) net r.machine.history) }
+    ensures room { IfOk result (λ r. TakesLeastRoom (family B.Kinds.Kinds) net r.machine.history r.machine.state) }
+    ensures streams { IfOk result (λ r. ApproachLeastSolution (family B.Kinds.Kinds) net r.machine.history r.machine.state) }
     ensures cards { OnOk result (map B.card bodies.items ≡ cards_of net.processes) }
     ensures workers { (n : NetV) (bs : _) → result ≡ Err (WatchedFault.Workers n bs) → (n ≡ net) × (bs ≡ bodies) × ((workers ≡ 0) ⊎ (16 < workers)) }
     ensures many { (workers ≡ 0) ⊎ (16 < workers) → result ≡ Err (WatchedFault.Workers net bodies) }

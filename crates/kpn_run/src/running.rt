@@ -5,7 +5,9 @@ ghost use Rattle.kpn_model.specs.Families.{family};
 ghost use Rattle.kpn_machine.specs.declared.opening.OpenFault.{OpenFault as OpenFaultV};
 ghost use Rattle.kpn_machine.specs.Opening.{cards_of, IsOpenFault};
 ghost use Rattle.kpn_machine.specs.MachineView.{IsFresh};
-ghost use Rattle.kpn_run.specs.Runs.{IsFinish, IsFinishedRun};
+ghost use Rattle.kpn_laws.specs.RoomOfRun.{TakesLeastRoom};
+ghost use Rattle.kpn_laws.specs.StreamsOfRun.{ApproachLeastSolution};
+ghost use Rattle.kpn_run.specs.Runs.{IsFinish, IsFinishedRun, IsComparable, SparesBudget, StaysWithinCapacities};
 ghost use Rattle.kpn_body.specs.Input.{Input};
 
 use crate::boxed::{BoxedBody, Boxes, box_all, unbox_all};
@@ -75,13 +77,13 @@ impl<B: Body> RunFault<B> {
 /// Runs a network from its start to an end, by 1 to 16 workers and with a body for each process in
 /// order.
 ///
-/// Clause `run` has these fields. `finish`: the history is a run of the sequential machine, with as
+/// Clause `finish`: the history is a run of the sequential machine, with as
 /// many entries as the workers have receipts, and its end is justified. `budget`: it does not end by
-/// `Budget` if some run that is over has fewer entries than the budget. `laws.within`: after each
-/// prefix of the history no channel holds more tokens than its capacity. `laws.comparable`: the deeds
+/// `Budget` if some run that is over has fewer entries than the budget. `within`: after each
+/// prefix of the history no channel holds more tokens than its capacity. `comparable`: the deeds
 /// of each process, and the streams, in this history and in any run from any starting capacities are
-/// prefix-comparable (Kahn 1974). `laws.room`: if capacity b suffices for the network, no channel of
-/// capacity b or more grows in the run (Parks 1995; docs/least-room.md). `laws.streams`: the streams of
+/// prefix-comparable (Kahn 1974). `room`: if capacity b suffices for the network, no channel of
+/// capacity b or more grows in the run (Parks 1995; docs/least-room.md). `streams`: the streams of
 /// the run are below every solution of the network's equations, and if it terminated or ended in a
 /// deadlock they are the least solution (Kahn 1974; docs/least-solution.md).
 ///
@@ -104,7 +106,12 @@ pub fn run<B: Body, R: Wait + Clock + Threads + Sync, G: Gate>(
     workers: usize,
     gate: &G,
 ) -> Result<Finish<B::Kinds>, RunFault<B>>
-    ensures run { IfOk result (IsFinishedRun (family B.Kinds.Kinds) net) }
+    ensures finish { IfOk result (IsFinish (family B.Kinds.Kinds) net) }
+    ensures within { IfOk result (λ f. StaysWithinCapacities (family B.Kinds.Kinds) net f.machine.history) }
+    ensures budget { IfOk result (λ f. SparesBudget (family B.Kinds.Kinds) net f.cause) }
+    ensures comparable { IfOk result (λ f. IsComparable (family B.Kinds.Kinds) net f.machine.history) }
+    ensures room { IfOk result (λ f. TakesLeastRoom (family B.Kinds.Kinds) net f.machine.history f.machine.state) }
+    ensures streams { IfOk result (λ f. ApproachLeastSolution (family B.Kinds.Kinds) net f.machine.history f.machine.state) }
     ensures cards { OnOk result (map B.card bodies.items ≡ cards_of net.processes) }
     ensures workers { (n : NetV) (bs : _) → result ≡ Err (RunFault.Workers n bs) → (n ≡ net) × (bs ≡ bodies) × ((workers ≡ 0) ⊎ (16 < workers)) }
     ensures many { (workers ≡ 0) ⊎ (16 < workers) → result ≡ Err (RunFault.Workers net bodies) }

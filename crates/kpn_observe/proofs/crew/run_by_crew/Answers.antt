@@ -1,6 +1,6 @@
 -- The machine is one of this network.
 use Rattle.std.proofs.Common.{◌∙◌, ◌≡◌, ap, map, subst, sym}
-use Rattle.std.specs.Prelude.{IfOk, IfErr}
+use Rattle.std.specs.Prelude.{IfOk, IfErr, Result}
 use Rattle.std.proofs.lemmas.Result.{IfOk-weaker, IfErr-weaker}
 use Rattle.kpn_model.specs.Network.{Network}
 use Rattle.kpn_model.specs.Families.{family}
@@ -9,9 +9,32 @@ use Rattle.kpn_machine.specs.MachineView.{MachineView}
 use Rattle.kpn_observe.specs.WatchedReports.{IsWatchedRun}
 use Rattle.kpn_observe.proofs.crew.run_by_crew.Goals as goal
 
-pub returns-in-Ok-clause-run : goal.returns-in-Ok-clause-run
-returns-in-Ok-clause-run g c =
-    subst (λ (n : Network). IfOk c.run_opened.result (IsWatchedRun (family g.B.Kinds.Kinds) g.B.Kinds.Kinds.admits n)) (ap (λ (m : MachineView). m.network) c.in-Ok.ensures.opened) c.run_opened.ensures.run
+told : {T E : Type 0} (r : Result T E) (P : Network → T → Type 0) (Q : T → Type 0) (n m : Network) → n ≡ m → ((x : T) → P m x → Q x) → IfOk r (P n) → IfOk r Q
+told r P Q n m same leads run = IfOk-weaker r _ _ leads (subst (λ (x : Network). IfOk r (P x)) same run)
+
+pub returns-in-Ok-clause-closed : goal.returns-in-Ok-clause-closed
+returns-in-Ok-clause-closed g c =
+    told c.run_opened.result (IsWatchedRun (family g.B.Kinds.Kinds) g.B.Kinds.Kinds.admits) _ _ _ (ap (λ (m : MachineView). m.network) c.in-Ok.ensures.opened) (λ r run. run.closed) c.run_opened.ensures.run
+
+pub returns-in-Ok-clause-within : goal.returns-in-Ok-clause-within
+returns-in-Ok-clause-within g c =
+    told c.run_opened.result (IsWatchedRun (family g.B.Kinds.Kinds) g.B.Kinds.Kinds.admits) _ _ _ (ap (λ (m : MachineView). m.network) c.in-Ok.ensures.opened) (λ r run. run.laws.within) c.run_opened.ensures.run
+
+pub returns-in-Ok-clause-budget : goal.returns-in-Ok-clause-budget
+returns-in-Ok-clause-budget g c =
+    told c.run_opened.result (IsWatchedRun (family g.B.Kinds.Kinds) g.B.Kinds.Kinds.admits) _ _ _ (ap (λ (m : MachineView). m.network) c.in-Ok.ensures.opened) (λ r run. run.budget) c.run_opened.ensures.run
+
+pub returns-in-Ok-clause-comparable : goal.returns-in-Ok-clause-comparable
+returns-in-Ok-clause-comparable g c =
+    told c.run_opened.result (IsWatchedRun (family g.B.Kinds.Kinds) g.B.Kinds.Kinds.admits) _ _ _ (ap (λ (m : MachineView). m.network) c.in-Ok.ensures.opened) (λ r run. run.laws.comparable) c.run_opened.ensures.run
+
+pub returns-in-Ok-clause-room : goal.returns-in-Ok-clause-room
+returns-in-Ok-clause-room g c =
+    told c.run_opened.result (IsWatchedRun (family g.B.Kinds.Kinds) g.B.Kinds.Kinds.admits) _ _ _ (ap (λ (m : MachineView). m.network) c.in-Ok.ensures.opened) (λ r run. run.laws.room) c.run_opened.ensures.run
+
+pub returns-in-Ok-clause-streams : goal.returns-in-Ok-clause-streams
+returns-in-Ok-clause-streams g c =
+    told c.run_opened.result (IsWatchedRun (family g.B.Kinds.Kinds) g.B.Kinds.Kinds.admits) _ _ _ (ap (λ (m : MachineView). m.network) c.in-Ok.ensures.opened) (λ r run. run.laws.streams) c.run_opened.ensures.run
 
 pub returns-in-Ok-clause-cards : goal.returns-in-Ok-clause-cards
 returns-in-Ok-clause-cards g c = IfOk-weaker c.run_opened.result _ _ (λ r is. c.in-Ok.ensures.cards) c.run_opened.ensures.run

@@ -1,0 +1,21 @@
+-- Each fact is a field of what the watched run with a keeper promises.
+use Rattle.std.proofs.lemmas.Result.{IfOk-weaker}
+use Rattle.kpn_observe.proofs.running.run_watched.Goals as goal
+
+pub returns-clause-closed : goal.returns-clause-closed
+returns-clause-closed g c = IfOk-weaker c.run_watched_with_keeper.result _ _ (λ r run. run.closed) c.run_watched_with_keeper.ensures.run
+
+pub returns-clause-within : goal.returns-clause-within
+returns-clause-within g c = IfOk-weaker c.run_watched_with_keeper.result _ _ (λ r run. run.laws.within) c.run_watched_with_keeper.ensures.run
+
+pub returns-clause-budget : goal.returns-clause-budget
+returns-clause-budget g c = IfOk-weaker c.run_watched_with_keeper.result _ _ (λ r run. run.budget) c.run_watched_with_keeper.ensures.run
+
+pub returns-clause-comparable : goal.returns-clause-comparable
+returns-clause-comparable g c = IfOk-weaker c.run_watched_with_keeper.result _ _ (λ r run. run.laws.comparable) c.run_watched_with_keeper.ensures.run
+
+pub returns-clause-room : goal.returns-clause-room
+returns-clause-room g c = IfOk-weaker c.run_watched_with_keeper.result _ _ (λ r run. run.laws.room) c.run_watched_with_keeper.ensures.run
+
+pub returns-clause-streams : goal.returns-clause-streams
+returns-clause-streams g c = IfOk-weaker c.run_watched_with_keeper.result _ _ (λ r run. run.laws.streams) c.run_watched_with_keeper.ensures.run
