@@ -63,10 +63,7 @@ fn spent<K: Kinds>(net: &Net<K>, end: End) -> Option<u64>
 }
 
 /// Whether the writer of a channel has stopped, and put nothing on it.
-fn is_source<K: Kinds, E: Entries>(
-    run: &Ended<'_, K, E>,
-    c: usize,
-) -> bool
+fn is_source<K: Kinds, E: Entries>(run: &Ended<'_, K, E>, c: usize) -> bool
     requires { c < length run.now.net.now.channels }
     ensures { result ≡ is_source run.now.net.now (E.entries run.now.history.now) (left_at run.now.standings.now run.now.places.now) c }
 {

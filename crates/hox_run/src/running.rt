@@ -129,9 +129,7 @@ fn execute_by_workers<K: Computes, R: Wait + Clock + Threads + Sync>(
     ) {
         Ok(finish) => {
             let chronicle = finish.chronicle();
-            told_of(alloc, chronicle, chronicle.keeper(), wanted).map_err(
-                |_| RunFault::Memory,
-            )
+            told_of(alloc, chronicle, chronicle.keeper(), wanted).map_err(|_| RunFault::Memory)
         }
         Err(Fault::Memory { .. }) => Err(RunFault::Memory),
         Err(Fault::Lost { .. }) => Err(RunFault::Lost),

@@ -65,11 +65,7 @@ fn can_do<K: Kinds, H: Keeper>(net: &Net<K>, store: &Store<H>, process: usize, a
 
 /// Makes a process ready if it is parked and can go on. Nothing is known of it before, while each other
 /// parked process can't go on.
-fn wake<K: Kinds, H: Keeper>(
-    net: &Net<K>,
-    core: &mut Core<H>,
-    process: usize,
-)
+fn wake<K: Kinds, H: Keeper>(net: &Net<K>, core: &mut Core<H>, process: usize)
     requires coherent { IsCoherentBut (family K.Kinds) K.admits net.now (Some process) core.old }
     ensures store { core.new.store ≡ core.old.store }
     ensures coherent { IsCoherent (family K.Kinds) K.admits net.now core.new }
@@ -87,12 +83,7 @@ fn wake<K: Kinds, H: Keeper>(
 /// Appends a token to a channel, from outside of the network, and makes the reader of the channel ready
 /// if it is parked and can go on. No entry tells of it. The channel must hold fewer tokens than its
 /// capacity, and the token must be of its sort.
-pub fn feed<K: Kinds, H: Keeper>(
-    net: &Net<K>,
-    core: &mut Core<H>,
-    channel: usize,
-    token: Token,
-)
+pub fn feed<K: Kinds, H: Keeper>(net: &Net<K>, core: &mut Core<H>, channel: usize, token: Token)
     requires coherent { IsCoherent (family K.Kinds) K.admits net.now core.old }
     requires channel { channel < length net.now.channels }
     requires sort { IsOfSort (channel_of net.now channel).sort token }
@@ -111,11 +102,7 @@ pub fn feed<K: Kinds, H: Keeper>(
 /// Removes the first token of a channel and returns it to the outside of the network, and makes the
 /// writer of the channel ready if it is parked and can go on. No entry tells of it. The channel must
 /// hold a token.
-pub fn drain<K: Kinds, H: Keeper>(
-    net: &Net<K>,
-    core: &mut Core<H>,
-    channel: usize,
-) -> Token
+pub fn drain<K: Kinds, H: Keeper>(net: &Net<K>, core: &mut Core<H>, channel: usize) -> Token
     requires coherent { IsCoherent (family K.Kinds) K.admits net.now core.old }
     requires channel { channel < length net.now.channels }
     requires some { 0 < length (tokens core.old.store.state channel) }

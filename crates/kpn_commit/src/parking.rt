@@ -17,12 +17,7 @@ use kpn_state::{Keeper, Standing, Waiting};
 /// that parks nobody.
 #[cold]
 #[inline(never)]
-pub fn park<K: Kinds, H: Keeper>(
-    net: &Net<K>,
-    core: &mut Core<H>,
-    process: usize,
-    answer: Answer,
-)
+pub fn park<K: Kinds, H: Keeper>(net: &Net<K>, core: &mut Core<H>, process: usize, answer: Answer)
     requires process { process < length core.old.standings }
     requires busy { is_busy (standing core.old.standings process) ≡ true }
     requires channels { length core.old.store.state.channels ≡ length net.now.channels }
@@ -52,12 +47,7 @@ pub fn park<K: Kinds, H: Keeper>(
 /// Makes a parked process ready that can do what it answered. Its mark at the channel is removed
 /// then, and a channel to which it waited to write is no candidate any more.
 #[inline(always)]
-pub fn unpark<K: Kinds, H: Keeper>(
-    net: &Net<K>,
-    core: &mut Core<H>,
-    process: usize,
-    answer: Answer,
-)
+pub fn unpark<K: Kinds, H: Keeper>(net: &Net<K>, core: &mut Core<H>, process: usize, answer: Answer)
     requires process { process < length core.old.standings }
     requires parked { standing core.old.standings process ≡ Parked answer }
     requires possible { IsPossible (family K.Kinds) net.now core.old.store.state process answer.act }

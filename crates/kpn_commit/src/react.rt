@@ -197,11 +197,7 @@ fn park_or_stop<K: Kinds, H: Keeper>(
 /// write is no candidate any more. It is a function of its own, out of the way of a commit after which no parked
 /// process goes on.
 #[inline(never)]
-fn resume<K: Kinds, H: Keeper>(
-    net: &Net<K>,
-    core: &mut Core<H>,
-    process: usize,
-) -> bool
+fn resume<K: Kinds, H: Keeper>(net: &Net<K>, core: &mut Core<H>, process: usize) -> bool
     requires coherent { IsCoherentBut (family K.Kinds) K.admits net.now (Some process) core.old }
     requires room { length core.old.store.history < core.old.store.limit }
     ensures resumes { IsTrue result → Resumes (family K.Kinds) K.admits net.now core.old.store core.old.standings process core.new.store core.new.standings }

@@ -12,8 +12,8 @@ use crate::core::Core;
 use crate::parking::unlist;
 use kpn_model::{End, Kinds};
 use kpn_network::Net;
-use kpn_state::standing::parked;
 use kpn_state::Keeper;
+use kpn_state::standing::parked;
 
 /// How the run goes on. `Busy`: some process is ready or out. `Ended`: none is, and the run ended.
 /// `Enlarged`: none was, a channel grew, and its writer's token was put.
@@ -40,10 +40,7 @@ fn enlarged(capacity: usize, step: usize, ceiling: usize) -> usize
 /// growth is refused memory.
 #[cold]
 #[inline(never)]
-fn resolve_idle<K: Kinds, H: Keeper>(
-    net: &Net<K>,
-    core: &mut Core<H>,
-) -> Resolution
+fn resolve_idle<K: Kinds, H: Keeper>(net: &Net<K>, core: &mut Core<H>) -> Resolution
     requires coherent { IsCoherent (family K.Kinds) K.admits net.now core.old }
     requires idle { list_any is_busy core.old.standings ≡ false }
     requires room { length core.old.store.history + 2 ≤ core.old.store.limit }
@@ -79,10 +76,7 @@ fn resolve_idle<K: Kinds, H: Keeper>(
 /// token (Parks 1995). The run also ends if the growth is refused memory. In this case the history must
 /// have room for two entries.
 #[inline(always)]
-pub fn resolve<K: Kinds, H: Keeper>(
-    net: &Net<K>,
-    core: &mut Core<H>,
-) -> Resolution
+pub fn resolve<K: Kinds, H: Keeper>(net: &Net<K>, core: &mut Core<H>) -> Resolution
     requires coherent { IsCoherent (family K.Kinds) K.admits net.now core.old }
     requires room { list_any is_busy core.old.standings ≡ false → length core.old.store.history + 2 ≤ core.old.store.limit }
     ensures resolves { Resolves (family K.Kinds) net.now core.old.store core.old.standings result core.new.store core.new.standings }

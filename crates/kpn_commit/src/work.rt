@@ -61,10 +61,7 @@ fn end_after(resolution: Resolution, budget: u64, entries: u64) -> Option<End>
 /// writer's token is put. Returns which, and how the run ended, if it did; by its budget, if that is spent. The history must
 /// have room for two entries if no process is ready or out.
 #[inline(always)]
-pub fn settle<K: Kinds, H: Keeper>(
-    net: &Net<K>,
-    core: &mut Core<H>,
-) -> (Resolution, Option<End>)
+pub fn settle<K: Kinds, H: Keeper>(net: &Net<K>, core: &mut Core<H>) -> (Resolution, Option<End>)
     requires coherent { IsCoherent (family K.Kinds) K.admits net.now core.old }
     requires room { list_any is_busy core.old.standings ≡ false → length core.old.store.history + 2 ≤ core.old.store.limit }
     ensures resolves { Resolves (family K.Kinds) net.now core.old.store core.old.standings result.0 core.new.store core.new.standings }

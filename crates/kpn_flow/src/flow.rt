@@ -365,12 +365,7 @@ impl<B: Body> Flow<B> {
         if held >= capacity {
             return false;
         }
-        outside::feed(
-            &self.net,
-            &mut self.core,
-            channel,
-            token,
-        );
+        outside::feed(&self.net, &mut self.core, channel, token);
         true
     }
 
@@ -393,11 +388,7 @@ impl<B: Body> Flow<B> {
         if held == 0 {
             return None;
         }
-        let token = outside::drain(
-            &self.net,
-            &mut self.core,
-            channel,
-        );
+        let token = outside::drain(&self.net, &mut self.core, channel);
         Some(token)
     }
 }

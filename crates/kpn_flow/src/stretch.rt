@@ -100,14 +100,7 @@ pub(crate) fn stretch<B: Body>(
     ensures again { IfSome again.new (λ p. standing core.new.standings p ≡ Ready) }
 {
     core.store.forget();
-    let asked = ask_ready(
-        net,
-        core,
-        bodies,
-        again,
-        u64::MAX,
-        until,
-    );
+    let asked = ask_ready(net, core, bodies, again, u64::MAX, until);
     if asked > 0 {
         return None;
     }

@@ -22,8 +22,8 @@ use crate::chronicle::Chronicle;
 use crate::equality::{same_card, same_last, same_local};
 use crate::opening::{OpenFault, Start, misfit, prepare, seat_all};
 use kpn_body::{Body, Finished, Task};
-use kpn_commit::{Core, Outcome};
 use kpn_commit::work::{settle, work, work_on};
+use kpn_commit::{Core, Outcome};
 use kpn_laws::{least_room_of, least_solution_of, typed_runs, valid_runs};
 use kpn_model::{Answer, Card, End, Entry, Kinds, Local, Status, Token};
 use kpn_network::Net;
@@ -417,12 +417,7 @@ impl<B: Body, H: Keeper> Machine<B, H> {
             lay_back(&mut self.core.standings, process);
             return Outcome::LaidBack;
         }
-        let (outcome, end) = work(
-            &self.net,
-            &mut self.core,
-            process,
-            answer,
-        );
+        let (outcome, end) = work(&self.net, &mut self.core, process, answer);
         self.end = end;
         outcome
     }
@@ -446,12 +441,7 @@ impl<B: Body, H: Keeper> Machine<B, H> {
             return None;
         }
         let process = task.process();
-        let outcome = work_on(
-            &self.net,
-            &mut self.core,
-            process,
-            answer,
-        )?;
+        let outcome = work_on(&self.net, &mut self.core, process, answer)?;
         self.commits += 1;
         let Status::Live { local, last } = self.core.store.status(process) else {
             unreachable!()
@@ -566,10 +556,7 @@ impl<B: Body, H: Keeper> Machine<B, H> {
             most,
             budget as usize,
         );
-        let (_, ended) = settle(
-            &self.net,
-            &mut self.core,
-        );
+        let (_, ended) = settle(&self.net, &mut self.core);
         self.commits += asked;
         note_end(&mut self.end, ended);
         self.again = again;

@@ -36,7 +36,7 @@ pub one_more :
     → (b : ℕ) → b < n + 1 → get_or (xs ++ x ∷ []) b none ≡ f b
 one_more none f n xs x count each last b l =
     ⊎_elim (λ less. rw (get_or_append_left xs (x ∷ []) none b (omega (arith, count, less))) (each b less))
-      (λ out.
-        let here : b ≡ length xs = omega (arith, count, out, l) in
-        rw (here, get_or-append_seam xs x [] none) (last ∙ ap f (sym count)))
-      (cases_lt b n)
+    (λ out.
+    let here : b ≡ length xs = omega (arith, count, out, l) in
+    rw (here, get_or-append_seam xs x [] none) (last ∙ ap f (sym count)))
+    (cases_lt b n)
