@@ -6,7 +6,7 @@ use kpn_model::{Card, Local, Token};
 pub(crate) fn same_card(a: Card, b: Card) -> bool
     ensures { IsTrue result ↔ (a ≡ b) }
 {
-    // All three arguments are compared before it is asked whether they are equal, which takes fewer steps than to ask after each.
+    // It is asked once whether all arguments are equal, which takes fewer steps than to ask after each.
     let [x, y, z] = a.args;
     let [u, v, w] = b.args;
     a.kind == b.kind && (x == u) & (y == v) & (z == w)
@@ -15,7 +15,9 @@ pub(crate) fn same_card(a: Card, b: Card) -> bool
 pub(crate) fn same_local(a: Local, b: Local) -> bool
     ensures { IsTrue result ↔ (a ≡ b) }
 {
-    a == b
+    let [s, t, x, y] = a;
+    let [u, v, w, z] = b;
+    (s == u) & (t == v) & (x == w) & (y == z)
 }
 
 pub(crate) fn same_last(a: Option<Token>, b: Option<Token>) -> bool
