@@ -1,5 +1,6 @@
 -- One name more, or one that no channel has.
-use Rattle.std.proofs.Common.{◌≡◌, ◌++◌, ◌∷◌, [], inr, refl, rules}
+use Rattle.std.proofs.Common.{◌≡◌, ◌++◌, ◌∷◌, [], inr, refl, rules, arith}
+use Rattle.std.proofs.lemmas.Grind.{common_steps}
 use Rattle.hox_run.proofs.Named.{lacks, named_more, within_more}
 use Rattle.hox_run.proofs.serving.channels_in.Goals as goal
 
@@ -16,3 +17,6 @@ loop-k-preserved g c =
       named = named_more c.in-Some.channel.written net c.args.texts.now l.k c.index-texts-k.result l.channels.items c.push.new.self.items c.in-Some.channel c.loop-k-test.true c.index-texts-k.is l.invariant.named pushed c.in-Some.ensures.named;
       within = within_more c.in-Some.channel.written net c.args.texts.now l.channels.items c.push.new.self.items c.in-Some.channel l.invariant.within pushed c.in-Some.ensures.within;
     }
+
+pub returns-clause-named : goal.returns-clause-named
+returns-clause-named g c = grind (arith, common_steps)
