@@ -5,7 +5,7 @@ use Rattle.kpn_model.specs.declared.token.Token.{Token}
 use Rattle.kpn_model.specs.Network.{Family, Network}
 use Rattle.kpn_state.specs.Standings.{StandingsFit}
 use Rattle.kpn_commit.specs.Waiting.{AreWaiting}
-use Rattle.kpn_commit.specs.declared.core.Core.{Core}
+use Rattle.kpn_commit.specs.declared.cores.Core.{Core}
 
 -- the same, but for a parked process that is about to be served, if there is one: it may be able to go on
 pub record IsCoherentBut {H : Type 0} (kinds : Family) (admits : Card → List ℕ → Option Token → Type 0) (net : Network) (served : Option ℕ) (core : Core H) : Type 0 where

@@ -5,7 +5,7 @@
 
 pub mod act;
 pub mod choose;
-pub mod core;
+pub mod cores;
 pub mod outcome;
 pub mod outside;
 pub mod parking;
@@ -13,5 +13,5 @@ pub mod react;
 pub mod resolution;
 pub mod work;
 
-pub use crate::core::Core;
+pub use cores::Core;
 pub use outcome::Outcome;

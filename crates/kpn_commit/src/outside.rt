@@ -11,7 +11,7 @@ ghost use Rattle.kpn_state.specs.declared.standing.Standing.TheVariants.{Out};
 ghost use Rattle.kpn_state.specs.Standings.{standing};
 ghost use Rattle.kpn_commit.specs.Coherent.{IsCoherent, IsCoherentBut};
 
-use crate::core::Core;
+use crate::cores::Core;
 use crate::parking::unpark;
 use kpn_model::{Act, Kinds, Token};
 use kpn_network::Net;

@@ -7,7 +7,7 @@ ghost use Rattle.kpn_state.specs.Marks.{mark_lists};
 ghost use Rattle.kpn_state.specs.Standings.{standing, is_busy};
 ghost use Rattle.kpn_commit.specs.Waiting.{AreWaiting};
 
-use crate::core::Core;
+use crate::cores::Core;
 use kpn_model::{Act, Answer, Kinds};
 use kpn_network::Net;
 use kpn_state::{Keeper, Standing, Waiting};

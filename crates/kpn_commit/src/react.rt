@@ -13,7 +13,7 @@ ghost use Rattle.kpn_commit.specs.Reactions.{Reacts, Resumes};
 ghost use Rattle.kpn_commit.specs.declared.react.Reaction.{Reaction as ReactionV};
 
 use crate::act::{advance, advance_on};
-use crate::core::Core;
+use crate::cores::Core;
 use crate::parking::{park, unlist};
 use kpn_model::{Act, Answer, Deed, Kinds, Token};
 use kpn_network::Net;

@@ -8,7 +8,7 @@ ghost use Rattle.kpn_commit.specs.Resolving.{Resolves};
 
 use crate::act::advance;
 use crate::choose::choose;
-use crate::core::Core;
+use crate::cores::Core;
 use crate::parking::unlist;
 use kpn_model::{End, Kinds};
 use kpn_network::Net;

@@ -10,7 +10,7 @@ ghost use Rattle.kpn_commit.specs.Resolving.{Resolves};
 ghost use Rattle.kpn_commit.specs.Works.{Works, outcome_of, end_after, resolution_entries};
 ghost use Rattle.std.specs.List.{list_any};
 
-use crate::core::Core;
+use crate::cores::Core;
 use crate::outcome::Outcome;
 use crate::react::{Reaction, react, react_on};
 use crate::resolution::{Resolution, resolve};

@@ -13,7 +13,7 @@ use Rattle.kpn_state.specs.declared.standing.Standing.{Standing}
 use Rattle.kpn_state.specs.declared.standing.Standing.TheVariants.{Out}
 use Rattle.kpn_state.specs.Standings.{standing, StandingsFit}
 use Rattle.kpn_commit.specs.Waiting.{AreWaiting}
-use Rattle.kpn_commit.specs.declared.core.Core.{Core}
+use Rattle.kpn_commit.specs.declared.cores.Core.{Core}
 use Rattle.kpn_flow.specs.declared.counts.Counts.{Counts}
 use Rattle.kpn_flow.specs.Events.{Event, Flows, entries_of}
 use Rattle.kpn_flow.specs.Preloaded.{StopsAtOnce, IsAtEnds}
