@@ -7,11 +7,12 @@ use Rattle.kpn_state.specs.Standings.{StandingsFit}
 use Rattle.kpn_commit.specs.Waiting.{AreWaiting}
 use Rattle.kpn_commit.specs.declared.cores.Core.{Core}
 
--- the same, but for a parked process that is about to be served, if there is one: it may be able to go on
+-- standings, marks and candidates are those of the network in this state, and no parked process can go on but perhaps the one that is
+-- about to be served, if there is one
 pub record IsCoherentBut {H : Type 0} (kinds : Family) (admits : Card → List ℕ → Option Token → Type 0) (net : Network) (served : Option ℕ) (core : Core H) : Type 0 where
   pub keeps : StandingsFit kinds admits net served core.store.state core.standings
   pub waiting : AreWaiting net core.store.state core.standings core.waiting
 
--- the standings and the marks are those of the network in this state, and no parked process can go on
+-- nobody is about to be served: no parked process can go on
 abbrev pub IsCoherent : {H : Type 0} → Family → (Card → List ℕ → Option Token → Type 0) → Network → Core H → Type 0
 IsCoherent kinds admits net core = IsCoherentBut kinds admits net None core

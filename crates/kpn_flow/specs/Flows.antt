@@ -69,7 +69,7 @@ pub record IsSettledIn (kinds : Family) (admits : Card → List ℕ → Option T
   pub keeps : StandingsFit kinds admits net None M standings
   pub none_out : (p : ℕ) → standing standings p ≢ Out
 
--- the same of a core, whose marks agree with it
+-- a core in which no process is out, with marks and candidates that are those of its state
 pub record IsSettled {H : Type 0} (kinds : Family) (admits : Card → List ℕ → Option Token → Type 0) (net : Network) (core : Core H) : Type 0 where
   pub fits : IsSettledIn kinds admits net core.store.state core.standings
   pub waiting : AreWaiting net core.store.state core.standings core.waiting

@@ -68,6 +68,7 @@ fn play_round<B: Body, E: EntryLedger, O: Ledger, R: Wait + Abort>(
     most: usize,
 ) -> Round {
     let called = call_all(rt, hand);
+    same(rt, "tasks", hand.len(), called);
     let Ok(next) = monitor.exchange(rt, hand, seat, most) else {
         panic!(rt; "a stranger");
     };
