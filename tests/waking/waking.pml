@@ -30,6 +30,9 @@
 #ifndef LEAVING
 #define LEAVING 0       /* 1: a thread in `work` may leave after a commit, as one of a crew may */
 #endif
+#ifndef STOPS
+#define STOPS 0         /* 1: the workers of a run are told to stop, at any moment */
+#endif
 #ifndef PROMPT
 #define PROMPT 0        /* 1: workers of a run may ask bodies in place, under the lock */
 #endif
@@ -70,6 +73,11 @@ byte share, keep, kept;                     /* in one exchange; else 0 */
 byte known, resting, looking_out; bit over; /* Resters */
 byte awake;                                 /* Monitor::awake */
 byte lost;                                  /* threads that never come back */
+#if STOPS
+bit stopped;                                /* the signal */
+#else
+#define stopped 0
+#endif
 #ifdef TAKEN
 bit took;                                   /* a task was taken, and is not called yet */
 #endif
@@ -624,8 +632,9 @@ inline ask_in_place() {
     do
     :: true ->
         monitor_ask_in_place();
+        stops = stopped;
         if
-        :: taken == TASKS -> taken = 0  /* while that is quicker */
+        :: taken == TASKS && !stops -> taken = 0  /* while that is quicker */
         :: taken == TASKS -> taken = 0; break
         :: taken == NOTHING -> break
         :: taken == OVER -> break
@@ -650,7 +659,7 @@ inline take_turn() {
 /* worker.rt: work_in_rounds */
 proctype in_rounds(byte i) {
     byte hand, called, wanted, seen, taken, wakes, most;
-    bit why, is_new, is_last, rested, hands_over, some, is_wanted;
+    bit why, is_new, is_last, rested, hands_over, some, is_wanted, stops;
 #if MEET
     bit meets;
 #endif
@@ -663,11 +672,14 @@ proctype in_rounds(byte i) {
         :: true
         fi;
         if :: taken == OVER -> break :: else fi;
+        stops = stopped;
         call_all();
         pace_called();
+        if :: stops -> most = 0 :: else fi;
         monitor_exchange();
         if
         :: taken == OVER -> break
+        :: taken == NOTHING && stops -> rouse(); break  /* of one that stops */
         :: else -> go_on()
         fi
     od;
@@ -703,6 +715,14 @@ proctype in_work(byte i) {
     atomic { at[i] = LEFT; look_round() }
 }
 
+#if STOPS
+/* an observer, or nobody */
+proctype observer() {
+end_observer:
+    stopped = 1
+}
+#endif
+
 init {
     byte n;
     atomic {
@@ -718,12 +738,15 @@ init {
         :: n >= ROUNDS && n < WORKERS -> run in_work(n); run weather(n); n = n + 1
         :: n >= WORKERS && n < MOST -> at[n] = LEFT; n = n + 1
         :: n == MOST -> break
-        od
+        od;
+#if STOPS
+        run observer()
+#endif
     }
 }
 
-#ifdef ENDS     /* every thread that comes back from its calls leaves once an end stands */
-ltl ends { [] (ended -> <> all_gone) }
+#ifdef ENDS     /* every thread that comes back from its calls leaves once an end stands, or once all are to stop */
+ltl ends { [] ((ended || stopped) -> <> all_gone) }
 #endif
 #ifdef TAKEN    /* a ready process is taken, unless the run ends */
 ltl taken { [] <> (!has_ready || ended || took) }

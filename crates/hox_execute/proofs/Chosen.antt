@@ -8,9 +8,9 @@ use Rattle.hox_args.specs.declared.arguments.Choice.TheVariants.{Check, Run, Dra
 use Rattle.hox_args.specs.declared.arguments.WordsFault.{WordsFault}
 use Rattle.hox_args.specs.HoxChoices.{IsHoxChoice}
 use Rattle.hox_execute.specs.declared.serving.Outcome.{Outcome}
-use Rattle.hox_execute.specs.declared.stops.Stop.{Stop}
-use Rattle.hox_execute.specs.declared.stops.Stop.TheVariants.{Clash, Format, InputTwice, Memory, NoPair, Refused, Unread, Words}
-use Rattle.hox_execute.specs.Files.{Effect}
+use Rattle.hox_files.specs.declared.stops.Stop.{Stop}
+use Rattle.hox_files.specs.declared.stops.Stop.TheVariants.{Clash, Format, InputTwice, Memory, NoPair, Refused, Unread, Words}
+use Rattle.hox_files.specs.Files.{Effect}
 use Rattle.hox_execute.specs.Program.{Does, IsProgramStop, IsStopIn, Serves}
 
 no_words : (named : List ℕ → Option (ℕ × ℕ)) (signature : Card → Option Signature) (contents : List ℕ → Option (List ℕ)) (clash : List ℕ → Bool → List ℕ → Bool → Option Bool) (choice : Choice) (fault : WordsFault) → IsStopIn named signature contents clash choice (Words fault) → ⊥

@@ -1,7 +1,7 @@
 -- Effects, one after another.
 use Rattle.std.proofs.Common.{◌≡◌, List, [], ◌++◌, Option, Some, None, sym, ap, subst, ◌∙◌, append_assoc}
 use Rattle.std.proofs.lemmas.List.{append-nil}
-use Rattle.hox_execute.specs.Files.{Effect, GoOn}
+use Rattle.hox_files.specs.Files.{Effect, GoOn}
 
 pub nothing : (o : Option (List Effect)) → GoOn [] o o
 nothing None = tt

@@ -3,11 +3,11 @@ use Rattle.std.proofs.Common.{◌≡◌, ◌<◌, ◌≤◌, ◌+◌, ◌++◌, 
 use Rattle.hox_run.specs.declared.files.StreamFile.{StreamFile}
 use Rattle.hox_format.specs.Forms.{form}
 use Rattle.hox_format.specs.Tables.{decimals_of}
-use Rattle.hox_execute.specs.declared.pairs.Pair.{Pair}
-use Rattle.hox_execute.specs.Pairs.{Group, begins, group_in, groups}
+use Rattle.hox_files.specs.declared.pairs.Pair.{Pair}
+use Rattle.hox_files.specs.Pairs.{Group, begins, group_in, groups}
 use Rattle.hox_execute.specs.Reports.{columns, file_text, file_texts}
-use Rattle.hox_execute.proofs.Firsts.{left_at}
-use Rattle.hox_execute.proofs.Parted.{nothing_left}
+use Rattle.hox_files.proofs.Firsts.{left_at}
+use Rattle.hox_files.proofs.Parted.{nothing_left}
 
 -- the files of several channels from a pair on that begins one, or does not
 pub group_left : (pairs : List Pair) (k : ℕ) (d : Pair) → k < length pairs → begins (get_or pairs k d) ≡ true → groups (drop k pairs) ≡ record { first = get_or pairs k d; pairs = group_in (drop k pairs) } ∷ [] ++ groups (drop (k + 1) pairs)

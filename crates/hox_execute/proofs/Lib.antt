@@ -1,16 +1,10 @@
 pub mod Effects
 pub mod Tried
-pub mod Apart
-pub mod Misused
-pub mod Zipped
 pub mod Written
 pub mod Loaded
 pub mod Sources
 pub mod Stopped
 pub mod Drawn
 pub mod Chosen
-pub mod Named
 pub mod Both
-pub mod Firsts
-pub mod Parted
 pub mod Grouped

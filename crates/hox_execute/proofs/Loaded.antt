@@ -10,7 +10,7 @@ use Rattle.hox_network.specs.declared.request.Fault.{Fault}
 use Rattle.hox_network.specs.Ports.{as_meant}
 use Rattle.hox_network.specs.Preparing.{GivesLoaded, Serves, refusal}
 use Rattle.hox_network.proofs.Served.{serves_on}
-use Rattle.hox_execute.specs.Requests.{ServesFile}
+use Rattle.hox_files.specs.Requests.{ServesFile}
 
 always : {A : Type 0} (P : A → Type 0) (o : Option A) → ((x : A) → P x) → IfSome o P
 always P None each = tt

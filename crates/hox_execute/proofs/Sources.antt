@@ -9,8 +9,8 @@ use Rattle.hox_stream.specs.declared.serving.LaidOut.{LaidOut}
 use Rattle.hox_stream.specs.declared.serving.LaidTable.{LaidTable}
 use Rattle.hox_stream.specs.Serves.{new_inlet, new_inlets, new_outlet, new_outlets, new_outs, new_table, new_tables}
 use Rattle.hox_stream.specs.Views.{InletView, OutletView, TableView, outs}
-use Rattle.hox_execute.specs.declared.pairs.Pair.{Pair}
-use Rattle.hox_execute.specs.Pairs.{Group, channels_of}
+use Rattle.hox_files.specs.declared.pairs.Pair.{Pair}
+use Rattle.hox_files.specs.Pairs.{Group, channels_of}
 use Rattle.hox_execute.specs.Reports.{first_rate}
 use Rattle.hox_execute.specs.Streaming.{IsCreated, IsHeaded, IsOpened, IsOpening, IsTabled, Opening, laid_source, opening_of, rate_in, source_at}
 

@@ -5,8 +5,8 @@ use Rattle.kpn_model.specs.declared.kinds.Signature.{Signature}
 use Rattle.kpn_sketch.specs.declared.sketch.Sketch.{Sketch}
 use Rattle.kpn_model.specs.Network.{Family}
 use Rattle.hox_args.specs.declared.arguments.StreamChoice.{StreamChoice}
-use Rattle.hox_execute.specs.declared.stops.Stop.{Stop}
-use Rattle.hox_execute.specs.declared.stops.Stop.TheVariants.{Clash, Format, InputTwice, Memory, NoPair, Refused as WasRefused, Unread as NotRead, Words}
+use Rattle.hox_files.specs.declared.stops.Stop.{Stop}
+use Rattle.hox_files.specs.declared.stops.Stop.TheVariants.{Clash, Format, InputTwice, Memory, NoPair, Refused as WasRefused, Unread as NotRead, Words}
 use Rattle.hox_execute.specs.declared.streaming.Ends.{Ends}
 use Rattle.hox_execute.specs.declared.streaming.StreamStop.{StreamStop}
 use Rattle.hox_execute.specs.declared.streaming.StreamStop.TheVariants.{Asked, Headless, OutputTwice, Refused, Unopened as NotOpened, Unread, Unwritten}

@@ -3,7 +3,7 @@ use Rattle.std.proofs.Common.{◌≡◌, ◌≢◌, ◌||◌, ◌&&◌, not, Boo
 use Rattle.std.specs.List.{AllZip}
 use Rattle.kpn_front.specs.declared.status.Status.{Status}
 use Rattle.kpn_front.specs.declared.status.Status.TheVariants.{WriteFailed}
-use Rattle.hox_execute.specs.Files.{Effect, GoOn, not_said, not_written, said, wrote}
+use Rattle.hox_files.specs.Files.{Effect, GoOn, not_said, not_written, said, wrote}
 use Rattle.hox_execute.specs.Reports.{IsTried, Tries, Writes, failure_of, has_failure, is_failure}
 use Rattle.hox_execute.proofs.Effects.{nothing, one_after}
 

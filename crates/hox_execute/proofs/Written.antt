@@ -1,10 +1,10 @@
 -- Streams that are written one after the other.
 use Rattle.std.proofs.Common.{◌≡◌, ◌<◌, ◌≤◌, ◌+◌, ℕ, zero, suc, List, [], ◌∷◌, ◌++◌, length, take, min, get_or, Bool, Option, sym, ap, ap₂, subst, ◌∙◌, arith}
 use Rattle.std.proofs.lemmas.List.{take_all}
-use Rattle.hox_execute.specs.declared.pairs.Pair.{Pair}
-use Rattle.hox_execute.specs.Files.{Effect, wrote}
+use Rattle.hox_files.specs.declared.pairs.Pair.{Pair}
+use Rattle.hox_files.specs.Files.{Effect, wrote}
 use Rattle.hox_execute.specs.Reports.{Tries, streams_written}
-use Rattle.hox_execute.proofs.Zipped.{same_default}
+use Rattle.hox_files.proofs.Zipped.{same_default}
 
 written_next : (outputs : List Pair) (texts : List (List ℕ)) (k : ℕ) (pair : Pair) (text : List ℕ) → k < length outputs → k < length texts → pair ≡ get_or outputs k pair → text ≡ get_or texts k text
     → take (suc k) (streams_written outputs texts) ≡ take k (streams_written outputs texts) ++ wrote pair.file.now text ∷ []

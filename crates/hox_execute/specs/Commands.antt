@@ -13,13 +13,13 @@ use Rattle.hox_run.specs.declared.telling.Told.{Told}
 use Rattle.hox_network.specs.Preparing.{GivesNet, IsFault}
 use Rattle.hox_run.specs.Serving.{GivesRun}
 use Rattle.hox_draw.specs.Drawing.{DrawsPrepared}
-use Rattle.hox_execute.specs.declared.reading.Asked.{Asked}
+use Rattle.hox_files.specs.declared.reading.Asked.{Asked}
 use Rattle.hox_execute.specs.declared.running.Ran.{Ran}
-use Rattle.hox_execute.specs.declared.stops.Stop.{Stop}
-use Rattle.hox_execute.specs.declared.stops.Stop.TheVariants.{Clash, Format, InputTwice, Memory, NoPair, Refused, Unread, Words}
-use Rattle.hox_execute.specs.Files.{Effect, standard, wrote}
+use Rattle.hox_files.specs.declared.stops.Stop.{Stop}
+use Rattle.hox_files.specs.declared.stops.Stop.TheVariants.{Clash, Format, InputTwice, Memory, NoPair, Refused, Unread, Words}
+use Rattle.hox_files.specs.Files.{Effect, standard, wrote}
 use Rattle.hox_execute.specs.Reports.{IsNoted, Writes, rate_of, written_of}
-use Rattle.hox_execute.specs.Requests.{IsAsked, IsUnasked, ServesFile, Want}
+use Rattle.hox_files.specs.Requests.{IsAsked, IsUnasked, ServesFile, Want}
 
 -- what comes of a network that was loaded: the text of its picture, or why there is none
 abbrev pub GivesDrawing : Family → (ℕ → List ℕ × ℕ) → Direction → Bool → Request → Network → Result (List ℕ) Fault → Type 0

@@ -1,10 +1,3 @@
-pub mod Files
-pub mod Statuses
-pub mod Formats
-pub mod Pairs
-pub mod Uses
-pub mod Requests
-pub mod Served
 pub mod Reports
 pub mod Commands
 pub mod Program

@@ -13,11 +13,11 @@ use Rattle.hox_args.specs.HoxChoices.{IsHoxChoice, IsHoxFault}
 use Rattle.hox_execute.specs.declared.running.Ran.{Ran as RanV}
 use Rattle.hox_execute.specs.declared.serving.Outcome.{Outcome}
 use Rattle.hox_execute.specs.declared.serving.Outcome.TheVariants.{Exits, Ran, Streams}
-use Rattle.hox_execute.specs.declared.stops.Stop.{Stop}
-use Rattle.hox_execute.specs.declared.stops.Stop.TheVariants.{Clash, Format, InputTwice, Memory, NoPair, Refused, Unread, Words}
+use Rattle.hox_files.specs.declared.stops.Stop.{Stop}
+use Rattle.hox_files.specs.declared.stops.Stop.TheVariants.{Clash, Format, InputTwice, Memory, NoPair, Refused, Unread, Words}
 use Rattle.hox_execute.specs.Commands.{HasChecked, HasDrawn, HasRun, IsStop}
-use Rattle.hox_execute.specs.Files.{Effect, standard}
-use Rattle.hox_execute.specs.Requests.{Want}
+use Rattle.hox_files.specs.Files.{Effect, standard}
+use Rattle.hox_files.specs.Requests.{Want}
 
 -- the network of the description in this file, or on standard input
 abbrev pub want_in : Option (List ℕ) → List (List ℕ) → ℕ → Want

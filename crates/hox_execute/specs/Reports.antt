@@ -16,12 +16,12 @@ use Rattle.hox_format.specs.Tables.{decimals_of}
 use Rattle.hox_network.specs.declared.request.TokenFile.{TokenFile}
 use Rattle.hox_run.specs.declared.files.StreamFile.{StreamFile}
 use Rattle.hox_run.specs.declared.telling.Told.{Told}
-use Rattle.hox_execute.specs.declared.pairs.Pair.{Pair}
+use Rattle.hox_files.specs.declared.pairs.Pair.{Pair}
 use Rattle.hox_execute.specs.declared.running.Ran.{Ran}
 use Rattle.hox_execute.specs.declared.texts.FileNote.{FileNote}
-use Rattle.hox_execute.specs.Files.{Effect, GoOn, not_said, not_written, said, standard, wrote}
+use Rattle.hox_files.specs.Files.{Effect, GoOn, not_said, not_written, said, standard, wrote}
 use Rattle.hox_run.specs.Telling.{fitting}
-use Rattle.hox_execute.specs.Pairs.{channels_of, count_standard, firsts, group_in, is_alone, shared_in}
+use Rattle.hox_files.specs.Pairs.{channels_of, count_standard, firsts, group_in, is_alone, shared_in}
 
 -- how many samples a second there are if nothing tells
 abbrev pub usual_rate : ℕ

@@ -29,19 +29,19 @@ use Rattle.hox_format.specs.Resuming.{IsBegun}
 use Rattle.hox_format.specs.Tables.{decimals_of}
 use Rattle.hox_format.specs.declared.resuming.Begun.{Begun}
 use Rattle.hox_args.specs.declared.arguments.StreamChoice.{StreamChoice}
-use Rattle.hox_execute.specs.declared.pairs.Pair.{Pair}
-use Rattle.hox_execute.specs.declared.stops.Stop.TheVariants.{Clash, Format, InputTwice, Memory, NoPair, Refused as WasRefused, Unread as NotRead, Words}
-use Rattle.hox_execute.specs.declared.stops.Stop.{Stop}
+use Rattle.hox_files.specs.declared.pairs.Pair.{Pair}
+use Rattle.hox_files.specs.declared.stops.Stop.TheVariants.{Clash, Format, InputTwice, Memory, NoPair, Refused as WasRefused, Unread as NotRead, Words}
+use Rattle.hox_files.specs.declared.stops.Stop.{Stop}
 use Rattle.hox_execute.specs.declared.streaming.Ends.{Ends}
 use Rattle.hox_execute.specs.declared.streaming.StreamStop.{StreamStop}
 use Rattle.hox_execute.specs.declared.streaming.StreamStop.TheVariants.{Asked, Headless, OutputTwice, Refused, Unopened as NotOpened, Unread, Unwritten}
 use Rattle.hox_execute.specs.declared.streaming.Unopened.{Unopened}
 use Rattle.hox_execute.specs.declared.streaming.Unopened.TheVariants.{Refused as IsRefused, Faulty, Memory as NoMemory}
-use Rattle.hox_execute.specs.declared.uses.Role.TheVariants.{In}
-use Rattle.hox_execute.specs.Files.{standard}
-use Rattle.hox_execute.specs.Pairs.{ArePairs, AreUsable, IsUnpaired, IsUnusable, Group, channels_of, count_standard, firsts, groups, in_order, is_alone, is_named_twice}
+use Rattle.hox_files.specs.declared.uses.Role.TheVariants.{In}
+use Rattle.hox_files.specs.Files.{standard}
+use Rattle.hox_files.specs.Pairs.{ArePairs, AreUsable, IsUnpaired, IsUnusable, Group, channels_of, count_standard, firsts, groups, in_order, is_alone, is_named_twice}
 use Rattle.hox_execute.specs.Reports.{first_rate, table_in}
-use Rattle.hox_execute.specs.Uses.{AreApart, IsMisuse, Used, uses_in}
+use Rattle.hox_files.specs.Uses.{AreApart, IsMisuse, Used, uses_in}
 
 -- the file of a choice, or standard input
 abbrev pub file_of : StreamChoice → List ℕ

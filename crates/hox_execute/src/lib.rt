@@ -4,28 +4,21 @@
 
 mod checking;
 mod drawing;
-mod files;
-mod formats;
-mod pairs;
 mod progress;
-mod reading;
 mod running;
 mod serving;
 mod sinks;
-mod stops;
 mod streaming;
 mod texts;
-mod uses;
-mod watching;
 mod writing;
 
-pub use files::FileSystem;
-pub use formats::{FormatStop, Formats};
-pub use pairs::{Pair, count_standard, is_named_twice, pairs_of};
-pub use reading::{Asked, ReadError};
+pub use hox_files::files::FileSystem;
+pub use hox_files::formats::{FormatStop, Formats};
+pub use hox_files::pairs::{Pair, count_standard, is_named_twice, pairs_of};
+pub use hox_files::reading::{Asked, ReadError};
+pub use hox_files::stops::{Refusal, Stop};
+pub use hox_files::uses::{Role, Use};
 pub use running::Ran;
 pub use serving::{Outcome, execute};
-pub use stops::{Refusal, Stop};
 pub use streaming::{Ends, StreamStop, Streamed, stream};
 pub use texts::FileNote;
-pub use uses::{Role, Use};

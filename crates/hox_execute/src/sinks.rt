@@ -4,12 +4,12 @@ ghost use Rattle.std.specs.List.{AllZip, filter};
 ghost use Rattle.hox_format.specs.Forms.{form};
 ghost use Rattle.hox_format.specs.Heads.{head_text};
 ghost use Rattle.hox_format.specs.Tables.{decimals_of};
-ghost use Rattle.hox_execute.specs.Pairs.{begins, groups, is_alone};
+ghost use Rattle.hox_files.specs.Pairs.{begins, groups, is_alone};
 ghost use Rattle.hox_execute.specs.Streaming.{IsCreated, IsHeaded, IsTabled, IsUnwritten};
 
-use crate::files::FileSystem;
-use crate::pairs::Pair;
-use crate::stops::Stop;
+use hox_files::files::FileSystem;
+use hox_files::pairs::Pair;
+use hox_files::stops::Stop;
 use crate::streaming::StreamStop;
 use crate::texts::{byte_names, group_of, table_in};
 use hox_format::{append_head, decimals_of, layout_of};

@@ -6,19 +6,19 @@ ghost use Rattle.hox_execute.specs.Reports.{first_rate};
 ghost use Rattle.kpn_model.specs.Families.{family};
 ghost use Rattle.hox_stream.specs.Serves.{Serves, new_inlets, new_outs};
 ghost use Rattle.hox_stream.specs.Views.{outs};
-ghost use Rattle.hox_execute.specs.Pairs.{AreUsable, channels_of};
+ghost use Rattle.hox_files.specs.Pairs.{AreUsable, channels_of};
 ghost use Rattle.hox_execute.specs.Streaming.{AreEnds, ArePairsOf, AreUnpaired, IsFaultyBetween, IsNoEnds, IsOpened, IsRefusedIn, IsRefusedText, IsSketchIn, IsSketchOf, IsStreamStop, IsUnfit, IsUnopened, IsUnread, IsUnreadText, Opens, RunsBetween, StartsBetween, StreamsBetween, formats_of, inputs_of, laid_source, outputs_of};
 
-use crate::files::FileSystem;
-use crate::formats::{Formats, check_formats};
-use crate::pairs::{
+use hox_files::files::FileSystem;
+use hox_files::formats::{Formats, check_formats};
+use hox_files::pairs::{
     Pair, firsts_of, in_order, is_named_twice, is_written_twice, name_of, pairs_of,
 };
-use crate::reading::{ReadError, names_of, read_file};
+use hox_files::reading::{ReadError, names_of, read_file};
 use crate::sinks::{sinks_of, tables_of};
-use crate::stops::Stop;
+use hox_files::stops::Stop;
 use crate::texts::USUAL_RATE;
-use crate::uses::{Role, check_uses};
+use hox_files::uses::{Role, check_uses};
 use hox_args::StreamChoice;
 use hox_format::{BeginFault, Begun, HeadFault, Resumed, begin};
 use hox_network::{channel_names, load_by_ports, sketch_by_ports};

@@ -4,10 +4,10 @@ ghost use Rattle.std.specs.List.{flat_map};
 ghost use Rattle.kpn_tokens.specs.Records.{record_text};
 ghost use Rattle.kpn_tokens.specs.Tables.{column_of};
 ghost use Rattle.hox_run.specs.Telling.{fitting};
-ghost use Rattle.hox_execute.specs.Pairs.{channels_of, group_in};
+ghost use Rattle.hox_files.specs.Pairs.{channels_of, group_in};
 ghost use Rattle.hox_execute.specs.Reports.{alone_text, body_text, columns, file_note, file_text, file_texts, rate_of, table_in, text_of};
 
-use crate::pairs::{Pair, shared_in};
+use hox_files::pairs::{Pair, shared_in};
 use hox_format::{append_head, append_tail, decimals_of, layout_of};
 use hox_network::TokenFile;
 use hox_run::StreamFile;

@@ -1,10 +1,10 @@
 //! Writing a report and streams.
 ghost use Rattle.std.specs.Prelude.{◌≡◌, ◌++◌, true, List, [], ◌∷◌, Option, if◌then◌else◌, string_bytes};
-ghost use Rattle.hox_execute.specs.Files.{Effect, standard, wrote};
+ghost use Rattle.hox_files.specs.Files.{Effect, standard, wrote};
 ghost use Rattle.hox_execute.specs.Reports.{Tries, Writes, reported, streams_written, told_written};
 
-use crate::files::FileSystem;
-use crate::pairs::{Pair, STANDARD, is_output_named};
+use hox_files::files::FileSystem;
+use hox_files::pairs::{Pair, STANDARD, is_output_named};
 use kpn_front::Status;
 use kpn_model::Listed;
 

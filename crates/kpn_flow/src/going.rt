@@ -9,6 +9,7 @@ use crate::pause::Pause;
 use crate::stretch::stretch;
 use kpn_body::Body;
 use kpn_commit::Core;
+use kpn_machine::again::Again;
 use kpn_network::Net;
 use kpn_state::Unkept;
 
@@ -50,7 +51,7 @@ pub(crate) fn go_on<B: Body>(
 {
     let mut done = 0;
     let mut grown = 0;
-    let mut again = None;
+    let mut again = Again::none();
     while most - done >= 2 {
         let pause = stretch(
             net,

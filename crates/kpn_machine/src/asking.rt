@@ -11,6 +11,7 @@ ghost use Rattle.kpn_machine.specs.MachineView.{HasBodies};
 ghost use Rattle.kpn_state.specs.declared.standing.Standing.TheVariants.{Ready};
 ghost use Rattle.kpn_state.specs.Standings.{standing};
 
+use crate::again::Again;
 use kpn_body::Body;
 use kpn_commit::Core;
 use kpn_commit::react::react_ready;
@@ -28,7 +29,7 @@ pub fn ask_ready<B: Body, H: Keeper>(
     net: &Net<B::Kinds>,
     core: &mut Core<H>,
     bodies: &[Option<B>],
-    again: &mut Option<usize>,
+    again: &mut Again,
     most: u64,
     until: usize,
 ) -> u64
@@ -48,17 +49,14 @@ pub fn ask_ready<B: Body, H: Keeper>(
         if core.store.entries() >= until {
             return most - left;
         }
-        let Some(process) = core.standings.turn(*again) else {
+        let Some(process) = core.standings.turn(again.process()) else {
             return most - left;
         };
         let Question { body, local, last } = question_to(net, &core.store, bodies, process);
-        let answer = body.answer(local, last);
+        let has_read = last.is_some();
+        let answer = body.answer(*local, *last);
         let is_ready = react_ready(net, core, process, answer);
-        *again = if is_ready && goes_on_after(answer.act, last) {
-            Some(process)
-        } else {
-            None
-        };
+        *again = Again::of(process, is_ready && goes_on_after(answer.act, has_read));
         left -= 1;
     }
     most
@@ -67,15 +65,15 @@ pub fn ask_ready<B: Body, H: Keeper>(
 /// What a process is asked: its body, with its local state and last token.
 struct Question<'a, B: Body> {
     body: &'a B,
-    local: Local,
-    last: Option<Token>,
+    local: &'a Local,
+    last: &'a Option<Token>,
 }
 
 /// What a live process is asked.
 #[inline(always)]
 fn question_to<'a, B: Body, H: Keeper>(
     net: &Net<B::Kinds>,
-    store: &Store<H>,
+    store: &'a Store<H>,
     bodies: &'a [Option<B>],
     process: usize,
 ) -> Question<'a, B>
@@ -84,7 +82,7 @@ fn question_to<'a, B: Body, H: Keeper>(
     requires within { process < length store.now.state.processes }
     requires live { status store.now.state process ≢ Done }
     ensures card { B.card result.body.now ≡ card_of net.now process }
-    ensures status { status store.now.state process ≡ Live result.local result.last }
+    ensures status { status store.now.state process ≡ Live result.local.now result.last.now }
 {
     let Status::Live { local, last } = store.status(process) else {
         unreachable!()
@@ -92,20 +90,16 @@ fn question_to<'a, B: Body, H: Keeper>(
     let Some(body) = &bodies[process] else {
         unreachable!()
     };
-    Question {
-        body,
-        local: *local,
-        last: *last,
-    }
+    Question { body, local, last }
 }
 
-/// Whether a process that has done this act is likely to do its next one at once, where `last` is the token that it read just
-/// before, if it did: one that has read writes then, or reads at its next port, while one that has written waits for its
-/// reader, and one that reads port 0 twice for its writer.
+/// Whether a process that has done this act is likely to do its next one at once, where `has_read` says whether its act
+/// just before was a read: one that has read writes then, or reads at its next port, while one that has written waits for
+/// its reader, and one that reads port 0 twice for its writer.
 #[inline(always)]
-fn goes_on_after(act: Act, last: Option<Token>) -> bool {
+fn goes_on_after(act: Act, has_read: bool) -> bool {
     match act {
-        Act::Read(port) => last.is_none() || port > 0,
+        Act::Read(port) => !has_read || port > 0,
         Act::Write(..) | Act::Stop => false,
     }
 }

@@ -6,10 +6,10 @@ use kpn_model::{Card, Local, Token};
 pub(crate) fn same_card(a: Card, b: Card) -> bool
     ensures { IsTrue result ↔ (a ≡ b) }
 {
-    // It is asked once whether all arguments are equal, which takes fewer steps than to ask after each.
+    // It is asked once whether two arguments are equal, which takes fewer steps than to ask after each.
     let [x, y, z] = a.args;
     let [u, v, w] = b.args;
-    a.kind == b.kind && (x == u) & (y == v) & (z == w)
+    a.kind == b.kind && (x == u) & (y == v) && z == w
 }
 
 pub(crate) fn same_local(a: Local, b: Local) -> bool

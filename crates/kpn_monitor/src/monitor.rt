@@ -313,8 +313,9 @@ impl<B: Body, E: EntryLedger, O: Ledger, H: Keeper> Monitor<B, E, O, H> {
         Sighting::new(now, guarded.has_work(), guarded.answers())
     }
 
-    // The run has ended: wakes all that rest.
-    fn rouse<R: Wait>(&self, rt: &R) {
+    /// Wakes all workers that rest, and has none rest any more: for a run that has ended, or whose workers are to leave.
+    /// Waits only for the lock of those that rest.
+    pub fn rouse<R: Wait>(&self, rt: &R) {
         let mut resters = self.resters.lock(rt);
         let some = resters.note_end();
         drop(resters);

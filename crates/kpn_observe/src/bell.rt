@@ -1,7 +1,9 @@
 //! How the observer and the workers of a run tell each other to stop.
 //!
 //! No contract depends on this.
+ghost use Rattle.std.specs.Prelude.{true};
 
+use kpn_run::stop_signal::StopSignal;
 use std::rt::Clock;
 use std::sync::atomic::{AtomicBool, Ordering};
 use std::sync::{Condvar, Mutex, Wait};
@@ -47,9 +49,12 @@ impl Bell {
     pub(crate) fn stop(&self) {
         self.stops.store(true, Ordering::SeqCst);
     }
+}
 
-    /// Whether the workers are to stop.
-    pub(crate) fn stops(&self) -> bool {
+impl StopSignal for Bell {
+    ghost may_stop = { true };
+
+    fn stops(&self) -> bool {
         self.stops.load(Ordering::SeqCst)
     }
 }

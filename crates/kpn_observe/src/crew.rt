@@ -6,7 +6,6 @@ ghost use Rattle.kpn_model.specs.declared.history.End.{End as EndV};
 ghost use Rattle.kpn_body.specs.Input.{Input};
 ghost use Rattle.kpn_machine.specs.Commits.{entries_appended};
 ghost use Rattle.kpn_machine.specs.Opening.{cards_of, IsOpenFault};
-ghost use Rattle.kpn_machine.specs.MachineView.{IsFresh};
 ghost use Rattle.kpn_laws.specs.RoomOfRun.{TakesLeastRoom};
 ghost use Rattle.kpn_laws.specs.StreamsOfRun.{ApproachLeastSolution};
 ghost use Rattle.kpn_monitor.specs.Views.{Shares};
@@ -17,10 +16,12 @@ ghost use Rattle.kpn_observe.specs.WatchedReports.{EndSparesBudget, IsWatchedRun
 use crate::running::told_by_laws;
 use crate::watched::WatchedRun;
 use kpn_body::{Body, Finished};
-use kpn_machine::{Machine, OpenFault, OpenRefused, Outcome, Stranger};
+use kpn_machine::{OpenFault, OpenRefused, Outcome, Stranger};
 use kpn_monitor::{EntryLedger, Monitor, Opening, Seat, Taken};
 use kpn_network::Net;
+use kpn_run::starting::{no_memory, opening_of};
 use kpn_run::{Gate, work_with};
+use kpn_state::Wide;
 use std::alloc::Global;
 use std::marker::{Brand, Model};
 use std::sync::Wait;
@@ -196,54 +197,29 @@ pub fn run_by_crew<B: Body, R: Threads + Sync, C: Crew<B>>(
     ensures bodies_back { IfErr result (λ refused. refused.fault ≢ OpenFault.Memory → refused.bodies.items ≡ bodies.items) }
     ensures fault { IfErr result (λ refused. IsOpenFault net.processes (map B.card bodies.items) refused.fault) }
 {
-    match Machine::open(alloc, net, bodies) {
-        Ok(machine) => run_opened(rt, alloc, machine, seats, crew),
-        Err(refused) => Err(refused),
-    }
+    let opening = opening_of::<B, Wide>(alloc, net, bodies)?;
+    run_opened(rt, alloc, opening, seats, crew)
 }
 
-/// Runs an open machine by a crew.
+/// Runs a network by a crew, from the opening of its monitor.
 fn run_opened<B: Body, R: Threads + Sync, C: Crew<B>>(
     rt: &R,
     alloc: Global,
-    machine: Machine<B>,
+    opening: Opening<B>,
     seats: u16,
     crew: &C,
 ) -> Result<WatchedRun<B::Kinds>, OpenRefused<B>>
-    requires { IsFresh machine }
-    ensures run { IfOk result (IsWatchedRun (family B.Kinds.Kinds) B.Kinds.admits machine.network) }
-    ensures net_back { IfErr result (λ refused. refused.net ≡ machine.network) }
-    ensures cards_back { IfErr result (λ refused. map B.card refused.bodies.items ≡ cards_of machine.network.processes) }
+    ensures run { IfOk result (IsWatchedRun (family B.Kinds.Kinds) B.Kinds.admits opening.machine.network) }
+    ensures net_back { IfErr result (λ refused. refused.net ≡ opening.machine.network) }
+    ensures cards_back { IfErr result (λ refused. map B.card refused.bodies.items ≡ cards_of opening.machine.network.processes) }
     ensures fault { IfErr result (λ refused. refused.fault ≡ OpenFault.Memory) }
 {
-    match Opening::new(alloc, machine) {
-        Ok(opening) => match run_named::<B, Brand, Brand, R, C>(rt, alloc, opening, seats, crew) {
-            Ok(ran) => {
-                told_by_laws(&ran);
-                Ok(ran)
-            }
-            Err(refused) => Err(refused),
-        },
-        Err(machine) => Err(no_memory(machine)),
-    }
+    let ran = run_named::<B, Brand, Brand, R, C>(rt, alloc, opening, seats, crew)?;
+    told_by_laws(&ran);
+    Ok(ran)
 }
 
-/// Memory was refused before anything has run.
-fn no_memory<B: Body>(machine: Machine<B>) -> OpenRefused<B>
-    requires { IsFresh machine }
-    ensures net_back { result.net ≡ machine.network }
-    ensures cards_back { map B.card result.bodies.items ≡ cards_of machine.network.processes }
-    ensures fault { result.fault ≡ OpenFault.Memory }
-{
-    let (net, bodies) = machine.into_parts();
-    OpenRefused {
-        net,
-        bodies,
-        fault: OpenFault::Memory,
-    }
-}
-
-/// Runs an open machine by a crew, with ledgers that are named.
+/// Runs a network by a crew, from the opening of its monitor, with ledgers that are named.
 fn run_named<
     B: Body,
     E: EntryLedger + Send + Sync,

@@ -26,9 +26,7 @@ mod crew;
 mod observer;
 mod reporting;
 mod running;
-mod slot;
 mod watched;
-mod worker;
 
 pub use crew::{Crew, CrewSeat, run_by_crew};
 pub use kpn_machine::{OpenFault, OpenRefused, Outcome, Stranger};

@@ -1,30 +1,30 @@
 //! The run of a network by workers, beside an observer.
-ghost use Rattle.std.specs.Prelude.{◌≡◌, ◌≢◌, ◌<◌, ◌≤◌, ◌⊎◌, false, [], length, map, vec_capacity, Err, IfOk, IsTrue, OnOk};
-ghost use Rattle.std.specs.List.{sum_by};
+ghost use Rattle.std.specs.Prelude.{◌≡◌, ◌≢◌, ◌<◌, ◌≤◌, ◌⊎◌, map, Err, IfOk, OnOk};
 ghost use Rattle.kpn_model.specs.Network.{Network as NetV};
 ghost use Rattle.kpn_model.specs.Families.{family};
 ghost use Rattle.kpn_machine.specs.declared.opening.OpenFault.{OpenFault as OpenFaultV};
 ghost use Rattle.kpn_machine.specs.Opening.{cards_of, IsOpenFault};
-ghost use Rattle.kpn_machine.specs.MachineView.{IsFresh};
 ghost use Rattle.kpn_laws.specs.RoomOfRun.{TakesLeastRoom};
 ghost use Rattle.kpn_laws.specs.StreamsOfRun.{ApproachLeastSolution};
-ghost use Rattle.kpn_monitor.specs.Views.{Shares};
 ghost use Rattle.kpn_monitor.specs.Kept.{IsClosed};
 ghost use Rattle.kpn_body.specs.Input.{Input};
+ghost use Rattle.kpn_run.specs.Refusals.{IsHandedBack};
 ghost use Rattle.kpn_run.specs.Runs.{IsComparable, StaysWithinCapacities};
 ghost use Rattle.kpn_observe.specs.WatchedReports.{EndSparesBudget, IsWatchedRun};
 
 use crate::bell::Bell;
 use crate::observer::{Observer, Wish, observe};
-use crate::slot::{Hands, WorkerSlot, hands_for, leave_all, seat_all, work_all};
 use crate::watched::WatchedRun;
-use kpn_body::{Answered, Body, Finished};
+use kpn_body::{Answered, Body};
 use kpn_laws::{determinacy_of, least_room_of, least_solution_of, valid_runs};
-use kpn_machine::{Machine, OpenFault, OpenRefused};
+use kpn_machine::OpenFault;
 use kpn_model::Kinds;
-use kpn_monitor::{EntryLedger, Monitor, Opening, Seat};
+use kpn_monitor::{EntryLedger, Monitor, Opening};
 use kpn_network::Net;
 use kpn_run::Gate;
+use kpn_run::starting::{Failure, lost, may_work, no_memory, not_run, opening_of};
+use kpn_run::stop_signal::Orders;
+use kpn_run::workforce::{Workforce, seat_workers};
 use kpn_state::{Keeper, Wide};
 use kpn_watch::{Phase, Progress, Watcher};
 use std::alloc::Global;
@@ -168,45 +168,44 @@ pub fn run_watched_with_keeper<
     ensures memory { (n : NetV) (bs : _) → result ≡ Err (WatchedFault.Memory n bs) → (n ≡ net) × (map B.card bs.items ≡ map B.card bodies.items) × (map B.card bodies.items ≡ cards_of net.processes) }
 {
     if !may_work(workers) {
-        return Err(refuse_workers(net, bodies));
+        return Err(WatchedFault::Workers { net, bodies });
     }
     if stops_at_start(observer) {
         return Err(WatchedFault::Stopped { net, bodies });
     }
-    let machine = match Machine::<B, H>::open_with_keeper(alloc, net, bodies) {
-        Ok(machine) => machine,
-        Err(refused) => return Err(not_opened(refused)),
+    let watch = Watch {
+        gate,
+        period,
+        observer,
     };
-    run_machine(rt, alloc, machine, workers, gate, period, observer)
+    match run_bodies(rt, alloc, net, bodies, workers, &watch) {
+        Ok(ran) => Ok(ran),
+        Err(failure) => Err(fault_of(failure)),
+    }
 }
 
-/// Whether so many workers may share a run.
-fn may_work(workers: usize) -> bool
-    ensures few { IsTrue result → (0 < workers) × (workers ≤ 16) }
-    ensures other { result ≡ false → (workers ≡ 0) ⊎ (16 < workers) }
-{
-    workers > 0 && workers <= 16
+/// How a run is watched: the gate that its workers ask, and who looks on, and how often.
+#[derive(Drop)]
+struct Watch<'a, G: Gate, V: Observer> {
+    gate: &'a G,
+    period: Duration,
+    observer: &'a V,
 }
 
-/// The fault of a number of workers that may not share a run.
-fn refuse_workers<B: Body>(net: Net<B::Kinds>, bodies: Vec<B>) -> WatchedFault<B>
-    ensures { result ≡ WatchedFault.Workers net bodies }
-{
-    WatchedFault::Workers { net, bodies }
-}
-
-/// The fault of a machine that was not opened.
-fn not_opened<B: Body>(refused: OpenRefused<B>) -> WatchedFault<B>
+/// The fault of a run that failed.
+fn fault_of<B: Body>(failure: Failure<B>) -> WatchedFault<B>
     ensures workers { (n : NetV) (bs : _) → result ≢ WatchedFault.Workers n bs }
     ensures stopped { (n : NetV) (bs : _) → result ≢ WatchedFault.Stopped n bs }
-    ensures open { (n : NetV) (bs : _) (fault : OpenFaultV) → result ≡ WatchedFault.Open n bs fault → (n ≡ refused.net) × (bs.items ≡ refused.bodies.items) × (fault ≡ refused.fault) × (fault ≢ OpenFault.Memory) }
-    ensures lost { (a : Input) (b : _) → result ≢ WatchedFault.Lost a b }
-    ensures memory { (n : NetV) (bs : _) → result ≡ WatchedFault.Memory n bs → (n ≡ refused.net) × (bs.items ≡ refused.bodies.items) × (refused.fault ≡ OpenFault.Memory) }
+    ensures open { (n : NetV) (bs : _) (fault : OpenFaultV) → result ≡ WatchedFault.Open n bs fault → (fault ≢ OpenFault.Memory) × (failure ≡ Failure.NotRun n bs fault) }
+    ensures lost { (a : Input) (b : _) → result ≡ WatchedFault.Lost a b → failure ≡ Failure.Lost a b }
+    ensures memory { (n : NetV) (bs : _) → result ≡ WatchedFault.Memory n bs → failure ≡ Failure.NotRun n bs OpenFault.Memory }
 {
-    let OpenRefused { net, bodies, fault } = refused;
-    match fault {
-        OpenFault::Memory => WatchedFault::Memory { net, bodies },
-        OpenFault::Bodies | OpenFault::Card => WatchedFault::Open { net, bodies, fault },
+    match failure {
+        Failure::Lost { answered, body } => WatchedFault::Lost { answered, body },
+        Failure::NotRun { net, bodies, fault } => match fault {
+            OpenFault::Memory => WatchedFault::Memory { net, bodies },
+            OpenFault::Bodies | OpenFault::Card => WatchedFault::Open { net, bodies, fault },
+        },
     }
 }
 
@@ -220,38 +219,46 @@ fn stops_at_start<V: Observer>(observer: &V) -> bool {
     observer.see(progress) == Wish::Stop
 }
 
-/// Runs an open machine beside an observer.
-fn run_machine<B: Body, H: Keeper + Send, R: Wait + Clock + Threads + Sync, G: Gate, V: Observer>(
+/// Runs a network beside an observer.
+fn run_bodies<B: Body, H: Keeper + Send, R: Wait + Clock + Threads + Sync, G: Gate, V: Observer>(
     rt: &R,
     alloc: Global,
-    machine: Machine<B, H>,
+    net: Net<B::Kinds>,
+    bodies: Vec<B>,
     workers: usize,
-    gate: &G,
-    period: Duration,
-    observer: &V,
-) -> Result<WatchedRun<B::Kinds, H>, WatchedFault<B>>
-    requires fresh { IsFresh machine }
-    requires workers { (0 < workers) × (workers ≤ 16) }
-    ensures run { IfOk result (IsWatchedRun (family B.Kinds.Kinds) B.Kinds.admits machine.network) }
-    ensures workers { (n : NetV) (bs : _) → result ≢ Err (WatchedFault.Workers n bs) }
-    ensures stopped { (n : NetV) (bs : _) → result ≢ Err (WatchedFault.Stopped n bs) }
-    ensures open { (n : NetV) (bs : _) (fault : OpenFaultV) → result ≢ Err (WatchedFault.Open n bs fault) }
-    ensures lost { (a : Input) (b : _) → result ≡ Err (WatchedFault.Lost a b) → B.card b ≡ a.card }
-    ensures memory { (n : NetV) (bs : _) → result ≡ Err (WatchedFault.Memory n bs) → (n ≡ machine.network) × (map B.card bs.items ≡ cards_of machine.network.processes) }
+    watch: &Watch<G, V>,
+) -> Result<WatchedRun<B::Kinds, H>, Failure<B>>
+    requires { (0 < workers) × (workers ≤ 16) }
+    ensures run { IfOk result (IsWatchedRun (family B.Kinds.Kinds) B.Kinds.admits net) }
+    ensures cards { OnOk result (map B.card bodies.items ≡ cards_of net.processes) }
+    ensures not_run { (n : NetV) (bs : _) (fault : OpenFaultV) → result ≡ Err (Failure.NotRun n bs fault) → IsHandedBack B.card net bodies.items n bs.items fault }
+    ensures lost { (a : Input) (b : _) → result ≡ Err (Failure.Lost a b) → (map B.card bodies.items ≡ cards_of net.processes) × (B.card b ≡ a.card) }
 {
-    match Opening::new(alloc, machine) {
-        Ok(opening) => {
-            match run_named::<B, H, Brand, Brand, R, G, V>(
-                rt, alloc, opening, workers, gate, period, observer,
-            ) {
-                Ok(ran) => {
-                    told_by_laws(&ran);
-                    Ok(ran)
-                }
-                Err(fault) => Err(fault),
-            }
+    match opening_of::<B, H>(alloc, net, bodies) {
+        Ok(opening) => run_opened(rt, alloc, opening, workers, watch),
+        Err(refused) => Err(not_run(refused)),
+    }
+}
+
+/// Runs a network from the opening of its monitor, beside an observer.
+fn run_opened<B: Body, H: Keeper + Send, R: Wait + Clock + Threads + Sync, G: Gate, V: Observer>(
+    rt: &R,
+    alloc: Global,
+    opening: Opening<B, H>,
+    workers: usize,
+    watch: &Watch<G, V>,
+) -> Result<WatchedRun<B::Kinds, H>, Failure<B>>
+    requires workers { (0 < workers) × (workers ≤ 16) }
+    ensures run { IfOk result (IsWatchedRun (family B.Kinds.Kinds) B.Kinds.admits opening.machine.network) }
+    ensures not_run { (n : NetV) (bs : _) (fault : OpenFaultV) → result ≡ Err (Failure.NotRun n bs fault) → (n ≡ opening.machine.network) × (map B.card bs.items ≡ cards_of opening.machine.network.processes) × (fault ≡ OpenFault.Memory) }
+    ensures lost { (a : Input) (b : _) → result ≡ Err (Failure.Lost a b) → B.card b ≡ a.card }
+{
+    match run_named::<B, H, Brand, Brand, R, G, V>(rt, alloc, opening, workers, watch) {
+        Ok(ran) => {
+            told_by_laws(&ran);
+            Ok(ran)
         }
-        Err(machine) => Err(put_back(machine)),
+        Err(failure) => Err(failure),
     }
 }
 
@@ -267,16 +274,7 @@ pub(crate) fn told_by_laws<K: Kinds, H: Keeper>(ran: &WatchedRun<K, H>)
     ran.end();
 }
 
-/// The fault of memory that was refused before anything has run.
-fn put_back<B: Body, H: Keeper>(machine: Machine<B, H>) -> WatchedFault<B>
-    requires { IsFresh machine }
-    ensures { (n : NetV) × ((bs : _) × (result ≡ WatchedFault.Memory n bs) × (n ≡ machine.network) × (map B.card bs.items ≡ cards_of machine.network.processes)) }
-{
-    let (net, bodies) = machine.into_parts();
-    WatchedFault::Memory { net, bodies }
-}
-
-/// Runs an open machine beside an observer, with ledgers that are named.
+/// Runs a network from the opening of its monitor, beside an observer, with ledgers that are named.
 fn run_named<
     B: Body,
     H: Keeper + Send,
@@ -290,76 +288,29 @@ fn run_named<
     alloc: Global,
     opening: Opening<B, H>,
     workers: usize,
-    gate: &G,
-    period: Duration,
-    observer: &V,
-) -> Result<WatchedRun<B::Kinds, H>, WatchedFault<B>>
+    watch: &Watch<G, V>,
+) -> Result<WatchedRun<B::Kinds, H>, Failure<B>>
     requires workers { (0 < workers) × (workers ≤ 16) }
     requires network { opening.machine.network ≡ E.net }
     requires board { opening.board ≡ E.board }
     requires entries { (opening.entries.name ≡ E.name) × (opening.entries.parts ≡ E.parts) }
     requires overs { (opening.overs.name ≡ O.name) × (opening.overs.parts ≡ O.parts) }
     ensures closed { IfOk result (IsClosed (family B.Kinds.Kinds) B.Kinds.admits E.net) }
-    ensures workers { (n : NetV) (bs : _) → result ≢ Err (WatchedFault.Workers n bs) }
-    ensures stopped { (n : NetV) (bs : _) → result ≢ Err (WatchedFault.Stopped n bs) }
-    ensures open { (n : NetV) (bs : _) (fault : OpenFaultV) → result ≢ Err (WatchedFault.Open n bs fault) }
-    ensures lost { (a : Input) (b : _) → result ≡ Err (WatchedFault.Lost a b) → B.card b ≡ a.card }
-    ensures memory { (n : NetV) (bs : _) → result ≡ Err (WatchedFault.Memory n bs) → (n ≡ opening.machine.network) × (map B.card bs.items ≡ cards_of opening.machine.network.processes) }
+    ensures not_run { (n : NetV) (bs : _) (fault : OpenFaultV) → result ≡ Err (Failure.NotRun n bs fault) → (n ≡ opening.machine.network) × (map B.card bs.items ≡ cards_of opening.machine.network.processes) × (fault ≡ OpenFault.Memory) }
+    ensures lost { (a : Input) (b : _) → result ≡ Err (Failure.Lost a b) → B.card b ≡ a.card }
 {
-    let Ok(slots) = Vec::with_capacity(alloc, workers) else {
-        return Err(put_back(opening.into_machine()));
+    let (monitor, workforce) = match seat_workers::<B, H, E, O, R>(rt, alloc, opening, workers) {
+        Ok(seated) => seated,
+        Err(machine) => return Err(not_run(no_memory(machine))),
     };
-    let Ok(seats) = Vec::with_capacity(alloc, workers) else {
-        return Err(put_back(opening.into_machine()));
-    };
-    let Ok(hands) = hands_for(rt, alloc, workers) else {
-        return Err(put_back(opening.into_machine()));
-    };
-    let (monitor, seat) = Monitor::<B, E, O, H>::open(opening);
-    let mut slots = slots;
-    seat_all(seat, workers, hands, &mut slots);
-    match run_seated(rt, gate, period, observer, monitor, slots, seats) {
-        Ok(ran) => Ok(ran),
-        Err(finished) => {
-            let (answered, body) = finished.into_parts();
-            Err(WatchedFault::Lost { answered, body })
-        }
-    }
-}
-
-/// Lets the workers work beside the observer, and closes.
-fn run_seated<
-    B: Body,
-    H: Keeper + Send,
-    E: EntryLedger + Send + Sync,
-    O: Ledger + Send + Sync,
-    R: Wait + Clock + Threads + Sync,
-    G: Gate,
-    V: Observer,
->(
-    rt: &R,
-    gate: &G,
-    period: Duration,
-    observer: &V,
-    monitor: Monitor<B, E, O, H>,
-    slots: Vec<WorkerSlot<B, E, O>>,
-    mut seats: Vec<Seat<E, O>>,
-) -> Result<WatchedRun<B::Kinds, H>, Finished<B>>
-    requires all { sum_by (λ (b : Shares). b.parts) slots.items ≡ 65536 }
-    requires seats { (seats.items ≡ []) × (length slots.items ≤ vec_capacity seats) }
-    ensures { IfOk result (IsClosed (family B.Kinds.Kinds) B.Kinds.admits E.net) }
-{
-    let slots = work_watched(rt, &monitor, gate, period, observer, slots);
-    if let Some(finished) = leave_all(slots, &mut seats) {
-        return Err(finished);
-    }
-    match monitor.close(seats) {
+    let workforce = work_watched(rt, &monitor, watch, workforce);
+    match workforce.close(monitor) {
         Ok(closed) => Ok(WatchedRun::of(closed)),
-        Err(_) => unreachable!(),
+        Err(finished) => Err(lost(finished)),
     }
 }
 
-/// Works at all slots, beside the observer if the monitor has a watcher for it.
+/// Has the workers work, beside the observer if the monitor has a watcher for it.
 fn work_watched<
     B: Body,
     H: Keeper + Send,
@@ -371,22 +322,21 @@ fn work_watched<
 >(
     rt: &R,
     monitor: &Monitor<B, E, O, H>,
-    gate: &G,
-    period: Duration,
-    observer: &V,
-    slots: Vec<WorkerSlot<B, E, O>>,
-) -> Vec<WorkerSlot<B, E, O>>
-    ensures parts { sum_by (λ (b : Shares). b.parts) result.items ≡ sum_by (λ (b : Shares). b.parts) slots.items }
-    ensures len { length result.items ≡ length slots.items }
-{
+    watch: &Watch<G, V>,
+    workforce: Workforce<B, E, O>,
+) -> Workforce<B, E, O> {
     let bell = Bell::new();
+    let orders = Orders {
+        gate: watch.gate,
+        signal: &bell,
+    };
     match monitor.watch(rt) {
-        Ok(watcher) => work_beside(rt, monitor, gate, &bell, watcher, period, observer, slots),
-        Err(_) => work_and_ring(rt, monitor, gate, &bell, slots),
+        Ok(watcher) => work_beside(rt, monitor, watch, &orders, watcher, workforce),
+        Err(_) => work_and_ring(rt, monitor, &orders, workforce),
     }
 }
 
-/// Works at all slots in the calling thread and others, with the observer in a thread of its own.
+/// Has the workers work, in the calling thread and others, with the observer in a thread of its own.
 fn work_beside<
     B: Body,
     H: Keeper + Send,
@@ -398,28 +348,24 @@ fn work_beside<
 >(
     rt: &R,
     monitor: &Monitor<B, E, O, H>,
-    gate: &G,
-    bell: &Bell,
+    watch: &Watch<G, V>,
+    orders: &Orders<G, Bell>,
     watcher: Watcher,
-    period: Duration,
-    observer: &V,
-    slots: Vec<WorkerSlot<B, E, O>>,
-) -> Vec<WorkerSlot<B, E, O>>
+    workforce: Workforce<B, E, O>,
+) -> Workforce<B, E, O>
     requires { watcher.board ≡ E.board }
-    ensures parts { sum_by (λ (b : Shares). b.parts) result.items ≡ sum_by (λ (b : Shares). b.parts) slots.items }
-    ensures len { length result.items ≡ length slots.items }
 {
-    let (_, slots) = join(
+    let (_, workforce) = join(
         rt,
         || -> ()
             requires { watcher.board ≡ E.board }
-        { observe(rt, monitor, watcher, bell, period, observer) },
-        || work_and_ring(rt, monitor, gate, bell, slots),
+        { observe(rt, monitor, watcher, orders.signal, watch.period, watch.observer) },
+        || work_and_ring(rt, monitor, orders, workforce),
     );
-    slots
+    workforce
 }
 
-/// Works at all slots, and tells the observer when all is done.
+/// Has the workers work, and tells the observer when all is done.
 fn work_and_ring<
     B: Body,
     H: Keeper + Send,
@@ -430,15 +376,11 @@ fn work_and_ring<
 >(
     rt: &R,
     monitor: &Monitor<B, E, O, H>,
-    gate: &G,
-    bell: &Bell,
-    slots: Vec<WorkerSlot<B, E, O>>,
-) -> Vec<WorkerSlot<B, E, O>>
-    ensures parts { sum_by (λ (b : Shares). b.parts) result.items ≡ sum_by (λ (b : Shares). b.parts) slots.items }
-    ensures len { length result.items ≡ length slots.items }
-{
-    let mut slots = slots;
-    work_all(rt, monitor, gate, bell, &mut slots);
-    bell.ring(rt);
-    slots
+    orders: &Orders<G, Bell>,
+    workforce: Workforce<B, E, O>,
+) -> Workforce<B, E, O> {
+    let mut workforce = workforce;
+    workforce.work(rt, monitor, orders);
+    orders.signal.ring(rt);
+    workforce
 }

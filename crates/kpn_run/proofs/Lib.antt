@@ -1,3 +1,4 @@
 pub mod Slots
 pub mod Finishes
 pub mod RunReports
+pub mod Refusals

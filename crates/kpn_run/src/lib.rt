@@ -20,7 +20,10 @@ mod pace;
 mod reporting;
 mod running;
 mod slot;
+pub mod starting;
+pub mod stop_signal;
 mod worker;
+pub mod workforce;
 
 pub use finish::Finish;
 pub use gate::{Gate, Open, Prompt};

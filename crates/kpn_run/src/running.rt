@@ -1,24 +1,27 @@
 //! The run of a network by many workers.
-ghost use Rattle.std.specs.Prelude.{◌≡◌, ◌≢◌, ◌<◌, ◌≤◌, ◌⊎◌, ℕ, false, [], length, map, vec_capacity, Err, IfOk, IfErr, IsTrue, OnOk};
+ghost use Rattle.std.specs.Prelude.{◌≡◌, ◌≢◌, ◌<◌, ◌≤◌, ◌⊎◌, [], length, map, vec_capacity, Err, IfOk, IsSome, OnOk};
 ghost use Rattle.kpn_model.specs.Network.{Network as NetV};
 ghost use Rattle.kpn_model.specs.Families.{family};
 ghost use Rattle.kpn_machine.specs.declared.opening.OpenFault.{OpenFault as OpenFaultV};
 ghost use Rattle.kpn_machine.specs.Opening.{cards_of, IsOpenFault};
-ghost use Rattle.kpn_machine.specs.MachineView.{IsFresh};
+ghost use Rattle.kpn_monitor.specs.Kept.{IsClosed};
 ghost use Rattle.kpn_laws.specs.RoomOfRun.{TakesLeastRoom};
 ghost use Rattle.kpn_laws.specs.StreamsOfRun.{ApproachLeastSolution};
 ghost use Rattle.kpn_run.specs.Runs.{IsFinish, IsFinishedRun, IsComparable, SparesBudget, StaysWithinCapacities};
+ghost use Rattle.kpn_run.specs.Refusals.{IsHandedBack};
 ghost use Rattle.kpn_body.specs.Input.{Input};
 
 use crate::boxed::{BoxedBody, Boxes, box_all, unbox_all};
 use crate::finish::Finish;
 use crate::gate::Gate;
-use crate::slot::{Hands, WorkerSlot, hands_for, leave_all, seat_all, work_all};
-use kpn_body::{Answered, Body, Finished};
+use crate::starting::{Failure, lost, may_work, no_memory, not_run, opening_of};
+use crate::stop_signal::{NeverStops, Orders};
+use crate::workforce::seat_workers;
+use kpn_body::{Answered, Body};
 use kpn_laws::{determinacy_of, least_room_of, least_solution_of, valid_runs};
-use kpn_machine::{Machine, OpenFault, OpenRefused};
+use kpn_machine::OpenFault;
 use kpn_model::Kinds;
-use kpn_monitor::{EntryLedger, Monitor, Opening, Seat};
+use kpn_monitor::{Closed, EntryLedger, Opening};
 use kpn_network::Net;
 use kpn_state::{Keeper, Wide};
 use std::alloc::Global;
@@ -149,45 +152,74 @@ pub fn run_with_keeper<B: Body, H: Keeper + Send, R: Wait + Clock + Threads + Sy
     if !may_work(workers) {
         return Err(RunFault::Workers { net, bodies });
     }
+    match run_boxed(rt, alloc, net, bodies, workers, gate) {
+        Ok(finish) => Ok(finish),
+        Err(failure) => Err(fault_of(failure)),
+    }
+}
+
+/// The fault of a run that failed.
+fn fault_of<B: Body>(failure: Failure<B>) -> RunFault<B>
+    ensures workers { (n : NetV) (bs : _) → result ≢ RunFault.Workers n bs }
+    ensures open { (n : NetV) (bs : _) (fault : OpenFaultV) → result ≡ RunFault.Open n bs fault → (fault ≢ OpenFault.Memory) × (failure ≡ Failure.NotRun n bs fault) }
+    ensures lost { (a : Input) (b : _) → result ≡ RunFault.Lost a b → failure ≡ Failure.Lost a b }
+    ensures memory { (n : NetV) (bs : _) → result ≡ RunFault.Memory n bs → failure ≡ Failure.NotRun n bs OpenFault.Memory }
+{
+    match failure {
+        Failure::Lost { answered, body } => RunFault::Lost { answered, body },
+        Failure::NotRun { net, bodies, fault } => match fault {
+            OpenFault::Memory => RunFault::Memory { net, bodies },
+            OpenFault::Bodies | OpenFault::Card => RunFault::Open { net, bodies, fault },
+        },
+    }
+}
+
+/// Runs a network with each body in a box of its own, so that handing it on is quick; or with the bodies as they are, if
+/// there is no memory for boxes.
+fn run_boxed<B: Body, H: Keeper + Send, R: Wait + Clock + Threads + Sync, G: Gate>(
+    rt: &R,
+    alloc: Global,
+    net: Net<B::Kinds>,
+    bodies: Vec<B>,
+    workers: usize,
+    gate: &G,
+) -> Result<Finish<B::Kinds, H>, Failure<B>>
+    requires { (0 < workers) × (workers ≤ 16) }
+    ensures run { IfOk result (IsFinishedRun (family B.Kinds.Kinds) net) }
+    ensures cards { OnOk result (map B.card bodies.items ≡ cards_of net.processes) }
+    ensures not_run { (n : NetV) (bs : _) (fault : OpenFaultV) → result ≡ Err (Failure.NotRun n bs fault) → IsHandedBack B.card net bodies.items n bs.items fault }
+    ensures lost { (a : Input) (b : _) → result ≡ Err (Failure.Lost a b) → (map B.card bodies.items ≡ cards_of net.processes) × (B.card b ≡ a.card) }
+{
     match box_all(alloc, bodies) {
         Ok(Boxes { boxed, spare }) => match run_bodies(rt, alloc, net, boxed, workers, gate) {
             Ok(finish) => Ok(finish),
-            Err(fault) => Err(unboxed(fault, spare)),
+            Err(failure) => Err(unboxed(failure, spare)),
         },
         Err(bodies) => run_bodies(rt, alloc, net, bodies, workers, gate),
     }
 }
 
-/// A fault with its bodies in the vector that they came from.
-fn unboxed<B: Body>(fault: RunFault<BoxedBody<B>>, spare: Vec<B>) -> RunFault<B>
-    requires workers { (n : NetV) (bs : _) → fault ≢ RunFault.Workers n bs }
+/// A failure with its bodies in the vector that they came from.
+fn unboxed<B: Body>(failure: Failure<BoxedBody<B>>, spare: Vec<B>) -> Failure<B>
     requires spare { spare.items ≡ [] }
-    requires open { (n : NetV) (bs : _) (f : OpenFaultV) → fault ≡ RunFault.Open n bs f → length bs.items ≤ vec_capacity spare }
-    requires memory { (n : NetV) (bs : _) → fault ≡ RunFault.Memory n bs → length bs.items ≤ vec_capacity spare }
-    ensures workers { (n : NetV) (bs : _) → result ≢ RunFault.Workers n bs }
-    ensures open { (n : NetV) (bs : _) (f : OpenFaultV) → result ≡ RunFault.Open n bs f → (cs : _) × (fault ≡ RunFault.Open n cs f) × (bs.items ≡ cs.items) }
-    ensures lost { (a : Input) (b : _) → result ≡ RunFault.Lost a b → fault ≡ RunFault.Lost a b }
-    ensures memory { (n : NetV) (bs : _) → result ≡ RunFault.Memory n bs → (cs : _) × (fault ≡ RunFault.Memory n cs) × (bs.items ≡ cs.items) }
+    requires room { (n : NetV) (bs : _) (f : OpenFaultV) → failure ≡ Failure.NotRun n bs f → length bs.items ≤ vec_capacity spare }
+    ensures not_run { (n : NetV) (bs : _) (f : OpenFaultV) → result ≡ Failure.NotRun n bs f → (cs : _) × (failure ≡ Failure.NotRun n cs f) × (bs.items ≡ cs.items) }
+    ensures lost { (a : Input) (b : _) → result ≡ Failure.Lost a b → failure ≡ Failure.Lost a b }
 {
-    match fault {
-        RunFault::Workers { .. } => unreachable!(),
-        RunFault::Open { net, bodies, fault } => RunFault::Open {
+    match failure {
+        Failure::NotRun { net, bodies, fault } => Failure::NotRun {
             net,
             bodies: unbox_all(bodies, spare),
             fault,
         },
-        RunFault::Memory { net, bodies } => RunFault::Memory {
-            net,
-            bodies: unbox_all(bodies, spare),
-        },
-        RunFault::Lost { answered, body } => RunFault::Lost {
+        Failure::Lost { answered, body } => Failure::Lost {
             answered,
             body: body.into_inner(),
         },
     }
 }
 
-/// Runs a network with the bodies as they are, by a number of workers that may share it.
+/// Runs a network with the bodies as they are.
 fn run_bodies<B: Body, H: Keeper + Send, R: Wait + Clock + Threads + Sync, G: Gate>(
     rt: &R,
     alloc: Global,
@@ -195,86 +227,38 @@ fn run_bodies<B: Body, H: Keeper + Send, R: Wait + Clock + Threads + Sync, G: Ga
     bodies: Vec<B>,
     workers: usize,
     gate: &G,
-) -> Result<Finish<B::Kinds, H>, RunFault<B>>
+) -> Result<Finish<B::Kinds, H>, Failure<B>>
     requires { (0 < workers) × (workers ≤ 16) }
     ensures run { IfOk result (IsFinishedRun (family B.Kinds.Kinds) net) }
     ensures cards { OnOk result (map B.card bodies.items ≡ cards_of net.processes) }
-    ensures workers { (n : NetV) (bs : _) → result ≢ Err (RunFault.Workers n bs) }
-    ensures open { (n : NetV) (bs : _) (fault : OpenFaultV) → result ≡ Err (RunFault.Open n bs fault) → (n ≡ net) × (bs.items ≡ bodies.items) × (fault ≢ OpenFault.Memory) × IsOpenFault net.processes (map B.card bodies.items) fault }
-    ensures lost { (a : Input) (b : _) → result ≡ Err (RunFault.Lost a b) → (map B.card bodies.items ≡ cards_of net.processes) × (B.card b ≡ a.card) }
-    ensures memory { (n : NetV) (bs : _) → result ≡ Err (RunFault.Memory n bs) → (n ≡ net) × (map B.card bs.items ≡ map B.card bodies.items) × (map B.card bodies.items ≡ cards_of net.processes) }
+    ensures not_run { (n : NetV) (bs : _) (fault : OpenFaultV) → result ≡ Err (Failure.NotRun n bs fault) → IsHandedBack B.card net bodies.items n bs.items fault }
+    ensures lost { (a : Input) (b : _) → result ≡ Err (Failure.Lost a b) → (map B.card bodies.items ≡ cards_of net.processes) × (B.card b ≡ a.card) }
 {
-    let machine = match Machine::<B, H>::open_with_keeper(alloc, net, bodies) {
-        Ok(machine) => machine,
-        Err(refused) => return Err(not_opened(refused)),
-    };
-    run_machine(rt, alloc, machine, workers, gate)
-}
-
-/// The fault of a machine that was not opened.
-fn not_opened<B: Body>(refused: OpenRefused<B>) -> RunFault<B>
-    ensures workers { (n : NetV) (bs : _) → result ≢ RunFault.Workers n bs }
-    ensures open { (n : NetV) (bs : _) (fault : OpenFaultV) → result ≡ RunFault.Open n bs fault → (n ≡ refused.net) × (bs.items ≡ refused.bodies.items) × (fault ≡ refused.fault) × (fault ≢ OpenFault.Memory) }
-    ensures lost { (a : Input) (b : _) → result ≢ RunFault.Lost a b }
-    ensures memory { (n : NetV) (bs : _) → result ≡ RunFault.Memory n bs → (n ≡ refused.net) × (bs.items ≡ refused.bodies.items) × (refused.fault ≡ OpenFault.Memory) }
-{
-    let OpenRefused { net, bodies, fault } = refused;
-    match fault {
-        OpenFault::Memory => RunFault::Memory { net, bodies },
-        OpenFault::Bodies | OpenFault::Card => RunFault::Open { net, bodies, fault },
+    match opening_of::<B, H>(alloc, net, bodies) {
+        Ok(opening) => run_opened(rt, alloc, opening, workers, gate),
+        Err(refused) => Err(not_run(refused)),
     }
 }
 
-/// Whether so many workers may share a run.
-fn may_work(workers: usize) -> bool
-    ensures few { IsTrue result → (0 < workers) × (workers ≤ 16) }
-    ensures other { result ≡ false → (workers ≡ 0) ⊎ (16 < workers) }
-{
-    workers > 0 && workers <= 16
-}
-
-/// Runs an open machine.
-fn run_machine<B: Body, H: Keeper + Send, R: Wait + Clock + Threads + Sync, G: Gate>(
+/// Runs a network from the opening of its monitor.
+fn run_opened<B: Body, H: Keeper + Send, R: Wait + Clock + Threads + Sync, G: Gate>(
     rt: &R,
     alloc: Global,
-    machine: Machine<B, H>,
+    opening: Opening<B, H>,
     workers: usize,
     gate: &G,
-) -> Result<Finish<B::Kinds, H>, RunFault<B>>
-    requires fresh { IsFresh machine }
+) -> Result<Finish<B::Kinds, H>, Failure<B>>
     requires workers { (0 < workers) × (workers ≤ 16) }
-    ensures run { IfOk result (IsFinishedRun (family B.Kinds.Kinds) machine.network) }
-    ensures workers { (n : NetV) (bs : _) → result ≢ Err (RunFault.Workers n bs) }
-    ensures open { (n : NetV) (bs : _) (fault : OpenFaultV) → result ≢ Err (RunFault.Open n bs fault) }
-    ensures lost { (a : Input) (b : _) → result ≡ Err (RunFault.Lost a b) → B.card b ≡ a.card }
-    ensures memory { (n : NetV) (bs : _) → result ≡ Err (RunFault.Memory n bs) → (n ≡ machine.network) × (map B.card bs.items ≡ cards_of machine.network.processes) }
+    ensures run { IfOk result (IsFinishedRun (family B.Kinds.Kinds) opening.machine.network) }
+    ensures not_run { (n : NetV) (bs : _) (fault : OpenFaultV) → result ≡ Err (Failure.NotRun n bs fault) → (n ≡ opening.machine.network) × (map B.card bs.items ≡ cards_of opening.machine.network.processes) × (fault ≡ OpenFault.Memory) }
+    ensures lost { (a : Input) (b : _) → result ≡ Err (Failure.Lost a b) → B.card b ≡ a.card }
 {
-    match opening_of(alloc, machine) {
-        Ok(opening) => match run_named::<B, H, Brand, Brand, R, G>(
-            rt, alloc, opening, workers, gate,
-        ) {
-            Ok(finish) => {
-                told_by_laws(&finish);
-                Ok(finish)
-            }
-            Err(fault) => Err(fault),
-        },
-        Err(fault) => Err(fault),
-    }
-}
-
-/// What a monitor of a machine is made from, before anything has run.
-fn opening_of<B: Body, H: Keeper>(
-    alloc: Global,
-    machine: Machine<B, H>,
-) -> Result<Opening<B, H>, RunFault<B>>
-    requires { IsFresh machine }
-    ensures opening { IfOk result (λ o. (o.machine ≡ machine) × (o.entries.parts ≡ 65536) × (o.overs.parts ≡ 65536)) }
-    ensures memory { IfErr result (λ f. (n : NetV) × ((bs : _) × (f ≡ RunFault.Memory n bs) × (n ≡ machine.network) × (map B.card bs.items ≡ cards_of machine.network.processes))) }
-{
-    match Opening::new(alloc, machine) {
-        Ok(opening) => Ok(opening),
-        Err(machine) => Err(put_back(machine)),
+    match run_named::<B, H, Brand, Brand, R, G>(rt, alloc, opening, workers, gate) {
+        Ok(finish) => {
+            told_by_laws(&finish);
+            Ok(finish)
+        }
+        Err(failure) => Err(failure),
     }
 }
 
@@ -290,16 +274,7 @@ fn told_by_laws<K: Kinds, H: Keeper>(finish: &Finish<K, H>)
     finish.end();
 }
 
-/// The fault of memory that was refused before anything has run.
-fn put_back<B: Body, H: Keeper>(machine: Machine<B, H>) -> RunFault<B>
-    requires { IsFresh machine }
-    ensures { (n : NetV) × ((bs : _) × (result ≡ RunFault.Memory n bs) × (n ≡ machine.network) × (map B.card bs.items ≡ cards_of machine.network.processes)) }
-{
-    let (net, bodies) = machine.into_parts();
-    RunFault::Memory { net, bodies }
-}
-
-/// Runs an open machine, with ledgers that are named.
+/// Runs a network from the opening of its monitor, with ledgers that are named.
 fn run_named<
     B: Body,
     H: Keeper + Send,
@@ -313,74 +288,40 @@ fn run_named<
     opening: Opening<B, H>,
     workers: usize,
     gate: &G,
-) -> Result<Finish<B::Kinds, H>, RunFault<B>>
+) -> Result<Finish<B::Kinds, H>, Failure<B>>
     requires workers { (0 < workers) × (workers ≤ 16) }
     requires network { opening.machine.network ≡ E.net }
     requires board { opening.board ≡ E.board }
     requires entries { (opening.entries.name ≡ E.name) × (opening.entries.parts ≡ E.parts) }
     requires overs { (opening.overs.name ≡ O.name) × (opening.overs.parts ≡ O.parts) }
     ensures finish { IfOk result (IsFinish (family B.Kinds.Kinds) E.net) }
-    ensures workers { (n : NetV) (bs : _) → result ≢ Err (RunFault.Workers n bs) }
-    ensures open { (n : NetV) (bs : _) (fault : OpenFaultV) → result ≢ Err (RunFault.Open n bs fault) }
-    ensures lost { (a : Input) (b : _) → result ≡ Err (RunFault.Lost a b) → B.card b ≡ a.card }
-    ensures memory { (n : NetV) (bs : _) → result ≡ Err (RunFault.Memory n bs) → (n ≡ opening.machine.network) × (map B.card bs.items ≡ cards_of opening.machine.network.processes) }
+    ensures not_run { (n : NetV) (bs : _) (fault : OpenFaultV) → result ≡ Err (Failure.NotRun n bs fault) → (n ≡ opening.machine.network) × (map B.card bs.items ≡ cards_of opening.machine.network.processes) × (fault ≡ OpenFault.Memory) }
+    ensures lost { (a : Input) (b : _) → result ≡ Err (Failure.Lost a b) → B.card b ≡ a.card }
 {
-    let Ok(slots) = Vec::with_capacity(alloc, workers) else {
-        return Err(put_back(opening.into_machine()));
+    let (monitor, mut workforce) = match seat_workers::<B, H, E, O, R>(rt, alloc, opening, workers) {
+        Ok(seated) => seated,
+        Err(machine) => return Err(not_run(no_memory(machine))),
     };
-    let Ok(seats) = Vec::with_capacity(alloc, workers) else {
-        return Err(put_back(opening.into_machine()));
+    let orders = Orders {
+        gate,
+        signal: &NeverStops,
     };
-    let Ok(hands) = hands_for(rt, alloc, workers) else {
-        return Err(put_back(opening.into_machine()));
-    };
-    let (monitor, seat) = Monitor::<B, E, O, H>::open(opening);
-    match run_seated(rt, gate, monitor, seat, workers, hands, slots, seats) {
-        Ok(finish) => Ok(finish),
-        Err(finished) => {
-            let (answered, body) = finished.into_parts();
-            Err(RunFault::Lost { answered, body })
-        }
+    workforce.work(rt, &monitor, &orders);
+    match workforce.close(monitor) {
+        Ok(closed) => Ok(finish_of(closed)),
+        Err(finished) => Err(lost(finished)),
     }
 }
 
-/// Seats the workers, joins them and closes.
-fn run_seated<
-    B: Body,
-    H: Keeper + Send,
-    E: EntryLedger + Send + Sync,
-    O: Ledger + Send + Sync,
-    R: Wait + Clock + Threads + Sync,
-    G: Gate,
->(
-    rt: &R,
-    gate: &G,
-    monitor: Monitor<B, E, O, H>,
-    seat: Seat<E, O>,
-    workers: usize,
-    hands: Hands<B>,
-    mut slots: Vec<WorkerSlot<B, E, O>>,
-    mut seats: Vec<Seat<E, O>>,
-) -> Result<Finish<B::Kinds, H>, Finished<B>>
-    requires workers { (0 < workers) × (workers ≤ 16) }
-    requires all { seat.parts ≡ 65536 }
-    requires slots { (slots.items ≡ []) × (workers ≤ vec_capacity slots) }
-    requires seats { (seats.items ≡ []) × (workers ≤ vec_capacity seats) }
-    ensures { IfOk result (IsFinish (family B.Kinds.Kinds) E.net) }
+/// The finish of a run that has ended.
+fn finish_of<K: Kinds, E: EntryLedger, H: Keeper>(closed: Closed<K, E, H>) -> Finish<K, H>
+    requires closed { IsClosed (family K.Kinds) K.admits E.net closed }
+    requires ended { IsSome closed.machine.end }
+    ensures { IsFinish (family K.Kinds) E.net result }
 {
-    seat_all(seat, workers, hands, &mut slots);
-    work_all(rt, &monitor, gate, &mut slots);
-    if let Some(finished) = leave_all(slots, &mut seats) {
-        return Err(finished);
-    }
-    match monitor.close(seats) {
-        Ok(closed) => match Finish::of(closed) {
-            Some(finish) => {
-                finish.end();
-                Ok(finish)
-            }
-            None => unreachable!(),
-        },
-        Err(_) => unreachable!(),
-    }
+    let Some(finish) = Finish::of(closed) else {
+        unreachable!()
+    };
+    finish.end();
+    finish
 }

@@ -1,10 +1,12 @@
 //! The seats of the workers of a run.
-ghost use Rattle.std.specs.Prelude.{◌≡◌, ◌+◌, ◌<◌, ◌≤◌, ℕ, [], length, vec_capacity, is_some, slice_index_or, IfNone};
+ghost use Rattle.std.specs.Prelude.{◌≡◌, ◌+◌, ◌<◌, ◌≤◌, ℕ, false, [], length, vec_capacity, is_some, slice_index_or, IfNone};
 ghost use Rattle.std.specs.List.{All, sum_by};
 ghost use Rattle.kpn_monitor.specs.Views.{Shares};
 ghost use Rattle.kpn_run.specs.Runs.{AtSlot, HasMet};
 
 use crate::gate::Gate;
+use crate::starting::MOST_WORKERS;
+use crate::stop_signal::{Orders, StopSignal};
 use crate::worker::work_in_rounds;
 use kpn_body::{Body, Finished};
 use kpn_monitor::{EntryLedger, Hand, Monitor, Seat};
@@ -17,7 +19,7 @@ use std::sync::ledger::Ledger;
 use std::thread;
 use std::thread::Threads;
 
-/// What a worker of `run` has: its seat, its hand, and an answer that the monitor refused, if there is
+/// What a worker of a run has: its seat, its hand, and an answer that the monitor refused, if there is
 /// one.
 #[derive(Drop)]
 pub(crate) struct WorkerSlot<B: Body, E: EntryLedger, O: Ledger> {
@@ -58,16 +60,16 @@ impl<B: Body, E: EntryLedger, O: Ledger> WorkerSlot<B, E, O> {
         (seat, refused)
     }
 
-    fn work<H: Keeper, R: Wait + Clock, G: Gate>(
+    fn work<H: Keeper, R: Wait + Clock, G: Gate, S: StopSignal>(
         &mut self,
         rt: &R,
         monitor: &Monitor<B, E, O, H>,
-        gate: &G,
+        orders: &Orders<G, S>,
     )
         ensures parts { self.new.seat.parts ≡ self.old.seat.parts }
-        ensures met { HasMet self.new }
+        ensures met { S.may_stop ≡ false → HasMet self.new }
     {
-        self.refused = work_in_rounds(rt, monitor, gate, &mut self.seat, &mut self.hand);
+        self.refused = work_in_rounds(rt, monitor, orders, &mut self.seat, &mut self.hand);
     }
 }
 
@@ -183,12 +185,18 @@ pub(crate) fn work_all<
     O: Ledger + Send + Sync,
     R: Wait + Clock + Threads + Sync,
     G: Gate,
->(rt: &R, monitor: &Monitor<B, E, O, H>, gate: &G, slots: &mut Vec<WorkerSlot<B, E, O>>)
+    S: StopSignal,
+>(
+    rt: &R,
+    monitor: &Monitor<B, E, O, H>,
+    orders: &Orders<G, S>,
+    slots: &mut Vec<WorkerSlot<B, E, O>>,
+)
     ensures parts { sum_by (λ (b : AtSlot). b.seat.parts) slots.new.items ≡ sum_by (λ (b : AtSlot). b.seat.parts) slots.old.items }
-    ensures met { All HasMet slots.new.items }
+    ensures met { S.may_stop ≡ false → All HasMet slots.new.items }
     ensures len { length slots.new.items ≡ length slots.old.items }
 {
-    work_each(rt, monitor, gate, slots.as_mut_slice());
+    work_each(rt, monitor, orders, slots.as_mut_slice());
 }
 
 // Works at each slot; the clauses tell of one slot after the other.
@@ -199,11 +207,17 @@ fn work_each<
     O: Ledger + Send + Sync,
     R: Wait + Clock + Threads + Sync,
     G: Gate,
->(rt: &R, monitor: &Monitor<B, E, O, H>, gate: &G, slots: &mut [WorkerSlot<B, E, O>])
+    S: StopSignal,
+>(
+    rt: &R,
+    monitor: &Monitor<B, E, O, H>,
+    orders: &Orders<G, S>,
+    slots: &mut [WorkerSlot<B, E, O>],
+)
     ensures parts { (k : ℕ) (d : AtSlot) → k < length slots.old → (slice_index_or slots.new k d).seat.parts ≡ (slice_index_or slots.old k d).seat.parts }
-    ensures met { (k : ℕ) (d : AtSlot) → k < length slots.old → HasMet (slice_index_or slots.new k d) }
+    ensures met { S.may_stop ≡ false → (k : ℕ) (d : AtSlot) → k < length slots.old → HasMet (slice_index_or slots.new k d) }
 {
-    thread::for_each_mut(rt, slots, 16, &|_, slot| slot.work(rt, monitor, gate));
+    thread::for_each_mut(rt, slots, MOST_WORKERS, &|_, slot| slot.work(rt, monitor, orders));
 }
 
 /// Takes the seats out of all slots. Returns an answer that was refused, if there is one.
@@ -213,9 +227,8 @@ pub(crate) fn leave_all<B: Body, E: EntryLedger, O: Ledger>(
 ) -> Option<Finished<B>>
     requires room { length slots.items ≤ vec_capacity seats.old }
     requires empty { seats.old.items ≡ [] }
-    requires met { All HasMet slots.items }
     ensures parts { sum_by (λ (s : Shares). s.parts) seats.new.items ≡ sum_by (λ (b : AtSlot). b.seat.parts) slots.items }
-    ensures met { IfNone result (All (λ (s : Shares). s.overs ≡ 1) seats.new.items) }
+    ensures met { All HasMet slots.items → IfNone result (All (λ (s : Shares). s.overs ≡ 1) seats.new.items) }
     ensures len { length seats.new.items ≡ length slots.items }
 {
     let mut refused = None;

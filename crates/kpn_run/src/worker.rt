@@ -1,8 +1,9 @@
 //! What a worker of a run does.
-ghost use Rattle.std.specs.Prelude.{◌≡◌, length, IfNone, IsTrue};
+ghost use Rattle.std.specs.Prelude.{◌≡◌, false, [], length, IfNone, IsTrue};
 
 use crate::gate::Gate;
 use crate::pace::{Pace, Turn};
+use crate::stop_signal::{Orders, StopSignal};
 use kpn_body::{Body, Finished};
 use kpn_machine::Stranger;
 use kpn_monitor::{EntryLedger, Hand, Monitor, Next, Rest, Seat, Went};
@@ -50,9 +51,11 @@ impl Stopwatch {
 }
 
 /// Calls the tasks of a hand, asks the gate after each, and exchanges the answers for other tasks,
-/// again and again, until the run has ended or an answer is refused; in between it has bodies asked in
-/// place, if the gate lets it and while that is quicker. Returns the refused answer; if there is none, the
-/// seat has met an end. It may wait for other workers.
+/// again and again, until the run has ended, an answer is refused, or the workers are to stop; in between it has
+/// bodies asked in place, if the gate lets it and while that is quicker. A worker that is to stop finishes what it holds,
+/// and has the others rest no more.
+/// Returns the refused answer; if there is none, the worker holds nothing, and the seat has met an end unless the signal
+/// may stop. It may wait for other workers.
 pub(crate) fn work_in_rounds<
     B: Body,
     H: Keeper,
@@ -60,32 +63,40 @@ pub(crate) fn work_in_rounds<
     O: Ledger,
     R: Wait + Clock,
     G: Gate,
+    S: StopSignal,
 >(
     rt: &R,
     monitor: &Monitor<B, E, O, H>,
-    gate: &G,
+    orders: &Orders<G, S>,
     seat: &mut Seat<E, O>,
     hand: &mut Hand<B>,
 ) -> Option<Finished<B>>
     ensures parts { seat.new.parts ≡ seat.old.parts }
-    ensures over { IfNone result (seat.new.overs ≡ 1) }
+    ensures over { IfNone result (S.may_stop ≡ false → seat.new.overs ≡ 1) }
+    ensures held { IfNone result (hand.new.tasks ≡ []) }
 {
     monitor.rest(rt, hand, Rest::Spare, Duration::from_micros(FIRST_REST));
     let watch = Stopwatch::new(rt);
-    let mut pace = Pace::new(watch.nanos(rt), gate.lets_ask_in_place());
+    let mut pace = Pace::new(watch.nanos(rt), orders.gate.lets_ask_in_place());
     for _ in rt.forever() {
-        if pace.in_place() > 0 && ask_in_place(rt, monitor, seat, &watch, &mut pace) {
+        let asks = pace.in_place() > 0 && hand.len() == 0;
+        if asks && ask_in_place(rt, monitor, orders.signal, seat, &watch, &mut pace) {
             return None;
         }
+        let stops = orders.signal.stops();
         let calls = hand.len() as u64;
-        call_all(hand, gate);
+        call_all(hand, orders.gate);
         let most = if pace.is_timed() {
             pace.called(calls, watch.nanos(rt))
         } else {
             pace.most()
         };
-        match monitor.exchange(rt, hand, seat, most) {
+        match monitor.exchange(rt, hand, seat, if stops { 0 } else { most }) {
             Ok(Next::Over(_)) => return None,
+            Ok(Next::Nothing) if stops => {
+                monitor.rouse(rt);
+                return None;
+            }
             Ok(next) => go_on(rt, monitor, hand, &watch, &mut pace, next),
             Err(Stranger { finished }) => return Some(finished),
         }
@@ -93,11 +104,19 @@ pub(crate) fn work_in_rounds<
     unreachable!()
 }
 
-// Has bodies asked in place while that is quicker. Returns whether the run has ended; the seat has then
-// met its end.
-fn ask_in_place<B: Body, H: Keeper, E: EntryLedger, O: Ledger, R: Wait + Clock>(
+// Has bodies asked in place while that is quicker and the workers are not to stop. Returns whether the run has ended;
+// the seat has then met its end.
+fn ask_in_place<
+    B: Body,
+    H: Keeper,
+    E: EntryLedger,
+    O: Ledger,
+    R: Wait + Clock,
+    S: StopSignal,
+>(
     rt: &R,
     monitor: &Monitor<B, E, O, H>,
+    signal: &S,
     seat: &mut Seat<E, O>,
     watch: &Stopwatch,
     pace: &mut Pace,
@@ -111,6 +130,9 @@ fn ask_in_place<B: Body, H: Keeper, E: EntryLedger, O: Ledger, R: Wait + Clock>(
             Went::Nowhere => pace.stop_asking(),
             Went::Over(_) => return true,
         }
+        if signal.stops() {
+            pace.stop_asking();
+        }
         if pace.in_place() == 0 {
             return false;
         }
@@ -119,6 +141,7 @@ fn ask_in_place<B: Body, H: Keeper, E: EntryLedger, O: Ledger, R: Wait + Clock>(
 }
 
 // After an exchange: goes on, pauses or rests.
+#[inline(always)]
 fn go_on<B: Body, H: Keeper, E: EntryLedger, O: Ledger, R: Wait + Clock>(
     rt: &R,
     monitor: &Monitor<B, E, O, H>,

@@ -62,7 +62,7 @@ impl<'a, R: AllocGlobal + Abort> Memory<'a, R> {
 impl<'a, R: AllocGlobal + Abort> FileSystem for Memory<'a, R> {
     ghost use Rattle.std.specs.Prelude.{◌&&◌, ◌||◌, Bool, List, ℕ, not, Some, false, codes, map, if◌then◌else◌};
     ghost use Rattle.std.specs.Str.{bytes_eq};
-    ghost use Rattle.hox_execute.specs.Files.{not_said, not_written, said, standard, wrote};
+    ghost use Rattle.hox_files.specs.Files.{not_said, not_written, said, standard, wrote};
 
     type Input = &'a [u8];
 

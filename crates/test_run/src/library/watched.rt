@@ -10,7 +10,7 @@ use kpn_observe::{
     Observer, Phase, Progress, WatchedFault, WatchedRun, Wish, chronicle_report, run_watched,
 };
 use kpn_report::text_of;
-use kpn_run::{Gate, Open, stream_of};
+use kpn_run::{Gate, Open, Prompt, stream_of};
 use kpn_standard::Standard;
 use std::alloc::Global;
 use std::marker::Model;
@@ -288,5 +288,47 @@ fn nobody_is_out<R: Abort>(rt: &R, standings: &[Standing]) {
 fn a_run_is_stopped(rt: HostRuntime) {
     for workers in [1, 2, 4, 16] {
         shows_stopped(&rt, rt.alloc(), workers);
+    }
+}
+
+/// Runs a counter whose bodies are asked in place, beside an observer that stops it after a hundred entries. Returns whether
+/// it was stopped before its end.
+fn stops_in_place<R: Wait + Clock + Threads + Sync + Abort>(
+    rt: &R,
+    alloc: Global,
+    workers: usize,
+) -> bool {
+    let net = counter(rt, alloc, 500_000);
+    let bodies = bodies_of(alloc, &net).expect(rt, "memory");
+    let witness = Witness::new(100);
+    let Ok(run) = run_watched(rt, alloc, net, bodies, workers, &Prompt, often(), &witness) else {
+        panic!(rt; "no run");
+    };
+    nobody_is_out(rt, run.standings());
+    begins_as_counted(rt, alloc, &run);
+    let is_stopped = run.end().is_none();
+    drop(run);
+    is_stopped
+}
+
+/// Whether one of ten runs is stopped: an observer may come too late to stop a run, but not so often.
+fn one_stops_in_place<R: Wait + Clock + Threads + Sync + Abort>(
+    rt: &R,
+    alloc: Global,
+    workers: usize,
+) -> bool {
+    for _try in 0..10 {
+        if stops_in_place(rt, alloc, workers) {
+            return true;
+        }
+    }
+    false
+}
+
+#[test]
+fn a_run_that_asks_in_place_is_stopped(rt: HostRuntime) {
+    for workers in [1, 2, 16] {
+        let stopped = one_stops_in_place(&rt, rt.alloc(), workers);
+        same(&rt, "stopped", stopped, true);
     }
 }

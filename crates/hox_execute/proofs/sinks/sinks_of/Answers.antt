@@ -1,8 +1,8 @@
 -- One sink more.
 use Rattle.std.proofs.Common.{◌≡◌, true, sym, ◌∙◌, rules}
-use Rattle.hox_execute.specs.Pairs.{is_alone}
+use Rattle.hox_files.specs.Pairs.{is_alone}
 use Rattle.hox_execute.specs.Streaming.{IsCreated}
-use Rattle.hox_execute.proofs.Zipped.{one_kept}
+use Rattle.hox_files.proofs.Zipped.{one_kept}
 use Rattle.hox_execute.proofs.sinks.sinks_of.Goals as goal
 
 pub loop-k-preserved : goal.loop-k-preserved

@@ -1,6 +1,6 @@
 use Rattle.std.proofs.Common.{take}
 use Rattle.std.specs.List.{AllZip, filter}
-use Rattle.hox_execute.specs.Pairs.{is_alone}
+use Rattle.hox_files.specs.Pairs.{is_alone}
 use Rattle.hox_execute.specs.Streaming.{IsCreated}
 use Rattle.hox_execute.proofs.sinks.sinks_of.Given as goal
 

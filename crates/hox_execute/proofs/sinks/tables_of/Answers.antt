@@ -1,8 +1,8 @@
 -- All tables.
 use Rattle.std.proofs.Common.{ap, drop}
-use Rattle.hox_execute.specs.Pairs.{groups}
+use Rattle.hox_files.specs.Pairs.{groups}
 use Rattle.hox_execute.specs.Streaming.{IsTabled}
-use Rattle.hox_execute.proofs.Parted.{completed, nothing_left}
+use Rattle.hox_files.proofs.Parted.{completed, nothing_left}
 use Rattle.hox_execute.proofs.sinks.tables_of.Goals as goal
 
 pub returns-clause-ok : goal.returns-clause-ok

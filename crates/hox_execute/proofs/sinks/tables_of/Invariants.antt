@@ -1,7 +1,7 @@
 use Rattle.std.proofs.Common.{drop}
-use Rattle.hox_execute.specs.Pairs.{groups}
+use Rattle.hox_files.specs.Pairs.{groups}
 use Rattle.hox_execute.specs.Streaming.{IsTabled}
-use Rattle.hox_execute.proofs.Parted.{Completes}
+use Rattle.hox_files.proofs.Parted.{Completes}
 use Rattle.hox_execute.proofs.sinks.tables_of.Given as goal
 
 abbrev pub invariant-loop-k : goal.invariant-loop-k

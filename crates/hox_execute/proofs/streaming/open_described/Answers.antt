@@ -1,6 +1,6 @@
 -- The channels of the ends are named by these texts.
 use Rattle.std.proofs.Common.{◌≡◌, ap, ◌∙◌}
-use Rattle.hox_execute.specs.Pairs.{channels_of}
+use Rattle.hox_files.specs.Pairs.{channels_of}
 use Rattle.hox_execute.proofs.streaming.open_described.Goals as goal
 
 pub returns-in-Ok-clause-ok : goal.returns-in-Ok-clause-ok

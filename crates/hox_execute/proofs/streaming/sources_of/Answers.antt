@@ -1,7 +1,7 @@
 -- One source more.
 use Rattle.hox_format.specs.Resuming.{left_of, resumed_has_failed}
 use Rattle.hox_execute.specs.Streaming.{IsOpened}
-use Rattle.hox_execute.proofs.Zipped.{zipped_at}
+use Rattle.hox_files.proofs.Zipped.{zipped_at}
 use Rattle.hox_execute.proofs.streaming.sources_of.Goals as goal
 
 pub loop-k-preserved : goal.loop-k-preserved

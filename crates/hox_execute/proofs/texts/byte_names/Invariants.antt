@@ -1,5 +1,5 @@
 use Rattle.std.proofs.Common.{◌≡◌, map, take}
-use Rattle.hox_execute.specs.Pairs.{channels_of}
+use Rattle.hox_files.specs.Pairs.{channels_of}
 use Rattle.hox_execute.proofs.texts.byte_names.Given as goal
 
 abbrev pub invariant-loop-pair : goal.invariant-loop-pair

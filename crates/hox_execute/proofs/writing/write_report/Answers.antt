@@ -1,8 +1,8 @@
 -- The report is written or said, or is not.
 use Rattle.std.proofs.Common.{◌≡◌, true, false, nat_lt, if◌then◌else◌, refl, sym, ap, ◌∙◌, arith}
 use Rattle.std.proofs.lemmas.Grind.{common_steps}
-use Rattle.hox_execute.specs.Files.{said, standard, wrote}
-use Rattle.hox_execute.specs.Pairs.{count_standard}
+use Rattle.hox_files.specs.Files.{said, standard, wrote}
+use Rattle.hox_files.specs.Pairs.{count_standard}
 use Rattle.hox_execute.specs.Reports.{reported}
 use Rattle.hox_execute.proofs.Tried.{tries_as}
 use Rattle.hox_execute.proofs.writing.write_report.Goals as goal

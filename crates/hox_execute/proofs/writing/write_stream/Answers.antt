@@ -1,6 +1,6 @@
 -- One stream is written, or is not.
 use Rattle.std.proofs.Common.{refl, ap}
-use Rattle.hox_execute.specs.Files.{wrote}
+use Rattle.hox_files.specs.Files.{wrote}
 use Rattle.hox_execute.proofs.Tried.{tries_as}
 use Rattle.hox_execute.proofs.writing.write_stream.Goals as goal
 

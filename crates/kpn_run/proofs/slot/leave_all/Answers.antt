@@ -14,7 +14,7 @@ loop-slot-preserved g c =
     let seat = ap (λ (s : Shares). s.parts) c.leave-seat.ensures.seat in (
       omega (arith, i.0, sum_more (λ (s : Shares). s.parts) _ _ _ push, sum_more (λ (b : AtSlot). b.seat.parts) _ _ _ pop, seat),
       omega (arith, i.1, length_more _ _ _ push, length_more _ _ _ pop),
-      rw c.or-refused.ensures (none_more c.leave-seat.result.1 c.loop-slot.refused _ _ _ push i.2 (λ none. ap (λ (s : Shares). s.overs) c.leave-seat.ensures.seat ∙ last_met _ _ _ pop i.4 (sym c.leave-seat.ensures.refused ∙ ap is_some none))),
+      λ all. rw c.or-refused.ensures (none_more c.leave-seat.result.1 c.loop-slot.refused _ _ _ push (i.2 all) (λ none. ap (λ (s : Shares). s.overs) c.leave-seat.ensures.seat ∙ last_met _ _ _ pop (i.4 all) (sym c.leave-seat.ensures.refused ∙ ap is_some none))),
       search rules,
-      front_met _ _ _ pop i.4,
+      λ all. front_met _ _ _ pop (i.4 all),
     )

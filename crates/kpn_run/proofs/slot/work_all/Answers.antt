@@ -13,4 +13,4 @@ pub returns-clause-met : goal.returns-clause-met
 returns-clause-met g c =
     let len = c.work_each.auto.slots ∙ (ap length c.as_mut_slice.ensures.value ∙ sym c.args.slots.now.ok.0) in
     let back = slice_back c.work_each.new.slots c.args.slots.now.items c.args.slots.now.len len in
-    rw back (λ k d lt. let same = c.work_each.auto.slots in c.work_each.ensures.met k d (omega arith))
+    λ never. rw back (λ k d lt. let same = c.work_each.auto.slots in c.work_each.ensures.met never k d (omega arith))

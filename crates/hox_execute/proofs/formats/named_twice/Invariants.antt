@@ -1,8 +1,0 @@
-use Rattle.std.proofs.Common.{◌≡◌, drop}
-use Rattle.hox_execute.specs.Formats.{named_twice}
-use Rattle.hox_execute.proofs.Firsts.{texts_of}
-use Rattle.hox_execute.proofs.formats.named_twice.Given as goal
-
--- no channel of the texts before is that of a later one
-abbrev pub invariant-loop-k : goal.invariant-loop-k
-invariant-loop-k l = named_twice (texts_of l.texts) ≡ named_twice (texts_of (drop l.k l.texts))

@@ -1,6 +1,0 @@
-use Rattle.std.proofs.Common.{◌≡◌, map, take}
-use Rattle.hox_execute.specs.Requests.{written_as}
-use Rattle.hox_execute.proofs.reading.written_by.Given as goal
-
-abbrev pub invariant-loop-pair : goal.invariant-loop-pair
-invariant-loop-pair l = l.written.items ≡ map written_as (take l.pair-index l.pairs)

@@ -1,5 +1,0 @@
-use Rattle.hox_execute.proofs.Apart.{Below}
-use Rattle.hox_execute.proofs.uses.clash_among.Given as goal
-
-abbrev pub invariant-loop-k : goal.invariant-loop-k
-invariant-loop-k g l = Below (g.S.FileSystem.clash l.files) l.uses l.k

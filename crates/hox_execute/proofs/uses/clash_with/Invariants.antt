@@ -1,7 +1,0 @@
-use Rattle.std.proofs.Common.{◌<◌, ℕ, get_or}
-use Rattle.hox_execute.specs.declared.uses.Use.{Use}
-use Rattle.hox_execute.specs.Uses.{StandApart, used}
-use Rattle.hox_execute.proofs.uses.clash_with.Given as goal
-
-abbrev pub invariant-loop-other : goal.invariant-loop-other
-invariant-loop-other g l = (k : ℕ) (d : Use) → k < l.other-index → StandApart (g.S.FileSystem.clash l.files) (used l.one) (used (get_or l.others k d))

@@ -1,0 +1,6 @@
+pub mod Apart
+pub mod Misused
+pub mod Zipped
+pub mod Named
+pub mod Firsts
+pub mod Parted

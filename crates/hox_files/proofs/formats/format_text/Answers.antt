@@ -1,0 +1,2 @@
+-- The first text of the channel is found.
+use Rattle.hox_files.proofs.formats.format_text.Goals as goal

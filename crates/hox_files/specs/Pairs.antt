@@ -1,0 +1,194 @@
+-- Arguments of the form CHANNEL=FILE.
+use Rattle.std.specs.Prelude.{◌≡◌, ◌≢◌, ◌<◌, ◌==◌, ◌&&◌, ◌||◌, ◌⊎◌, ◌++◌, ℕ, suc, Bool, true, false, not, codes, is_none, length, get_or, List, [], ◌∷◌, map, count_by, nat_lt, take, if◌then◌else◌, Option, Some, None, Ok}
+use Rattle.std.specs.List.{All, AllZip, Any, Contains, after_first, before_first, filter, flat_map, list_any}
+use Rattle.std.specs.Str.{bytes_eq}
+use Rattle.hox_format.specs.declared.tables.Shared.{Shared}
+use Rattle.hox_format.specs.Forms.{Form, form}
+use Rattle.hox_format.specs.Saying.{format_said, pieces}
+use Rattle.hox_format.specs.Tables.{shared_by}
+use Rattle.hox_files.specs.declared.formats.FormatStop.{FormatStop}
+use Rattle.hox_files.specs.declared.formats.FormatStop.TheVariants.{Alone, Head, NoUse, Twice, Unknown, Unlike}
+use Rattle.hox_files.specs.declared.pairs.Pair.{Pair}
+use Rattle.hox_files.specs.declared.stops.Stop.{Stop}
+use Rattle.hox_files.specs.declared.stops.Stop.TheVariants.{Clash, Format, InputTwice, Memory, NoPair, Refused, Unread, Words}
+use Rattle.hox_files.specs.Files.{standard}
+use Rattle.hox_files.specs.Formats.{HasEquals, IsForm, IsNoFormat, all_channels, is_equals, named_twice}
+
+-- what a text CHANNEL,..=FILE says of one of its channels: the file, its place among them, and how many they are
+pub record Part : Type 0 where
+  pub channel : List ℕ
+  pub file : List ℕ
+  pub place : ℕ
+  pub count : ℕ
+
+abbrev pub part_at : List ℕ → ℕ → ℕ → List ℕ → Part
+part_at file count place name = record { channel = name; file = file; place = place; count = count }
+
+-- of the channels from a place on
+abbrev pub parts_from : List ℕ → ℕ → ℕ → List (List ℕ) → List Part
+parts_from file count place [] = []
+parts_from file count place (name ∷ names) = part_at file count place name ∷ parts_from file count (suc place) names
+
+-- the channels stand before the first `=`, with commas between them, and the file after it
+abbrev pub names_in : List ℕ → List (List ℕ)
+names_in text = pieces (before_first is_equals text)
+
+abbrev pub parts : List ℕ → List Part
+parts text = parts_from (after_first is_equals text) (length (names_in text)) 0 (names_in text)
+
+-- a channel and its file, and how the file has tokens, by these texts and the names of the channels whose words are unsigned
+pub record IsPair (texts unsigned : List (List ℕ)) (part : Part) (pair : Pair) : Type 0 where
+  pub channel : pair.channel.now ≡ part.channel
+  pub file : pair.file.now ≡ part.file
+  pub place : pair.place ≡ part.place
+  pub count : pair.count ≡ part.count
+  pub format : IsForm texts unsigned pair.channel.now pair.file.now (form pair.format)
+
+-- the file is given for this channel alone
+abbrev pub is_alone : Pair → Bool
+is_alone pair = pair.count == 1
+
+-- what the channels have in common for which the file is given
+abbrev pub shared_in : Pair → Option Shared
+shared_in pair = shared_by (form pair.format) pair.count
+
+-- the file is for one channel alone, and is given for several
+abbrev pub is_single : Pair → Bool
+is_single pair = not (is_alone pair) && is_none (shared_in pair)
+
+-- a channel has something else in common with the others of its file than the one before it
+pub record IsUnlike (last pair : Pair) : Type 0 where
+  pub later : 0 < pair.place
+  pub other : shared_in pair ≢ shared_in last
+
+-- no file that is given for several channels is for one alone
+abbrev pub AreShared : List Pair → Type 0
+AreShared pairs = All (λ p. is_single p ≡ false) pairs
+
+-- some file is; or it has another format for one channel than for the one before it
+abbrev pub IsUnshared : List Pair → FormatStop → Type 0
+IsUnshared pairs (Alone file) = Any (λ p. (p.file.now ≡ file.now) × (is_single p ≡ true)) pairs
+IsUnshared pairs (Unlike file channel) = (k : ℕ) × (last pair : Pair) × (get_or pairs k last ≡ last) × (get_or pairs (suc k) pair ≡ pair) × (suc k < length pairs) × (pair.file.now ≡ file.now) × (pair.channel.now ≡ channel.now) × IsUnlike last pair
+IsUnshared pairs (Unknown fault) = ⊥
+IsUnshared pairs (NoUse channel) = ⊥
+IsUnshared pairs (Twice channel) = ⊥
+IsUnshared pairs (Head file fault) = ⊥
+
+-- each text has an `=`, and these are the pairs of the channels that they name, in order
+pub record AreSaid (formats unsigned texts : List (List ℕ)) (pairs : List Pair) : Type 0 where
+  pub said : All HasEquals texts
+  pub each : AllZip (IsPair formats unsigned) (flat_map parts texts) pairs
+
+-- and the files can have them
+pub record ArePairs (formats unsigned texts : List (List ℕ)) (pairs : List Pair) : Type 0 where
+  pub said : AreSaid formats unsigned texts pairs
+  pub shared : AreShared pairs
+
+-- some text of an option has no `=`
+abbrev pub IsNoPair : List ℕ → List (List ℕ) → List ℕ → List ℕ → Type 0
+IsNoPair name texts option text = (option ≡ name) × Contains texts text × (HasEquals text → ⊥)
+
+-- some text of this option has no `=`, or one of the formats is none, or memory was refused
+abbrev pub IsUnsaid : List (List ℕ) → List ℕ → List (List ℕ) → Stop → Type 0
+IsUnsaid formats name texts (NoPair option text) = IsNoPair name texts option.now text.now
+IsUnsaid formats name texts (Format stop) = IsNoFormat formats stop
+IsUnsaid formats name texts Memory = Unit {0}
+IsUnsaid formats name texts InputTwice = ⊥
+IsUnsaid formats name texts (Clash one other) = ⊥
+IsUnsaid formats name texts (Unread file error) = ⊥
+IsUnsaid formats name texts (Refused refusal) = ⊥
+IsUnsaid formats name texts (Words fault) = ⊥
+
+-- or a file can't have its channels
+abbrev pub IsUnpaired : List (List ℕ) → List (List ℕ) → List ℕ → List (List ℕ) → Stop → Type 0
+IsUnpaired formats unsigned name texts (NoPair option text) = IsNoPair name texts option.now text.now
+IsUnpaired formats unsigned name texts (Format stop) = IsNoFormat formats stop ⊎ ((pairs : List Pair) × AreSaid formats unsigned texts pairs × IsUnshared pairs stop)
+IsUnpaired formats unsigned name texts Memory = Unit {0}
+IsUnpaired formats unsigned name texts InputTwice = ⊥
+IsUnpaired formats unsigned name texts (Clash one other) = ⊥
+IsUnpaired formats unsigned name texts (Unread file error) = ⊥
+IsUnpaired formats unsigned name texts (Refused refusal) = ⊥
+IsUnpaired formats unsigned name texts (Words fault) = ⊥
+
+-- the first pair of each file
+abbrev pub firsts : List Pair → List Pair
+firsts pairs = filter (λ (p : Pair). p.place == 0) pairs
+
+-- channels that stand side by side in one file: the first, and all of them
+pub record Group : Type 0 where
+  pub first : Pair
+  pub pairs : List Pair
+
+-- the first of these, and those behind it that have the same file
+abbrev pub group_in : List Pair → List Pair
+group_in [] = []
+group_in (p ∷ ps) = take p.count (p ∷ ps)
+
+-- the files of several channels, each with these
+abbrev pub begins : Pair → Bool
+begins pair = (pair.place == 0) && not (is_alone pair)
+
+abbrev pub groups : List Pair → List Group
+groups [] = []
+groups (p ∷ ps) = if begins p then record { first = p; pairs = group_in (p ∷ ps) } ∷ groups ps else groups ps
+
+-- files of one channel, and then those of several
+abbrev pub is_grouped : Pair → Bool
+is_grouped pair = not (is_alone pair)
+
+abbrev pub in_order : List Pair → List Pair
+in_order pairs = filter is_alone pairs ++ filter is_grouped pairs
+
+-- the channels of pairs, and their files
+abbrev pub channels_of : List Pair → List (List ℕ)
+channels_of pairs = map (λ (p : Pair). p.channel.now) pairs
+
+abbrev pub files_of : List Pair → List (List ℕ)
+files_of pairs = map (λ (p : Pair). p.file.now) pairs
+
+-- how many pairs name standard input, or standard output
+abbrev pub count_standard : List Pair → ℕ
+count_standard pairs = count_by (λ (p : Pair). bytes_eq p.file.now standard) pairs
+
+-- standard input is named more than once, by the file of the description and by pairs
+abbrev pub is_named_twice : List ℕ → List Pair → Bool
+is_named_twice file pairs = nat_lt (if bytes_eq file standard then 0 else 1) (count_standard pairs)
+
+-- a channel of this name is among these pairs
+abbrev pub has_channel : List Pair → List ℕ → Bool
+has_channel pairs name = list_any (λ (p : Pair). bytes_eq p.channel.now name) pairs
+
+-- what is said of the files of a channel of this name is of use beside these pairs
+abbrev pub is_of_use : List Pair → List Pair → List ℕ → Bool
+is_of_use inputs outputs name = (bytes_eq name all_channels || has_channel inputs name) || has_channel outputs name
+
+-- a text says how files have tokens, for a channel of these pairs or for all
+pub record IsUsable (inputs outputs : List Pair) (text : List ℕ) : Type 0 where
+  pub has : HasEquals text
+  pub says : Form
+  pub said : format_said (after_first is_equals text) ≡ Ok says
+  pub of_use : is_of_use inputs outputs (before_first is_equals text) ≡ true
+
+-- each of these texts does, and no channel is named twice
+pub record AreUsable (inputs outputs : List Pair) (texts : List (List ℕ)) : Type 0 where
+  pub each : All (IsUsable inputs outputs) texts
+  pub once : named_twice texts ≡ None
+
+-- why they do not
+abbrev pub IsUseless : List (List ℕ) → List Pair → List Pair → FormatStop → Type 0
+IsUseless texts inputs outputs (Unknown fault) = IsNoFormat texts (Unknown fault)
+IsUseless texts inputs outputs (NoUse channel) = (text : List ℕ) × Contains texts text × (channel.now ≡ before_first is_equals text) × (is_of_use inputs outputs channel.now ≡ false)
+IsUseless texts inputs outputs (Twice channel) = named_twice texts ≡ Some channel.now
+IsUseless texts inputs outputs (Head file fault) = ⊥
+IsUseless texts inputs outputs (Alone file) = ⊥
+IsUseless texts inputs outputs (Unlike file channel) = ⊥
+
+abbrev pub IsUnusable : List (List ℕ) → List Pair → List Pair → Stop → Type 0
+IsUnusable texts inputs outputs (NoPair option text) = IsNoPair (codes "format") texts option.now text.now
+IsUnusable texts inputs outputs (Format stop) = IsUseless texts inputs outputs stop
+IsUnusable texts inputs outputs Memory = ⊥
+IsUnusable texts inputs outputs InputTwice = ⊥
+IsUnusable texts inputs outputs (Clash one other) = ⊥
+IsUnusable texts inputs outputs (Unread file error) = ⊥
+IsUnusable texts inputs outputs (Refused refusal) = ⊥
+IsUnusable texts inputs outputs (Words fault) = ⊥

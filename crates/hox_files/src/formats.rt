@@ -1,0 +1,199 @@
+//! How files have tokens, as the arguments say it.
+ghost use Rattle.std.specs.Prelude.{◌≡◌, ℕ, List, map, IfErr, IfOk, OnOk, IfSome, Some, None, if◌then◌else◌, option_map};
+ghost use Rattle.std.specs.List.{Contains, after_first, before_first};
+ghost use Rattle.hox_format.specs.Forms.{form};
+ghost use Rattle.hox_format.specs.Saying.{seen};
+ghost use Rattle.hox_files.specs.Formats.{IsForm, IsNoFormat, format_text, is_equals, is_named, is_text_of, marked, named_twice, said_for, said_of_all};
+ghost use Rattle.hox_files.specs.Pairs.{AreUsable, IsUnusable, IsUsable, has_channel, is_of_use};
+
+use crate::pairs::Pair;
+use crate::stops::Stop;
+use hox_args::channel_and_file;
+use hox_format::{Format, FormatFault, HeadFault, format_of};
+
+/// The name by which all channels are named.
+const ALL: &str = "all";
+
+/// How files have tokens: as texts `CHANNEL=FORMAT` say it, and with the words of these channels unsigned.
+#[derive(Clone, Copy, Debug)]
+pub struct Formats<'a, 'b> {
+    pub texts: &'b [&'a str],
+    pub unsigned: &'b [&'a str],
+}
+
+/// Why it can't be read how a file has tokens.
+#[derive(Clone, Copy, Debug)]
+pub enum FormatStop<'a> {
+    /// A text names no format.
+    Unknown(FormatFault<'a>),
+    /// No file is given for this channel, for which a format is named.
+    NoUse(&'a str),
+    /// Two formats are named for this channel.
+    Twice(&'a str),
+    /// What stands before the tokens in this file is refused.
+    Head { file: &'a str, fault: HeadFault },
+    /// This file is given for several channels, and is for one alone.
+    Alone { file: &'a str },
+    /// This file is given for several channels, and for this one has another format than for the one before it.
+    Unlike { file: &'a str, channel: &'a str },
+}
+
+/// How the file of a channel has tokens.
+///
+/// Errors: a text names no format.
+pub fn format_for<'a>(
+    formats: Formats<'a, '_>,
+    channel: &str,
+    file: &str,
+) -> Result<Format<'a>, FormatStop<'a>>
+    ensures ok { IfOk result (λ format. IsForm (map (λ t. t.now) formats.entry.texts.now) (map (λ s. s.now) formats.entry.unsigned.now) channel.now file.now (form format)) }
+    ensures fault { IfErr result (IsNoFormat (map (λ t. t.now) formats.entry.texts.now)) }
+{
+    match said_for(formats.texts, channel, file) {
+        Ok(format) => Ok(marked(is_named(formats.unsigned, channel), format)),
+        Err(fault) => Err(FormatStop::Unknown(fault)),
+    }
+}
+
+/// A format, with words unsigned if that is asked for.
+fn marked<'a>(is_unsigned: bool, format: Format<'a>) -> Format<'a>
+    ensures { form result ≡ marked is_unsigned (form format.entry) }
+{
+    if is_unsigned {
+        format.unsigned()
+    } else {
+        format
+    }
+}
+
+/// What is said of the file of a channel: by its name, or of all files, or else by the file's own name.
+fn said_for<'a>(texts: &[&'a str], channel: &str, file: &str) -> Result<Format<'a>, FormatFault<'a>>
+    ensures said { seen result ≡ said_for (map (λ t. t.now) texts.now) channel.now file.now }
+    ensures fault { IfErr result (λ e. IsNoFormat (map (λ t. t.now) texts.now) (FormatStop.Unknown e)) }
+{
+    match format_text(texts, channel) {
+        Some(text) => format_of(text),
+        None => said_of_all(texts, file),
+    }
+}
+
+/// What is said of all files, or else by a file's own name.
+fn said_of_all<'a>(texts: &[&'a str], file: &str) -> Result<Format<'a>, FormatFault<'a>>
+    ensures said { seen result ≡ said_of_all (map (λ t. t.now) texts.now) file.now }
+    ensures fault { IfErr result (λ e. IsNoFormat (map (λ t. t.now) texts.now) (FormatStop.Unknown e)) }
+{
+    match format_text(texts, ALL) {
+        Some(text) => format_of(text),
+        None => Ok(Format::of_file(file)),
+    }
+}
+
+/// What the first text for a channel says of its file.
+fn format_text<'a>(texts: &[&'a str], channel: &str) -> Option<&'a str>
+    ensures is { option_map (λ t. t.now) result ≡ format_text channel.now (map (λ t. t.now) texts.now) }
+    ensures among { IfSome result (λ format. (text : List ℕ) × Contains (map (λ t. t.now) texts.now) text × (format.now ≡ after_first is_equals text)) }
+{
+    for text in texts {
+        if let Some(format) = format_in(*text, channel) {
+            return Some(format);
+        }
+    }
+    None
+}
+
+/// What a text says of the file of a channel, if it is of this channel.
+fn format_in<'a>(text: &'a str, channel: &str) -> Option<&'a str>
+    ensures { option_map (λ t. t.now) result ≡ (if is_text_of channel.now text.now then Some (after_first is_equals text.now) else None) }
+{
+    match channel_and_file(text) {
+        Some((name, format)) if name == channel => Some(format),
+        _ => None,
+    }
+}
+
+/// Whether a channel is named, or all are.
+pub fn is_named(names: &[&str], channel: &str) -> bool
+    ensures { result ≡ is_named (map (λ s. s.now) names.now) channel.now }
+{
+    names.iter().any(|name| *name == channel || *name == ALL)
+}
+
+/// Checks that each text says how files have tokens, for a channel of these pairs or for all, and of each channel and
+/// of all one at most.
+///
+/// Errors: the first text that does not; or else the first channel of which a later text says it too.
+pub fn check_formats<'a>(
+    texts: &[&'a str],
+    inputs: &[Pair<'a>],
+    outputs: &[Pair<'a>],
+) -> Result<(), Stop<'a>>
+    ensures ok { OnOk result (AreUsable inputs.now outputs.now (map (λ t. t.now) texts.now)) }
+    ensures fault { IfErr result (IsUnusable (map (λ t. t.now) texts.now) inputs.now outputs.now) }
+{
+    for text in texts {
+        check_format(*text, inputs, outputs)?;
+    }
+    match named_twice(texts) {
+        Some(channel) => Err(Stop::Format(FormatStop::Twice(channel))),
+        None => Ok(()),
+    }
+}
+
+/// The first channel of which two texts say how its file has tokens.
+fn named_twice<'a>(texts: &[&'a str]) -> Option<&'a str>
+    ensures { option_map (λ t. t.now) result ≡ named_twice (map (λ t. t.now) texts.now) }
+{
+    for k in 0..texts.len() {
+        let channel = channel_in(texts[k]);
+        if format_text(&texts[k + 1..], channel).is_some() {
+            return Some(channel);
+        }
+    }
+    None
+}
+
+/// The channel of a text.
+fn channel_in(text: &str) -> &str
+    ensures { result.now ≡ before_first is_equals text.now }
+{
+    match channel_and_file(text) {
+        Some((channel, _)) => channel,
+        None => text,
+    }
+}
+
+/// Checks one text of the option.
+fn check_format<'a>(
+    text: &'a str,
+    inputs: &[Pair<'a>],
+    outputs: &[Pair<'a>],
+) -> Result<(), Stop<'a>>
+    ensures ok { OnOk result (IsUsable inputs.now outputs.now text.now) }
+    ensures fault { (texts : List (List ℕ)) → Contains texts text.now → IfErr result (IsUnusable texts inputs.now outputs.now) }
+{
+    let Some((channel, said)) = channel_and_file(text) else {
+        return Err(Stop::NoPair {
+            option: "format",
+            text,
+        });
+    };
+    match format_of(said) {
+        Err(fault) => Err(Stop::Format(FormatStop::Unknown(fault))),
+        Ok(_) if is_of_use(inputs, outputs, channel) => Ok(()),
+        Ok(_) => Err(Stop::Format(FormatStop::NoUse(channel))),
+    }
+}
+
+/// Whether what is said of the files of a channel of this name is of use beside these pairs.
+fn is_of_use(inputs: &[Pair<'_>], outputs: &[Pair<'_>], name: &str) -> bool
+    ensures { result ≡ is_of_use inputs.now outputs.now name.now }
+{
+    name == ALL || has_channel(inputs, name) || has_channel(outputs, name)
+}
+
+/// Whether a channel of this name is among pairs.
+fn has_channel(pairs: &[Pair<'_>], name: &str) -> bool
+    ensures { result ≡ has_channel pairs.now name.now }
+{
+    pairs.iter().any(|pair| pair.channel == name)
+}

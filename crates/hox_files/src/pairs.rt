@@ -1,0 +1,277 @@
+//! Arguments that name a channel and a file.
+ghost use Rattle.std.specs.Prelude.{◌≡◌, ◌<◌, ℕ, true, List, [], get_or, length, map, IfOk, IfErr, OnOk, unwrap_or, option_map, nat_lt};
+ghost use Rattle.std.specs.List.{All, AllZip, Contains, filter, flat_map};
+ghost use Rattle.hox_format.specs.Saying.{pieces};
+ghost use Rattle.hox_files.specs.Files.{standard};
+ghost use Rattle.hox_files.specs.Formats.{HasEquals, IsNoFormat};
+ghost use Rattle.hox_files.specs.Pairs.{ArePairs, AreShared, IsPair, IsUnlike, IsUnpaired, IsUnsaid, IsUnshared, count_standard, firsts, in_order, is_alone, is_grouped, is_named_twice, is_single, part_at, parts, parts_from, shared_in};
+
+use crate::formats::{FormatStop, Formats, format_for};
+use crate::stops::Stop;
+use hox_args::channel_and_file;
+use hox_format::{Format, Shared, shared_by};
+use std::alloc::{AllocError, Global};
+
+/// The name of standard input, and of standard output.
+pub const STANDARD: &str = "-";
+
+/// A channel, the name of a file for its tokens, and how the file has them; and which of the channels it is that the
+/// file is given for, counted from 0, and how many these are.
+#[derive(Clone, Copy, Debug)]
+pub struct Pair<'a> {
+    pub channel: &'a str,
+    pub file: &'a str,
+    pub format: Format<'a>,
+    pub place: usize,
+    pub count: usize,
+}
+
+impl Pair<'_> {
+    /// Returns whether the file is given for this channel alone.
+    pub fn is_alone(&self) -> bool
+        ensures { result ≡ is_alone self.now }
+    {
+        self.count == 1
+    }
+}
+
+/// Returns the pairs that the texts of an option say, each as `CHANNEL=FILE`, or `CHANNEL,..=FILE` for several channels
+/// side by side in one file, in order.
+///
+/// Errors: the first text that has no `=`, or of whose file no format can be told; or the first file that is given for
+/// several channels and is for one alone, or has another format for one of them; or memory was refused.
+pub fn pairs_of<'a>(
+    alloc: Global,
+    option: &'a str,
+    texts: &[&'a str],
+    formats: Formats<'a, '_>,
+) -> Result<Vec<Pair<'a>>, Stop<'a>>
+    ensures ok { IfOk result (λ v. ArePairs (map (λ t. t.now) formats.entry.texts.now) (map (λ s. s.now) formats.entry.unsigned.now) (map (λ t. t.now) texts.now) v.items) }
+    ensures fault { IfErr result (IsUnpaired (map (λ t. t.now) formats.entry.texts.now) (map (λ s. s.now) formats.entry.unsigned.now) option.now (map (λ t. t.now) texts.now)) }
+{
+    let pairs = all_pairs(alloc, option, texts, formats)?;
+    match check_shared(pairs.as_slice()) {
+        Ok(()) => Ok(pairs),
+        Err(stop) => Err(Stop::Format(stop)),
+    }
+}
+
+/// The pairs that the texts of an option say, whether or not the files can have them.
+fn all_pairs<'a>(
+    alloc: Global,
+    option: &'a str,
+    texts: &[&'a str],
+    formats: Formats<'a, '_>,
+) -> Result<Vec<Pair<'a>>, Stop<'a>>
+    ensures said { IfOk result (λ _. All HasEquals (map (λ t. t.now) texts.now)) }
+    ensures each { IfOk result (λ v. AllZip (IsPair (map (λ t. t.now) formats.entry.texts.now) (map (λ s. s.now) formats.entry.unsigned.now)) (flat_map parts (map (λ t. t.now) texts.now)) v.items) }
+    ensures fault { IfErr result (IsUnsaid (map (λ t. t.now) formats.entry.texts.now) option.now (map (λ t. t.now) texts.now)) }
+{
+    let mut pairs = Vec::new(alloc);
+    for text in texts {
+        let more = pairs_in(alloc, option, *text, formats)?;
+        if pairs.extend_from_slice(more.as_slice()).is_err() {
+            return Err(Stop::Memory);
+        }
+    }
+    Ok(pairs)
+}
+
+/// The pairs that a text of an option says: one for each of the channels before the first `=`.
+fn pairs_in<'a>(
+    alloc: Global,
+    option: &'a str,
+    text: &'a str,
+    formats: Formats<'a, '_>,
+) -> Result<Vec<Pair<'a>>, Stop<'a>>
+    ensures said { IfOk result (λ _. HasEquals text.now) }
+    ensures each { IfOk result (λ v. AllZip (IsPair (map (λ t. t.now) formats.entry.texts.now) (map (λ s. s.now) formats.entry.unsigned.now)) (parts text.now) v.items) }
+    ensures fault { (texts : List (List ℕ)) → Contains texts text.now → IfErr result (IsUnsaid (map (λ t. t.now) formats.entry.texts.now) option.now texts) }
+{
+    let Some((channels, file)) = channel_and_file(text) else {
+        return Err(Stop::NoPair { option, text });
+    };
+    let Ok(names) = names_in(alloc, channels) else {
+        return Err(Stop::Memory);
+    };
+    pairs_for(alloc, names.as_slice(), file, formats)
+}
+
+/// Names, with commas between them.
+fn names_in<'a>(alloc: Global, text: &'a str) -> Result<Vec<&'a str>, AllocError>
+    ensures { IfOk result (λ v. map (λ s. s.now) v.items ≡ pieces text.now) }
+{
+    text.split(',').collect(alloc)
+}
+
+/// The pairs of channels that stand side by side in a file.
+fn pairs_for<'a>(
+    alloc: Global,
+    names: &[&'a str],
+    file: &'a str,
+    formats: Formats<'a, '_>,
+) -> Result<Vec<Pair<'a>>, Stop<'a>>
+    ensures each { IfOk result (λ v. AllZip (IsPair (map (λ t. t.now) formats.entry.texts.now) (map (λ s. s.now) formats.entry.unsigned.now)) (parts_from file.now (length names.now) 0 (map (λ s. s.now) names.now)) v.items) }
+    ensures fault { (option : List ℕ) (texts : List (List ℕ)) → IfErr result (IsUnsaid (map (λ t. t.now) formats.entry.texts.now) option texts) }
+{
+    let mut pairs = Vec::new(alloc);
+    for place in 0..names.len() {
+        let pair = match pair_at(names, place, file, formats) {
+            Ok(pair) => pair,
+            Err(stop) => return Err(Stop::Format(stop)),
+        };
+        if pairs.push(pair).is_err() {
+            return Err(Stop::Memory);
+        }
+    }
+    Ok(pairs)
+}
+
+/// The pair of the channel at a place among those of a file.
+fn pair_at<'a>(
+    names: &[&'a str],
+    place: usize,
+    file: &'a str,
+    formats: Formats<'a, '_>,
+) -> Result<Pair<'a>, FormatStop<'a>>
+    requires { place < length names.now }
+    ensures ok { IfOk result (IsPair (map (λ t. t.now) formats.entry.texts.now) (map (λ s. s.now) formats.entry.unsigned.now) (part_at file.now (length names.now) place (get_or (map (λ s. s.now) names.now) place []))) }
+    ensures fault { IfErr result (IsNoFormat (map (λ t. t.now) formats.entry.texts.now)) }
+{
+    let channel = names[place];
+    Ok(Pair {
+        channel,
+        file,
+        format: format_for(formats, channel, file)?,
+        place,
+        count: names.len(),
+    })
+}
+
+/// Checks of each file that is given for several channels that it has them all in one way.
+///
+/// Errors: a file is for one channel alone, or has another format for one channel than for the one before it.
+fn check_shared<'a>(pairs: &[Pair<'a>]) -> Result<(), FormatStop<'a>>
+    ensures ok { OnOk result (AreShared pairs.now) }
+    ensures fault { IfErr result (IsUnshared pairs.now) }
+{
+    for k in 0..pairs.len() {
+        let pair = pairs[k];
+        if is_single(&pair) {
+            return Err(FormatStop::Alone { file: pair.file });
+        }
+        if k > 0 && is_unlike(&pairs[k - 1], &pair) {
+            return Err(FormatStop::Unlike {
+                file: pair.file,
+                channel: pair.channel,
+            });
+        }
+    }
+    Ok(())
+}
+
+/// Whether a file is for one channel alone that is given for several.
+fn is_single(pair: &Pair<'_>) -> bool
+    ensures { result ≡ is_single pair.now }
+{
+    !pair.is_alone() && shared_in(pair).is_none()
+}
+
+/// Whether a file has another format for a channel than for the one before it.
+fn is_unlike(last: &Pair<'_>, pair: &Pair<'_>) -> bool
+    ensures { result ≡ true → IsUnlike last.now pair.now }
+{
+    pair.place > 0 && shared_in(pair) != shared_in(last)
+}
+
+/// What the channels have in common for which the file of a pair is given.
+pub fn shared_in(pair: &Pair<'_>) -> Option<Shared>
+    ensures { result ≡ shared_in pair.now }
+{
+    shared_by(&pair.format, pair.count)
+}
+
+/// The first pair of each file.
+pub fn firsts_of<'a>(alloc: Global, pairs: &[Pair<'a>]) -> Result<Vec<Pair<'a>>, AllocError>
+    ensures { IfOk result (λ v. v.items ≡ firsts pairs.now) }
+{
+    let mut firsts = Vec::new(alloc);
+    for pair in pairs {
+        if pair.place == 0 {
+            firsts.push(*pair)?;
+        }
+    }
+    Ok(firsts)
+}
+
+/// Those that have a file alone, and then those that stand side by side in one.
+pub fn in_order<'a>(alloc: Global, pairs: &[Pair<'a>]) -> Result<Vec<Pair<'a>>, AllocError>
+    ensures { IfOk result (λ v. v.items ≡ in_order pairs.now) }
+{
+    let mut ordered = alone_among(alloc, pairs)?;
+    let grouped = grouped_among(alloc, pairs)?;
+    ordered.extend_from_slice(grouped.as_slice())?;
+    Ok(ordered)
+}
+
+/// Those of these pairs that have a file alone.
+fn alone_among<'a>(alloc: Global, pairs: &[Pair<'a>]) -> Result<Vec<Pair<'a>>, AllocError>
+    ensures { IfOk result (λ v. v.items ≡ filter is_alone pairs.now) }
+{
+    let mut alone = Vec::new(alloc);
+    for pair in pairs {
+        if pair.is_alone() {
+            alone.push(*pair)?;
+        }
+    }
+    Ok(alone)
+}
+
+/// Those of these pairs that stand side by side in a file.
+fn grouped_among<'a>(alloc: Global, pairs: &[Pair<'a>]) -> Result<Vec<Pair<'a>>, AllocError>
+    ensures { IfOk result (λ v. v.items ≡ filter is_grouped pairs.now) }
+{
+    let mut grouped = Vec::new(alloc);
+    for pair in pairs {
+        if !pair.is_alone() {
+            grouped.push(*pair)?;
+        }
+    }
+    Ok(grouped)
+}
+
+/// The name of a file, or of standard input if there is none.
+pub fn name_of<'a>(file: Option<&'a str>) -> &'a str
+    ensures { result.now ≡ unwrap_or (option_map (λ s. s.now) file.entry) standard }
+{
+    file.unwrap_or(STANDARD)
+}
+
+/// Returns how many pairs name standard input, or standard output.
+pub fn count_standard(pairs: &[Pair<'_>]) -> usize
+    ensures { result ≡ count_standard pairs.now }
+{
+    pairs.iter().filter(|pair| pair.file == STANDARD).count()
+}
+
+/// Whether pairs name standard output.
+pub fn is_output_named(pairs: &[Pair<'_>]) -> bool
+    ensures { result ≡ nat_lt 0 (count_standard pairs.now) }
+{
+    count_standard(pairs) > 0
+}
+
+/// Whether pairs name standard output more than once.
+pub fn is_written_twice(pairs: &[Pair<'_>]) -> bool
+    ensures { result ≡ nat_lt 1 (count_standard pairs.now) }
+{
+    count_standard(pairs) > 1
+}
+
+/// Returns whether standard input is named more than once, by the file of the description and by pairs.
+pub fn is_named_twice(file: &str, pairs: &[Pair<'_>]) -> bool
+    ensures { result ≡ is_named_twice file.now pairs.now }
+{
+    let most = if file == STANDARD { 0 } else { 1 };
+    count_standard(pairs) > most
+}

@@ -1,0 +1,332 @@
+//! What is asked for, with the files of tokens.
+ghost use Rattle.std.specs.Prelude.{◌≡◌, ◌<◌, IfOk, IfErr, IfSome, false, map, length, get_or};
+ghost use Rattle.std.specs.List.{AllZip};
+ghost use Rattle.hox_files.specs.Pairs.{channels_of};
+ghost use Rattle.hox_files.specs.declared.pairs.Pair.{Pair as PairV};
+ghost use Rattle.hox_format.specs.Bodies.{body_bytes};
+ghost use Rattle.hox_files.specs.Requests.{AsksRest, IsAsked, IsErrorIn, IsFileOf, IsNoFileOf, IsRead, IsReadError, IsRequest, IsUnasked, IsUnfetched, is_told, shown_as, want_of, written_as};
+
+use crate::files::FileSystem;
+use crate::formats::{FormatStop, Formats, check_formats, is_named};
+use crate::pairs::{Pair, count_standard, firsts_of, is_named_twice, pairs_of};
+use crate::stops::Stop;
+use crate::uses::{Role, check_uses};
+use crate::watching::Watched;
+use hox_format::{Body, body_in, body_of, layout_of};
+use hox_network::{ReadFault, Request, StreamAs, TokenFile, read_whole};
+use kpn_front::Source;
+use kpn_model::{Listed, Text};
+use kpn_tokens::{Decimals, Layout};
+use std::alloc::{AllocError, Global};
+use std::io;
+
+/// What a command wants of the network of a description: the name of the description's file, how many workers, which
+/// budget in place of the description's, the streams of which channels in the report, how files have tokens, with the
+/// words of which channels unsigned, and that nothing is told but what goes through channels.
+#[derive(Clone, Copy, Debug)]
+pub struct Wanted<'a, 'b> {
+    pub file: &'a str,
+    pub workers: usize,
+    pub budget: Option<u64>,
+    pub show: &'b [&'a str],
+    pub formats: &'b [&'a str],
+    pub unsigned: &'b [&'a str],
+    pub is_quiet: bool,
+}
+
+/// Why a file could not be read: for this reason of the system's; or it has more than 64 MiB; or memory was refused.
+#[derive(Clone, Copy, Debug)]
+pub enum ReadError {
+    Failed(io::Error),
+    TooLong,
+    Memory,
+}
+
+/// What is asked of a network, with the tokens of files that were read; and the files of its first tokens, and of
+/// its streams, each beside its channel.
+#[derive(Drop)]
+pub struct Asked<'a> {
+    pub tokens: Vec<Pair<'a>>,
+    pub outputs: Vec<Pair<'a>>,
+    pub request: Request,
+}
+
+/// Reads what is asked for, with the files of tokens.
+///
+/// Errors: a text that names no channel and file, or no format; a format that is of no use; standard input that is
+/// named twice; two uses of files that can't stand beside each other; the first file that can't be read, or of which
+/// what stands before its tokens is refused; or memory was refused.
+pub fn asked_of<'a, S: FileSystem>(
+    alloc: Global,
+    files: &S,
+    wanted: Wanted<'a, '_>,
+    tokens: &[&'a str],
+    outputs: &[&'a str],
+) -> Result<Asked<'a>, Stop<'a>>
+    ensures ok { IfOk result (IsAsked (S.contents files.now) (S.clash files.now) (want_of wanted.entry) (map (λ t. t.now) tokens.now) (map (λ t. t.now) outputs.now)) }
+    ensures fault { IfErr result (IsUnasked (S.contents files.now) (S.clash files.now) (want_of wanted.entry) (map (λ t. t.now) tokens.now) (map (λ t. t.now) outputs.now)) }
+{
+    let formats = Formats {
+        texts: wanted.formats,
+        unsigned: wanted.unsigned,
+    };
+    let tokens = pairs_of(alloc, "tokens", tokens, formats)?;
+    let outputs = pairs_of(alloc, "out", outputs, formats)?;
+    check_formats(wanted.formats, tokens.as_slice(), outputs.as_slice())?;
+    if is_named_twice(wanted.file, tokens.as_slice()) {
+        return Err(Stop::InputTwice);
+    }
+    let is_told = is_told(wanted.is_quiet, outputs.as_slice());
+    let Ok(firsts) = firsts_of(alloc, outputs.as_slice()) else {
+        return Err(Stop::Memory);
+    };
+    let (read, written) = (tokens.as_slice(), firsts.as_slice());
+    let file = wanted.file;
+    match check_uses(alloc, files, Role::Tokens, file, read, written, is_told) {
+        Ok(()) => {}
+        Err(stop) => return Err(stop),
+    }
+    let request = request_of(alloc, files, wanted, tokens.as_slice(), outputs.as_slice())?;
+    Ok(Asked {
+        tokens,
+        outputs,
+        request,
+    })
+}
+
+/// Whether something is told on standard output: unless nothing is to be told, or a stream goes there.
+fn is_told(is_quiet: bool, outputs: &[Pair<'_>]) -> bool
+    ensures { result ≡ is_told is_quiet outputs.now }
+{
+    !is_quiet && count_standard(outputs) == 0
+}
+
+/// What is asked for, with the tokens of these files.
+fn request_of<'a, S: FileSystem>(
+    alloc: Global,
+    files: &S,
+    wanted: Wanted<'a, '_>,
+    tokens: &[Pair<'a>],
+    outputs: &[Pair<'a>],
+) -> Result<Request, Stop<'a>>
+    ensures ok { IfOk result (IsRequest (S.contents files.now) (want_of wanted.entry) tokens.now outputs.now) }
+    ensures fault { IfErr result (IsUnfetched (S.contents files.now) tokens.now) }
+{
+    let files = token_files(alloc, files, tokens)?;
+    match request_with(alloc, wanted, files, outputs) {
+        Ok(request) => Ok(request),
+        Err(_) => Err(Stop::Memory),
+    }
+}
+
+/// What is asked for, with the tokens of files that were read.
+fn request_with(
+    alloc: Global,
+    wanted: Wanted<'_, '_>,
+    files: Vec<TokenFile>,
+    outputs: &[Pair<'_>],
+) -> Result<Request, AllocError>
+    ensures tokens { IfOk result (λ request. request.tokens ≡ files.items) }
+    ensures rest { IfOk result (AsksRest (want_of wanted.entry) outputs.now) }
+{
+    let written = written_by(alloc, outputs)?;
+    let show = shown_by(alloc, wanted.unsigned, wanted.show)?;
+    Ok(Request {
+        workers: wanted.workers,
+        budget: wanted.budget,
+        tokens: Listed::new(files),
+        show: Listed::new(show),
+        outputs: Listed::new(written),
+    })
+}
+
+/// The channels to show, with how the words of each are written.
+fn shown_by(
+    alloc: Global,
+    unsigned: &[&str],
+    show: &[&str],
+) -> Result<Vec<StreamAs<Decimals>>, AllocError>
+    ensures { IfOk result (λ v. v.items ≡ map (shown_as (map (λ s. s.now) unsigned.now)) (map (λ s. s.now) show.now)) }
+{
+    let mut shown = Vec::new(alloc);
+    for name in show {
+        shown.push(shown_as(alloc, unsigned, *name)?)?;
+    }
+    Ok(shown)
+}
+
+/// The channels of pairs, with how the file of each has tokens.
+fn written_by(alloc: Global, pairs: &[Pair<'_>]) -> Result<Vec<StreamAs<Layout>>, AllocError>
+    ensures { IfOk result (λ v. v.items ≡ map written_as pairs.now) }
+{
+    let mut written = Vec::new(alloc);
+    for pair in pairs {
+        written.push(written_as(alloc, pair)?)?;
+    }
+    Ok(written)
+}
+
+/// The channel of a pair, with how its file has tokens.
+fn written_as(alloc: Global, pair: &Pair<'_>) -> Result<StreamAs<Layout>, AllocError>
+    ensures { IfOk result (λ stream. stream ≡ written_as pair.now) }
+{
+    Ok(StreamAs {
+        channel: text_of(alloc, pair.channel)?,
+        written: layout_of(&pair.format),
+    })
+}
+
+/// A channel to show, with how its words are written: with signs, unless it or all channels are named here.
+fn shown_as(
+    alloc: Global,
+    unsigned: &[&str],
+    channel: &str,
+) -> Result<StreamAs<Decimals>, AllocError>
+    ensures { IfOk result (λ stream. stream ≡ shown_as (map (λ s. s.now) unsigned.now) channel.now) }
+{
+    Ok(StreamAs {
+        channel: text_of(alloc, channel)?,
+        written: Decimals {
+            digits: 0,
+            is_unsigned: is_named(unsigned, channel),
+        },
+    })
+}
+
+/// The names of the channels of pairs.
+pub fn names_of(alloc: Global, pairs: &[Pair<'_>]) -> Result<Vec<Text>, AllocError>
+    ensures { IfOk result (λ v. v.items ≡ channels_of pairs.now) }
+{
+    let mut names = Vec::new(alloc);
+    for pair in pairs {
+        names.push(text_of(alloc, pair.channel)?)?;
+    }
+    Ok(names)
+}
+
+/// The files of tokens, which are read.
+fn token_files<'a, S: FileSystem>(
+    alloc: Global,
+    files: &S,
+    pairs: &[Pair<'a>],
+) -> Result<Vec<TokenFile>, Stop<'a>>
+    ensures ok { IfOk result (λ v. AllZip (IsRead (S.contents files.now)) pairs.now v.items) }
+    ensures fault { IfErr result (IsUnfetched (S.contents files.now) pairs.now) }
+{
+    let mut read = Vec::new(alloc);
+    for k in 0..pairs.len() {
+        let file = token_file(alloc, files, pairs, k)?;
+        if read.push(file).is_err() {
+            return Err(Stop::Memory);
+        }
+    }
+    Ok(read)
+}
+
+/// The file of tokens of the pair at place `k`, which is read.
+fn token_file<'a, S: FileSystem>(
+    alloc: Global,
+    files: &S,
+    pairs: &[Pair<'a>],
+    k: usize,
+) -> Result<TokenFile, Stop<'a>>
+    requires { k < length pairs.now }
+    ensures ok { IfOk result (λ file. (p : PairV) × (p ≡ get_or pairs.now k p) × IsRead (S.contents files.now) p file) }
+    ensures fault { IfErr result (IsUnfetched (S.contents files.now) pairs.now) }
+{
+    let pair = pairs[k];
+    match read_file(alloc, files, pair.file) {
+        Ok(bytes) => file_of(alloc, pair, bytes),
+        Err(ReadError::Memory) => Err(Stop::Memory),
+        Err(error) => Err(Stop::Unread {
+            file: pair.file,
+            error,
+        }),
+    }
+}
+
+/// The file of tokens of a pair, which has these bytes.
+fn file_of<'a>(alloc: Global, pair: Pair<'a>, bytes: Vec<u8>) -> Result<TokenFile, Stop<'a>>
+    ensures ok { IfOk result (IsFileOf pair.entry bytes.items) }
+    ensures fault { IfErr result (IsNoFileOf pair.entry bytes.items) }
+{
+    let (place, count) = (pair.place, pair.count);
+    let body = match body_in(alloc, &pair.format, place, count, bytes.as_slice(), true) {
+        Ok(Ok(Some(body))) => body,
+        Ok(Ok(None)) => unreachable!(),
+        Ok(Err(fault)) => {
+            return Err(Stop::Format(FormatStop::Head {
+                file: pair.file,
+                fault,
+            }));
+        }
+        Err(_) => return Err(Stop::Memory),
+    };
+    match file_with(alloc, pair.channel, &body, bytes) {
+        Ok(file) => Ok(file),
+        Err(_) => Err(Stop::Memory),
+    }
+}
+
+/// A file of tokens for a channel, with the body of these bytes.
+fn file_with(
+    alloc: Global,
+    channel: &str,
+    body: &Body,
+    bytes: Vec<u8>,
+) -> Result<TokenFile, AllocError>
+    ensures { IfOk result (λ file. file ≡ record { channel = channel.now; layout = body.now.layout; bytes = body_bytes body.now bytes.items; rate = body.now.rate }) }
+{
+    Ok(TokenFile {
+        channel: text_of(alloc, channel)?,
+        layout: body.layout,
+        bytes: Listed::new(body_alone(alloc, body, bytes)?),
+        rate: body.rate,
+    })
+}
+
+/// The bytes of a body alone: those of the file themselves, if it is the whole file.
+fn body_alone(alloc: Global, body: &Body, bytes: Vec<u8>) -> Result<Vec<u8>, AllocError>
+    ensures { IfOk result (λ alone. alone.items ≡ body_bytes body.now bytes.items) }
+{
+    if body.start == 0 && body.size.is_none() {
+        return Ok(bytes);
+    }
+    Vec::from_slice(alloc, body_of(bytes.as_slice(), body))
+}
+
+/// The bytes of a file.
+pub fn read_file<S: FileSystem>(
+    alloc: Global,
+    files: &S,
+    name: &str,
+) -> Result<Vec<u8>, ReadError>
+    ensures ok { IfOk result (λ v. IfSome (S.contents files.now name.now) (λ bytes. v.items ≡ bytes)) }
+    ensures fault { IfErr result (IsReadError (S.contents files.now) name.now) }
+{
+    match files.open(name) {
+        Ok(input) => read_input(alloc, input),
+        Err(error) => Err(ReadError::Failed(error)),
+    }
+}
+
+/// The bytes of a file that was opened.
+fn read_input<I: Source + Drop>(alloc: Global, input: I) -> Result<Vec<u8>, ReadError>
+    ensures ok { IfOk result (λ v. IfSome (I.remaining input) (λ bytes. v.items ≡ bytes)) }
+    ensures fault { IfErr result (IsErrorIn (I.remaining input)) }
+{
+    let mut input = Watched::new(input);
+    match read_whole(alloc, &mut input) {
+        Ok(bytes) => Ok(bytes),
+        Err(ReadFault::Failed) => Err(ReadError::Failed(input.reason())),
+        Err(ReadFault::TooLong) => Err(ReadError::TooLong),
+        Err(ReadFault::Memory) => Err(ReadError::Memory),
+    }
+}
+
+/// A text of one's own.
+fn text_of(alloc: Global, text: &str) -> Result<Text, AllocError>
+    ensures { IfOk result (λ own. own ≡ text.now) }
+{
+    Ok(Text::new(String::from_str(alloc, text)?))
+}

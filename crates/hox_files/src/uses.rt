@@ -1,0 +1,188 @@
+//! What files are used for, and which uses can't stand beside each other.
+ghost use Rattle.std.specs.Prelude.{◌≡◌, ◌++◌, true, false, map, IfErr, IfOk, IfSome, None, OnOk};
+ghost use Rattle.std.specs.List.{All, Contains};
+ghost use Rattle.hox_files.specs.Uses.{AreApart, Clashes, IsClash, IsMisuse, StandApart, gives_tokens, gives_twice, is_written, used, used_for, uses_in, writes_output, writes_output_twice};
+
+use crate::files::FileSystem;
+use crate::pairs::{Pair, STANDARD};
+use crate::stops::Stop;
+use std::alloc::{AllocError, Global};
+
+/// What a file is used for.
+#[derive(Clone, Copy, Debug, PartialEq, Eq)]
+pub enum Role {
+    /// The description is read from it.
+    Description,
+    /// The first tokens of a channel are read from it: `--tokens`.
+    Tokens,
+    /// Tokens are read from it as they come: `--in`.
+    In,
+    /// What goes through a channel is written to it: `--out`.
+    Out,
+    /// What is told is written to it.
+    Report,
+}
+
+impl Role {
+    /// Returns whether the file is written; else it is read.
+    pub fn is_written(self) -> bool
+        ensures { result ≡ is_written self }
+    {
+        match self {
+            Role::Description | Role::Tokens | Role::In => false,
+            Role::Out | Role::Report => true,
+        }
+    }
+
+    /// Returns whether the tokens of a channel are read from the file.
+    pub fn gives_tokens(self) -> bool
+        ensures { result ≡ gives_tokens self }
+    {
+        match self {
+            Role::Tokens | Role::In => true,
+            Role::Description | Role::Out | Role::Report => false,
+        }
+    }
+}
+
+/// A use of the file of this name. The channel is empty where it is used for none.
+#[derive(Clone, Copy, Debug)]
+pub struct Use<'a> {
+    pub role: Role,
+    pub channel: &'a str,
+    pub file: &'a str,
+}
+
+/// Checks that files can be used so: the description is read from this one, and the tokens of channels from those of
+/// the inputs, in this role; what goes through channels is written to those of the outputs, and what is told to
+/// standard output, if it goes there.
+///
+/// Errors: two uses that can't stand beside each other; or memory was refused.
+pub fn check_uses<'a, S: FileSystem>(
+    alloc: Global,
+    files: &S,
+    role: Role,
+    file: &'a str,
+    inputs: &[Pair<'a>],
+    outputs: &[Pair<'a>],
+    is_told: bool,
+) -> Result<(), Stop<'a>>
+    ensures ok { OnOk result (AreApart (S.clash files.now) (uses_in role file.now inputs.now outputs.now is_told)) }
+    ensures fault { IfErr result (IsMisuse (S.clash files.now) (uses_in role file.now inputs.now outputs.now is_told)) }
+{
+    let Ok(uses) = uses_of(alloc, role, file, inputs, outputs, is_told) else {
+        return Err(Stop::Memory);
+    };
+    match clash_among(files, uses.as_slice()) {
+        Some((one, other)) => Err(Stop::Clash { one, other }),
+        None => Ok(()),
+    }
+}
+
+/// The uses of files.
+fn uses_of<'a>(
+    alloc: Global,
+    role: Role,
+    file: &'a str,
+    inputs: &[Pair<'a>],
+    outputs: &[Pair<'a>],
+    is_told: bool,
+) -> Result<Vec<Use<'a>>, AllocError>
+    ensures { IfOk result (λ v. map used v.items ≡ uses_in role file.now inputs.now outputs.now is_told) }
+{
+    let mut uses = Vec::new(alloc);
+    uses.push(Use {
+        role: Role::Description,
+        channel: "",
+        file,
+    })?;
+    push_uses(&mut uses, role, inputs)?;
+    push_uses(&mut uses, Role::Out, outputs)?;
+    if is_told {
+        uses.push(Use {
+            role: Role::Report,
+            channel: "",
+            file: STANDARD,
+        })?;
+    }
+    Ok(uses)
+}
+
+/// Appends the uses of the files of pairs.
+fn push_uses<'a>(uses: &mut Vec<Use<'a>>, role: Role, pairs: &[Pair<'a>]) -> Result<(), AllocError>
+    ensures { OnOk result (map used uses.new.items ≡ map used uses.old.items ++ map (used_for role) pairs.now) }
+{
+    for pair in pairs {
+        let Pair { channel, file, .. } = *pair;
+        uses.push(Use {
+            role,
+            channel,
+            file,
+        })?;
+    }
+    Ok(())
+}
+
+/// Two of these uses that can't stand beside each other, if there are any.
+fn clash_among<'a, S: FileSystem>(files: &S, uses: &[Use<'a>]) -> Option<(Use<'a>, Use<'a>)>
+    ensures apart { result ≡ None → AreApart (S.clash files.now) (map used uses.now) }
+    ensures clash { IfSome result (λ c. IsClash (S.clash files.now) (map used uses.now) (used c.0) (used c.1)) }
+{
+    for k in 0..uses.len() {
+        let one = uses[k];
+        match clash_with(files, one, &uses[k + 1..]) {
+            Some(other) => return Some((one, other)),
+            None => {}
+        }
+    }
+    None
+}
+
+/// The first of these other uses that can't stand beside this one.
+fn clash_with<'a, S: FileSystem>(files: &S, one: Use<'a>, others: &[Use<'a>]) -> Option<Use<'a>>
+    ensures apart { result ≡ None → All (λ other. StandApart (S.clash files.now) (used one.entry) (used other)) others.now }
+    ensures clash { IfSome result (λ other. Contains others.now other × Clashes (S.clash files.now) (used one.entry) (used other)) }
+{
+    for other in others {
+        if do_clash(files, one, *other) {
+            return Some(*other);
+        }
+    }
+    None
+}
+
+/// Whether two uses can't stand beside each other.
+fn do_clash<S: FileSystem>(files: &S, one: Use<'_>, other: Use<'_>) -> bool
+    ensures apart { result ≡ false → StandApart (S.clash files.now) (used one.entry) (used other.entry) }
+    ensures clash { result ≡ true → Clashes (S.clash files.now) (used one.entry) (used other.entry) }
+{
+    is_given_twice(one, other)
+        || is_output_twice(one, other)
+        || files.clashes(
+            one.file,
+            one.role.is_written(),
+            other.file,
+            other.role.is_written(),
+        )
+}
+
+/// Whether the tokens of one channel are read from two files.
+fn is_given_twice(one: Use<'_>, other: Use<'_>) -> bool
+    ensures { result ≡ gives_twice (used one.entry) (used other.entry) }
+{
+    one.role.gives_tokens() && other.role.gives_tokens() && one.channel == other.channel
+}
+
+/// Whether both are written to standard output.
+fn is_output_twice(one: Use<'_>, other: Use<'_>) -> bool
+    ensures { result ≡ writes_output_twice (used one.entry) (used other.entry) }
+{
+    is_output(one) && is_output(other)
+}
+
+/// Whether standard output is written.
+fn is_output(one: Use<'_>) -> bool
+    ensures { result ≡ writes_output (used one.entry) }
+{
+    one.role.is_written() && one.file == STANDARD
+}
