@@ -9,7 +9,6 @@ use crate::pause::Pause;
 use crate::stretch::stretch;
 use kpn_body::Body;
 use kpn_commit::Core;
-use kpn_machine::again::Again;
 use kpn_network::Net;
 use kpn_state::Unkept;
 
@@ -51,7 +50,7 @@ pub(crate) fn go_on<B: Body>(
 {
     let mut done = 0;
     let mut grown = 0;
-    let mut again = Again::none();
+    let mut again = None;
     while most - done >= 2 {
         let pause = stretch(
             net,

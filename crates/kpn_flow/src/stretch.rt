@@ -13,7 +13,6 @@ use crate::waits::{any_holds_up, any_starves};
 use kpn_body::Body;
 use kpn_commit::Core;
 use kpn_commit::resolution::{Resolution, resolve};
-use kpn_machine::again::Again;
 use kpn_machine::asking::ask_ready;
 use kpn_model::Kinds;
 use kpn_network::Net;
@@ -82,7 +81,7 @@ pub(crate) fn stretch<B: Body>(
     bodies: &[Option<B>],
     inputs: &[usize],
     outputs: &[usize],
-    again: &mut Again,
+    again: &mut Option<usize>,
     until: usize,
 ) -> Option<Pause>
     requires settled { IsSettled (family B.Kinds.Kinds) B.Kinds.admits net.now core.old }
@@ -105,6 +104,6 @@ pub(crate) fn stretch<B: Body>(
     if asked > 0 {
         return None;
     }
-    *again = Again::none();
+    *again = None;
     rest(net, core, inputs, outputs)
 }

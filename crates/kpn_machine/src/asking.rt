@@ -11,7 +11,6 @@ ghost use Rattle.kpn_machine.specs.MachineView.{HasBodies};
 ghost use Rattle.kpn_state.specs.declared.standing.Standing.TheVariants.{Ready};
 ghost use Rattle.kpn_state.specs.Standings.{standing};
 
-use crate::again::Again;
 use kpn_body::Body;
 use kpn_commit::Core;
 use kpn_commit::react::react_ready;
@@ -29,7 +28,7 @@ pub fn ask_ready<B: Body, H: Keeper>(
     net: &Net<B::Kinds>,
     core: &mut Core<H>,
     bodies: &[Option<B>],
-    again: &mut Again,
+    again: &mut Option<usize>,
     most: u64,
     until: usize,
 ) -> u64
@@ -49,14 +48,17 @@ pub fn ask_ready<B: Body, H: Keeper>(
         if core.store.entries() >= until {
             return most - left;
         }
-        let Some(process) = core.standings.turn(again.process()) else {
+        let Some(process) = core.standings.turn(*again) else {
             return most - left;
         };
         let Question { body, local, last } = question_to(net, &core.store, bodies, process);
-        let has_read = last.is_some();
-        let answer = body.answer(*local, *last);
+        let answer = body.answer(local, last);
         let is_ready = react_ready(net, core, process, answer);
-        *again = Again::of(process, is_ready && goes_on_after(answer.act, has_read));
+        *again = if is_ready && goes_on_after(answer.act, last) {
+            Some(process)
+        } else {
+            None
+        };
         left -= 1;
     }
     most
@@ -65,15 +67,15 @@ pub fn ask_ready<B: Body, H: Keeper>(
 /// What a process is asked: its body, with its local state and last token.
 struct Question<'a, B: Body> {
     body: &'a B,
-    local: &'a Local,
-    last: &'a Option<Token>,
+    local: Local,
+    last: Option<Token>,
 }
 
 /// What a live process is asked.
 #[inline(always)]
 fn question_to<'a, B: Body, H: Keeper>(
     net: &Net<B::Kinds>,
-    store: &'a Store<H>,
+    store: &Store<H>,
     bodies: &'a [Option<B>],
     process: usize,
 ) -> Question<'a, B>
@@ -82,7 +84,7 @@ fn question_to<'a, B: Body, H: Keeper>(
     requires within { process < length store.now.state.processes }
     requires live { status store.now.state process ≢ Done }
     ensures card { B.card result.body.now ≡ card_of net.now process }
-    ensures status { status store.now.state process ≡ Live result.local.now result.last.now }
+    ensures status { status store.now.state process ≡ Live result.local result.last }
 {
     let Status::Live { local, last } = store.status(process) else {
         unreachable!()
@@ -90,16 +92,20 @@ fn question_to<'a, B: Body, H: Keeper>(
     let Some(body) = &bodies[process] else {
         unreachable!()
     };
-    Question { body, local, last }
+    Question {
+        body,
+        local: *local,
+        last: *last,
+    }
 }
 
-/// Whether a process that has done this act is likely to do its next one at once, where `has_read` says whether its act
-/// just before was a read: one that has read writes then, or reads at its next port, while one that has written waits for
-/// its reader, and one that reads port 0 twice for its writer.
+/// Whether a process that has done this act is likely to do its next one at once, where `last` is the token that it read just
+/// before, if it did: one that has read writes then, or reads at its next port, while one that has written waits for its
+/// reader, and one that reads port 0 twice for its writer.
 #[inline(always)]
-fn goes_on_after(act: Act, has_read: bool) -> bool {
+fn goes_on_after(act: Act, last: Option<Token>) -> bool {
     match act {
-        Act::Read(port) => !has_read || port > 0,
+        Act::Read(port) => last.is_none() || port > 0,
         Act::Write(..) | Act::Stop => false,
     }
 }

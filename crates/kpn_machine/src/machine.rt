@@ -17,7 +17,6 @@ ghost use Rattle.kpn_machine.specs.Commits.{Commits, CommitsOn, Appends, EndsAs,
 ghost use Rattle.kpn_laws.specs.RoomOfRun.{TakesLeastRoom};
 ghost use Rattle.kpn_laws.specs.StreamsOfRun.{ApproachLeastSolution};
 
-use crate::again::Again;
 use crate::asking::ask_ready;
 use crate::chronicle::Chronicle;
 use crate::equality::{same_card, same_last, same_local};
@@ -44,8 +43,8 @@ pub struct Machine<B: Body, H: Keeper = Wide> {
     spare: Vec<B>,
     end: Option<End>,
     commits: u64,
-    /// The process that `ask_in_place` would have asked next.
-    again: Again,
+    /// The process that `ask_in_place` would have asked next, since it has just read.
+    again: Option<usize>,
 }
 
 // Written out, so that letting go of a machine is a call, which is proved once, and not done field by field wherever
@@ -168,7 +167,7 @@ impl<B: Body, H: Keeper> Machine<B, H> {
             spare: bodies,
             end: None,
             commits: 0,
-            again: Again::none(),
+            again: None,
         })
     }
 
@@ -589,16 +588,10 @@ impl<B: Body, H: Keeper> Machine<B, H> {
     }
 
     // Returns the process that was to be asked again when bodies were last asked in place, if it is ready.
-    fn asked_last(&self) -> Again
+    fn asked_last(&self) -> Option<usize>
         ensures { IfSome result (λ p. standing self.now.standings p ≡ Ready) }
     {
-        let Some(last) = self.again.process() else {
-            return Again::none();
-        };
-        match self.core.standings.if_ready(last) {
-            Some(ready) => Again::of(ready, true),
-            None => Again::none(),
-        }
+        self.core.standings.if_ready(self.again?)
     }
 
     // Whether more answers are to be taken: fewer than `most` were, and the run has not ended.

@@ -200,12 +200,13 @@ impl<H: Keeper> Store<H> {
         requires room { length self.old.history < self.old.limit }
         ensures { self.new ≡ more self.old (with_channel (with_status self.old.state process (Live next None)) channel (tokens self.old.state channel ++ token ∷ []) (capacity self.old.state channel)) (Did process (Put channel token)) }
     {
-        let ring = &mut self.rings[channel];
-        ring.put(token);
+        // The status first: its words are then out of the way while the token is put.
         self.statuses[process] = Status::Live {
             local: next,
             last: None,
         };
+        let ring = &mut self.rings[channel];
+        ring.put(token);
         self.note(process, Deed::Put { channel, token });
     }
 
