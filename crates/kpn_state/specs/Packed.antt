@@ -6,7 +6,7 @@ use Rattle.kpn_model.specs.declared.history.Entry.{Entry}
 use Rattle.kpn_model.specs.declared.history.Entry.TheVariants.{Did, Grew}
 use Rattle.kpn_model.specs.declared.history.Deed.TheVariants.{Took, Put, Stopped}
 use Rattle.kpn_state.specs.declared.packed.Form.{Form}
-use Rattle.kpn_state.specs.declared.packed.Form.TheVariants.{TookWord, TookFlag, PutWord, PutFlag, Stopped as DidStop, Grew as DidGrow}
+use Rattle.kpn_state.specs.declared.packed.Form.TheVariants.{Took as DidTake, Put as DidPut, Stopped as DidStop, Grew as DidGrow}
 use Rattle.kpn_state.specs.declared.packed.PackedEntry.{PackedEntry}
 
 -- the numbers of its process and of its channel fit 16 bits
@@ -26,20 +26,23 @@ abbrev pub word_of : Token → ℕ
 word_of (Word w) = w
 word_of (Flag b) = word_of_flag b
 
--- one form for words, and another for flags
-abbrev pub form_of : Token → Form → Form → Form
-form_of (Word w) for_words for_flags = for_words
-form_of (Flag b) for_words for_flags = for_flags
+-- whether a token is a flag
+abbrev pub is_flag : Token → Bool
+is_flag (Word w) = false
+is_flag (Flag b) = true
 
--- what this form tells, with these numbers
-abbrev pub told_as : Form → ℕ → ℕ → ℕ → Entry
-told_as TookWord p c w = Did p (Took c (Word w))
-told_as TookFlag p c w = Did p (Took c (Flag (w == 1)))
-told_as PutWord p c w = Did p (Put c (Word w))
-told_as PutFlag p c w = Did p (Put c (Flag (w == 1)))
-told_as DidStop p c w = Did p Stopped
-told_as DidGrow p c w = Grew c w
+-- the token with this word, which is a flag or not
+abbrev pub token_of : Bool → ℕ → Token
+token_of false w = Word w
+token_of true w = Flag (w == 1)
+
+-- what this form tells, with these numbers and this token
+abbrev pub told_as : Form → ℕ → ℕ → ℕ → Token → Entry
+told_as DidTake p c w token = Did p (Took c token)
+told_as DidPut p c w token = Did p (Put c token)
+told_as DidStop p c w token = Did p Stopped
+told_as DidGrow p c w token = Grew c w
 
 -- the entry that was packed
 abbrev pub unpacked : PackedEntry → Entry
-unpacked e = told_as e.form e.process e.channel e.word
+unpacked e = told_as e.form e.process e.channel e.word (token_of e.is_flag e.word)

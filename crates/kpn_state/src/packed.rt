@@ -2,31 +2,31 @@
 ghost use Rattle.std.specs.Prelude.{◌≡◌, ◌<◌, map};
 ghost use Rattle.std.specs.Vec.{vec_capacity};
 ghost use Rattle.kpn_model.specs.declared.history.Entry.TheVariants.{Did};
-ghost use Rattle.kpn_state.specs.Packed.{IsSmall, unpacked, form_of, word_of};
+ghost use Rattle.kpn_state.specs.Packed.{IsSmall, is_flag, token_of, unpacked, word_of};
 
 use crate::keeper::{Keeper, Recall};
 use kpn_model::{Deed, Entry, Token};
 use std::alloc::{AllocError, Global};
 
-/// What an entry tells, without its numbers.
+/// What an entry tells, without its numbers and its token.
 #[derive(Clone, Copy, Debug, PartialEq, Eq)]
 pub enum Form {
-    TookWord,
-    TookFlag,
-    PutWord,
-    PutFlag,
+    Took,
+    Put,
     Stopped,
     Grew,
 }
 
 /// An entry in 16 bytes: its token's word, its flag as 0 or 1, or the new capacity; the numbers of its process and
-/// of its channel; and what it tells. A number that an entry doesn't have is 0.
+/// of its channel; what it tells; and whether its token is a flag. A number that an entry doesn't have is 0. None of its
+/// bytes is padding, which would be written too.
 #[derive(Clone, Copy, Debug, PartialEq, Eq)]
 pub struct PackedEntry {
     pub word: u64,
-    pub process: u16,
+    pub process: u32,
     pub channel: u16,
     pub form: Form,
+    pub is_flag: bool,
 }
 
 /// The word of a token: for a flag, 1 if it is true and else 0.
@@ -40,14 +40,26 @@ fn word_of(token: Token) -> u64
     }
 }
 
-/// One form for words, and another for flags.
+/// Whether a token is a flag.
 #[inline(always)]
-fn form_of(token: Token, for_words: Form, for_flags: Form) -> Form
-    ensures { result ≡ form_of token for_words for_flags }
+fn is_flag(token: Token) -> bool
+    ensures { result ≡ is_flag token }
 {
     match token {
-        Token::Word(_) => for_words,
-        Token::Flag(_) => for_flags,
+        Token::Word(_) => false,
+        Token::Flag(_) => true,
+    }
+}
+
+/// The token with this word, which is a flag or not.
+#[inline(always)]
+fn token_of(is_flag: bool, word: u64) -> Token
+    ensures { result ≡ token_of is_flag word }
+{
+    if is_flag {
+        Token::Flag(word == 1)
+    } else {
+        Token::Word(word)
     }
 }
 
@@ -59,39 +71,44 @@ impl PackedEntry {
         ensures { unpacked result ≡ entry }
     {
         match entry {
-            Entry::Did { process, deed } => PackedEntry::of_deed(process as u16, deed),
+            Entry::Did { process, deed } => PackedEntry::of_deed(process as u32, deed),
             Entry::Grew { channel, to } => PackedEntry {
                 word: to as u64,
                 process: 0,
                 channel: channel as u16,
                 form: Form::Grew,
+                is_flag: false,
             },
         }
     }
 
     #[inline(always)]
-    fn of_deed(process: u16, deed: Deed) -> PackedEntry
+    fn of_deed(process: u32, deed: Deed) -> PackedEntry
         requires { IsSmall (Did process deed) }
         ensures { unpacked result ≡ Did process deed }
     {
-        let (word, channel, form) = match deed {
-            Deed::Took { channel, token } => (
-                word_of(token),
-                channel as u16,
-                form_of(token, Form::TookWord, Form::TookFlag),
-            ),
-            Deed::Put { channel, token } => (
-                word_of(token),
-                channel as u16,
-                form_of(token, Form::PutWord, Form::PutFlag),
-            ),
-            Deed::Stopped => (0, 0, Form::Stopped),
-        };
-        PackedEntry {
-            word,
-            process,
-            channel,
-            form,
+        match deed {
+            Deed::Took { channel, token } => PackedEntry {
+                word: word_of(token),
+                process,
+                channel: channel as u16,
+                form: Form::Took,
+                is_flag: is_flag(token),
+            },
+            Deed::Put { channel, token } => PackedEntry {
+                word: word_of(token),
+                process,
+                channel: channel as u16,
+                form: Form::Put,
+                is_flag: is_flag(token),
+            },
+            Deed::Stopped => PackedEntry {
+                word: 0,
+                process,
+                channel: 0,
+                form: Form::Stopped,
+                is_flag: false,
+            },
         }
     }
 
@@ -100,34 +117,27 @@ impl PackedEntry {
     pub fn entry(self) -> Entry
         ensures { result ≡ unpacked self }
     {
-        let process = usize::from(self.process);
+        let process = self.process as usize;
         let channel = usize::from(self.channel);
-        let deed = match self.form {
-            Form::TookWord => Deed::Took {
-                channel,
-                token: Token::Word(self.word),
+        let token = token_of(self.is_flag, self.word);
+        match self.form {
+            Form::Took => Entry::Did {
+                process,
+                deed: Deed::Took { channel, token },
             },
-            Form::TookFlag => Deed::Took {
-                channel,
-                token: Token::Flag(self.word == 1),
+            Form::Put => Entry::Did {
+                process,
+                deed: Deed::Put { channel, token },
             },
-            Form::PutWord => Deed::Put {
-                channel,
-                token: Token::Word(self.word),
+            Form::Stopped => Entry::Did {
+                process,
+                deed: Deed::Stopped,
             },
-            Form::PutFlag => Deed::Put {
+            Form::Grew => Entry::Grew {
                 channel,
-                token: Token::Flag(self.word == 1),
+                to: self.word as usize,
             },
-            Form::Stopped => Deed::Stopped,
-            Form::Grew => {
-                return Entry::Grew {
-                    channel,
-                    to: self.word as usize,
-                };
-            }
-        };
-        Entry::Did { process, deed }
+        }
     }
 }
 
