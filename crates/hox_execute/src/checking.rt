@@ -8,11 +8,11 @@ ghost use Rattle.hox_execute.specs.Commands.{HasChecked, IsStop};
 ghost use Rattle.hox_files.specs.Requests.{ServesFile, want_of};
 ghost use Rattle.hox_files.specs.Served.{ServesNamed};
 
+use crate::writing::write_text;
 use hox_files::files::FileSystem;
 use hox_files::reading::{Wanted, asked_of};
 use hox_files::stops::{Refusal, Stop, Unserved, unopened};
 use hox_files::watching::Watched;
-use crate::writing::write_text;
 use hox_network::{Fault, Request, prepare};
 use kpn_front::{Status, say_checked};
 use kpn_model::Kinds;

@@ -7,12 +7,12 @@ ghost use Rattle.hox_execute.specs.Commands.{HasDrawn, IsStop};
 ghost use Rattle.hox_files.specs.Requests.{want_of};
 ghost use Rattle.hox_files.specs.Served.{ServesNamed};
 
+use crate::writing::write_text;
+use hox_draw::{Direction, draw as picture_of};
 use hox_files::files::FileSystem;
 use hox_files::reading::{Wanted, asked_of};
 use hox_files::stops::{Refusal, Stop, Unserved, unopened};
 use hox_files::watching::Watched;
-use crate::writing::write_text;
-use hox_draw::{Direction, draw as picture_of};
 use hox_network::Request;
 use kpn_compute::Computes;
 use kpn_front::Status;

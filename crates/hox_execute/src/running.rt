@@ -8,13 +8,13 @@ ghost use Rattle.hox_execute.specs.Reports.{IsNoted, Writes, rate_of, written_of
 ghost use Rattle.hox_files.specs.Requests.{want_of};
 ghost use Rattle.hox_files.specs.Served.{ServesNamed};
 
+use crate::texts::{FileNote, file_notes, file_texts, rate_of};
+use crate::writing::write_told;
 use hox_files::files::FileSystem;
 use hox_files::pairs::{Pair, firsts_of};
 use hox_files::reading::{Asked, Wanted, asked_of};
 use hox_files::stops::{Refusal, Stop, Unserved, unopened};
-use crate::texts::{FileNote, file_notes, file_texts, rate_of};
 use hox_files::watching::Watched;
-use crate::writing::write_told;
 use hox_network::Request;
 use hox_run::{Notes, Progress, Told, serve};
 use kpn_compute::Computes;

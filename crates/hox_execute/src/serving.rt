@@ -9,13 +9,13 @@ ghost use Rattle.hox_files.specs.Requests.{want_of};
 
 use crate::checking::check;
 use crate::drawing::draw;
+use crate::progress::Asking;
+use crate::running::{Ran, run};
+use hox_args::{Choice, DrawChoice, RunChoice, StreamChoice, read_words};
 use hox_files::files::FileSystem;
 use hox_files::pairs::name_of;
-use crate::progress::Asking;
 use hox_files::reading::Wanted;
-use crate::running::{Ran, run};
 use hox_files::stops::Stop;
-use hox_args::{Choice, DrawChoice, RunChoice, StreamChoice, read_words};
 use hox_run::Progress;
 use kpn_compute::Computes;
 use kpn_front::Status;

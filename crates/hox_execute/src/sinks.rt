@@ -7,11 +7,11 @@ ghost use Rattle.hox_format.specs.Tables.{decimals_of};
 ghost use Rattle.hox_files.specs.Pairs.{begins, groups, is_alone};
 ghost use Rattle.hox_execute.specs.Streaming.{IsCreated, IsHeaded, IsTabled, IsUnwritten};
 
+use crate::streaming::StreamStop;
+use crate::texts::{byte_names, group_of, table_in};
 use hox_files::files::FileSystem;
 use hox_files::pairs::Pair;
 use hox_files::stops::Stop;
-use crate::streaming::StreamStop;
-use crate::texts::{byte_names, group_of, table_in};
 use hox_format::{append_head, decimals_of, layout_of};
 use hox_stream::{LaidOut, LaidTable};
 use kpn_front::Sink;

@@ -9,17 +9,17 @@ ghost use Rattle.hox_stream.specs.Views.{outs};
 ghost use Rattle.hox_files.specs.Pairs.{AreUsable, channels_of};
 ghost use Rattle.hox_execute.specs.Streaming.{AreEnds, ArePairsOf, AreUnpaired, IsFaultyBetween, IsNoEnds, IsOpened, IsRefusedIn, IsRefusedText, IsSketchIn, IsSketchOf, IsStreamStop, IsUnfit, IsUnopened, IsUnread, IsUnreadText, Opens, RunsBetween, StartsBetween, StreamsBetween, formats_of, inputs_of, laid_source, outputs_of};
 
+use crate::sinks::{sinks_of, tables_of};
+use crate::texts::USUAL_RATE;
+use hox_args::StreamChoice;
 use hox_files::files::FileSystem;
 use hox_files::formats::{Formats, check_formats};
 use hox_files::pairs::{
     Pair, firsts_of, in_order, is_named_twice, is_written_twice, name_of, pairs_of,
 };
 use hox_files::reading::{ReadError, names_of, read_file};
-use crate::sinks::{sinks_of, tables_of};
 use hox_files::stops::Stop;
-use crate::texts::USUAL_RATE;
 use hox_files::uses::{Role, check_uses};
-use hox_args::StreamChoice;
 use hox_format::{BeginFault, Begun, HeadFault, Resumed, begin};
 use hox_network::{channel_names, load_by_ports, sketch_by_ports};
 use hox_stream::{Exits, LaidOut, LaidTable, OpenStream, Served, StreamFault, open_stream, serve};

@@ -296,11 +296,7 @@ fn body_alone(alloc: Global, body: &Body, bytes: Vec<u8>) -> Result<Vec<u8>, All
 }
 
 /// The bytes of a file.
-pub fn read_file<S: FileSystem>(
-    alloc: Global,
-    files: &S,
-    name: &str,
-) -> Result<Vec<u8>, ReadError>
+pub fn read_file<S: FileSystem>(alloc: Global, files: &S, name: &str) -> Result<Vec<u8>, ReadError>
     ensures ok { IfOk result (λ v. IfSome (S.contents files.now name.now) (λ bytes. v.items ≡ bytes)) }
     ensures fault { IfErr result (IsReadError (S.contents files.now) name.now) }
 {

@@ -359,7 +359,16 @@ fn work_beside<
         rt,
         || -> ()
             requires { watcher.board ≡ E.board }
-        { observe(rt, monitor, watcher, orders.signal, watch.period, watch.observer) },
+        {
+            observe(
+                rt,
+                monitor,
+                watcher,
+                orders.signal,
+                watch.period,
+                watch.observer,
+            )
+        },
         || work_and_ring(rt, monitor, orders, workforce),
     );
     workforce

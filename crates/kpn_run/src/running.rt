@@ -298,7 +298,9 @@ fn run_named<
     ensures not_run { (n : NetV) (bs : _) (fault : OpenFaultV) → result ≡ Err (Failure.NotRun n bs fault) → (n ≡ opening.machine.network) × (map B.card bs.items ≡ cards_of opening.machine.network.processes) × (fault ≡ OpenFault.Memory) }
     ensures lost { (a : Input) (b : _) → result ≡ Err (Failure.Lost a b) → B.card b ≡ a.card }
 {
-    let (monitor, mut workforce) = match seat_workers::<B, H, E, O, R>(rt, alloc, opening, workers) {
+    let (monitor, mut workforce) = match seat_workers::<B, H, E, O, R>(
+        rt, alloc, opening, workers,
+    ) {
         Ok(seated) => seated,
         Err(machine) => return Err(not_run(no_memory(machine))),
     };

@@ -208,16 +208,16 @@ fn work_each<
     R: Wait + Clock + Threads + Sync,
     G: Gate,
     S: StopSignal,
->(
-    rt: &R,
-    monitor: &Monitor<B, E, O, H>,
-    orders: &Orders<G, S>,
-    slots: &mut [WorkerSlot<B, E, O>],
-)
+>(rt: &R, monitor: &Monitor<B, E, O, H>, orders: &Orders<G, S>, slots: &mut [WorkerSlot<B, E, O>])
     ensures parts { (k : ℕ) (d : AtSlot) → k < length slots.old → (slice_index_or slots.new k d).seat.parts ≡ (slice_index_or slots.old k d).seat.parts }
     ensures met { S.may_stop ≡ false → (k : ℕ) (d : AtSlot) → k < length slots.old → HasMet (slice_index_or slots.new k d) }
 {
-    thread::for_each_mut(rt, slots, MOST_WORKERS, &|_, slot| slot.work(rt, monitor, orders));
+    thread::for_each_mut(
+        rt,
+        slots,
+        MOST_WORKERS,
+        &|_, slot| slot.work(rt, monitor, orders),
+    );
 }
 
 /// Takes the seats out of all slots. Returns an answer that was refused, if there is one.

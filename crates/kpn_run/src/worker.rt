@@ -106,14 +106,7 @@ pub(crate) fn work_in_rounds<
 
 // Has bodies asked in place while that is quicker and the workers are not to stop. Returns whether the run has ended;
 // the seat has then met its end.
-fn ask_in_place<
-    B: Body,
-    H: Keeper,
-    E: EntryLedger,
-    O: Ledger,
-    R: Wait + Clock,
-    S: StopSignal,
->(
+fn ask_in_place<B: Body, H: Keeper, E: EntryLedger, O: Ledger, R: Wait + Clock, S: StopSignal>(
     rt: &R,
     monitor: &Monitor<B, E, O, H>,
     signal: &S,
