@@ -8,3 +8,4 @@ pub mod Drawn
 pub mod Chosen
 pub mod Both
 pub mod Grouped
+pub mod Rates

@@ -5,7 +5,6 @@ use Rattle.std.proofs.lemmas.List.{length-map, take_all, take_more}
 use Rattle.std.proofs.lemmas.List.Elements.{All-append}
 use Rattle.std.specs.List.{All, Contains, after_first}
 use Rattle.hox_files.specs.Formats.{format_text, is_equals, is_text_of}
-use Rattle.hox_files.specs.Reports.{first_rate}
 use Rattle.hox_files.proofs.Zipped.{mapped_at, same_default}
 
 -- what is left from a place on is that element and what is left after it
@@ -65,22 +64,3 @@ one_text_more P texts k d within all here =
 
 pub all_texts : (P : List ℕ → Type 0) (texts : List (Bor (List ℕ))) (k : ℕ) → length texts ≤ k → All P (texts_of (take k texts)) → All P (texts_of texts)
 all_texts P texts k past all = subst (λ l. All P (texts_of l)) (take_all k texts past) all
-
--- the rate of the element at a place, or that of a later one
-rate_at : (rate : Option ℕ) (rates : List (Option ℕ)) (r : ℕ) → rate ≡ Some r → first_rate (rate ∷ rates) ≡ r
-rate_at None rates r e = cc
-rate_at (Some n) rates r e = cc
-
-rate_later : (rate : Option ℕ) (rates : List (Option ℕ)) → rate ≡ None → first_rate (rate ∷ rates) ≡ first_rate rates
-rate_later None rates e = refl
-rate_later (Some n) rates e = cc
-
-module _ {X : Type 0} (rate : X → Option ℕ) (xs : List X) (k : ℕ) (d : X) (within : k < length xs) where
-  next_rate : first_rate (map rate (drop k xs)) ≡ first_rate (rate (get_or xs k d) ∷ map rate (drop (k + 1) xs))
-  next_rate = ap (λ l. first_rate (map rate l)) (left_at xs k d within)
-
-  pub rate_found : (r : ℕ) → rate (get_or xs k d) ≡ Some r → r ≡ first_rate (map rate (drop k xs))
-  rate_found r e = sym (rate_at (rate (get_or xs k d)) (map rate (drop (k + 1) xs)) r e) ∙ sym next_rate
-
-  pub rate_passed : rate (get_or xs k d) ≡ None → first_rate (map rate (drop k xs)) ≡ first_rate (map rate (drop (k + 1) xs))
-  rate_passed e = next_rate ∙ rate_later (rate (get_or xs k d)) (map rate (drop (k + 1) xs)) e
