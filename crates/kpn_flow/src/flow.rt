@@ -250,7 +250,8 @@ impl<B: Body> Flow<B> {
     /// Returns how many tokens a channel holds, and its capacity now; 0 and 0 if there is no such channel.
     ///
     /// ```text
-    /// let (held, capacity) = self.flow.tokens_and_capacity(channel);
+    /// let channel = self.inputs.get(place).copied()?;
+    /// Some(self.flow.tokens_and_capacity(channel))
     /// ```
     pub fn tokens_and_capacity(&self, channel: usize) -> (usize, usize)
         ensures tokens { result.0 ≡ length (tokens self.now.state channel) }
@@ -277,7 +278,7 @@ impl<B: Body> Flow<B> {
     /// goes on, as `advance` would come back.
     ///
     /// ```text
-    /// pause_number(self.flow.stand())
+    /// self.flow.stand()
     /// ```
     pub fn stand(&self) -> Pause
         ensures { IsStand (family B.Kinds.Kinds) self.now.network self.now.unended self.now.outputs self.now.state self.now.standings result }
