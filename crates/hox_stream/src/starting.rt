@@ -73,6 +73,23 @@ impl<F: Computes> Model for OpenStream<F> {
     ghost invariant = { λ m. IsStart (family F.Kinds) m.flow m.inputs.items m.outputs.items };
 }
 
+impl<F: Computes> OpenStream<F> {
+    /// Returns the flow, and the numbers of the channels that are fed and of those that are drained, in the order of
+    /// their names.
+    pub fn into_parts(self) -> (Flow<CardBody<F>>, Vec<usize>, Vec<usize>)
+        ensures flow { result.0 ≡ self }
+        ensures inputs { result.1.items ≡ self.inputs }
+        ensures outputs { result.2.items ≡ self.outputs }
+    {
+        let OpenStream {
+            flow,
+            inputs,
+            outputs,
+        } = self;
+        (flow, inputs, outputs)
+    }
+}
+
 /// Opens the stream of the network that a sketch describes, at its start, from the names of the channels that will
 /// be fed and of those that will be drained. What only reads a channel that is drained stops at once, as
 /// [`Exits`] do.

@@ -13,3 +13,4 @@ pub mod Compared
 pub mod Batches
 pub mod Counting
 pub mod Exhausted
+pub mod Standing

@@ -5,3 +5,4 @@ pub mod Pauses
 pub mod Preloaded
 pub mod Waits
 pub mod Pieces
+pub mod Stands

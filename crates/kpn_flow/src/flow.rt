@@ -12,6 +12,7 @@ ghost use Rattle.kpn_flow.specs.Events.{Happens, Fed, Drained, Flows};
 ghost use Rattle.kpn_flow.specs.Flows.{flow_view, is_among, nothing_counted, with_ended, AreEnds, IsReached, IsSameFlow, MayFeed, MayFeedAll};
 ghost use Rattle.kpn_flow.specs.Pauses.{Advances, IsStarving, TellWants};
 ghost use Rattle.kpn_flow.specs.Pieces.{IsOneRunInPieces, IsExhausted};
+ghost use Rattle.kpn_flow.specs.Stands.{IsStand};
 ghost use Rattle.kpn_flow.specs.Waits.{starves, holds_up, waits_to_read};
 
 use crate::counts::Counts;
@@ -19,6 +20,7 @@ use crate::ends::{FlowFault, fault_of, is_among, remove};
 use crate::going::{ROOM, go_on};
 use crate::opening::{Lists, lists_of};
 use crate::pause::Pause;
+use crate::stand::stand;
 use crate::waits::{all_wait_to_read, holds_up, starves};
 use kpn_body::Body;
 use kpn_commit::{Core, outside};
@@ -241,11 +243,24 @@ impl<B: Body> Flow<B> {
     pub fn has_room(&self, channel: usize) -> bool
         ensures { IsTrue result ↔ length (tokens self.now.state channel) < capacity self.now.state channel }
     {
-        if channel >= self.net.channels() {
-            return false;
-        }
-        let (held, capacity) = self.core.store.tokens_and_capacity(channel);
+        let (held, capacity) = self.tokens_and_capacity(channel);
         held < capacity
+    }
+
+    /// Returns how many tokens a channel holds, and its capacity now; 0 and 0 if there is no such channel.
+    ///
+    /// ```text
+    /// let channel = self.inputs.get(place).copied()?;
+    /// Some(self.flow.tokens_and_capacity(channel))
+    /// ```
+    pub fn tokens_and_capacity(&self, channel: usize) -> (usize, usize)
+        ensures tokens { result.0 ≡ length (tokens self.now.state channel) }
+        ensures capacity { result.1 ≡ capacity self.now.state channel }
+    {
+        if channel >= self.net.channels() {
+            return (0, 0);
+        }
+        self.core.store.tokens_and_capacity(channel)
     }
 
     /// Returns whether each process has stopped or waits for a token. Then nothing more is done, and
@@ -256,6 +271,20 @@ impl<B: Body> Flow<B> {
         ensures exhausted { IsTrue result → IsExhausted (family B.Kinds.Kinds) self.now.network self.now.state }
     {
         all_wait_to_read(self.core.standings.as_slice())
+    }
+
+    /// Returns how the flow stands, without going on: `Cut` if a process is ready, or waits for room in a channel
+    /// where neither feeding nor draining helps, so that `advance` finds what comes of it; and else why nothing
+    /// goes on, as `advance` would come back.
+    ///
+    /// ```text
+    /// self.flow.stand()
+    /// ```
+    pub fn stand(&self) -> Pause
+        ensures { IsStand (family B.Kinds.Kinds) self.now.network self.now.unended self.now.outputs self.now.state self.now.standings result }
+    {
+        let inputs = self.unended.as_slice();
+        stand(&self.net, &self.core, inputs, self.outputs.as_slice())
     }
 
     /// Ghost lemma: what holds of each flow at each time. It was led to its state by events, of which

@@ -21,6 +21,7 @@ mod going;
 pub mod law;
 mod opening;
 pub mod pause;
+mod stand;
 mod stretch;
 mod waits;
 

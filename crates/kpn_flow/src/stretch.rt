@@ -20,7 +20,7 @@ use kpn_state::{Standing, Unkept};
 
 /// What is awaited from outside, as the standings tell: that an input is fed, or else that an output is
 /// drained; `None` if neither lets a process go on.
-fn awaited<K: Kinds>(
+pub(crate) fn awaited<K: Kinds>(
     net: &Net<K>,
     standings: &[Standing],
     inputs: &[usize],

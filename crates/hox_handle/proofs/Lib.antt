@@ -1,0 +1,3 @@
+mod Named
+mod OneMore
+mod Opened
