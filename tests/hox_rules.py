@@ -1,4 +1,4 @@
-"""What `hox run` and `hox check` may write, by tests/interpreter.py and docs/signals.md: files of tokens, the verdict on a
+"""What `hox run` and `hox check` may write, by tests/interpreter.py and docs/format.md: files of tokens, the verdict on a
 run, and what goes where. It shares nothing with the engine."""
 import re
 from collections import namedtuple
