@@ -3,9 +3,9 @@
 //! caller.
 //!
 //! ```text
-//! let mut session = Session::open(alloc, text, inputs, outputs)?;
-//! let moved = session.feed(0, words);
-//! let pause = session.advance(most);
+//! let session = Session::open(alloc, text, inputs, outputs)?;
+//! let moved = session.feed(input, words);
+//! let why = session.advance(most);
 //! ```
 #![tactic(auto)]
 

@@ -209,7 +209,7 @@ fn openings_are_refused(rt: HostRuntime) {
         Some("the names are not UTF-8"),
     );
     assert_eq!(rt; answer.number(), 37);
-    let said = "version 7 is not known; it must be 1 or 2";
+    let said = "version 7; it must be 1 or 2";
     let answer = refusal(
         &rt,
         alloc,
