@@ -52,8 +52,8 @@
  *     3. What is written by a call overlaps no other argument of the call.
  *     4. A hox_flow is HOX_FLOW_CLOSED before the first call with it, and only these functions write it. It may be
  *        moved, but of its copies only one is used.
- *     5. One call at a time with a flow. Different flows may be used by different threads at once, and a flow may go
- *        to another thread, if its calls are ordered, as by a lock or a join.
+ *     5. One call at a time with a flow, and all by the thread that opened it. Different flows may be used by
+ *        different threads at once.
  *     6. No call from a signal handler, and none in the forked child of a process with several threads.
  *
  * TEXTS

@@ -1,3 +1,4 @@
 mod Named
 mod OneMore
 mod Opened
+mod RunReports

@@ -3,9 +3,9 @@
 //! caller.
 //!
 //! ```text
-//! let mut session = Session::open(alloc, text, inputs, outputs)?;
-//! let moved = session.feed(0, words);
-//! let pause = session.advance(most);
+//! let session = Session::open(alloc, text, inputs, outputs)?;
+//! let moved = session.feed(input, words);
+//! let why = session.advance(most);
 //! ```
 #![tactic(auto)]
 
@@ -14,6 +14,7 @@ mod checking;
 mod names;
 mod opening;
 mod report;
+mod running;
 mod session;
 #[cfg(test)]
 mod tests;
@@ -23,6 +24,7 @@ mod words;
 pub use answers::{Answer, end_number, pause_number};
 pub use checking::check;
 pub use opening::OpenFault;
+pub use running::{Told, run};
 pub use session::Session;
 pub use texts::{copy_out, message_of_fault};
 pub use words::Moved;

@@ -1,5 +1,8 @@
 //! Each public call once, against values that were worked out without the engine.
-use crate::{Answer, Moved, OpenFault, Session, check, copy_out, message_of_fault, pause_number};
+use crate::{
+    Answer, Moved, OpenFault, Session, check, copy_out, end_number, message_of_fault, pause_number,
+    run,
+};
 use kpn_flow::Pause;
 use kpn_model::End;
 use kpn_net::NetFault;
@@ -209,7 +212,7 @@ fn openings_are_refused(rt: HostRuntime) {
         Some("the names are not UTF-8"),
     );
     assert_eq!(rt; answer.number(), 37);
-    let said = "version 7 is not known; it must be 1 or 2";
+    let said = "version 7; it must be 1 or 2";
     let answer = refusal(
         &rt,
         alloc,
@@ -230,6 +233,36 @@ fn descriptions_are_checked(rt: HostRuntime) {
     );
     assert_eq!(rt; check(rt.alloc(), b"process").number(), 1);
     assert!(rt; message_of_fault(rt.alloc(), b"", NetFault::Memory).is_none());
+}
+
+/// A counter of three words and what reads them.
+const COUNTER: &[u8] = br#"version = 1
+process = [
+  { name = "src", kind = "count", args = [1, 3] },
+  { name = "snk", kind = "sink", args = [3] },
+]
+channel = [
+  { name = "x", from = "src", to = "snk", capacity = 2 },
+]
+"#;
+
+#[test]
+fn a_network_is_run(rt: HostRuntime) {
+    let told = run(rt.alloc(), COUNTER).ok().expect(&rt, "no run");
+    assert_eq!(rt; end_number(told.end), 64);
+    assert_eq!(rt;
+        told.report.as_str(),
+        "end terminated
+process src stopped steps 4
+process snk stopped steps 4
+channel x put 3 left 0 capacity 2
+entries 8
+"
+    );
+    assert_eq!(rt;
+        run(rt.alloc(), b"version = 7\nprocess = []\n").err(),
+        Some(NetFault::Version)
+    );
 }
 
 #[test]
