@@ -736,17 +736,14 @@ class Flow:
 
     def _go_on(self, output: Output) -> bool:
         """Goes on until this output holds a word. False if none comes unless more is fed."""
-        while True:
-            if self._fill("hox_output_fill", output._place)[0]:
-                return True
-            fed = [self._feed_waiting(it) for it in self.inputs.values()]
+        while not self._fill("hox_output_fill", output._place)[0]:
             pause = self._advance(STRETCH)
-            if self._fill("hox_output_fill", output._place)[0]:
-                return True
-            if pause != Pause.CUT and not any(fed):
-                kept = [self._keep(it) for it in self.outputs.values()]
-                if not any(kept):
+            done = [self._feed_waiting(it) for it in self.inputs.values()]
+            if pause != Pause.CUT:
+                done += [self._keep(it) for it in self.outputs.values() if it is not output]
+                if not any(done) and not self._fill("hox_output_fill", output._place)[0]:
                     return False
+        return True
 
 
 class Run(NamedTuple):

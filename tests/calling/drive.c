@@ -15,6 +15,7 @@
 
 #define MOST 1024
 #define BUFFER (1 << 16)
+#define LONGEST 1000000 /* so many entries at most, where a flow has no end */
 
 static hox_flow flow = HOX_FLOW_CLOSED;
 static size_t inputs, outputs;
@@ -134,7 +135,7 @@ static void end(size_t place) {
 
 static void finish(void) {
     for (size_t place = 0; place < inputs; place++) end(place);
-    for (;;) {
+    for (uint64_t entries = 0, growths; entries < LONGEST; hox_entries(&flow, &entries, &growths)) {
         size_t count = 0;
         uint32_t pause = advance(5000);
         for (size_t place = 0; place < outputs; place++) count += drain(place, BUFFER);
@@ -143,6 +144,7 @@ static void finish(void) {
         printf("over %" PRIu32 "\n", pause);
         return;
     }
+    printf("over 0\n");
 }
 
 /* A line of the text, ended by 0; NULL after the last. */

@@ -5,6 +5,9 @@ from array import array
 
 import hoxburen
 
+# So many entries are made at most, where a flow has no end.
+LONGEST = 1_000_000
+
 
 def opened(text, inputs, outputs):
     return hoxburen.open(text.decode() + "\n", inputs, outputs)
@@ -36,12 +39,13 @@ def finish(flow):
     for it in flow.inputs.values():
         it.end()
     lines = []
-    while True:
+    while flow.entries < LONGEST:
         pause = advance(flow, 5000)
         drained = [line for it in flow.outputs.values() for line in drain(it, 1 << 16)]
         lines += drained
         if pause not in (hoxburen.Pause.CUT, hoxburen.Pause.BLOCKED) and not drained:
             return [*lines, f"over {pause.value}"]
+    return [*lines, "over 0"]
 
 
 def obey(text, inputs, outputs, lines):
