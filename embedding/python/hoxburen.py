@@ -39,7 +39,8 @@ import enum
 import os
 import threading
 from array import array
-from typing import Any, Dict, Iterable, Iterator, List, NamedTuple, Optional, Union
+from collections import deque
+from typing import Any, Callable, Deque, Dict, Iterable, Iterator, List, NamedTuple, Optional, Tuple, Type, Union
 
 __all__ = [
     "open", "check", "run", "version", "Flow", "Input", "Output", "Run", "Pause", "End", "Number",
@@ -181,7 +182,7 @@ def _refused(number: int, message: str = "", taken: int = 0) -> Refused:
         return OutOfMemory(number, message, taken)
     if number < Number.CLOSED:
         return DescriptionRefused(number, message, taken)
-    kinds = {Number.CLOSED: FlowClosed, Number.ENDED: InputEnded, Number.NO_FLAG: FlagRefused}
+    kinds: Dict[int, Type[Refused]] = {Number.CLOSED: FlowClosed, Number.ENDED: InputEnded, Number.NO_FLAG: FlagRefused}
     return kinds.get(number, ChannelRefused)(number, message, taken)
 
 
@@ -262,7 +263,7 @@ def _load() -> ctypes.CDLL:
     raise ImportError(f"libhoxburen.so can't be loaded; HOXBUREN_LIB names the folder that holds it: {why}")
 
 
-def _told(call: Any) -> tuple:
+def _told(call: Callable[..., int]) -> Tuple[int, str]:
     """The number that a call answers, and the text that it writes: `call` is given a buffer, its length and where the
     length of the text goes. It is called again with a longer buffer if the text had no room."""
     room = 1024
@@ -352,13 +353,13 @@ class _Queue:
     """Words that wait, in arrays."""
 
     def __init__(self) -> None:
-        self._parts: List[array] = []
+        self._parts: Deque[array[int]] = deque()
         self._first, self._count = 0, 0  # how many words of the first part have gone, and how many wait
 
     def __len__(self) -> int:
         return self._count
 
-    def put(self, words: array) -> None:
+    def put(self, words: array[int]) -> None:
         if words:
             self._parts.append(words)
             self._count += len(words)
@@ -376,11 +377,11 @@ class _Queue:
         self._first += count
         self._count -= count
         if self._first == len(self._parts[0]):
-            del self._parts[0]
+            self._parts.popleft()
             self._first = 0
 
     def pop(self) -> int:
-        word = self._parts[0][self._first]
+        word: int = self._parts[0][self._first]
         self.drop(1)
         return word
 
@@ -490,7 +491,7 @@ class Output:
                 word = self._queue.pop()
             yield word - (1 << 64) if self._code == "q" and word >> 63 else word
 
-    def drain(self, most: Optional[int] = None) -> array:
+    def drain(self, most: Optional[int] = None) -> array[int]:
         """Returns the words that come out, at most so many, in a new array of "Q" (of "q" for `signed`). The network goes on
         until there are so many, or no more come unless an input is fed. Of a network that writes for ever, say how many."""
         words = array(self._code)
@@ -573,9 +574,8 @@ class Flow:
         if number:
             raise _refused(number, message)
 
-    def _open(self) -> tuple:
-        fed, drained = (" ".join(names).encode() for names in (self.inputs, self.outputs))
-        text = self._text
+    def _open(self) -> Tuple[int, str]:
+        text, fed, drained = self._text, " ".join(self.inputs).encode(), " ".join(self.outputs).encode()
         return _told(lambda *out: self._library.hox_open(self._session, text, len(text), fed, len(fed), drained, len(drained), *out))
 
     def __enter__(self) -> Flow:
@@ -649,9 +649,9 @@ class Flow:
             number = getattr(self._library, function)(self._session, *([] if place is None else [place]), ctypes.byref(value))
         if number:
             raise _refused(number)
-        return value.value
+        return int(value.value)
 
-    def _fill(self, function: str, place: Optional[int]) -> tuple:
+    def _fill(self, function: str, place: Optional[int]) -> Tuple[int, int]:
         one, other = ctypes.c_uint64(), ctypes.c_uint64()
         with self._lock:
             places = [] if place is None else [place]
@@ -675,7 +675,7 @@ class Flow:
             number = self._library.hox_feed(self._session, to._place, words.address, words.count, ctypes.byref(fed))
         if number:
             raise _refused(number, taken=fed.value)
-        return fed.value
+        return int(fed.value)
 
     def _feed_on(self, to: Input, view: memoryview) -> int:
         """Feeds words behind those that wait, as long as the network takes some by going on. Returns how many were fed."""
@@ -700,8 +700,9 @@ class Flow:
         while to._queue:
             try:
                 fed = self._feed(to, to._queue.front())
-            except Refused:
+            except Refused as refused:
                 to._queue.clear()
+                refused.taken = 0
                 raise
             if not fed:
                 return done
@@ -719,9 +720,9 @@ class Flow:
         number = self._library.hox_drain(self._session, place, address, room, ctypes.byref(drained))
         if number:
             raise _refused(number)
-        return drained.value
+        return int(drained.value)
 
-    def _drain(self, place: int, room: int) -> array:
+    def _drain(self, place: int, room: int) -> array[int]:
         """The words that an output holds, at most so many."""
         words = array("Q", bytes(8 * room))
         del words[self._drain_to(place, words.buffer_info()[0], room) :]
@@ -832,4 +833,4 @@ def run(source: Source) -> Run:
 
 def version() -> int:
     """The version of the library: 10000 * major + 100 * minor + patch."""
-    return _library().hox_version()
+    return int(_library().hox_version())
