@@ -32,12 +32,7 @@ int main(int count, char **words) {
         hox_advance(&flow, UINT64_MAX, &pause);      /* until it waits for more of x */
         hox_drain_signed(&flow, 0, &sum, 1, &sums);  /* output 0 is sum, and output 1 low */
         hox_drain_signed(&flow, 1, &low, 1, &lows);
-        if (fed + sums + lows != 3) {
-            fprintf(stderr, "sums: this network gives no sum and no low-pass for each sample\n");
-            hox_close(&flow);
-            return 1;
-        }
-        printf("%" PRId64 " %" PRId64 "\n", sum, low);
+        if (fed + sums + lows == 3) printf("%" PRId64 " %" PRId64 "\n", sum, low);
     }
     hox_close(&flow);
     return 0;

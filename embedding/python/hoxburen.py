@@ -229,9 +229,9 @@ def _places() -> Iterator[str]:
         yield os.path.join(named, "libhoxburen.so") if os.path.isdir(named) else named
         return
     folder = os.path.dirname(os.path.realpath(__file__))
-    top = os.path.dirname(os.path.dirname(folder))
-    places = [folder, os.path.join(top, "crates", "hoxburen", "out"), os.path.dirname(folder), top]
-    for place in places:
+    above = os.path.dirname(folder)
+    # Beside this file; where the repository has it; and in lib, above lib/python3.*/site-packages.
+    for place in (folder, os.path.join(above, "out"), os.path.dirname(above)):
         path = os.path.join(place, "libhoxburen.so")
         if os.path.isfile(path):
             yield path

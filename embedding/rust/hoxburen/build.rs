@@ -5,7 +5,7 @@ fn main() {
     println!("cargo::rerun-if-env-changed=HOXBUREN_LIB");
     let folder = match std::env::var_os("HOXBUREN_LIB").filter(|it| !it.is_empty()) {
         Some(named) => PathBuf::from(named),
-        None => PathBuf::from(env!("CARGO_MANIFEST_DIR")).join("../../../crates/hoxburen/out"),
+        None => PathBuf::from(env!("CARGO_MANIFEST_DIR")).join("../../out"),
     };
     let archive = folder.join("libhoxburen.a");
     println!("cargo::rerun-if-changed={}", archive.display());
