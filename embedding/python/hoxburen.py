@@ -54,7 +54,7 @@ STRETCH = 1 << 20
 BATCH = 4096
 
 
-class Number(enum.IntEnum):
+class Number(enum.Enum):
     """Why a call was refused. Numbers up to 17 are the faults of a description (docs/format.md)."""
 
     TOML = 1
@@ -85,7 +85,7 @@ class Number(enum.IntEnum):
     TWICE = 40
 
 
-class Pause(enum.IntEnum):
+class Pause(enum.Enum):
     """How a flow stands."""
 
     CUT = 0
@@ -102,7 +102,7 @@ class Pause(enum.IntEnum):
     "A channel at its greatest capacity would have to grow."
 
 
-class End(enum.IntEnum):
+class End(enum.Enum):
     """How a run ended."""
 
     TERMINATED = 64
@@ -145,8 +145,8 @@ _MEANINGS = {
 class Refused(Exception):
     """A call was refused; nothing has changed but what its exception says."""
 
-    def __init__(self, number: int, message: str = "", taken: int = 0) -> None:
-        self.number = Number(number)
+    def __init__(self, number: Number, message: str = "", taken: int = 0) -> None:
+        self.number = number
         "Why."
         self.taken = taken
         "How many words of this call an input took before."
@@ -178,12 +178,12 @@ class OutOfMemory(Refused, MemoryError):
 
 
 def _refused(number: int, message: str = "", taken: int = 0) -> Refused:
-    if number == Number.MEMORY:
-        return OutOfMemory(number, message, taken)
-    if number < Number.CLOSED:
-        return DescriptionRefused(number, message, taken)
-    kinds: Dict[int, Type[Refused]] = {Number.CLOSED: FlowClosed, Number.ENDED: InputEnded, Number.NO_FLAG: FlagRefused}
-    return kinds.get(number, ChannelRefused)(number, message, taken)
+    why = Number(number)
+    kinds: Dict[Number, Type[Refused]] = {
+        Number.MEMORY: OutOfMemory, Number.CLOSED: FlowClosed, Number.ENDED: InputEnded, Number.NO_FLAG: FlagRefused,
+    }  # fmt: skip
+    other = DescriptionRefused if number < Number.CLOSED.value else ChannelRefused
+    return kinds.get(why, other)(why, message, taken)
 
 
 # The library.
@@ -665,7 +665,7 @@ class Flow:
         number = self._library.hox_advance(self._session, most, ctypes.byref(pause))
         if number:
             raise _refused(number)
-        if pause.value == End.MEMORY:
+        if pause.value == End.MEMORY.value:
             raise OutOfMemory(Number.MEMORY, "a channel would have to grow, and there is no memory for it")
         return Pause(pause.value)
 
@@ -826,7 +826,7 @@ def run(source: Source) -> Run:
     """Runs the network of a description from its start to its end, within its budget."""
     text = _text(source)
     number, told = _told(lambda *out: _library().hox_run(text, len(text), *out))
-    if number < End.TERMINATED:
+    if number < End.TERMINATED.value:
         raise _refused(number, told)
     return Run(End(number), told)
 
