@@ -58,7 +58,7 @@ int main(void) {
     SHOW(hox_feed(&flow, 0, words, 3, &count));
     printf("   %d of 3\n", (int)count);
     SHOW(hox_advance(&flow, 10, &pause));
-    SHOW(hox_feed(&flow, 0, words + 1, 2, &count));
+    SHOW(hox_feed(&flow, 0, words + 1, 1, &count));
     SHOW(hox_advance(&flow, 10, &pause));
     SHOW(hox_feed(&flow, 0, words + 2, 1, &count));
     SHOW(hox_end_input(&flow, 0));
