@@ -1,17 +1,21 @@
 -- What calls do with a flow that the caller keeps, and what they answer.
-use Rattle.std.specs.Prelude.{◌≡◌, ◌⊎◌, ℕ, Bool, if◌then◌else◌, IsUtf8, List, Option, None, Some, MatchOption}
+use Rattle.std.specs.Prelude.{◌≡◌, ◌⊎◌, ℕ, Bool, if◌then◌else◌, IsUtf8, List, Option, None, Some, MatchOption, Err, string_bytes}
 use Rattle.kpn_model.specs.Network.{Network}
+use Rattle.kpn_sketch.specs.declared.fault.NetFault.{NetFault}
 use Rattle.kpn_sketch.specs.declared.fault.NetFault.TheVariants.{Memory}
+use Rattle.kpn_sketch.specs.Fault.{number_of_fault}
 use Rattle.kpn_flow.specs.declared.pause.Pause.{Pause}
 use Rattle.kpn_flow.specs.Flows.{FlowView}
 use Rattle.kpn_flow.specs.Stands.{IsStand}
 use Rattle.hox_handle.specs.declared.answers.Answer.{Answer}
 use Rattle.hox_handle.specs.declared.answers.Answer.TheVariants.{Done, Description, Closed, Open, NoChannel}
 use Rattle.hox_handle.specs.declared.opening.OpenFault.{OpenFault}
-use Rattle.hox_handle.specs.Answers.{answer_number, pause_number}
+use Rattle.hox_handle.specs.declared.running.Told.{Told}
+use Rattle.hox_handle.specs.Answers.{answer_number, end_number, pause_number}
 use Rattle.hox_handle.specs.Checking.{Checks, LoadsText}
 use Rattle.hox_handle.specs.Opening.{answer_of, Opens, IsOpenFault}
 use Rattle.hox_handle.specs.Reports.{TellsStand}
+use Rattle.hox_handle.specs.Running.{RunsTo}
 use Rattle.hox_handle.specs.Texts.{IsCopied}
 use Rattle.hox_handle.specs.Sessions.{flow_kinds, DrainsAt, EndsAt, FeedsAt, GoesOn, IsNamedAt, IsNotNamed}
 
@@ -69,6 +73,12 @@ IsMessage before after length = ((message : List ℕ) × IsCopied message before
 -- the text describes a network, and nothing is said; or it has the fault of this number, and a message may say more
 abbrev pub ChecksText : List ℕ → List ℕ → List ℕ → ℕ → ℕ → Type 0
 ChecksText text before after length number = (answer : Answer) × Checks text answer × (number ≡ answer_number answer) × IsMessage before after length × (answer ≡ Done → length ≡ 0)
+
+-- the network of the text was run, and its report went into the buffer; or it has the fault of this number
+abbrev pub RunsText : List ℕ → List ℕ → List ℕ → ℕ → ℕ → Type 0
+RunsText text before after length number =
+    ((told : Told) × RunsTo text told × (number ≡ end_number told.end) × IsCopied (string_bytes told.report) before after length)
+    ⊎ ((fault : NetFault) × LoadsText text (Err fault) × (number ≡ number_of_fault fault) × IsMessage before after length)
 
 -- the text of where the flow stands went into the buffer; or memory for it was refused
 abbrev pub IsReported : FlowView → List ℕ → List ℕ → ℕ → ℕ → Type 0

@@ -1,9 +1,9 @@
 //! What is told of a description alone.
 ghost use Rattle.std.specs.Prelude.{◌≡◌};
-ghost use Rattle.hoxburen.specs.Calls.{ChecksText, IsMessage};
+ghost use Rattle.hoxburen.specs.Calls.{ChecksText, IsMessage, RunsText};
 
 use crate::slices::bytes_of;
-use hox_handle::{Answer, check, copy_out, message_of_fault};
+use hox_handle::{Answer, check, copy_out, end_number, message_of_fault, run};
 use kpn_net::NetFault;
 use std::alloc::Global;
 
@@ -32,6 +32,25 @@ pub extern "C" fn hox_check(
     let answer = check(alloc, text);
     *length = say_answer(alloc, text, answer, message);
     answer.number()
+}
+
+/// Runs the network of a description from its start to its end. The report, or what is wrong with the description, goes
+/// into the buffer, and how long that is to `length`.
+#[unsafe(no_mangle)]
+pub extern "C" fn hox_run(alloc: Global, text: &[u8], report: &mut [u8], length: &mut usize) -> u32
+    ensures { RunsText text.now report.old report.new length.new result }
+{
+    let text = bytes_of(text);
+    match run(alloc, text) {
+        Ok(told) => {
+            *length = copy_out(told.report.as_bytes(), report);
+            end_number(told.end)
+        }
+        Err(fault) => {
+            *length = say_fault(alloc, text, fault, report);
+            Answer::Description(fault).number()
+        }
+    }
 }
 
 /// Writes what is wrong with a description, if something is, to the front of a buffer, and returns how long it is.
