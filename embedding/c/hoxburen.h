@@ -12,10 +12,10 @@
  *     uint32_t pause;
  *     size_t fed, drained, length;
  *     uint64_t samples[3] = {1, 2, 3}, sums[64];
- *     char message[400];
+ *     char message[400] = "";                              (a 0 stays behind what is written)
  *
- *     if (hox_open(&flow, text, strlen(text), "x", 1, "sum low", 7, message, sizeof message, &length) != HOX_DONE)
- *         fail("%.*s", (int)length, message);
+ *     if (hox_open(&flow, text, strlen(text), "x", 1, "sum low", 7, message, sizeof message - 1, &length) != HOX_DONE)
+ *         fail("%s", message);
  *     hox_feed(&flow, 0, samples, 3, &fed);                (input 0 is x)
  *     hox_advance(&flow, 1000000, &pause);                 (HOX_STARVED: it waits for more of x)
  *     hox_drain(&flow, 0, sums, 64, &drained);             (output 0 is sum, output 1 is low)
@@ -104,7 +104,7 @@ enum {
     HOX_FAULT_NO_END = 8,     /* a channel begins or ends at no process, or at no port of it */
     HOX_FAULT_PORT_TWICE = 9, /* two channels begin at one port, or end at one port */
     HOX_FAULT_UNUSED = 10,    /* a port of a process is the end of no channel */
-    HOX_FAULT_SORTS = 11,     /* a channel's sort is not that of the ports at its ends */
+    HOX_FAULT_SORTS = 11,     /* the ports at a channel's ends have different sorts */
     HOX_FAULT_CAPACITY = 12,  /* a capacity is out of range */
     HOX_FAULT_BUDGET = 13,    /* the budget is out of range */
     HOX_FAULT_MEMORY = 14,    /* out of memory */
@@ -151,18 +151,20 @@ uint32_t hox_check(const char *text, size_t text_length, char *message, size_t m
  * out: report[0..report_room]          the report of the run (docs/format.md), or what is wrong with the
  *                                      description, as hox_check says it
  *      *report_length                  how long that is
- * Answers how the run ended, HOX_TERMINATED to HOX_MEMORY, or the fault of the description. */
+ * Answers how the run ended, HOX_TERMINATED to HOX_MEMORY, or the fault of the description; HOX_FAULT_MEMORY also where
+ * memory for the run or for the report is refused. */
 uint32_t hox_run(const char *text, size_t text_length, char *report, size_t report_room, size_t *report_length);
 
 /* Opens a flow: the network of a description, at its start.
  * in:  flow                            closed
  *      text[0..text_length]            the description
- *      inputs[0..inputs_length]        the names of the channels that will be fed, with spaces between them
+ *      inputs[0..inputs_length]        the names of the channels that will be fed, with white space between them
  *      outputs[0..outputs_length]      the names of those that will be drained
  * out: flow                            open if the answer is HOX_DONE, and otherwise as it was
  *      message[0..message_room]        what is wrong, on one line
  *      *message_length                 how long that is; 0 if the number says all, or memory for it was refused
- * Answers HOX_DONE, the fault of the description, HOX_OPEN, HOX_NO_TEXT, HOX_NO_INPUT, HOX_NO_OUTPUT or HOX_TWICE. */
+ * Answers HOX_DONE, or the first that applies of HOX_OPEN, HOX_NO_TEXT, the fault of the description, HOX_NO_INPUT,
+ * HOX_NO_OUTPUT and HOX_TWICE. */
 uint32_t hox_open(hox_flow *flow, const char *text, size_t text_length, const char *inputs, size_t inputs_length,
                   const char *outputs, size_t outputs_length, char *message, size_t message_room,
                   size_t *message_length);
@@ -242,6 +244,7 @@ uint32_t hox_verdict(hox_flow *flow, uint32_t *verdict);
  *     process NAME stopped | reads CHANNEL | writes CHANNEL | goes on (each process, in the description's order)
  *     channel NAME left N capacity N                                  (each channel: what it holds, and may hold)
  *     entries N growths N
+ * Where a channel at its greatest capacity would have to grow it says `goes on`: hox_advance answers HOX_CEILING then.
  * A flow keeps no history: it can't say how many tokens went through a channel, nor when one grew.
  * out: report[0..report_room]; *report_length: how long the text is
  * Answers HOX_DONE, HOX_CLOSED, or HOX_FAULT_MEMORY if memory for the text was refused. */
