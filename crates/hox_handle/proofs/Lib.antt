@@ -1,4 +1,0 @@
-mod Named
-mod OneMore
-mod Opened
-mod RunReports

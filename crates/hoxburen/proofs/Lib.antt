@@ -1,2 +1,0 @@
-mod Looks
-mod Owned
