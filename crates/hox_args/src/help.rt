@@ -82,7 +82,7 @@ Kinds of processes, with their arguments and their ports, inputs -> outputs (w a
   decimate N      w -> w      of each N words writes the first; N at least 1
   repeat N        w -> w      writes each word N times; N at least 1
   hold V          w f -> w    writes the word if the flag is true, else the one that it wrote last, V at first
-  delay N         w -> w      writes N zeros, then copies; N from 1 to 4
+  delay N         w -> w      writes for each word the one N before, 0 at first; N from 1 to 4
   low_pass K      w -> w      y += (x - y) / 2^K, rounded down, signed, from y = 0: writes y; K from 0 to 63
   clip LO HI      w -> w      writes the nearest word from LO to HI, signed
 Signed: a word is a number in two's complement, from 2^63 on itself less 2^64. V of constant, hold and prefix, K

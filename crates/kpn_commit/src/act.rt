@@ -26,6 +26,7 @@ fn read<K: Kinds, H: Keeper>(
     next: Local,
 ) -> Option<Deed>
     requires process { process < length store.old.state.processes }
+    requires processes { length store.old.state.processes ≡ length net.now.processes }
     requires channels { length store.old.state.channels ≡ length net.now.channels }
     requires room { length store.old.history < store.old.limit }
     ensures is_deed { IfSome result (IsDeed (family K.Kinds) net.now store.old.state process (Act.Read port)) }
@@ -33,7 +34,7 @@ fn read<K: Kinds, H: Keeper>(
     ensures cannot { IfNone result (IsPossible (family K.Kinds) net.now store.old.state process (Act.Read port) → ⊥) }
     ensures same { IfNone result (store.new ≡ store.old) }
 {
-    let channel = net.in_of(process, usize::from(port))?;
+    let channel = net.input_at(process, usize::from(port))?;
     let (tokens, _) = store.tokens_and_capacity(channel);
     if tokens == 0 {
         return None;
@@ -54,6 +55,7 @@ fn write<K: Kinds, H: Keeper>(
     next: Local,
 ) -> Option<Deed>
     requires process { process < length store.old.state.processes }
+    requires processes { length store.old.state.processes ≡ length net.now.processes }
     requires channels { length store.old.state.channels ≡ length net.now.channels }
     requires room { length store.old.history < store.old.limit }
     ensures is_deed { IfSome result (IsDeed (family K.Kinds) net.now store.old.state process (Act.Write port token)) }
@@ -61,7 +63,7 @@ fn write<K: Kinds, H: Keeper>(
     ensures cannot { IfNone result (IsPossible (family K.Kinds) net.now store.old.state process (Act.Write port token) → ⊥) }
     ensures same { IfNone result (store.new ≡ store.old) }
 {
-    let channel = net.out_of(process, usize::from(port))?;
+    let channel = net.output_at(process, usize::from(port))?;
     let (tokens, capacity) = store.tokens_and_capacity(channel);
     if tokens >= capacity {
         return None;
@@ -79,6 +81,7 @@ fn perform<K: Kinds, H: Keeper>(
     answer: Answer,
 ) -> Option<Deed>
     requires process { process < length store.old.state.processes }
+    requires processes { length store.old.state.processes ≡ length net.now.processes }
     requires channels { length store.old.state.channels ≡ length net.now.channels }
     requires room { length store.old.history < store.old.limit }
     ensures is_deed { IfSome result (IsDeed (family K.Kinds) net.now store.old.state process answer.act) }
@@ -146,6 +149,7 @@ fn perform_on<K: Kinds, H: Keeper>(
     answer: Answer,
 ) -> Option<Deed>
     requires process { process < length store.old.state.processes }
+    requires processes { length store.old.state.processes ≡ length net.now.processes }
     requires channels { length store.old.state.channels ≡ length net.now.channels }
     requires room { length store.old.history < store.old.limit }
     ensures is_deed { IfSome result (IsDeed (family K.Kinds) net.now store.old.state process answer.act) }

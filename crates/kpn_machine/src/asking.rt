@@ -52,9 +52,10 @@ pub fn ask_ready<B: Body, H: Keeper>(
             return most - left;
         };
         let Question { body, local, last } = question_to(net, &core.store, bodies, process);
-        let answer = body.answer(local, last);
+        let has_read = last.is_some();
+        let answer = body.answer(*local, *last);
         let is_ready = react_ready(net, core, process, answer);
-        *again = if is_ready && goes_on_after(answer.act, last) {
+        *again = if is_ready && goes_on_after(answer.act, has_read) {
             Some(process)
         } else {
             None
@@ -67,15 +68,15 @@ pub fn ask_ready<B: Body, H: Keeper>(
 /// What a process is asked: its body, with its local state and last token.
 struct Question<'a, B: Body> {
     body: &'a B,
-    local: Local,
-    last: Option<Token>,
+    local: &'a Local,
+    last: &'a Option<Token>,
 }
 
 /// What a live process is asked.
 #[inline(always)]
 fn question_to<'a, B: Body, H: Keeper>(
     net: &Net<B::Kinds>,
-    store: &Store<H>,
+    store: &'a Store<H>,
     bodies: &'a [Option<B>],
     process: usize,
 ) -> Question<'a, B>
@@ -84,7 +85,7 @@ fn question_to<'a, B: Body, H: Keeper>(
     requires within { process < length store.now.state.processes }
     requires live { status store.now.state process ≢ Done }
     ensures card { B.card result.body.now ≡ card_of net.now process }
-    ensures status { status store.now.state process ≡ Live result.local result.last }
+    ensures status { status store.now.state process ≡ Live result.local.now result.last.now }
 {
     let Status::Live { local, last } = store.status(process) else {
         unreachable!()
@@ -92,20 +93,16 @@ fn question_to<'a, B: Body, H: Keeper>(
     let Some(body) = &bodies[process] else {
         unreachable!()
     };
-    Question {
-        body,
-        local: *local,
-        last: *last,
-    }
+    Question { body, local, last }
 }
 
-/// Whether a process that has done this act is likely to do its next one at once, where `last` is the token that it read just
-/// before, if it did: one that has read writes then, or reads at its next port, while one that has written waits for its
-/// reader, and one that reads port 0 twice for its writer.
+/// Whether a process is likely to do its next act at once after this one, where `has_read` says that the act before was a
+/// read. A process writes or reads at its next port after a read. After a write it waits for its reader, and after two reads
+/// at port 0 for its writer.
 #[inline(always)]
-fn goes_on_after(act: Act, last: Option<Token>) -> bool {
+fn goes_on_after(act: Act, has_read: bool) -> bool {
     match act {
-        Act::Read(port) => last.is_none() || port > 0,
+        Act::Read(port) => !has_read || port > 0,
         Act::Write(..) | Act::Stop => false,
     }
 }

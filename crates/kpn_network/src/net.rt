@@ -239,7 +239,22 @@ impl<K: Kinds> Net<K> {
         ensures is { result ≡ in_of self.now p port }
         ensures within { IfSome result (λ c. c < length self.now.channels) }
     {
-        if p < self.ports.len() && port < 3 {
+        if p < self.ports.len() {
+            self.input_at(p, port)
+        } else {
+            find_in(self.channels.as_slice(), p, port)
+        }
+    }
+
+    /// Returns the number of the channel that leads to input `port` of process `p`, which must be one of the network;
+    /// `None` if it has no such input. It is `in_of` with a comparison less.
+    #[inline(always)]
+    pub fn input_at(&self, p: usize, port: usize) -> Option<usize>
+        requires process { p < length self.now.processes }
+        ensures is { result ≡ in_of self.now p port }
+        ensures within { IfSome result (λ c. c < length self.now.channels) }
+    {
+        if port < 3 {
             self.ports[p].ins[port]
         } else {
             find_in(self.channels.as_slice(), p, port)
@@ -252,7 +267,22 @@ impl<K: Kinds> Net<K> {
         ensures is { result ≡ out_of self.now p port }
         ensures within { IfSome result (λ c. c < length self.now.channels) }
     {
-        if p < self.ports.len() && port < 3 {
+        if p < self.ports.len() {
+            self.output_at(p, port)
+        } else {
+            find_out(self.channels.as_slice(), p, port)
+        }
+    }
+
+    /// Returns the number of the channel that leads from output `port` of process `p`, which must be one of the network;
+    /// `None` if it has no such output. It is `out_of` with a comparison less.
+    #[inline(always)]
+    pub fn output_at(&self, p: usize, port: usize) -> Option<usize>
+        requires process { p < length self.now.processes }
+        ensures is { result ≡ out_of self.now p port }
+        ensures within { IfSome result (λ c. c < length self.now.channels) }
+    {
+        if port < 3 {
             self.ports[p].outs[port]
         } else {
             find_out(self.channels.as_slice(), p, port)

@@ -128,7 +128,7 @@ pub const HELP: [Help; 21] = [
         name: "delay",
         arguments: "N",
         ports: "w -> w",
-        does: "writes N zeros, then copies; N from 1 to 4",
+        does: "writes for each word the one N before, 0 at first; N from 1 to 4",
     },
     Help {
         name: "low_pass",

@@ -6,6 +6,7 @@ use hox_stream::{
 };
 use kpn_body::Standard;
 use kpn_compute::Both;
+use kpn_flow::Pause;
 use kpn_model::{End, Text, Verdict};
 use kpn_net::read_sketch;
 use kpn_tokens::{
@@ -295,4 +296,17 @@ fn a_channel_is_named_twice(rt: HostRuntime) {
     let refused = opened(&rt, alloc, &both, &[]);
     same(&rt, "named", named(&refused), "twice");
     drop(refused);
+}
+
+#[test]
+fn a_stream_has_a_flow_and_its_ends(rt: HostRuntime) {
+    let alloc = rt.alloc();
+    let (fed, drained) = (name(&rt, alloc, "x"), name(&rt, alloc, "y"));
+    let stream = opened(&rt, alloc, &[fed], &[drained]);
+    let stream = stream.ok().expect(&rt, "no stream");
+    let (flow, inputs, outputs) = stream.into_parts();
+    same(&rt, "stand", flow.stand(), Pause::Cut);
+    same(&rt, "inputs", inputs.as_slice(), &[0]);
+    same(&rt, "outputs", outputs.as_slice(), &[4]);
+    drop(flow);
 }

@@ -141,16 +141,17 @@ fn compare_counter<R: Abort>(rt: &R, net: &Net<CountAndSink>) {
 /// Compares which channels the counter's network finds.
 fn compare_found<R: Abort>(rt: &R, net: &Net<CountAndSink>) {
     assert!(rt; net.processes() == 2);
-    let found = [
-        net.find_channel("c0"),
-        net.find_channel("c1"),
-        net.out_of(0, 0),
-        net.in_of(1, 0),
-        net.in_of(0, 0),
-        net.out_of(0, 1),
-    ];
-    let due = [Some(0), None, Some(0), Some(0), None, None];
-    same(rt, "found", found, due);
+    let (none, first) = (None, Some(0));
+    let by_name = [net.find_channel("c0"), net.find_channel("c1")];
+    same(rt, "found by name", by_name, [first, none]);
+    let inputs = [net.in_of(1, 0), net.in_of(0, 0), net.in_of(2, 0)];
+    same(rt, "inputs", inputs, [first, none, none]);
+    let outputs = [net.out_of(0, 0), net.out_of(0, 1), net.out_of(2, 0)];
+    same(rt, "outputs", outputs, [first, none, none]);
+    let inputs = [net.input_at(1, 0), net.input_at(0, 0), net.input_at(1, 3)];
+    same(rt, "inputs of processes", inputs, [first, none, none]);
+    let outputs = [net.output_at(0, 0), net.output_at(0, 1), net.output_at(0, 3)];
+    same(rt, "outputs of processes", outputs, [first, none, none]);
 }
 
 #[test]
