@@ -252,7 +252,7 @@ def unused(net, given):
 
 
 # What is said of a run that was cut: which channels have no tokens depends on the schedule.
-CUT = re.compile(rb"((?:hox: channel \w+: (?:no tokens; --tokens \w+=FILE gives some|[\w. ]+ has no tokens)\n)*)hox: the budget of (\d+) entries was spent; --budget gives up to 1000000, in version 2 up to 2000000, and hox stream has none\n")
+CUT = re.compile(rb"((?:hox: channel \w+: (?:no tokens; --tokens \w+=FILE gives some|[\w. ]+ has no tokens)\n)*)hox: the budget of (\d+) entries is spent; --budget allows up to 1000000, in version 2 up to 2000000, and hox stream has no budget\n")
 
 
 def due(request, report, streams):

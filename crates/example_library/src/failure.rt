@@ -7,7 +7,7 @@ use thiserror::Error;
 /// Why a network was not made, not written or not run.
 #[derive(Debug, Drop, Error)]
 pub(crate) enum Failure {
-    #[error("memory was refused")]
+    #[error("out of memory")]
     Memory(#[from] AllocError),
     #[error("the network has no text: {0}")]
     Text(#[from] TextFault),

@@ -29,7 +29,7 @@ fn say_unknown_format<R: Eprint>(rt: &R, fault: FormatFault<'_>) {
         }
         FormatFault::Key(key) => {
             eprintln!(rt;
-                "hox: --format: the format has no setting {key:?} that is written so; see hox run --help"
+                "hox: --format: unknown setting {key:?}; see hox run --help"
             )
         }
         FormatFault::Value { key, value } => {
@@ -43,7 +43,7 @@ fn say_unknown_format<R: Eprint>(rt: &R, fault: FormatFault<'_>) {
 
 /// Says that no file is given for a channel for which a format is named.
 fn say_no_use<R: Eprint>(rt: &R, channel: &str) {
-    let _ = eprintln!(rt; "hox: --format {channel}: no file is given for this channel");
+    let _ = eprintln!(rt; "hox: --format {channel}: this channel has no file");
 }
 
 /// Says that a file is for one channel alone that is given for several, and what would do.
@@ -56,7 +56,7 @@ fn say_single<R: Eprint>(rt: &R, file: &str) {
 /// Says that a file has another format for one channel than for the one before it, and what would do.
 fn say_unlike<R: Eprint>(rt: &R, file: &str, channel: &str) {
     let _ = eprintln!(rt;
-        "hox: --format {channel}: the channels of {file} may differ in digits and unsigned alone; --format all=FORMAT names one for all"
+        "hox: --format {channel}: the channels of {file} may differ only in digits and unsigned; --format all=FORMAT sets one for all"
     );
 }
 
@@ -74,7 +74,7 @@ pub(crate) fn say_head<R: Eprint>(rt: &R, file: &str, fault: HeadFault) {
             eprintln!(rt; "hox: {file} {what}")
         }
         HeadFault::NoColumn => {
-            eprintln!(rt; "hox: {file}: no column has the name that --format gives")
+            eprintln!(rt; "hox: {file}: no column has the name in --format")
         }
         HeadFault::Names(fault) => {
             let what = wrong_with_names(fault);
@@ -82,11 +82,11 @@ pub(crate) fn say_head<R: Eprint>(rt: &R, file: &str, fault: HeadFault) {
         }
         HeadFault::Channels { has } => {
             eprintln!(rt;
-                "hox: {file} has {has} channels; name as many, as l,r=FILE, or take one by channel=N of --format"
+                "hox: {file} has {has} channels; name as many, as in l,r=FILE, or choose one with channel=N in --format"
             )
         }
         HeadFault::NoChannel { has } => {
-            eprintln!(rt; "hox: {file} has {has} channels, and not the one that --format takes")
+            eprintln!(rt; "hox: {file} has {has} channels, but not the one in --format")
         }
         HeadFault::TooLong => { eprintln!(rt; "hox: line 1 of {file} has more than 65536 bytes") }
         HeadFault::TooWide => {
@@ -98,9 +98,9 @@ pub(crate) fn say_head<R: Eprint>(rt: &R, file: &str, fault: HeadFault) {
 /// What is wrong with a WAV file.
 fn wrong_with_wav(fault: WavFault) -> &'static str {
     match fault {
-        WavFault::NotWav => "is no WAV file; --format names another format",
-        WavFault::NotPcm => "has other samples than PCM of 8, 16, 24 or 32 bits",
-        WavFault::NoFormat => "does not tell what its samples are before they begin",
+        WavFault::NotWav => "is not a WAV file; choose its format with --format",
+        WavFault::NotPcm => "has samples other than PCM of 8, 16, 24 or 32 bits",
+        WavFault::NoFormat => "has no description of its samples before them",
         WavFault::CutShort => "ends before its samples begin",
         WavFault::TooLong => "has more than 65536 bytes before its samples",
     }
@@ -109,9 +109,9 @@ fn wrong_with_wav(fault: WavFault) -> &'static str {
 /// What is wrong with a row of names.
 fn wrong_with_names(fault: RecordFault) -> &'static str {
     match fault {
-        RecordFault::OpenQuote => "has a quoted name that goes on over its end",
-        RecordFault::TwoRows => "has a carriage return within; end lines with line feeds",
-        _ => "is no row of names",
+        RecordFault::OpenQuote => "has a quoted name without an end",
+        RecordFault::TwoRows => "has a carriage return inside; end lines with line feeds",
+        _ => "is not a row of names",
     }
 }
 
@@ -145,7 +145,7 @@ pub(crate) fn say_files<R: Eprint>(rt: &R, outputs: &[Pair<'_>], files: &[FileNo
 pub(crate) fn say_misfit<R: Eprint>(rt: &R, pair: &Pair<'_>, token: u64) {
     let (channel, file) = (pair.channel, output_name(pair.file));
     let _ = eprintln!(rt;
-        "hox: token {token} of channel {channel} has no sample in {file}; clip of --format writes the nearest, or take wider samples"
+        "hox: token {token} of channel {channel} doesn't fit a sample of {file}; add clip to its --format, or use wider samples"
     );
 }
 

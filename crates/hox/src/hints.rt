@@ -138,10 +138,10 @@ fn say_user<R: Eprint>(rt: &R, sketch: &Sketch, process: &ProcessSketch) {
     let name = process.name.as_str();
     for port in 0..3 {
         if is_unused_in::<AllKinds>(sketch, name, &signature, port) {
-            return say_part(rt, "; ", "let a channel lead to it");
+            return say_part(rt, "; ", "connect a channel to it");
         }
         if is_unused_out::<AllKinds>(sketch, name, &signature, port) {
-            return say_part(rt, "; ", "let a channel lead from it to a drain");
+            return say_part(rt, "; ", "connect it to a drain");
         }
     }
 }
@@ -166,9 +166,9 @@ fn say_of_channel<R: Eprint>(rt: &R, sketch: &Sketch, channel: &ChannelSketch, m
     say_part(rt, "", text);
     if message.fault == NetFault::Twice {
         let hint = if text.contains(": output ") {
-            "a copy writes to two channels"
+            "use a copy to write to two channels"
         } else {
-            "an add, merge, select or weave reads two channels"
+            "use an add, merge, select or weave to read two channels"
         };
         say_part(rt, "; ", hint);
     }

@@ -59,7 +59,7 @@ fn say_fault<R: Eprint + AllocGlobal>(rt: &R, file: &str, asked: &Asked<'_>, fau
             say_no_memory(rt);
         }
         Fault::Lost => {
-            let _ = eprintln!(rt; "hox: a worker's answer was refused, and the run was given up");
+            let _ = eprintln!(rt; "hox: internal error: a worker's answer was rejected; the run was abandoned");
         }
     }
 }
@@ -100,7 +100,7 @@ pub(crate) fn say_refused<R: Eprint + AllocGlobal>(rt: &R, file: &str, refused: 
         say_of(
             rt,
             file,
-            "version = 2 in place of version = 1 would allow it",
+            "version = 2 allows it",
         );
     }
 }
@@ -181,7 +181,7 @@ fn say_no_pair<R: Eprint>(rt: &R, option: &str, text: &str) {
 
 /// Says that standard input is named more than once.
 fn say_input_named_twice<R: Eprint>(rt: &R) {
-    let _ = eprintln!(rt; "hox: standard input can be read once, and is named twice; name a file");
+    let _ = eprintln!(rt; "hox: standard input is named twice, but can be read only once; use a file");
 }
 
 /// Says why a file of tokens is refused.
@@ -261,17 +261,17 @@ fn line_in(request: &Request, place: usize, number: usize) -> &str {
 pub(crate) fn needed(fault: RecordFault) -> &'static str {
     match fault {
         RecordFault::NotAWord => {
-            "is no word; write a number from -2^63 to 2^64 - 1, or hexadecimal after 0x"
+            "is not a word; write a number from -2^63 to 2^64 - 1, or hexadecimal after 0x"
         }
-        RecordFault::NotAFlag => "is no flag; write true or false",
-        RecordFault::Underscore => "is no word; leave out the _",
-        RecordFault::TooPrecise => "has more digits after the point than are to be read",
-        RecordFault::OutOfRange => "is no word of 64 bits; a word is from -2^63 to 2^64 - 1",
+        RecordFault::NotAFlag => "is not a flag; write true or false",
+        RecordFault::Underscore => "is not a word; leave out the _",
+        RecordFault::TooPrecise => "has too many digits after the point",
+        RecordFault::OutOfRange => "doesn't fit 64 bits; a word is from -2^63 to 2^64 - 1",
         RecordFault::NoText => "is not UTF-8",
         RecordFault::NoField => "has no field for the column",
-        RecordFault::EmptyField => "has nothing in the field of the column",
-        RecordFault::OpenQuote => "has a quoted field that goes on over its end",
-        RecordFault::TwoRows => "has a carriage return within; end lines with line feeds",
+        RecordFault::EmptyField => "has an empty field in the column",
+        RecordFault::OpenQuote => "has a quoted field without an end",
+        RecordFault::TwoRows => "has a carriage return inside; end lines with line feeds",
         RecordFault::CutShort => "ends before its last byte",
     }
 }
@@ -290,7 +290,7 @@ pub(crate) fn input_name(file: &str) -> &str {
 
 /// Says that memory was refused, and returns the exit status.
 pub(crate) fn say_no_memory<R: Eprint>(rt: &R) -> u8 {
-    let _ = eprintln!(rt; "hox: memory was refused");
+    let _ = eprintln!(rt; "hox: out of memory");
     Status::MemoryRefused.code()
 }
 

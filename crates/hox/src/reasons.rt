@@ -77,11 +77,11 @@ pub(crate) fn say_clash<R: Eprint>(rt: &R, one: &Use<'_>, other: &Use<'_>) {
     say_use(rt, "hox: ", one);
     say_use(rt, " and ", other);
     let why = if one.role.is_written() || other.role.is_written() {
-        "are one file; write to another"
+        "are the same file; write to another"
     } else if one.role.gives_tokens() && one.channel == other.channel {
-        "are for one channel; name one file"
+        "are for the same channel; name one file"
     } else {
-        "are one source, which can be read once; name a file"
+        "are the same source, which can be read only once; use a file"
     };
     let _ = eprintln!(rt; " {why}");
 }
@@ -97,6 +97,6 @@ fn say_use<R: Eprint>(rt: &R, before: &str, used: &Use<'_>) {
         Role::Tokens => eprint!(rt; "{before}--tokens {channel}={file}"),
         Role::In => eprint!(rt; "{before}--in {channel}={file}"),
         Role::Out => eprint!(rt; "{before}--out {channel}={file}"),
-        Role::Report => eprint!(rt; "{before}what is told on standard output"),
+        Role::Report => eprint!(rt; "{before}the report on standard output"),
     };
 }

@@ -156,7 +156,7 @@ fn say_apart_at<R: Eprint>(rt: &R, pair: Option<&Pair<'_>>) {
     if let Some(pair) = pair {
         let (channel, file) = (pair.channel, output_name(pair.file));
         let _ = eprintln!(rt;
-            "hox: channel {channel}: more than {MOST_AHEAD} of its tokens wait for their rows in {file}; write it to a file of its own"
+            "hox: channel {channel}: more than {MOST_AHEAD} of its tokens wait for the other columns of {file}; write it to its own file"
         );
     }
 }

@@ -61,7 +61,7 @@ fn say_stream_stop<R: Print + Eprint + AllocGlobal>(rt: &R, stop: StreamStop<'_>
 
 /// Says that more than one stream goes to standard output, and returns the exit status.
 fn say_output_named_twice<R: Eprint>(rt: &R) -> u8 {
-    let _ = eprintln!(rt; "hox: standard output takes one stream, and is named twice; name a file");
+    let _ = eprintln!(rt; "hox: standard output is named twice, but takes only one stream; use a file");
     Status::WrongArguments.code()
 }
 
@@ -133,7 +133,7 @@ fn say_name_fault<R: Eprint>(
 /// Says that a process writes itself to the channel that should be fed, and returns the exit status.
 fn say_writer<R: Eprint>(rt: &R, name: &str, process: &str) -> u8 {
     let _ = eprintln!(rt;
-        "hox: --in {name}: the writer of that channel, {process}, writes to it itself; let its kind be input, or input_flags"
+        "hox: --in {name}: process {process} writes to that channel itself; make its kind input or input_flags"
     );
     Status::WrongArguments.code()
 }
@@ -141,7 +141,7 @@ fn say_writer<R: Eprint>(rt: &R, name: &str, process: &str) -> u8 {
 /// Says that a process reads the channel that should be drained, and returns the exit status.
 fn say_reader<R: Eprint>(rt: &R, name: &str, process: &str) -> u8 {
     let _ = eprintln!(rt;
-        "hox: --out {name}: the reader of that channel, {process}, takes its tokens; let a copy write them also to a channel that a process of kind drain, drain_flags or sink reads"
+        "hox: --out {name}: process {process} reads that channel; add a copy that feeds a drain, drain_flags or sink, and name its channel"
     );
     Status::WrongArguments.code()
 }

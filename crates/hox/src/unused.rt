@@ -62,7 +62,7 @@ fn say_not_read<R: Eprint>(rt: &R, channel: &str, unread: usize, tokens: usize) 
 /// Says which budget was spent, and what would do.
 fn say_budget_spent<R: Eprint>(rt: &R, budget: u64) {
     let _ = eprintln!(rt;
-        "hox: the budget of {budget} entries was spent; --budget gives up to {GREATEST_BUDGET}, in version 2 up to {GREATEST_HIGH_BUDGET}, and hox stream has none"
+        "hox: the budget of {budget} entries is spent; --budget allows up to {GREATEST_BUDGET}, in version 2 up to {GREATEST_HIGH_BUDGET}, and hox stream has no budget"
     );
 }
 

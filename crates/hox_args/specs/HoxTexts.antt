@@ -9,4 +9,4 @@ abbrev pub text_of_hox_fault : WordsFault → Option Text
 text_of_hox_fault (Parser e) = None
 text_of_hox_fault Workers = Some (codes "error: --workers takes a number from 1 to 16\n\nFor more information, try 'hox run --help'.\n")
 text_of_hox_fault Budget = Some (codes "error: --budget takes a number\n\nFor more information, try 'hox run --help'.\n")
-text_of_hox_fault Memory = Some (codes "error: memory was refused\n")
+text_of_hox_fault Memory = Some (codes "error: out of memory\n")

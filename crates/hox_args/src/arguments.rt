@@ -144,7 +144,7 @@ impl fmt::Display for WordsFault {
             WordsFault::Budget => f.write_str(
                 "error: --budget takes a number\n\nFor more information, try 'hox run --help'.\n",
             ),
-            WordsFault::Memory => f.write_str("error: memory was refused\n"),
+            WordsFault::Memory => f.write_str("error: out of memory\n"),
         }
     }
 }

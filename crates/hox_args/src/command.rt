@@ -54,7 +54,7 @@ fn check<'a>(alloc: Global) -> Result<Command<'a>, AllocError>
 fn run<'a>(alloc: Global) -> Result<Command<'a>, AllocError>
     ensures { MakesLocal hox_run_command result }
 {
-    let progress = "Shows on standard error how far the run is, also where that is no terminal";
+    let progress = "Shows progress on standard error, even if that is no terminal";
     let run = with_arg(run_bounds(alloc), flag(alloc, "progress", progress));
     let run = with_arg(run, quiet(alloc));
     with_arg(run, file(alloc))
@@ -65,7 +65,7 @@ fn run_bounds<'a>(alloc: Global) -> Result<Command<'a>, AllocError>
     ensures { MakesLocal hox_run_bounds result }
 {
     let budget =
-        "How many entries the run may have [default: that of the description, or else the greatest of its version]";
+        "The most entries that the run may have [default: that of the description, or else the greatest of its version]";
     let run = with_arg(run_streams(alloc), option(alloc, "budget", "N", budget));
     with_arg(run, workers(alloc))
 }
@@ -77,10 +77,10 @@ fn run_streams<'a>(alloc: Global) -> Result<Command<'a>, AllocError>
     let run = Ok(bare(
         alloc,
         "run",
-        "Runs the network of a description, reports how it ended, and writes its streams",
+        "Runs the network of a description, reports its end, and writes its streams",
         KINDS_AND_FILES,
     ));
-    let show = "The report has the stream of this channel; may be given again";
+    let show = "Adds the stream of this channel to the report; repeatable";
     let run = with_arg(run, tokens(alloc));
     let run = with_arg(run, out(alloc));
     let run = with_arg(run, format(alloc));
@@ -104,11 +104,11 @@ fn draw_flags<'a>(alloc: Global) -> Result<Command<'a>, AllocError>
     let draw = Ok(bare(
         alloc,
         "draw",
-        "Draws the network of a description, or how a run left it, for Graphviz",
+        "Draws the network of a description, or the end of its run, for Graphviz",
         PICTURES,
     ));
-    let is_run = "Runs the network, and draws how the run left it";
-    let down = "Draws the channels downwards, and not to the right";
+    let is_run = "Runs the network first, and draws the end of the run";
+    let down = "Draws from top to bottom instead of left to right";
     let draw = with_arg(draw, flag(alloc, "run", is_run));
     with_arg(draw, flag(alloc, "down", down))
 }
@@ -119,11 +119,11 @@ fn stream<'a>(alloc: Global) -> Result<Command<'a>, AllocError>
     let stream = Ok(bare(
         alloc,
         "stream",
-        "Runs the network of a description for ever on tokens that come, in bounded memory",
+        "Runs the network of a description without end, on tokens as they come, in bounded memory",
         STREAMS,
     ));
     let input =
-        "The channel gets the tokens of the file as they come, one a line, - is standard input; may be given again";
+        "Feeds the channel with the tokens of the file as they come, one a line; - is standard input; repeatable";
     let stream = with_arg(stream, list(alloc, "in", "CHANNEL=FILE", input));
     let stream = with_arg(stream, out(alloc));
     let stream = with_arg(stream, format(alloc));
@@ -145,7 +145,7 @@ fn tokens<'a>(alloc: Global) -> Arg<'a>
     ensures rule { rule_of result ≡ list_rule (codes "tokens") }
     ensures local { result.global ≡ false }
 {
-    let help = "The channel holds the tokens of the file at first, one a line; may be given again";
+    let help = "Puts the tokens of the file into the channel at the start, one a line; repeatable";
     list(alloc, "tokens", "CHANNEL=FILE", help)
 }
 
@@ -154,7 +154,7 @@ fn out<'a>(alloc: Global) -> Arg<'a>
     ensures local { result.global ≡ false }
 {
     let help =
-        "Writes the stream of the channel to the file, one token a line, - is standard output; may be given again";
+        "Writes the stream of the channel to the file, one token a line; - is standard output; repeatable";
     list(alloc, "out", "CHANNEL=FILE", help)
 }
 
@@ -163,7 +163,7 @@ fn format<'a>(alloc: Global) -> Arg<'a>
     ensures local { result.global ≡ false }
 {
     let help =
-        "How the file of the channel has tokens: text, csv, wav, or samples as s16le (below); all stands for all files; repeatable";
+        "The format of the channel's file: text, csv, wav, or samples such as s16le (below); all means all files; repeatable";
     list(alloc, "format", "CHANNEL=FORMAT", help)
 }
 
@@ -172,7 +172,7 @@ fn unsigned<'a>(alloc: Global) -> Arg<'a>
     ensures local { result.global ≡ false }
 {
     let help =
-        "Writes the words of the channel as numbers from 0 to 2^64 - 1; all stands for all channels; repeatable";
+        "Writes the words of the channel as numbers from 0 to 2^64 - 1; all means all channels; repeatable";
     list(alloc, "unsigned", "CHANNEL", help)
 }
 

@@ -14,7 +14,7 @@ Exit status:
   5  processes wait for one another in a circle
   6  a channel would have grown past its ceiling: it is full
   7  writing failed
-  8  a worker's answer was refused, and the run was given up
+  8  internal error: a worker's answer was rejected; the run was abandoned
 ";
 
 /// How a description and a file of tokens are written, as the help of the subcommands tells it.

@@ -75,7 +75,7 @@ fn say_input<R: Eprint>(rt: &R, command: &str, file: &str) {
 
 /// Says that the arguments could not be collected, since memory was refused.
 fn say_no_memory<R: Eprint>(rt: &R) -> u8 {
-    let _ = eprintln!(rt; "kpn: memory was refused while the words were read");
+    let _ = eprintln!(rt; "kpn: out of memory while reading the arguments");
     Status::WrongArguments.code()
 }
 

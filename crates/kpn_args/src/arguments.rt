@@ -26,7 +26,7 @@ Exit status:
   5  the run ended in a deadlock
   6  a channel would have grown past its ceiling
   7  writing failed
-  8  a worker's answer was refused, and the run was given up
+  8  internal error: a worker's answer was rejected; the run was abandoned
 ";
 
 /// Where the subcommands find the description, and how one is written.
@@ -263,9 +263,9 @@ fn check<'a>(alloc: Global) -> Command<'a>
 fn run<'a>(alloc: Global) -> Result<Command<'a>, AllocError>
     ensures { MakesLocal run_command result }
 {
-    let about = "Runs the network of a description, and reports how it ended";
+    let about = "Runs the network of a description, and reports its end";
     let workers = "How many workers run the network [default: 1]";
-    let show = "Also prints the tokens that were put on this channel";
+    let show = "Also prints the tokens written to this channel";
     let run = Ok(bare(alloc, "run", about));
     let run = with_arg(run, option(alloc, "workers", "N", workers));
     with_arg(run, option(alloc, "show", "NAME", show))

@@ -21,7 +21,7 @@ pub enum TextFault {
     #[error("only descriptions of version 2 have a step and start tokens, which are integers or booleans")]
     Version,
     /// Memory was refused.
-    #[error("memory was refused")]
+    #[error("out of memory")]
     Memory,
 }
 

@@ -21,7 +21,7 @@ pub enum Status {
     AtCeiling,
     /// 7: writing failed.
     WriteFailed,
-    /// 8: a worker's answer was refused, and the run was given up.
+    /// 8: internal error: a worker's answer was rejected; the run was abandoned.
     Lost,
 }
 

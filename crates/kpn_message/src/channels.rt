@@ -54,7 +54,7 @@ fn push_no_end<K: Kinds>(
     };
     let process = Quoted(name);
     if process_named(processes, name).is_none() {
-        write!(out, "{key} {process}; no process has this name")
+        write!(out, "{key}: unknown process {process}")
     } else if is_out {
         write!(out, "process {process} has no output {}", channel.out)
     } else {
@@ -72,7 +72,7 @@ fn push_shared(
         let (process, other) = (Quoted(channel.from.as_str()), Quoted(other));
         return write!(
             out,
-            "output {} of process {process} is the end of channel {other} already",
+            "output {} of process {process} already writes to channel {other}",
             channel.out
         );
     }
@@ -80,7 +80,7 @@ fn push_shared(
         let (process, other) = (Quoted(channel.to.as_str()), Quoted(other));
         return write!(
             out,
-            "input {} of process {process} is the end of channel {other} already",
+            "input {} of process {process} already reads channel {other}",
             channel.input
         );
     }
@@ -117,7 +117,7 @@ fn push_sorts<K: Kinds>(
     let process = Quoted(name);
     write!(
         out,
-        "sort {sort}; {end} {port} of process {process} is of {other}"
+        "sort {sort}, but {end} {port} of process {process} has sort {other}"
     )
 }
 
@@ -130,7 +130,7 @@ fn push_tokens(out: &mut String, channel: &ChannelSketch) -> Result<(), AllocErr
             let capacity = channel.capacity;
             write!(
                 out,
-                "tokens has length {}; the capacity is {capacity}",
+                "tokens has length {}, but the capacity is {capacity}",
                 tokens.len()
             )
         }
@@ -146,9 +146,9 @@ fn push_token(
 ) -> Result<(), AllocError> {
     match (sort, token) {
         (Sort::Words, Some(TokenSketch::Integer(x))) => {
-            write!(out, "tokens[{k}] is {x}; a word is not negative")
+            write!(out, "tokens[{k}] is {x}; a word can't be negative")
         }
-        (Sort::Words, _) => write!(out, "tokens[{k}] is no integer; the sort is words"),
-        (Sort::Flags, _) => write!(out, "tokens[{k}] is no boolean; the sort is flags"),
+        (Sort::Words, _) => write!(out, "tokens[{k}] is not an integer; the sort is words"),
+        (Sort::Flags, _) => write!(out, "tokens[{k}] is not a boolean; the sort is flags"),
     }
 }

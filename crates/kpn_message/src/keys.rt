@@ -156,7 +156,7 @@ fn push_keys(out: &mut String, table: &Table, keys: &[Key]) -> Result<bool, Allo
     if let Some(unknown) = table.keys().find(|key| !is_among(keys, key.as_str())) {
         write!(
             out,
-            "key {} is unknown; the keys are",
+            "unknown key {}; the keys are",
             Quoted(unknown.as_str())
         )?;
         push_names(out, keys)?;

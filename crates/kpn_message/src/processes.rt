@@ -25,7 +25,7 @@ pub(crate) fn push_process<K: Kinds>(
         NetFault::Name => write!(out, "{NAME_FORM}"),
         NetFault::Kind => {
             let kind = Quoted(process.kind.as_str());
-            write!(out, "kind {kind} is unknown; the kinds are {kinds}")
+            write!(out, "unknown kind {kind}; the kinds are {kinds}")
         }
         NetFault::Args => push_args::<K>(out, process),
         NetFault::Unused => push_unused::<K>(out, sketch, process),
@@ -44,7 +44,7 @@ fn push_args<K: Kinds>(out: &mut String, process: &ProcessSketch) -> Result<(), 
     if args.len() != count {
         return write!(
             out,
-            "args has length {}; kind {kind} takes {count}",
+            "args has length {}, but kind {kind} takes {count}",
             args.len()
         );
     }
@@ -89,10 +89,10 @@ fn push_unused<K: Kinds>(
     let name = process.name.as_str();
     for port in 0..3 {
         if is_unused_in::<K>(sketch, name, &signature, port) {
-            return write!(out, "input {port} is the end of no channel");
+            return write!(out, "input {port} has no channel");
         }
         if is_unused_out::<K>(sketch, name, &signature, port) {
-            return write!(out, "output {port} is the end of no channel");
+            return write!(out, "output {port} has no channel");
         }
     }
     Ok(())

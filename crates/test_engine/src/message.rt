@@ -66,7 +66,7 @@ static KEYS: [(&str, &str, u8, &str); 15] = [
         "budget = 100",
         "budgets = 100",
         2,
-        "key \"budgets\" is unknown; the keys are version, budget, process, channel, step",
+        "unknown key \"budgets\"; the keys are version, budget, process, channel, step",
     ),
     ("version = 2\n", "", 2, "key \"version\" is missing"),
     (
@@ -79,19 +79,19 @@ static KEYS: [(&str, &str, u8, &str); 15] = [
         "version = 2",
         "version = 1",
         2,
-        "channel[2] at line 34: key \"tokens\" is unknown; the keys are name, from, to, out, in, sort, capacity",
+        "channel[2] at line 34: unknown key \"tokens\"; the keys are name, from, to, out, in, sort, capacity",
     ),
     (
         "version = 2",
         "version = 1\nstep = 2",
         2,
-        "key \"step\" is unknown; the keys are version, budget, process, channel",
+        "unknown key \"step\"; the keys are version, budget, process, channel",
     ),
     (
         "kind = \"copy\"",
         "knd = \"copy\"",
         2,
-        "process[1] at line 9: key \"knd\" is unknown; the keys are name, kind, args",
+        "process[1] at line 9: unknown key \"knd\"; the keys are name, kind, args",
     ),
     (
         "kind = \"copy\"",
@@ -139,7 +139,7 @@ static KEYS: [(&str, &str, u8, &str); 15] = [
         "version = 2",
         "version = 3",
         2,
-        "channel[2] at line 34: key \"tokens\" is unknown; the keys are name, from, to, out, in, sort, capacity",
+        "channel[2] at line 34: unknown key \"tokens\"; the keys are name, from, to, out, in, sort, capacity",
     ),
 ];
 
@@ -185,13 +185,13 @@ static PROCESSES: [(&str, &str, u8, &str); 13] = [
         "kind = \"count\"",
         "kind = \"cuont\"",
         6,
-        "process \"src\": kind \"cuont\" is unknown; the kinds are count and sink",
+        "process \"src\": unknown kind \"cuont\"; the kinds are count and sink",
     ),
     (
         "args = [1, 3]",
         "args = [1]",
         7,
-        "process \"src\": args has length 1; kind \"count\" takes 2",
+        "process \"src\": args has length 1, but kind \"count\" takes 2",
     ),
     (
         "args = [1, 3]",
@@ -209,19 +209,19 @@ static PROCESSES: [(&str, &str, u8, &str); 13] = [
         "kind = \"copy\"",
         "kind = \"switch\"",
         10,
-        "process \"two\": input 1 is the end of no channel",
+        "process \"two\": input 1 has no channel",
     ),
     (
         "kind = \"count\"\nargs = [1, 3]",
         "kind = \"copy\"",
         10,
-        "process \"src\": input 0 is the end of no channel",
+        "process \"src\": input 0 has no channel",
     ),
     (
         "[[channel]]\nname = \"c1\"\nfrom = \"two\"\nto = \"s0\"\ncapacity = 7\n",
         "",
         10,
-        "process \"two\": output 0 is the end of no channel",
+        "process \"two\": output 0 has no channel",
     ),
 ];
 
@@ -231,13 +231,13 @@ static CHANNELS: [(&str, &str, u8, &str); 14] = [
         "from = \"src\"",
         "from = \"scr\"",
         8,
-        "channel \"c0\": from \"scr\"; no process has this name",
+        "channel \"c0\": from: unknown process \"scr\"",
     ),
     (
         "to = \"s1\"",
         "to = \"s2\"",
         8,
-        "channel \"c2\": to \"s2\"; no process has this name",
+        "channel \"c2\": to: unknown process \"s2\"",
     ),
     (
         "out = 1",
@@ -255,19 +255,19 @@ static CHANNELS: [(&str, &str, u8, &str); 14] = [
         "out = 1",
         "out = 0",
         9,
-        "channel \"c2\": output 0 of process \"two\" is the end of channel \"c1\" already",
+        "channel \"c2\": output 0 of process \"two\" already writes to channel \"c1\"",
     ),
     (
         "to = \"s1\"",
         "to = \"s0\"",
         9,
-        "channel \"c2\": input 0 of process \"s0\" is the end of channel \"c1\" already",
+        "channel \"c2\": input 0 of process \"s0\" already reads channel \"c1\"",
     ),
     (
         "capacity = 7",
         "sort = \"flags\"",
         11,
-        "channel \"c1\": sort flags; output 0 of process \"two\" is of words",
+        "channel \"c1\": sort flags, but output 0 of process \"two\" has sort words",
     ),
     (
         "capacity = 7",
@@ -291,19 +291,19 @@ static CHANNELS: [(&str, &str, u8, &str); 14] = [
         "tokens = []",
         "tokens = [1, 2]",
         16,
-        "channel \"c2\": tokens has length 2; the capacity is 1",
+        "channel \"c2\": tokens has length 2, but the capacity is 1",
     ),
     (
         "tokens = []",
         "tokens = [true]",
         16,
-        "channel \"c2\": tokens[0] is no integer; the sort is words",
+        "channel \"c2\": tokens[0] is not an integer; the sort is words",
     ),
     (
         "tokens = []",
         "tokens = [-1]",
         16,
-        "channel \"c2\": tokens[0] is -1; a word is not negative",
+        "channel \"c2\": tokens[0] is -1; a word can't be negative",
     ),
     (
         "budget = 100",
@@ -365,17 +365,17 @@ static TEXTS: [(&str, u8, &str); 14] = [
     (
         "version = 1\nbudget = 1000001\n[[process]]\nname = \"a\"\nkind = \"copy\"\n[[channel]]\nname = \"c\"\nfrom = \"a\"\nto = \"a\"\ncapacity = 65536\n[[channel]]\nname = \"d\"\nfrom = \"a\"\nout = 1\nto = \"a\"\n",
         9,
-        "channel \"d\": input 0 of process \"a\" is the end of channel \"c\" already",
+        "channel \"d\": input 0 of process \"a\" already reads channel \"c\"",
     ),
     (
         "version = 1\nprocess = [{ name = \"a\", kind = \"count\", args = [1, 3] }, { name = \"d\", kind = \"divides\", args = [2] }, { name = \"s\", kind = \"sink\", args = [3] }]\nchannel = [{ name = \"x\", from = \"a\", to = \"d\" }, { name = \"y\", from = \"d\", to = \"s\", sort = \"flags\" }]\n",
         11,
-        "channel \"y\": sort flags; input 0 of process \"s\" is of words",
+        "channel \"y\": sort flags, but input 0 of process \"s\" has sort words",
     ),
     (
         "version = 2\nprocess = [{ name = \"a\", kind = \"count\", args = [1, 3] }, { name = \"b\", kind = \"count\", args = [1, 3] }, { name = \"d\", kind = \"divides\", args = [2] }, { name = \"w\", kind = \"switch\" }, { name = \"s\", kind = \"sink\", args = [3] }, { name = \"t\", kind = \"sink\", args = [3] }]\nchannel = [{ name = \"x\", from = \"a\", to = \"d\" }, { name = \"y\", from = \"b\", to = \"w\" }, { name = \"f\", from = \"d\", to = \"w\", in = 1, sort = \"flags\", tokens = [true, 1], capacity = 2 }, { name = \"u\", from = \"w\", to = \"s\" }, { name = \"v\", from = \"w\", out = 1, to = \"t\" }]\n",
         16,
-        "channel \"f\": tokens[1] is no boolean; the sort is flags",
+        "channel \"f\": tokens[1] is not a boolean; the sort is flags",
     ),
 ];
 
@@ -456,7 +456,7 @@ fn the_line_of_a_table_is_that_of_its_header(rt: HostRuntime) {
 
 /// The faults that have no message, with the numbers and the lines of these.
 static PLAIN: [(NetFault, u8, &str); 2] = [
-    (NetFault::Memory, 14, "memory was refused"),
+    (NetFault::Memory, 14, "out of memory"),
     (
         NetFault::Input,
         15,
@@ -524,8 +524,8 @@ channel = [{ name = \"c0\", from = \"src\", to = \"snk\", capacity = 0 }]
 
 /// What is told of it, first the fault that it is refused for.
 static MESSAGES: [&str; 5] = [
-    "process \"src\": kind \"cuont\" is unknown; the kinds are count and sink",
-    "process \"snk\": args has length 0; kind \"sink\" takes 1",
+    "process \"src\": unknown kind \"cuont\"; the kinds are count and sink",
+    "process \"snk\": args has length 0, but kind \"sink\" takes 1",
     "channel \"c0\": capacity 0; it must be 1 to 1000000",
     "budget 0; it must be 1 to 2000000",
     "step 0; it must be 1 to 1024",

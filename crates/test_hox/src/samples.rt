@@ -507,7 +507,7 @@ fn each_fault_of_a_description_is_told(rt: HostRuntime) {
         say_of(rt, file, message.text.as_str());
     }
     let due =
-        "process \"src\": args has length 1; kind \"input\" takes 0\nchannel \"x\": capacity 0; it must be 1 to 1000000\n";
+        "process \"src\": args has length 1, but kind \"input\" takes 0\nchannel \"x\": capacity 0; it must be 1 to 1000000\n";
     same(rt, "faults", said.as_str(), due);
 }
 

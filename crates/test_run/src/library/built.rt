@@ -100,13 +100,13 @@ fn faults_are_told_by_name(rt: HostRuntime) {
     let net: Result<Net<Standard>, NetFault> = made.check();
     same(&rt, "fault", net.err(), Some(NetFault::NoEnd));
     let message = made.message::<Standard>(NetFault::NoEnd, KINDS);
-    let due = "channel \"f\": from \"dv\"; no process has this name";
+    let due = "channel \"f\": from: unknown process \"dv\"";
     same(&rt, "end", message.as_deref(), Some(due));
     drop(made);
     let mut made = Builder::new(alloc);
     made.process("src", "cuont", &[1, 3]).expect(&rt, "memory");
     let message = made.message::<Standard>(NetFault::Kind, KINDS);
-    let due = "process \"src\": kind \"cuont\" is unknown; the kinds are count and sink";
+    let due = "process \"src\": unknown kind \"cuont\"; the kinds are count and sink";
     same(&rt, "kind", message.as_deref(), Some(due));
     let none = sketch_message::<Standard>(alloc, made.sketch(), NetFault::Memory, KINDS);
     same(&rt, "memory", none.as_deref(), None);
@@ -159,7 +159,7 @@ fn faults_beside_such_words_are_told(rt: HostRuntime) {
     let mut made = Builder::new(rt.alloc());
     add_held(&rt, &mut made, "cuont");
     let message = made.message::<Standard>(NetFault::Kind, KINDS);
-    let due = "process \"src\": kind \"cuont\" is unknown; the kinds are count and sink";
+    let due = "process \"src\": unknown kind \"cuont\"; the kinds are count and sink";
     same(&rt, "kind", message.as_deref(), Some(due));
     drop(made);
 }
