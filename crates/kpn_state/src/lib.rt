@@ -1,5 +1,5 @@
-//! The state of a network, with its channels as rings; the history that led to it; the standing of each
-//! process; and who waits at the channels: the candidates for a growth, and the marks.
+//! The state of a network, with its channels as rings; its history; the standings of its processes; the
+//! candidates for a growth; and the marks of who waits at the channels.
 #![tactic(auto)]
 
 pub mod candidates;
