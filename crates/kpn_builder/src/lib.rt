@@ -1,5 +1,5 @@
-//! Networks that a program makes: a description that is built process by process and channel by
-//! channel, checked as a text is, and written back as a text.
+//! Networks made by a program: builds a description process by process and channel by channel, checks it like
+//! a text, and writes it as a text.
 //!
 //! ```text
 //! let mut made = Builder::new(alloc);
