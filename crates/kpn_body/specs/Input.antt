@@ -18,7 +18,7 @@ input process card local last = record { process = process; card = card; local =
 abbrev pub answer_to : Family → Input → Answer
 answer_to family asked = family.answer asked.card asked.local asked.last
 
--- the answer is the family's to an admitted input of a card with a signature
+-- the family's answer to an admitted input of a card with a signature
 pub record IsAnswerTo (signature : Card → Option Signature) (admits : Card → List ℕ → Option Token → Type 0) (family : Family) (asked : Input) (answer : Answer) : Type 0 where
   pub signed : IsSome (signature asked.card)
   pub admitted : admits asked.card asked.local asked.last

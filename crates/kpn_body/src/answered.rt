@@ -64,7 +64,7 @@ impl<K: Kinds> Answered<K> {
         self.card
     }
 
-    /// Returns the local state in which the process was asked. It is admitted with the last token.
+    /// Returns the local state in which the process was asked.
     pub fn local(&self) -> Local
         ensures local { result ≡ self.now.local }
         ensures admitted { K.admits self.now.card self.now.local self.now.last }
@@ -72,14 +72,14 @@ impl<K: Kinds> Answered<K> {
         self.local
     }
 
-    /// Returns the token that the process had just read when it was asked; `None` if its last act was no read.
+    /// Returns the last token when the process was asked; `None` if its last act was no read.
     pub fn last(&self) -> Option<Token>
         ensures { result ≡ self.now.last }
     {
         self.last
     }
 
-    /// Returns the card's answer for this local state and last token.
+    /// Returns the card's answer.
     pub fn answer(&self) -> Answer
         ensures { result ≡ answer_to (family K.Kinds) self.now }
     {

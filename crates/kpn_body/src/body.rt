@@ -5,13 +5,13 @@ use kpn_model::{Answer, Card, Kinds, Local, Token};
 
 /// The code that answers for the processes of one card.
 ///
-/// A body returns its family's answer for its card, whenever the family admits the local state and the last
-/// token. So what a process does depends only on what it has read (Kahn 1974), not on when or how often the
-/// body is called, nor on other processes. A call may take any time, in any thread.
+/// A body returns its family's answer for its card. So what a process does depends only on what it has read
+/// (Kahn 1974), not on when or how often the body is called, nor on other processes. A call may take any time,
+/// in any thread.
 ///
-/// A type of bodies that stores boxed closures serves one family, because it keeps facts about that family's
-/// answers beside them: `StandardBody` serves the standard kinds. A type that stores none may serve many:
-/// `CardBody` of `kpn_compute` serves all families with a plain function that answers.
+/// A type that stores boxed closures serves one family, because it keeps facts about that family's answers
+/// beside them: `StandardBody` serves the standard kinds. A type that stores none may serve many: `CardBody`
+/// of `kpn_compute` serves all families with a plain function that answers.
 pub trait Body: Send + Drop {
     ghost use Rattle.kpn_model.specs.declared.kinds.Card.{Card};
 

@@ -24,7 +24,7 @@ pub struct StandardBody {
 
 impl StandardBody {
     /// Makes a body of a card that has a signature. `call` must accept whatever the card admits, and return
-    /// the card's answer to it.
+    /// the card's answer.
     pub fn new(card: Card, call: Call) -> Self
         requires signed { IsSome (signature card) }
         requires callable { IsCallable (Admitted card) (pre call) }
@@ -50,10 +50,8 @@ impl Body for StandardBody {
     }
 }
 
-/// Returns the answer, rebuilt word by word.
-///
-/// A closure stores its answer in memory, one word at a time. A copy of the whole local state would load two
-/// words at once, and stall until both stores are done.
+/// Returns the answer, rebuilt word by word: a closure stores its answer in memory, one word at a time, and a
+/// copy of the whole would load two words at once, and stall until both stores are done.
 #[inline(always)]
 pub fn by_words(answer: Answer) -> Answer
     ensures { result ≡ answer }

@@ -58,7 +58,7 @@ impl<B: Body> Task<B> {
         self.body.card()
     }
 
-    /// Returns the local state. It is admitted with the last token.
+    /// Returns the local state.
     pub fn local(&self) -> Local
         ensures local { result ≡ self.now.local }
         ensures admitted { B.Kinds.admits self.now.card self.now.local self.now.last }
@@ -174,7 +174,7 @@ impl<B: Body> Finished<B> {
         self.answered.card()
     }
 
-    /// Returns the local state in which the process was asked. It is admitted with the last token.
+    /// Returns the local state in which the process was asked.
     pub fn local(&self) -> Local
         ensures local { result ≡ self.now.local }
         ensures admitted { B.Kinds.admits self.now.card self.now.local self.now.last }
@@ -182,14 +182,14 @@ impl<B: Body> Finished<B> {
         self.answered.local()
     }
 
-    /// Returns the token that the process had just read when it was asked; `None` if its last act was no read.
+    /// Returns the last token when the process was asked; `None` if its last act was no read.
     pub fn last(&self) -> Option<Token>
         ensures { result ≡ self.now.last }
     {
         self.answered.last()
     }
 
-    /// Returns the card's answer for this local state and last token.
+    /// Returns the card's answer.
     pub fn answer(&self) -> Answer
         ensures { result ≡ answer_to (family B.Kinds.Kinds) self.now }
     {
@@ -204,7 +204,7 @@ impl<B: Body> Finished<B> {
         body
     }
 
-    /// Returns the answer with what was asked, and the body; its card is unchanged.
+    /// Returns the answer with what was asked, and the body with its card unchanged.
     pub fn into_parts(self) -> (Answered<B::Kinds>, B)
         ensures answered { result.0 ≡ self }
         ensures card { B.card result.1 ≡ self.card }

@@ -18,8 +18,8 @@ use kpn_sketch::{ChannelSketch, NetFault, ProcessSketch, Sketch, TokenSketch};
 use std::alloc::{AllocError, Global};
 use std::marker::Model;
 
-/// A new channel: its name and the names of the processes that it leads from and to. By default it leads from
-/// output 0 to input 0, carries words, has capacity 1 and no start tokens.
+/// A new channel: its name and the processes that it leads from and to. By default it leads from output 0 to
+/// input 0, carries words, has capacity 1 and no start tokens.
 #[derive(Clone, Copy)]
 pub struct NewChannel<'a> {
     name: &'a str,
@@ -201,9 +201,8 @@ impl Builder {
         self.sketch.step = step;
     }
 
-    /// Adds a process of this kind with these arguments, after all others, unchecked.
-    ///
-    /// Errors: out of memory. Nothing has then changed.
+    /// Adds a process of this kind with these arguments, after all others, unchecked. Errors: out of memory;
+    /// nothing has then changed.
     ///
     /// ```text
     /// made.process("src", "count", &[1, 8])?;
@@ -216,9 +215,7 @@ impl Builder {
         self.sketch.processes.push(process)
     }
 
-    /// Adds a channel after all others, unchecked.
-    ///
-    /// Errors: out of memory. Nothing has then changed.
+    /// Adds a channel after all others, unchecked. Errors: out of memory; nothing has then changed.
     ///
     /// ```text
     /// made.channel(NewChannel::new("x", "src", "x3").capacity(4))?;

@@ -1,5 +1,5 @@
-//! Networks made by a program: builds a description process by process and channel by channel, checks it like
-//! a text, and writes it as a text.
+//! Builds descriptions process by process and channel by channel, checks them like texts, and writes them as
+//! texts.
 //!
 //! ```text
 //! let mut made = Builder::new(alloc);

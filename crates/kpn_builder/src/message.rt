@@ -8,8 +8,8 @@ use std::alloc::Global;
 
 /// Returns what is wrong with a sketch, and where, by the names in it, on one line without a line feed.
 ///
-/// `fault` is the sketch's fault, and `kinds` names the existing kinds. There is no message for `Memory` and
-/// `Input`, which say all, for `NotToml` and `Keys`, which no sketch has, nor if out of memory.
+/// `fault` is the sketch's fault, and `kinds` names the existing kinds. There is no message for `Memory`,
+/// `Input`, `NotToml` and `Keys`, nor if out of memory.
 ///
 /// ```text
 /// let none = sketch_message::<Standard>(alloc, made.sketch(), NetFault::Memory, KINDS);

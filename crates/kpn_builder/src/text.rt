@@ -81,7 +81,6 @@ fn all_have_said_tokens(channels: &[ChannelSketch]) -> bool
     channels.iter().all(|c| has_said_tokens(c))
 }
 
-/// Whether a description can say the sketch.
 fn is_describable(sketch: &Sketch) -> bool
     ensures { result ≡ is_describable sketch.now }
 {
@@ -93,7 +92,7 @@ fn is_describable(sketch: &Sketch) -> bool
     }
 }
 
-/// Puts the last members at the top level, by the order of their keys, into a table.
+/// Puts the last members of the top level, in key order, into a table.
 fn put_version(alloc: Global, table: &mut Table, sketch: &Sketch) -> Result<(), AllocError>
     requires { table_view table.old ≡ no_members }
     ensures { OnOk result (table_view table.new ≡ version_members sketch.now) }

@@ -145,7 +145,7 @@ fn put_process(
     put_held(alloc, table, "args", &process.args, two)
 }
 
-/// Puts the last members of a channel, by the order of their keys, into a table.
+/// Puts the last members of a channel, in key order, into a table.
 fn put_last(
     alloc: Global,
     table: &mut Table,

@@ -24,12 +24,10 @@ awaited_by net p Stopped = None
 abbrev pub awaited : Network → List Standing → ℕ → Option ℕ
 awaited net standings p = awaited_by net p (standing standings p)
 
--- c has less capacity than d, or the same and no greater number
 abbrev pub IsNoLater : State → ℕ → ℕ → Type 0
 IsNoLater M c d = (capacity M c < capacity M d) ⊎ ((capacity M c ≡ capacity M d) × (c ≤ d))
 
--- no process waits to write; or this process does, to the smallest such channel, of equals the one with the
--- lowest number
+-- no process waits to write; or this one does, to the smallest such channel, of equals the lowest
 abbrev pub IsSmallest : Network → State → List Standing → Option (ℕ × ℕ) → Type 0
 IsSmallest net M standings None = (q : ℕ) → awaited net standings q ≡ None
 IsSmallest net M standings (Some best) = (awaited net standings best.1 ≡ Some best.0) × ((q d : ℕ) → awaited net standings q ≡ Some d → IsNoLater M best.0 d)

@@ -14,7 +14,6 @@ use Rattle.kpn_commit.specs.declared.react.Reaction.{Reaction}
 use Rattle.kpn_commit.specs.declared.react.Reaction.TheVariants.{Waits, Acts, HandsOn}
 use Rattle.kpn_state.specs.Standings.{standing, standing_after, StandingsFit, partner}
 
--- p does what it wants, and one entry is appended
 pub record Acted (kinds : Family) (net : Network) (s : StateAndHistory) (standings : List Standing) (p : ℕ) (d : Deed) (t : StateAndHistory) (moved : List Standing) : Type 0 where
   pub does : Does kinds net s.state p d t.state
   pub entry : t ≡ more s t.state (Did p d)

@@ -42,7 +42,6 @@ pub record AreWaiting (net : Network) (M : State) (standings : List Standing) (w
   pub candidates : AreCandidates net M standings waiting.candidates
   pub marks : AreMarks net standings waiting.marks
 
--- the process at the other end of the deed's channel has a mark there
 abbrev pub partner_marked : MarkLists → Deed → Bool
 partner_marked marks (Took c t) = is_marked marks.writers c
 partner_marked marks (Put c t) = is_marked marks.readers c

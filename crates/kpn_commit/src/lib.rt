@@ -1,5 +1,5 @@
-//! What an answer does to a network: its deed, or its process is parked; then the deed of a parked process
-//! that it enables; then, if no process is ready or out, the run's end or a growth (Kahn 1974, Parks 1995).
+//! What an answer does to a network: its deed or the parking of its process; the deed of a parked process that
+//! it enables; and the run's end or a growth, if no process is then ready or out (Kahn 1974, Parks 1995).
 #![tactic(auto)]
 
 pub mod act;

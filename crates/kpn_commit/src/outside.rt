@@ -1,4 +1,4 @@
-//! Tokens that enter or leave a channel from outside the network, and the parked process that this enables.
+//! Tokens that enter or leave a channel from outside the network.
 ghost use Rattle.std.specs.Prelude.{◌≡◌, ◌<◌, ◌++◌, ◌∷◌, ℕ, [], length, drop, Some, None, IsTrue, false};
 ghost use Rattle.kpn_model.specs.Network.{channel_of};
 ghost use Rattle.kpn_model.specs.Families.{family};
@@ -59,7 +59,7 @@ fn can_do<K: Kinds, H: Keeper>(net: &Net<K>, store: &Store<H>, process: usize, a
     }
 }
 
-/// Makes a process ready if it is parked and can continue. All other parked processes can't.
+/// Makes a process ready if it is parked and can continue. No other parked process can.
 fn wake<K: Kinds, H: Keeper>(net: &Net<K>, core: &mut Core<H>, process: usize)
     requires coherent { IsCoherentBut (family K.Kinds) K.admits net.now (Some process) core.old }
     ensures store { core.new.store ≡ core.old.store }
@@ -76,7 +76,7 @@ fn wake<K: Kinds, H: Keeper>(net: &Net<K>, core: &mut Core<H>, process: usize)
 }
 
 /// Appends a token to a channel from outside the network, without an entry, and makes the channel's reader
-/// ready if it is parked and can continue. The channel must have room, and the token its sort.
+/// ready if it is parked and can continue. The channel must have room, and the token must be of its sort.
 pub fn feed<K: Kinds, H: Keeper>(net: &Net<K>, core: &mut Core<H>, channel: usize, token: Token)
     requires coherent { IsCoherent (family K.Kinds) K.admits net.now core.old }
     requires channel { channel < length net.now.channels }

@@ -1,4 +1,4 @@
-//! Parks and unparks processes, and marks the channels at which they wait.
+//! Parks processes and makes them ready again.
 ghost use Rattle.std.specs.Prelude.{◌≡◌, ◌≢◌, ◌↔◌, ◌<◌, ◌+◌, ℕ, length, set, Contains, true, false};
 ghost use Rattle.kpn_model.specs.Families.{family};
 ghost use Rattle.kpn_model.specs.Semantics.{IsPossible};
@@ -12,8 +12,8 @@ use kpn_model::{Act, Answer, Kinds};
 use kpn_network::Net;
 use kpn_state::{Keeper, Standing, Waiting};
 
-/// Parks a process that was ready or out with its answer, and marks the channel at which it waits. If it waits
-/// to write, the channel becomes a candidate. Not inlined, out of the way of a commit that parks nobody.
+/// Parks a ready or out process with its answer, and marks the channel at which it waits, a candidate if it
+/// waits to write. Not inlined, out of the way of a commit that parks nobody.
 #[cold]
 #[inline(never)]
 pub fn park<K: Kinds, H: Keeper>(net: &Net<K>, core: &mut Core<H>, process: usize, answer: Answer)
@@ -43,8 +43,8 @@ pub fn park<K: Kinds, H: Keeper>(net: &Net<K>, core: &mut Core<H>, process: usiz
     core.standings.update(process, Standing::Parked(answer));
 }
 
-/// Makes a parked process ready. It must be able to do what it answered. Removes its mark at the channel and,
-/// if it waited to write, the candidate.
+/// Makes a parked process ready, which must be able to do what it answered. Removes its mark and its
+/// candidate.
 #[inline(always)]
 pub fn unpark<K: Kinds, H: Keeper>(net: &Net<K>, core: &mut Core<H>, process: usize, answer: Answer)
     requires process { process < length core.old.standings }
@@ -73,7 +73,8 @@ pub fn unpark<K: Kinds, H: Keeper>(net: &Net<K>, core: &mut Core<H>, process: us
     core.standings.update(process, Standing::Ready);
 }
 
-/// Removes a channel of this capacity from the candidates, and its writer's mark, when the writer is served.
+/// Removes a candidate and its writer's mark, when the writer is served. The channel must be listed with this
+/// capacity.
 #[inline(always)]
 pub(crate) fn unlist(waiting: &mut Waiting, capacity: usize, channel: usize)
     requires { channel < length waiting.old.marks.writers }

@@ -1,4 +1,4 @@
-//! The immediate effect of an answer: a deed or parking, then the deed of the parked process that it enables.
+//! The immediate effect of an answer.
 ghost use Rattle.std.specs.Prelude.{◌≡◌, ◌≢◌, ◌↔◌, ◌<◌, ◌≤◌, ◌+◌, ℕ, length, set, Contains, Some, None, IfSome, IfNone, IsTrue, true, false};
 ghost use Rattle.kpn_model.specs.Families.{family};
 ghost use Rattle.kpn_model.specs.declared.kinds.Answer.{Answer as AnswerV};
@@ -20,8 +20,7 @@ use kpn_state::standing::parked;
 use kpn_state::{Keeper, Marks};
 
 /// The effect of an answer. `Waits`: it could not be done, and the process is parked. `Acts`: it was done.
-/// `HandsOn`: it was done, and then the parked process at the other end of the channel did what it had
-/// answered.
+/// `HandsOn`: it was done, then the parked process at the other end of the channel did what it had answered.
 #[derive(Clone, Copy, Debug, PartialEq, Eq)]
 pub enum Reaction {
     Waits,
@@ -29,8 +28,8 @@ pub enum Reaction {
     HandsOn,
 }
 
-/// Does the act that a ready or out process answered, or parks the process with the answer; then does the deed
-/// of the parked process that this enables. The history must have room for two entries.
+/// Does what a ready or out process answered, or parks the process with the answer; then does the deed of the
+/// parked process that this enables. The history must have room for two entries.
 #[inline(always)]
 pub fn react<K: Kinds, H: Keeper>(
     net: &Net<K>,
@@ -72,8 +71,7 @@ pub fn react<K: Kinds, H: Keeper>(
     }
 }
 
-/// The body of `react`, which calls it once for each act, so that once it is inlined the act is tested only
-/// once.
+/// The body of `react`, called once for each act, so that once inlined it tests the act only once.
 #[inline(always)]
 fn react_to<K: Kinds, H: Keeper>(
     net: &Net<K>,
@@ -106,9 +104,9 @@ fn react_to<K: Kinds, H: Keeper>(
     }
 }
 
-/// Does the act that a ready or out process answered, then the deed of the parked process that this enables.
-/// Leaves the standing of the process to the caller, who makes it ready or sends it out again. Returns `None`,
-/// and changes nothing, if the act is a stop or can't be done. The history must have room for two entries.
+/// Does what a ready or out process answered, then the deed of the parked process that this enables. Leaves
+/// its standing to the caller, who makes it ready or sends it out again. Returns `None`, and changes nothing,
+/// if the act is a stop or can't be done. The history must have room for two entries.
 #[inline(always)]
 pub(crate) fn react_on<K: Kinds, H: Keeper>(
     net: &Net<K>,
@@ -142,9 +140,9 @@ pub(crate) fn react_on<K: Kinds, H: Keeper>(
     }
 }
 
-/// Does the act that a ready process answered, then the deed of the parked process that this enables; or parks
-/// or stops the process. Returns whether it is still ready; its standing was then not touched. The history
-/// must have room for two entries.
+/// Does what a ready process answered, then the deed of the parked process that this enables; or parks or
+/// stops the process. Returns whether it is still ready, its standing untouched. The history must have room
+/// for two entries.
 #[inline(always)]
 pub fn react_ready<K: Kinds, H: Keeper>(
     net: &Net<K>,
@@ -190,9 +188,8 @@ fn park_or_stop<K: Kinds, H: Keeper>(
     let _ = react(net, core, process, answer);
 }
 
-/// Does what a parked process answered, if it can now be done, and removes its mark and its candidate. Returns
-/// whether it did; otherwise nothing changes. Not inlined, out of the way of a commit after which no parked
-/// process continues.
+/// Does what a parked process answered, if it now can, and removes its mark and its candidate. Returns whether
+/// it did; otherwise nothing changes. Not inlined, out of the way of a commit that enables no parked process.
 #[inline(never)]
 fn resume<K: Kinds, H: Keeper>(net: &Net<K>, core: &mut Core<H>, process: usize) -> bool
     requires coherent { IsCoherentBut (family K.Kinds) K.admits net.now (Some process) core.old }
@@ -219,7 +216,7 @@ fn resume<K: Kinds, H: Keeper>(net: &Net<K>, core: &mut Core<H>, process: usize)
     true
 }
 
-/// Returns the answer, rebuilt field by field. To park a copy of the whole, all its bytes would be kept at
+/// Returns the answer, rebuilt field by field: to park a copy of the whole, all its bytes would be kept at
 /// hand while the answer is tried, and mostly it can be done.
 #[inline(always)]
 fn rebuilt(answer: Answer) -> Answer
@@ -235,7 +232,6 @@ fn rebuilt(answer: Answer) -> Answer
     Answer { next, act }
 }
 
-/// Whether the process at the other end of the deed's channel is parked on it.
 #[inline(always)]
 fn partner_waits(marks: &Marks, deed: Deed) -> bool
     requires { HasMark marks.now deed }

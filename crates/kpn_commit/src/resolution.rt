@@ -16,7 +16,7 @@ use kpn_state::Keeper;
 use kpn_state::standing::parked;
 
 /// How a run continues. `Busy`: some process is ready or out. `Ended`: none is, and the run ended. `Enlarged`:
-/// none was, a channel grew, and its writer's token was put.
+/// none was, a channel grew, and its writer's put was done.
 #[derive(Clone, Copy, Debug, PartialEq, Eq)]
 pub enum Resolution {
     Busy,
@@ -35,8 +35,6 @@ fn enlarged(capacity: usize, step: usize, ceiling: usize) -> usize
     }
 }
 
-/// Ends the run, or grows the chosen channel and does its writer's put. The run also ends if out of memory for
-/// the growth.
 #[cold]
 #[inline(never)]
 fn resolve_idle<K: Kinds, H: Keeper>(net: &Net<K>, core: &mut Core<H>) -> Resolution
@@ -72,8 +70,7 @@ fn resolve_idle<K: Kinds, H: Keeper>(net: &Net<K>, core: &mut Core<H>) -> Resolu
 }
 
 /// If no process is ready or out, ends the run, or grows the chosen channel and does its writer's put (Parks
-/// 1995). The run also ends if out of memory for the growth. If none is ready or out, the history must have
-/// room for two entries.
+/// 1995). The run also ends if out of memory for the growth. The history must then have room for two entries.
 #[inline(always)]
 pub fn resolve<K: Kinds, H: Keeper>(net: &Net<K>, core: &mut Core<H>) -> Resolution
     requires coherent { IsCoherent (family K.Kinds) K.admits net.now core.old }

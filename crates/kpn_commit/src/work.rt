@@ -18,7 +18,6 @@ use kpn_model::{Answer, End, Kinds};
 use kpn_network::Net;
 use kpn_state::Keeper;
 
-/// Returns how many entries were appended after the reaction.
 fn resolution_entries(resolution: Resolution) -> usize
     ensures value { result ≡ resolution_entries resolution }
     ensures few { result ≤ 2 }
@@ -40,7 +39,6 @@ fn outcome_of(reaction: Reaction, resolution: Resolution) -> Outcome
     }
 }
 
-/// Returns how the run ends, if it does: by the cause found, else by its budget.
 fn end_after(resolution: Resolution, budget: u64, entries: u64) -> Option<End>
     ensures { result ≡ end_after resolution budget entries }
 {
@@ -57,8 +55,8 @@ fn end_after(resolution: Resolution, budget: u64, entries: u64) -> Option<End>
 }
 
 /// Settles a run that has not ended: if no process is ready or out, the run ends, or the chosen channel grows
-/// and its writer's put is done. Returns which, and the run's end, if any; `Budget` if that is spent. If no
-/// process is ready or out, the history must have room for two entries.
+/// and its writer's put is done; the history must then have room for two entries. Returns which, and the run's
+/// end, if any; `Budget` if that is spent.
 #[inline(always)]
 pub fn settle<K: Kinds, H: Keeper>(net: &Net<K>, core: &mut Core<H>) -> (Resolution, Option<End>)
     requires coherent { IsCoherent (family K.Kinds) K.admits net.now core.old }
@@ -94,10 +92,9 @@ pub fn work<K: Kinds, H: Keeper>(
     (outcome_of(reaction, resolution), end)
 }
 
-/// Works on the answer of a ready or out process, but leaves the standing of the process to the caller, who
-/// makes it ready or sends it out again. Returns the outcome; or `None`, with nothing changed, if the answer
-/// is a stop or can't be done, or if the budget has no room for three more entries. The history must have room
-/// for three entries.
+/// Works on the answer of a ready or out process, but leaves its standing to the caller, who makes it ready or
+/// sends it out again. Returns the outcome; or `None`, with nothing changed, if the answer is a stop or can't
+/// be done, or if the budget has no room for three more entries. The history must have room for three entries.
 #[inline(always)]
 pub fn work_on<K: Kinds, H: Keeper>(
     net: &Net<K>,

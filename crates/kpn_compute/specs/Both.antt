@@ -33,8 +33,8 @@ both_ports first second card = if card.kind == NO_KIND then None else (if is_fir
 abbrev pub IsNameRefused : (Card → Option Signature) → Option (ℕ × ℕ) → Type 0
 IsNameRefused ports meant = IfSome meant (λ kind. (args : List ℕ) → ports (record { kind = kind.0; args = args }) ≡ None)
 
--- a name means this kind of one of the families: it takes the same number of arguments, and each card of its
--- number is, in its own family, the card of that kind
+-- it takes the same number of arguments, and each card of its number is, in its own family, the card of that
+-- kind
 abbrev pub MeansOwn : Bool → ℕ × ℕ → Option (ℕ × ℕ) → Type 0
 MeansOwn first own None = ⊥
 MeansOwn first own (Some meant) =

@@ -65,8 +65,7 @@ impl<A: Kinds, B: Kinds> Kinds for Both<A, B> {
     ///
     /// A name that only one family has means its kind there, if that kind's number is below 2^15 - 1. Any
     /// other name that a family has is rejected: no card of its number has ports, so a description that uses
-    /// it is no network. So is a name that both families have, also if `Both` is joined with `Both` and any
-    /// number of the families have it.
+    /// it is no network. This also holds of a name that several families of a nested `Both` have.
     fn named(name: &str) -> Option<(u16, usize)>
         ensures is { result ≡ both_named A.named B.named name.now }
         ensures known { IsSome result ↔ (IsSome (A.named name.now) ⊎ IsSome (B.named name.now)) }

@@ -6,8 +6,8 @@ use crate::computes::Computes;
 use kpn_model::{Act, Answer, Card, Kinds, Local, Signature, Sort, Token};
 use std::marker::PhantomData;
 
-/// Kinds that read a word and write a word, forever, and keep four words in between. `Filtered` of a type that
-/// implements this trait is a family, with its table and its laws.
+/// Kinds that read a word and write a word, forever, and keep four words in between. `Filtered` of an
+/// implementation is a family, with its table and laws.
 pub trait Filters: Send + Sync {
     ghost use Rattle.std.specs.Prelude.{ℕ, Bool, List, Option};
     ghost use Rattle.kpn_model.specs.declared.kinds.Card.{Card};

@@ -35,7 +35,7 @@ machine_view net M E standings end commits = record { network = net; state = M; 
 abbrev pub state_and_history_of : MachineView → StateAndHistory
 state_and_history_of s = state_and_history s.state s.history (s.network.budget + 2)
 
--- the process of the input is out, with its card, local state and last token
+-- the process is out, with the input's card, local state and last token
 pub record IsOutAt (net : Network) (M : State) (standings : List Standing) (i : Input) : Type 0 where
   pub out : standing standings i.process ≡ Out
   pub card : card_of net i.process ≡ i.card
@@ -70,8 +70,8 @@ stays_in Out = 0
 stays_in (Parked a) = 1
 stays_in Stopped = 1
 
--- the history is a run to the state, and all else fits; there are at most as many answers as entries and
--- parked processes, and after the end one more for each process that is not out
+-- what always holds of a machine, its limit and its bodies' cards; each answer taken appended an entry or left
+-- a process parked, or the run had ended
 pub record IsSound (kinds : Family) (admits : Card → List ℕ → Option Token → Type 0) (s : MachineView) (limit : ℕ) (bodies : List (Option Card)) : Type 0 where
   pub run : IsRun kinds s.network s.history s.state
   pub keeps : StandingsFit kinds admits s.network None s.state s.standings
@@ -85,10 +85,9 @@ pub record IsSound (kinds : Family) (admits : Card → List ℕ → Option Token
   pub asked : s.end ≡ None → s.commits ≤ length s.history + sum_by waits s.standings
   pub laid : s.commits ≤ length s.history + sum_by stays_in s.standings
 
--- what always holds of a machine: its history is a run to its state, with no channel above its capacity and
--- all states well-typed; its end is justified; an enabled process is ready or out, and one that is neither
--- wants what it answered; some process is ready or out until the run ends, and then none is, unless the budget
--- ended it; there are at most budget + 2 entries, and at most as many answers as entries and processes
+-- what always holds of a machine: its history is a run that stays within capacities and well-typed, its end is
+-- justified, an enabled process is ready or out, and some process is so exactly until the run ends, unless the
+-- budget ended it
 pub record IsFaithful (kinds : Family) (admits : Card → List ℕ → Option Token → Type 0) (s : MachineView) : Type 0 where
   pub run : IsRun kinds s.network s.history s.state
   pub within : AtEachMoment kinds s.network s.history IsWithin
@@ -101,7 +100,6 @@ pub record IsFaithful (kinds : Family) (admits : Card → List ℕ → Option To
   pub few_entries : length s.history ≤ s.network.budget + 2
   pub few_commits : s.commits ≤ length s.history + length s.network.processes
 
--- no entry, no commit, no end, and all processes ready
 pub record IsFresh (s : MachineView) : Type 0 where
   pub no_entry : s.history ≡ []
   pub no_commit : s.commits ≡ 0

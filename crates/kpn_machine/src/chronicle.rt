@@ -9,8 +9,8 @@ use kpn_state::{Keeper, Roster, Standing, Store, Wide};
 use std::marker::Model;
 
 /// A machine without its bodies: its network, history, standings and end. Its type names no body, so it
-/// outlives the bodies and can be named even if they can't. Only `Machine::into_chronicle` makes one.
-/// Contracts see it as the machine.
+/// outlives the bodies, and can be named if they can't. Only `Machine::into_chronicle` makes one. Contracts
+/// see it as the machine.
 pub struct Chronicle<K: Kinds, H: Keeper = Wide> {
     net: Net<K>,
     store: Store<H>,
@@ -19,8 +19,8 @@ pub struct Chronicle<K: Kinds, H: Keeper = Wide> {
     commits: u64,
 }
 
-// Written out, so that the drop is a call, proved once, and not done field by field at each place: that would
-// be most of the proof of whoever owns one.
+// Written out, so that each drop is one call, proved once, and not a drop of each field, which would be most
+// of the proof of an owner.
 impl<K: Kinds, H: Keeper> Drop for Chronicle<K, H> {
     fn drop(self) {
         let Chronicle {

@@ -33,7 +33,7 @@ use std::alloc::Global;
 use std::marker::Model;
 
 /// A network at work: its processes are taken one at a time, called outside the machine, and their answers
-/// committed. `H` keeps its entries, by default as they are.
+/// committed. `H` keeps its entries.
 pub struct Machine<B: Body, H: Keeper = Wide> {
     net: Net<B::Kinds>,
     core: Core<H>,
@@ -47,8 +47,8 @@ pub struct Machine<B: Body, H: Keeper = Wide> {
     again: Option<usize>,
 }
 
-// Written out, so that the drop is a call, proved once, and not done field by field at each place: that would
-// be most of the proof of whoever owns one.
+// Written out, so that each drop is one call, proved once, and not a drop of each field, which would be most
+// of the proof of an owner.
 impl<B: Body, H: Keeper> Drop for Machine<B, H> {
     fn drop(self) {
         let Machine {
@@ -92,8 +92,8 @@ pub struct Stranger<B: Body> {
 }
 
 impl<B: Body> Machine<B> {
-    /// Opens a machine at the start of a network, with a body for each process, in order: all processes are
-    /// ready, and the channels hold their start tokens. Allocates all memory except that of growths.
+    /// Opens a machine at the start of a network, with a body for each process, in order. All processes are
+    /// ready, and the channels hold their start tokens. Allocates all memory but that of growths.
     ///
     /// Errors: the first of `Bodies`, `Card` and `Memory` that applies, with the unchanged network and bodies.
     ///
@@ -298,7 +298,6 @@ fn take_out<B: Body, H: Keeper>(
     Task::new(process, body, *local, *last)
 }
 
-/// Whether a process is out, with this card, local state and last token.
 #[inline(always)]
 fn is_out_with<K: Kinds, H: Keeper>(
     net: &Net<K>,
@@ -366,13 +365,13 @@ impl<B: Body, H: Keeper> Machine<B, H> {
 
     /// Takes the answer of a process that is out, and returns what it did.
     ///
-    /// If the run has ended, the process is ready again. Otherwise its act is done if possible, or else the
-    /// process is parked with its answer. If the deed enables the parked process at the other end of the
-    /// channel, that does its deed next. If no process is then ready or out, the run ends, or the chosen
-    /// channel grows and its writer's put is done (Parks 1995). Takes no memory except that of a growth.
+    /// If the run has ended, the process is ready again. Otherwise its act is done, or else the process is
+    /// parked with its answer. If the deed enables the parked process at the other end of the channel, that
+    /// does its deed next. If no process is then ready or out, the run ends, or the chosen channel grows and
+    /// its writer's put is done (Parks 1995). Takes no memory except that of a growth.
     ///
-    /// Errors: the process is not out, or not with this card, local state and last token. Returns the answer,
-    /// and nothing changes.
+    /// Errors: the process is not out with this card, local state and last token. Returns the answer, and
+    /// nothing changes.
     #[inline(always)]
     pub fn commit(&mut self, finished: Finished<B>) -> Result<Outcome, Stranger<B>>
         ensures stranger { IfErr result (λ stranger. (stranger.finished ≡ finished) × (self.new ≡ self.old)) }
@@ -391,8 +390,8 @@ impl<B: Body, H: Keeper> Machine<B, H> {
         Ok(self.commit_asked(finished))
     }
 
-    /// Takes an answer like `commit`. The process must be out with its card, local state and last token, as
-    /// `has_asked` tests.
+    /// Takes an answer like `commit`. The process must be out with its card, local state and last token
+    /// (`has_asked`).
     #[inline(always)]
     pub fn commit_asked(&mut self, finished: Finished<B>) -> Outcome
         requires { IsOut self.old finished }
@@ -422,7 +421,7 @@ impl<B: Body, H: Keeper> Machine<B, H> {
     /// Takes the answer of a task like `commit_asked`, and sends its process out again with the same body, as
     /// the next task. Returns the outcome; `None`, with nothing changed, if the answer is a stop or can't be
     /// done, if the run has ended, or if the budget has no room for three more entries. The process must be
-    /// out with the task's card, local state and last token, as `has_sent` tests.
+    /// out with the task's card, local state and last token (`has_sent`).
     #[inline(always)]
     pub fn commit_on(&mut self, task: &mut Task<B>, answer: Answer) -> Option<Outcome>
         requires out { IsOut self.old task.old }
@@ -448,7 +447,7 @@ impl<B: Body, H: Keeper> Machine<B, H> {
 
 impl<B: Body, H: Keeper> Machine<B, H> {
     /// Takes back a task without an answer: its process is ready again. It must be out with the task's card,
-    /// local state and last token, as `has_sent` tests.
+    /// local state and last token (`has_sent`).
     pub fn take_back(&mut self, task: Task<B>)
         requires { IsOut self.old task }
         ensures { self.new ≡ record self.old { standings = set self.old.standings task.process Ready } }
@@ -530,9 +529,8 @@ fn note_end(end: &mut Option<End>, found: Option<End>)
 }
 
 impl<B: Body, H: Keeper> Machine<B, H> {
-    /// Asks ready processes in place, one after the other, until `most` answers were taken, the budget is
-    /// spent or no process is ready; then settles the run. Returns the number of answers taken. The run must
-    /// not have ended.
+    /// Asks ready processes in place, until `most` answers were taken, the budget is spent or no process is
+    /// ready; then settles the run. Returns the number of answers taken. The run must not have ended.
     fn go_on(&mut self, most: u64) -> u64
         requires { self.old.end ≡ None }
         ensures rounds { (outcomes : List OutcomeV) × (length outcomes ≡ result) × GoesRounds (family B.Kinds.Kinds) self.old outcomes self.new }
@@ -581,14 +579,12 @@ impl<B: Body, H: Keeper> Machine<B, H> {
         least_solution_of::<B::Kinds>();
     }
 
-    // Returns the process to ask next in place, if it is ready.
     fn asked_last(&self) -> Option<usize>
         ensures { IfSome result (λ p. standing self.now.standings p ≡ Ready) }
     {
         self.core.standings.if_ready(self.again?)
     }
 
-    // Whether fewer than `most` answers were taken, and the run has not ended.
     #[inline(always)]
     fn is_to_go_on(&self, taken: u64, most: u64) -> bool
         ensures { IsTrue result ↔ (taken < most) × (self.now.end ≡ None) }

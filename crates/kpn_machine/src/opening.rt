@@ -41,9 +41,7 @@ impl OpenFault {
     }
 }
 
-/// Returns the cards of a network's processes, in order, which its bodies must have. Each has a signature.
-///
-/// Errors: out of memory.
+/// Returns the cards that a network's bodies must have, in order. Each has a signature. Errors: out of memory.
 pub fn cards_of<K: Kinds>(alloc: Global, net: &Net<K>) -> Result<Vec<Card>, AllocError>
     ensures cards { IfOk result (λ v. v.items ≡ cards_of net.now.processes) }
     ensures signed { IfOk result (λ v. All (λ card. IsSome (K.signature card)) v.items) }
@@ -132,9 +130,8 @@ pub struct Start<B: Body, H: Keeper> {
     pub slots: Vec<Option<B>>,
 }
 
-/// Makes the start of a machine or a flow of this network, with room for `limit` entries.
-///
-/// Errors: out of memory.
+/// Makes the start of a machine or a flow of this network, with room for `limit` entries. Errors: out of
+/// memory.
 pub fn prepare<B: Body, H: Keeper>(
     alloc: Global,
     net: &Net<B::Kinds>,

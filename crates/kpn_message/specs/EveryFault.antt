@@ -61,7 +61,6 @@ module _ (named : List ℕ → Option (ℕ × ℕ)) (signature : Card → Option
   is_of_process Args k = process_has_fault named signature sketch Args k && not (process_has_fault named signature sketch Kind k)
   is_of_process fault k = process_has_fault named signature sketch fault k
 
-  -- the place has the fault and gets a message
   abbrev pub is_of : NetFault → Location → Bool
   is_of fault Description = is_of_description fault
   is_of fault (Process k) = is_of_process fault k

@@ -27,8 +27,7 @@ is_header text header i = begins_line text i && stands_at text header i
 abbrev pub has_word : List ℕ → List ℕ → Bool
 has_word text word = not (count_below (stands_at text word) (length text) == 0)
 
--- the text has as many headers as tables, and no string of several lines, which begins with three quotation
--- marks or apostrophes and might contain one
+-- the text has as many headers as tables, and no string of several lines, which might contain a header
 abbrev pub tells_lines : List ℕ → List ℕ → ℕ → Bool
 tells_lines text header tables =
     not (has_word text (34 ∷ 34 ∷ 34 ∷ [])) && (not (has_word text (39 ∷ 39 ∷ 39 ∷ [])) && count_below (is_header text header) (length text) == tables)

@@ -29,7 +29,7 @@ pub record IsFirst (test : ℕ → Bool) (count k : ℕ) : Type 0 where
 abbrev pub HoldsNowhere : (ℕ → Bool) → ℕ → Type 0
 HoldsNowhere test count = (k : ℕ) → k < count → test k ≡ false
 
--- no process or channel has the fault
+-- no process or channel can have the fault
 abbrev pub is_of_description : NetFault → Bool
 is_of_description Version = true
 is_of_description Counts = true

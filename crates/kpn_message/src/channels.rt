@@ -39,7 +39,6 @@ pub(crate) fn push_channel<K: Kinds>(
     }
 }
 
-/// Appends which end is at no port.
 fn push_no_end<K: Kinds>(
     out: &mut String,
     sketch: &Sketch,
@@ -97,7 +96,6 @@ fn same_in<'a>(earlier: &'a [ChannelSketch], channel: &ChannelSketch) -> Option<
     Some(other.name.as_str())
 }
 
-/// Appends which end has the other sort.
 fn push_sorts<K: Kinds>(
     out: &mut String,
     sketch: &Sketch,
@@ -119,7 +117,6 @@ fn push_sorts<K: Kinds>(
     )
 }
 
-/// Appends what is wrong with the start tokens.
 fn push_tokens(out: &mut String, channel: &ChannelSketch) -> Result<(), AllocError> {
     let tokens = channel.tokens.as_slice();
     match tokens.iter().position(|t| !is_token(channel.sort, *t)) {

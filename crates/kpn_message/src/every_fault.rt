@@ -39,7 +39,7 @@ pub struct Message {
 }
 
 /// What is wrong with a sketch; how many more faults there are (at most `u64::MAX`); and whether there was
-/// memory for all: otherwise messages may be missing, and the count may be too low.
+/// memory for all: else messages may be missing, and the count too low.
 #[derive(Drop)]
 pub struct Messages {
     pub told: Vec<Message>,
@@ -131,7 +131,6 @@ fn has_wrong_end<K: Kinds>(sketch: &Sketch) -> bool
     has_fault::<K>(sketch, NetFault::NoEnd) || has_fault::<K>(sketch, NetFault::Twice)
 }
 
-/// Adds the messages of the processes that have a fault.
 fn push_processes<K: Kinds>(
     alloc: Global,
     messages: &mut Messages,
@@ -146,7 +145,6 @@ fn push_processes<K: Kinds>(
     }
 }
 
-/// Adds the messages of the channels that have a fault.
 fn push_channels<K: Kinds>(
     alloc: Global,
     messages: &mut Messages,
@@ -200,7 +198,6 @@ fn push_message<K: Kinds>(
     add(messages, Message { fault, place, text });
 }
 
-/// Whether there is no room for another message.
 fn is_full(messages: &Messages) -> bool
     ensures full { result ≡ true → MOST_MESSAGES ≤ length messages.now.told.items }
     ensures room { result ≡ false → length messages.now.told.items < MOST_MESSAGES }

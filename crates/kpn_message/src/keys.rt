@@ -42,14 +42,12 @@ impl Form {
     }
 }
 
-/// Whether a key is required.
 #[derive(Clone, Copy)]
 enum Presence {
     Required,
     Optional,
 }
 
-/// A key, the type of its value, and whether it is required.
 #[derive(Clone, Copy)]
 struct Key(&'static str, Form, Presence);
 
@@ -113,7 +111,7 @@ pub(crate) fn push_misfit(
     Ok(())
 }
 
-/// Appends the first thing that is wrong with the tables of an array. Returns whether anything is.
+/// Appends the first thing that is wrong with an array's tables. Returns whether anything is.
 fn push_items(
     alloc: Global,
     out: &mut String,
@@ -139,7 +137,7 @@ fn push_items(
     Ok(false)
 }
 
-/// Appends what is wrong with an item of an array of tables. Returns whether anything is.
+/// Appends what is wrong with an item of an array. Returns whether anything is.
 fn push_item(out: &mut String, item: &Value, keys: &[Key]) -> Result<bool, AllocError> {
     match item.as_table() {
         Some(table) => push_keys(out, table, keys),
@@ -150,8 +148,8 @@ fn push_item(out: &mut String, item: &Value, keys: &[Key]) -> Result<bool, Alloc
     }
 }
 
-/// Appends the first thing that is wrong with a table of these keys: an unknown key, or else a wrong or
-/// missing one. Returns whether anything is.
+/// Appends the first thing that is wrong with a table of these keys, unknown ones first. Returns whether
+/// anything is.
 fn push_keys(out: &mut String, table: &Table, keys: &[Key]) -> Result<bool, AllocError> {
     if let Some(unknown) = table.keys().find(|key| !is_among(keys, key.as_str())) {
         write!(

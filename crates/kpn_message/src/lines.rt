@@ -8,8 +8,8 @@ const QUOTES: [u8; 3] = [b'"', b'"', b'"'];
 const APOSTROPHES: [u8; 3] = [b'\'', b'\'', b'\''];
 
 /// Returns the line, counted from 1, of the header, such as `[[process]]`, of table `k` of an array of
-/// `tables` tables. If there are as many headers as tables, header `k` is that of table `k`: only in a string
-/// of several lines can another line of a TOML text begin like it. `None` if the text has such a string or
+/// `tables` tables. With as many headers as tables, header `k` is that of table `k`: only in a string of
+/// several lines can another line of a TOML text begin like it. `None` if the text has such a string or
 /// another number of headers, or if there is no table `k`.
 ///
 /// ```text
@@ -36,7 +36,6 @@ fn tells_lines(text: &[u8], header: &[u8], tables: usize) -> bool
         && count_headers(text, header) == tables
 }
 
-/// Returns the line of header `k`.
 fn line_of_header(text: &[u8], header: &[u8], k: usize) -> Option<usize>
     ensures line { IfSome result (IsLineOf text.now header.now k) }
     ensures none { IfNone result (count_below (is_header text.now header.now) (length text.now) ≤ k) }

@@ -76,7 +76,6 @@ pub(crate) fn process_has_fault<K: Kinds>(sketch: &Sketch, fault: NetFault, p: u
     }
 }
 
-/// Whether process `p` has a wrong name, or that of an earlier one.
 fn is_process_misnamed(processes: &[ProcessSketch], p: usize) -> bool
     ensures { result ≡ (holds_at (λ x. not (is_name x.name)) processes.now p || clashes_at same_process processes.now p) }
 {
@@ -106,7 +105,6 @@ pub(crate) fn channel_has_fault<K: Kinds>(sketch: &Sketch, fault: NetFault, c: u
     }
 }
 
-/// Whether channel `c` has a wrong name, or that of an earlier one.
 fn is_channel_misnamed(channels: &[ChannelSketch], c: usize) -> bool
     ensures { result ≡ (holds_at (λ x. not (is_name x.name)) channels.now c || clashes_at same_channel channels.now c) }
 {

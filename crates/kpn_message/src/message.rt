@@ -42,8 +42,8 @@ pub fn message_of<K: Kinds>(
     }
 }
 
-/// Returns what is wrong with a sketch, and where: the message that `message_of` returns for a text of this
-/// sketch.
+/// Returns what is wrong with a sketch, and where, on one line without a line feed, like `message_of` for its
+/// text.
 ///
 /// `fault` must be the sketch's fault, or the message may be wrong or missing. `kinds` names the existing
 /// kinds. There is no message for `Memory` and `Input`, which say all, for `NotToml` and `Keys`, which no
@@ -74,7 +74,6 @@ fn says_all(fault: NetFault) -> bool
     matches!(fault, NetFault::Memory | NetFault::Input)
 }
 
-/// Returns what is wrong with a text that describes no sketch, on one line.
 fn message_of_text(alloc: Global, text: &[u8]) -> Option<String>
     ensures said { IfSome result (λ message. string_bytes message ≢ []) }
 {
@@ -91,7 +90,6 @@ fn push_unread(alloc: Global, out: &mut String, text: &[u8]) -> Result<(), Alloc
     }
 }
 
-/// Returns the message unless it is empty.
 fn unless_empty(out: String) -> Option<String>
     ensures { IfSome result (λ message. string_bytes message ≢ []) }
 {
@@ -138,7 +136,6 @@ pub(crate) fn message_at<K: Kinds>(
     unless_empty(out)
 }
 
-/// Appends what is wrong at a place that has the fault.
 fn push_place<K: Kinds>(
     out: &mut String,
     sketch: &Sketch,
@@ -168,7 +165,6 @@ fn process_at(sketch: &Sketch, p: usize) -> Option<&ProcessSketch>
     sketch.processes.as_slice().get(p)
 }
 
-/// Appends what is wrong with a description as a whole.
 fn push_whole(out: &mut String, sketch: &Sketch, fault: NetFault) -> Result<(), AllocError> {
     match fault {
         NetFault::Version => write!(out, "version {}; it must be 1 or 2", sketch.version),

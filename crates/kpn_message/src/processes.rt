@@ -33,7 +33,6 @@ pub(crate) fn push_process<K: Kinds>(
     }
 }
 
-/// Appends what is wrong with the arguments of a process.
 fn push_args<K: Kinds>(out: &mut String, process: &ProcessSketch) -> Result<(), AllocError> {
     let kind = Quoted(process.kind.as_str());
     let args = process.args.as_slice();

@@ -1,5 +1,4 @@
--- The kinds that stop at once, only read or only write, and the one that writes a word before it copies: what
--- they answer.
+-- The kinds that stop at once, only read or only write, and one that writes a word, then copies.
 use Rattle.std.specs.Prelude.{ℕ, ◌+◌, ◌%◌, ◌^◌, ◌==◌, if◌then◌else◌, List, Option, Some, None}
 use Rattle.kpn_model.specs.declared.token.Token.{Token}
 use Rattle.kpn_model.specs.declared.token.Token.TheVariants.{Word}

@@ -1,4 +1,4 @@
--- The kinds that depend on earlier words, and the one that keeps words within bounds.
+-- The kinds that keep words, and one that clips them.
 use Rattle.std.specs.Prelude.{ℕ, ◌-◌, ◌+ℤ◌, ◌-ℤ◌, if◌then◌else◌, List, [], ◌∷◌}
 use Rattle.std.specs.Int.{int_min, int_max, int_shr}
 use Rattle.kpn_model.specs.declared.token.Token.{Token}
@@ -24,7 +24,6 @@ next_level k y x = word_of (signed y +ℤ int_shr (signed x -ℤ signed y) k)
 abbrev pub low_pass_step : ℕ → List ℕ → Token → List ℕ × Token
 low_pass_step k kept t = (next_level k (at kept 0) (word t) ∷ 0 ∷ 0 ∷ 0 ∷ [], Word (next_level k (at kept 0) (word t)))
 
--- clip: the nearest word from lo to hi, in two's complement
 abbrev pub nearest : ℕ → ℕ → ℕ → ℕ
 nearest lo hi w = word_of (int_max (signed lo) (int_min (signed w) (signed hi)))
 

@@ -5,7 +5,6 @@ use Rattle.kpn_model.specs.declared.token.Token.TheVariants.{Flag}
 use Rattle.kpn_standard.specs.Locals.{word, flag}
 use Rattle.kpn_signals.specs.Words.{signed}
 
--- less: whether the first word is less than the second, in two's complement
 abbrev pub less_join : ℕ → ℕ → Token → ℕ × Token
 less_join kept x t = (kept, Flag (int_lt (signed x) (signed (word t))))
 

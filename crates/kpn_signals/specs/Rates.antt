@@ -1,4 +1,4 @@
--- The kinds that write fewer or more words than they read: what they answer after each word.
+-- The kinds that write fewer or more words than they read.
 use Rattle.std.specs.Prelude.{ℕ, ◌-◌, ◌==◌, if◌then◌else◌, List, Option, Some, None}
 use Rattle.kpn_model.specs.declared.token.Token.{Token}
 use Rattle.kpn_model.specs.declared.token.Token.TheVariants.{Word}

@@ -1,5 +1,5 @@
--- The two shapes of most kinds, each as a table: local state, last token, next local state, act. Each local
--- state and last token has its line, so a process may be asked in any.
+-- The two shapes of most kinds, each as a table: local state, last token, next local state, act. Each has a
+-- line for any local state and last token.
 use Rattle.std.specs.Prelude.{ℕ, ◌==◌, if◌then◌else◌, true, false, List, Option, Some, None}
 use Rattle.kpn_model.specs.declared.token.Token.{Token}
 use Rattle.kpn_model.specs.declared.token.Token.TheVariants.{Word, Flag}
@@ -34,7 +34,6 @@ join_answer join l last =
     if at l 0 == READS_SECOND then says WRITES (number_of (got last)) (at l 2) (Read 1) else
     write_of (join (at l 2) (at l 1) (got last))
 
--- a process may be asked with any local state and last token of 64-bit numbers
 pub record Admitted (local : List ℕ) (last : Option Token) : Type 0 where
   pub local_fits : IsLocal local
   pub last_fits : LastFits last

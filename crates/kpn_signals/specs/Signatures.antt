@@ -24,8 +24,7 @@ is_one_below args = is_below (at args 0) && (at args 1 == 1)
 abbrev pub are_bounds : ℕ → ℕ → ℕ → Bool
 are_bounds lo hi below = is_below lo && (is_below hi && ((below == 1 || below == 2) && int_le (signed (word_below lo)) (signed (bound hi below))))
 
--- shifts are 0 to 63, rates at least 1, delays 1 to 4, and the least bound is at most the greatest; after
--- negative arguments comes how many they are, from the first on
+-- after negative arguments comes how many they are, from the first on
 abbrev pub suit : Signal → List ℕ → Bool
 suit Shift args = nat_lt (at args 0) 64
 suit Left args = nat_lt (at args 0) 64
@@ -41,7 +40,6 @@ suit SignedPrefix args = is_one_below args
 suit SignedClip args = are_bounds (at args 0) (at args 1) (at args 2)
 suit _ args = true
 
--- only the arguments that the kind takes are used
 abbrev pub are_own : Signal → List ℕ → Bool
 are_own SignedClip args = true
 are_own kind args = are_used (row_of kind).arguments args

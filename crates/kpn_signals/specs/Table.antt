@@ -39,7 +39,7 @@ row_of SignedClip = tabled 23 (codes "clip, signed") 3 one_word one_word
 row_of SignedScale = tabled 24 (codes "scale, signed") 2 one_word one_word
 row_of SignedPrefix = tabled 25 (codes "prefix, signed") 2 one_word one_word
 
--- a kind's name in descriptions, and how many arguments it takes there: its own, unless arguments are negative
+-- a kind's name in descriptions, and its number of arguments there: its own, unless arguments are negative
 abbrev pub called_by : Signal → List ℕ × ℕ
 called_by SignedConstant = (codes "constant", 1)
 called_by SignedHold = (codes "hold", 1)

@@ -1,5 +1,5 @@
-//! The kinds that only write, and the one that writes a word before it copies. Each function returns the next
-//! answer of its kind.
+//! The kinds that only write, and one that writes a word, then copies: each function returns its kind's
+//! answer.
 ghost use Rattle.std.specs.Prelude.{◌≡◌};
 ghost use Rattle.kpn_signals.specs.Ends.{constant_answer, count_up_answer, prefix_answer};
 
@@ -12,7 +12,6 @@ pub(crate) fn constant(value: u64, local: Local) -> Answer
     writes_word(local, value)
 }
 
-/// Writes 0, 1, 2, .. modulo 2^64, forever.
 pub(crate) fn count_up(local: Local) -> Answer
     ensures { result ≡ count_up_answer local }
 {

@@ -1,5 +1,4 @@
-//! The kinds that depend on earlier words, and the one that keeps words within bounds. Each function returns
-//! the next answer of its kind.
+//! The kinds that keep words, and one that clips them: each function returns its kind's answer.
 ghost use Rattle.std.specs.Prelude.{◌≡◌, ◌<◌, ◌≤◌, ◌≤ℤ◌};
 ghost use Rattle.kpn_signals.specs.Words.{signed};
 ghost use Rattle.kpn_signals.specs.Shapes.{step_answer, join_answer};
@@ -34,8 +33,8 @@ pub(crate) fn delay(n: u64, local: Local, last: Option<Token>) -> Answer
     }
 }
 
-/// Reads a word x, and writes y + (x - y) / 2^bits, rounded down, as signed numbers, forever. y is the word
-/// that it wrote last, 0 at first.
+/// Reads a word x, and writes y + (x - y) / 2^bits, rounded down, as signed numbers, forever. y is the last
+/// written word, 0 at first.
 pub(crate) fn low_pass(bits: u64, local: Local, last: Option<Token>) -> Answer
     requires { bits < 64 }
     ensures { result ≡ step_answer (low_pass_step bits) local last }
@@ -50,7 +49,6 @@ pub(crate) fn low_pass(bits: u64, local: Local, last: Option<Token>) -> Answer
     }
 }
 
-/// Returns `level` + (`word` - `level`) / 2^bits, rounded down, as signed numbers.
 fn next_level(bits: u64, level: u64, word: u64) -> u64
     requires { bits < 64 }
     ensures { result ≡ next_level bits level word }

@@ -1,4 +1,4 @@
-//! The kinds that write fewer or more words than they read. Each function returns the next answer of its kind.
+//! The kinds that write fewer or more words than they read: each function returns its kind's answer.
 ghost use Rattle.std.specs.Prelude.{◌≡◌, ◌<◌};
 ghost use Rattle.kpn_signals.specs.Rates.{decimate_answer, repeat_answer};
 

@@ -53,7 +53,7 @@ pub enum Signal {
     /// n, 1 to 4: writes n zeros, then what it reads.
     Delay,
     /// A number of bits, 0 to 63: writes y + (x - y) / 2^bits for each word x, rounded down, as signed
-    /// numbers. y is the word that it wrote last, 0 at first.
+    /// numbers. y is the last written word, 0 at first.
     LowPass,
     /// The least and the greatest word, as signed numbers: writes the nearest one within them.
     Clip,
@@ -61,8 +61,8 @@ pub enum Signal {
     SignedConstant,
     /// n and 1: `Hold` of the number -1 - n.
     SignedHold,
-    /// Two bounds and how many are negative: 1, the first, or 2; n for a negative bound -1 - n. `Clip` to
-    /// these.
+    /// Two bounds, n for a negative bound -1 - n, and how many are negative: 1 (the first) or 2. `Clip` to
+    /// these bounds.
     SignedClip,
     /// n and 1: writes the product of each word with -1 - n, modulo 2^64.
     SignedScale,
@@ -299,7 +299,6 @@ impl Signal {
     }
 }
 
-/// Whether these are a negative argument and the number 1 of such arguments.
 fn is_one_below(args: [u64; 3]) -> bool
     ensures { result ≡ (at args 2 == 0 && is_one_below args) }
 {
@@ -307,7 +306,6 @@ fn is_one_below(args: [u64; 3]) -> bool
     none == 0 && a < FIRST_BELOW && below == 1
 }
 
-/// Whether a process can clip to these bounds. The first or both are negative.
 fn are_bounds(lo: u64, hi: u64, below: u64) -> bool
     ensures { result ≡ are_bounds lo hi below }
 {

@@ -1,4 +1,4 @@
--- The kinds that compute words: their answers, and their states, a line for each act.
+-- The kinds that compute words: answers, and states, a line for each act.
 use Rattle.std.specs.Prelude.{ℕ, ◌+◌, ◌*◌, ◌%◌, ◌^◌, ◌==◌, if◌then◌else◌, List, Option, Some, None}
 use Rattle.kpn_model.specs.declared.token.Token.{Token}
 use Rattle.kpn_model.specs.declared.token.Token.TheVariants.{Word}

@@ -1,4 +1,4 @@
--- The kinds that write what they read: their answers, and their states, a line for each act.
+-- The kinds that write what they read: answers, and states, a line for each act.
 use Rattle.std.specs.Prelude.{◌≡◌, ℕ, ◌+◌, ◌<◌, ◌==◌, nat_lt, if◌then◌else◌, List, Option, Some, None}
 use Rattle.kpn_model.specs.declared.token.Token.{Token}
 use Rattle.kpn_model.specs.declared.token.Token.TheVariants.{Word}
@@ -28,7 +28,6 @@ pub data CopyLine : List ℕ → Option Token → Type 0 where
   copy_writes_first : {t : ℕ} → CopyLine (one 1) (Some (Word t))
   copy_writes_second : {t : ℕ} → CopyLine (two 2 t) None
 
--- prefix: writes its argument, then reads and writes
 abbrev pub prefix_answer : List ℕ → List ℕ → Token → Answer
 prefix_answer args l t =
     if at l 0 == 0 then says 1 0 0 (Write 0 (Word (at args 0))) else

@@ -1,4 +1,4 @@
--- The kinds that only write or only read: their answers, and their states, a line for each act.
+-- The kinds that only write or only read: answers, and states, a line for each act.
 use Rattle.std.specs.Prelude.{◌≡◌, ℕ, ◌+◌, ◌<◌, nat_lt, if◌then◌else◌, List, Option, Some, None}
 use Rattle.kpn_model.specs.declared.token.Token.{Token}
 use Rattle.kpn_model.specs.declared.token.Token.TheVariants.{Word}
@@ -6,7 +6,6 @@ use Rattle.kpn_model.specs.declared.kinds.Act.TheVariants.{Read, Write}
 use Rattle.kpn_model.specs.declared.kinds.Answer.{Answer}
 use Rattle.kpn_standard.specs.Locals.{at, one, says, stays}
 
--- count: writes n words from a first one on, then stops
 abbrev pub count_answer : List ℕ → List ℕ → Token → Answer
 count_answer args l t = if nat_lt (at l 0) (at args 1) then says (at l 0 + 1) 0 0 (Write 0 (Word (at args 0 + at l 0))) else stays l
 

@@ -1,4 +1,4 @@
--- The kinds that write or read flags: their answers, and their states, a line for each act.
+-- The kinds that write or read flags: answers, and states, a line for each act.
 use Rattle.std.specs.Prelude.{ℕ, ◌%◌, ◌==◌, if◌then◌else◌, Bool, List, Option, Some, None}
 use Rattle.kpn_model.specs.declared.token.Token.{Token}
 use Rattle.kpn_model.specs.declared.token.Token.TheVariants.{Word, Flag}
@@ -13,7 +13,6 @@ pub data DividesLine : List ℕ → Option Token → Type 0 where
   divides_reads : DividesLine (one 0) None
   divides_writes : {t : ℕ} → DividesLine (one 1) (Some (Word t))
 
--- switch: reads a flag, then a word, and writes the word to the output that the flag selects
 abbrev pub switch_answer : List ℕ → List ℕ → Token → Answer
 switch_answer args l t =
     if at l 0 == 0 then says 1 0 0 (Read 1) else
@@ -26,7 +25,6 @@ pub data SwitchLine : List ℕ → Option Token → Type 0 where
   switch_writes_first : {t : ℕ} → SwitchLine (two 2 0) (Some (Word t))
   switch_writes_second : {t : ℕ} → SwitchLine (two 2 1) (Some (Word t))
 
--- select: reads a flag, then a word of the input that the flag selects, and writes the word
 abbrev pub select_answer : List ℕ → List ℕ → Token → Answer
 select_answer args l t =
     if at l 0 == 0 then says 1 0 0 (Read 2) else

@@ -22,7 +22,7 @@ pub enum Kind {
     Add,
     /// The factor: writes products modulo 2^64.
     Scale,
-    /// The numbers of words, each at least 1, that it copies in turn from input 0 and input 1.
+    /// How many words, each at least 1, it copies in turn from inputs 0 and 1.
     Weave,
     /// Writes the lesser of the two heads, one of equal heads.
     Merge,
@@ -34,8 +34,8 @@ pub enum Kind {
     Select,
 }
 
-/// A row of the table: the kind's number in cards, its name, how many arguments it takes, and the sorts of its
-/// inputs and outputs. Unused arguments are 0.
+/// A row of the table: the kind's number in cards, its name, its number of arguments, and the sorts of its
+/// ports. Unused arguments are 0.
 #[derive(Clone, Copy, Debug)]
 pub struct Row {
     pub number: u16,

@@ -1,5 +1,4 @@
-//! The kinds that join two inputs. Each function returns the answer of its kind to an admitted local state and
-//! last token.
+//! The kinds that join two inputs: each function returns its kind's answer.
 ghost use Rattle.std.specs.Prelude.{◌≡◌, IsSome};
 ghost use Rattle.kpn_standard.specs.Standard.{standard};
 ghost use Rattle.kpn_standard.specs.Merging.{emit};
@@ -12,7 +11,7 @@ use kpn_model::{Answer, Local, Token};
 use std::cmp::Ordering;
 
 /// The first number of `weave`'s local state: whose turn it is, and whether a word was just read. The second
-/// number counts the words copied in this turn.
+/// counts the words copied in this turn.
 const FIRST_TURN: u64 = 0;
 
 const FIRST_TURN_READ: u64 = 1;
@@ -53,8 +52,8 @@ pub fn weave(args: [u64; 3], local: Local, last: Option<Token>) -> Answer
     }
 }
 
-/// Keeps the next word of each input, writes the lesser, and reads that input again, forever. If the two are
-/// equal, it writes one and reads both inputs again, input 0 first.
+/// Keeps the next word of each input, writes the lesser, and reads that input again, forever. Of two equal
+/// words it writes one and reads both inputs again, input 0 first.
 pub fn merge(args: [u64; 3], local: Local, last: Option<Token>) -> Answer
     requires signed { IsSome (signature (card_of_kind Kind.Merge args)) }
     requires admitted { Admitted (card_of_kind Kind.Merge args) local last }
@@ -70,7 +69,6 @@ pub fn merge(args: [u64; 3], local: Local, last: Option<Token>) -> Answer
     }
 }
 
-/// Writes the lesser of the heads and keeps the other.
 fn lesser(x: u64, y: u64) -> Answer
     ensures { result ≡ emit x y }
 {

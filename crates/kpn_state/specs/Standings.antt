@@ -75,8 +75,8 @@ HasChannel net (Took c t) = c < length net.channels
 HasChannel net (Put c t) = c < length net.channels
 HasChannel net DidStop = Unit {0}
 
--- the state is one of the network, with tokens of their sorts; each standing fits its process's status; each
--- parked process wants what it answered and, except for the spared one, can't do it
+-- tokens have their channels' sorts, standings fit statuses, and each parked process wants what it answered
+-- and, except for the spared one, can't do it
 pub record StandingsFit (kinds : Family) (admits : Card → List ℕ → Option Token → Type 0) (net : Network) (spared : Option ℕ) (M : State) (standings : List Standing) : Type 0 where
   pub processes : length M.processes ≡ length net.processes
   pub channels : length M.channels ≡ length net.channels

@@ -12,7 +12,6 @@ state statuses channels = record { processes = statuses; channels = channels }
 abbrev pub held : List Token → ℕ → Held
 held tokens capacity = record { tokens = tokens; capacity = capacity }
 
--- a state, its history, and the most entries that this may have
 pub record StateAndHistory : Type 0 where
   pub state : State
   pub history : List Entry
@@ -24,7 +23,7 @@ state_and_history M E limit = record { state = M; history = E; limit = limit }
 abbrev pub more : StateAndHistory → State → Entry → StateAndHistory
 more s M e = state_and_history M (s.history ++ e ∷ []) s.limit
 
--- there is room for `limit` entries, `grown` counts their growths, and the numbers of processes and channels
+-- `room` suffices for `limit` entries, `grown` counts their growths, and the numbers of processes and channels
 -- fit 16 bits
 pub record IsStored (s : StateAndHistory) (room grown : ℕ) : Type 0 where
   pub enough : s.limit ≤ room

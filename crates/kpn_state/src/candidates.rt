@@ -5,8 +5,8 @@ ghost use Rattle.kpn_state.specs.Candidates.{IsBefore, IsInOrder, candidate_list
 use std::alloc::{AllocError, Global};
 use std::marker::Model;
 
-/// The candidates for a growth: pairs of a capacity and a channel, sorted by capacity, then by the channel's
-/// number, so that the first grows (Parks 1995). Only `new` allocates.
+/// The candidates for a growth: pairs of a capacity and a channel, sorted by capacity, then by number, so that
+/// the first grows (Parks 1995). Only `new` allocates.
 #[derive(Drop)]
 pub struct Candidates {
     pairs: Vec<(usize, usize)>,
@@ -34,8 +34,7 @@ impl Candidates {
         Ok(Candidates { pairs, limit })
     }
 
-    /// Returns the first pair, the capacity and number of the channel that grows first; `None` if there is no
-    /// pair.
+    /// Returns the capacity and number of the channel that grows first; `None` if there is no candidate.
     pub fn first(&self) -> Option<(usize, usize)>
         ensures first { result ≡ slice_get self.now.pairs 0 }
         ensures ordered { IsInOrder self.now.pairs }
@@ -43,7 +42,7 @@ impl Candidates {
         self.pairs.as_slice().first().copied()
     }
 
-    /// Inserts a channel of this capacity at its place, if it is missing. There must be room. Takes no memory.
+    /// Inserts a channel of this capacity, if it is missing. There must be room. Takes no memory.
     pub fn insert(&mut self, capacity: usize, channel: usize)
         requires { length self.old.pairs < self.old.limit }
         ensures pairs { (x : ℕ × ℕ) → Contains self.new.pairs x ↔ ((x ≡ (capacity, channel)) ⊎ Contains self.old.pairs x) }

@@ -7,8 +7,8 @@ use kpn_model::Entry;
 use std::alloc::{AllocError, Global};
 use std::snapshot::Snapshot;
 
-/// Keeps the entries of a history in order, with room for a fixed number: as they are (`Wide`), in 16 bytes
-/// each (`Packed`), or not at all (`Unkept`). Contracts see the entries in any case.
+/// Keeps the entries of a history, with room for a fixed number: as they are (`Wide`), in 16 bytes each
+/// (`Packed`), or not at all (`Unkept`). Contracts see the entries in any case.
 pub trait Keeper: Drop {
     ghost use Rattle.std.specs.Prelude.{List, ℕ};
     ghost use Rattle.kpn_model.specs.declared.history.Entry.{Entry};
@@ -17,9 +17,7 @@ pub trait Keeper: Drop {
 
     ghost room: { Self → ℕ };
 
-    /// Makes a keeper without entries, with room for `count`.
-    ///
-    /// Errors: out of memory.
+    /// Makes a keeper with room for `count` entries. Errors: out of memory.
     fn with_room(alloc: Global, count: usize) -> Result<Self, AllocError>
         ensures entries { IfOk result (λ h. entries h ≡ []) }
         ensures room { IfOk result (λ h. count ≤ room h) };
@@ -29,7 +27,7 @@ pub trait Keeper: Drop {
         ensures count { result ≡ length (entries self.now) }
         ensures few { length (entries self.now) < 2 ^ 63 };
 
-    /// Appends an entry. There must be room, and the numbers of its process and channel must be below 65,536.
+    /// Appends an entry. There must be room, and its process and channel must be below 65,536.
     fn keep(&mut self, entry: Entry)
         requires room { length (entries self.old) < room self.old }
         requires small { IsSmall entry }
@@ -87,7 +85,7 @@ impl Recall for Wide {
     }
 }
 
-/// Entries that are only counted: a snapshot has no bytes, so only contracts see its entry.
+/// Entries that are only counted: a snapshot has no bytes, and only contracts see its entry.
 #[derive(Drop)]
 pub struct Unkept {
     seen: Vec<Snapshot<Entry>>,

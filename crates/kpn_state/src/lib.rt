@@ -1,5 +1,4 @@
-//! The state of a network, with its channels as rings; its history; the standings of its processes; the
-//! candidates for a growth; and the marks of who waits at the channels.
+//! The state of a network, its history, the standings of its processes, and who waits at its channels.
 #![tactic(auto)]
 
 pub mod candidates;

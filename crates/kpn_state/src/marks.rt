@@ -5,7 +5,7 @@ ghost use Rattle.kpn_state.specs.Marks.{mark_lists, is_marked};
 use std::alloc::{AllocError, Global};
 use std::marker::Model;
 
-/// For each channel, whether its reader is parked on it, and whether its writer is. So a commit knows, without
+/// For each channel, whether its reader and whether its writer is parked on it. So a commit knows, without
 /// looking at a process, whether its deed enables another. Only `new` allocates.
 #[derive(Drop)]
 pub struct Marks {

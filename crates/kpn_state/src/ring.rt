@@ -69,9 +69,7 @@ impl Ring {
         }
     }
 
-    /// Sets the capacity to `to` tokens.
-    ///
-    /// Errors: out of memory. The channel is then unchanged.
+    /// Sets the capacity to `to` tokens. Errors: out of memory; the channel is then unchanged.
     pub fn grow(&mut self, to: usize) -> Result<(), AllocError>
         requires { length self.old.tokens ≤ to }
         ensures ok { OnOk result (self.new ≡ held self.old.tokens to) }
@@ -85,10 +83,8 @@ impl Ring {
     }
 }
 
-/// Makes room for `needed` tokens: for twice the old room if that is more and there is memory, else for
-/// exactly `needed`. So n growths by one copy at most 2n tokens.
-///
-/// Errors: out of memory. The buffer is then unchanged.
+/// Makes room for `needed` tokens, if possible for twice the old room if that is more. So n growths by one
+/// copy at most 2n tokens. Errors: out of memory; the buffer is then unchanged.
 fn make_room(buffer: &mut HeapCircularBuffer<Token>, needed: usize) -> Result<(), AllocError>
     requires { buffer.old.capacity < needed }
     ensures items { OnOk result (buffer.new.items ≡ buffer.old.items) }

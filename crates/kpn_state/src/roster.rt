@@ -10,21 +10,21 @@ use circular_buffer::HeapCircularBuffer;
 use std::alloc::{AllocError, Global};
 use std::marker::Model;
 
-/// The standing of each process.
+/// The standing of each process, with a first-in, first-out queue of the ready ones.
 ///
-/// The ready processes are in a first-in, first-out queue. The numbers of processes out and live are kept, and
-/// that of the parked follows from these. So only two calls look at more than one process: `new`, and `update`
-/// if a process that was ready no longer is and others are queued behind it. Only `new` allocates.
+/// The numbers of processes out and live are kept; that of the parked follows. So only two calls look at more
+/// than one process: `new`, and `update` of a ready process that no longer is, with others queued behind it.
+/// Only `new` allocates.
 pub struct Roster {
     standings: Vec<Standing>,
-    // The counts are kept apart: side by side they would be loaded and stored as one value of 16 bytes, and
-    // such a load stalls if one of them was just stored alone.
+    // Kept apart from `live`: side by side they would be loaded as one value of 16 bytes, and such a load
+    // stalls if one of them was just stored alone.
     out: usize,
     queue: HeapCircularBuffer<usize>,
     live: usize,
 }
 
-// Written out, so that the drop is a call, proved once, and not done field by field at each place.
+// Written out, so that each drop is one call, proved once, and not a drop of each field.
 impl Drop for Roster {
     fn drop(self) {
         let Roster {
@@ -116,8 +116,7 @@ impl Roster {
         self.live - self.ready() - self.out
     }
 
-    /// Sends out the first process of the queue, which has been ready the longest, and returns its number;
-    /// `None` if none is ready.
+    /// Sends out the process that has been ready the longest, and returns its number; `None` if none is ready.
     pub fn send_out(&mut self) -> Option<usize>
         ensures some { IfSome result (λ p. standing self.old p ≡ Ready) }
         ensures within { IfSome result (λ p. p < length self.old) }
@@ -206,7 +205,6 @@ impl Roster {
     }
 }
 
-/// Returns what this standing adds to the count of processes that are out.
 fn out_weight(standing: &Standing) -> usize
     ensures value { result ≡ if is_out standing.now then 1 else 0 }
     ensures few { result ≤ 1 }
@@ -217,7 +215,6 @@ fn out_weight(standing: &Standing) -> usize
     }
 }
 
-/// Returns what this standing subtracts from the count of live processes.
 fn stopped_weight(standing: &Standing) -> usize
     ensures value { result ≡ if has_stopped standing.now then 1 else 0 }
     ensures few { result ≤ 1 }
@@ -228,7 +225,6 @@ fn stopped_weight(standing: &Standing) -> usize
     }
 }
 
-/// Appends a process to the queue if its new standing is ready.
 fn enqueue(queue: &mut HeapCircularBuffer<usize>, process: usize, standing: &Standing)
     requires { IsTrue (is_ready standing.now) → length queue.old.items < queue.old.capacity }
     ensures items { queue.new.items ≡ queue_after queue.old.items process standing.now }
@@ -241,7 +237,6 @@ fn enqueue(queue: &mut HeapCircularBuffer<usize>, process: usize, standing: &Sta
     }
 }
 
-/// Removes a process from the queue, where it occurs once; the others keep their order.
 #[inline(always)]
 fn withdraw(queue: &mut HeapCircularBuffer<usize>, process: usize)
     requires { times queue.old.items process ≡ 1 }

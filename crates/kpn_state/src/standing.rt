@@ -7,8 +7,8 @@ ghost use Rattle.kpn_state.specs.Standings.{standing, is_ready, parked_answer, s
 
 use kpn_model::{Answer, Deed};
 
-/// The standing of a process: ready to be asked; out, its answer is awaited; parked with an answer that could
-/// not be done; or stopped.
+/// The standing of a process: ready to be asked; out, its answer awaited; parked with an answer that could not
+/// be done; or stopped.
 #[derive(Clone, Copy, Debug, PartialEq, Eq)]
 pub enum Standing {
     Ready,
@@ -40,6 +40,7 @@ pub fn parked(standings: &[Standing], process: usize) -> Option<Answer>
     }
 }
 
+/// Whether a process is parked.
 #[inline(always)]
 pub fn is_parked(standings: &[Standing], process: usize) -> bool
     ensures { IsTrue result ↔ IsSome (parked_answer (standing standings.now process)) }

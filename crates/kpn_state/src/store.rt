@@ -14,8 +14,8 @@ use kpn_model::{Deed, Entry, Local, Status, Token};
 use std::alloc::{AllocError, Global};
 use std::marker::Model;
 
-/// The status of each process, the channels, and the history, which has room for a fixed number of entries, in
-/// its keeper.
+/// The status of each process, the channels, and the history in its keeper, with room for a fixed number of
+/// entries.
 pub struct Store<H: Keeper = Wide> {
     statuses: Vec<Status>,
     rings: Vec<Ring>,
@@ -25,7 +25,7 @@ pub struct Store<H: Keeper = Wide> {
     growths: usize,
 }
 
-// Written out, so that the drop is a call, proved once, and not done field by field at each place.
+// Written out, so that each drop is one call, proved once, and not a drop of each field.
 impl<H: Keeper> Drop for Store<H> {
     fn drop(self) {
         let Store {
@@ -49,10 +49,8 @@ impl<H: Keeper> Model for Store<H> {
 }
 
 impl<H: Keeper> Store<H> {
-    /// Makes a store of these processes and channels, at most 65,536 of each, without entries and with room
-    /// for `limit`.
-    ///
-    /// Errors: out of memory.
+    /// Makes a store of at most 65,536 processes and channels each, with room for `limit` entries. Errors: out
+    /// of memory.
     pub fn new(
         alloc: Global,
         statuses: Vec<Status>,
@@ -145,8 +143,8 @@ impl Store<Wide> {
 }
 
 impl Store<Unkept> {
-    /// Forgets the entries. The history starts again, empty, from the current state, with the same room as at
-    /// the start.
+    /// Forgets the entries. The history starts again from the current state, with the same room as at the
+    /// start.
     pub fn forget(&mut self)
         ensures { self.new ≡ state_and_history self.old.state [] self.old.limit }
     {
@@ -167,7 +165,7 @@ impl<H: Keeper> Store<H> {
     }
 
     /// Moves the first token of a channel to the process that reads it, appends the entry, and returns the
-    /// token. There must be a token, and room for the entry. `next` is the process's new local state.
+    /// token. There must be a token, and room for the entry. `next` is the new local state.
     #[inline(always)]
     pub fn take(&mut self, process: usize, channel: usize, next: Local) -> Token
         requires process { process < length self.old.state.processes }
@@ -187,8 +185,8 @@ impl<H: Keeper> Store<H> {
         token
     }
 
-    /// Appends the token that a process writes to a channel, and appends the entry. The channel must have room
-    /// for the token, and the history for the entry. `next` is the process's new local state.
+    /// Appends the token that a process writes to a channel, and the entry. There must be room for both.
+    /// `next` is the new local state.
     #[inline(always)]
     pub fn put(&mut self, process: usize, channel: usize, next: Local, token: Token)
         requires process { process < length self.old.state.processes }
@@ -217,8 +215,8 @@ impl<H: Keeper> Store<H> {
         fed.put(token);
     }
 
-    /// Removes the first token of a channel and returns it to the outside of the network, without an entry.
-    /// There must be a token.
+    /// Removes the first token of a channel and returns it to outside the network, without an entry. There
+    /// must be a token.
     pub fn drain(&mut self, channel: usize) -> Token
         requires channel { channel < length self.old.state.channels }
         requires some { 0 < length (tokens self.old.state channel) }
@@ -230,8 +228,7 @@ impl<H: Keeper> Store<H> {
     }
 
     /// Sets the capacity of a channel to `to` tokens, and appends the entry. There must be room for it.
-    ///
-    /// Errors: out of memory. Nothing has then changed.
+    /// Errors: out of memory; nothing has then changed.
     pub fn grow(&mut self, channel: usize, to: usize) -> Result<(), AllocError>
         requires channel { channel < length self.old.state.channels }
         requires within { length (tokens self.old.state channel) ≤ to }

@@ -14,7 +14,7 @@ pub struct Waiting {
     pub marks: Marks,
 }
 
-// Written out, so that the drop is a call, proved once, and not done field by field at each place.
+// Written out, so that each drop is one call, proved once, and not a drop of each field.
 impl Drop for Waiting {
     fn drop(self) {
         let Waiting {
@@ -25,8 +25,7 @@ impl Drop for Waiting {
 }
 
 impl Waiting {
-    /// Creates an empty wait set: no candidates, but room for one of each process, and no marks. Errors: out
-    /// of memory.
+    /// Creates an empty wait set, with room for a candidate of each process. Errors: out of memory.
     pub fn new(alloc: Global, processes: usize, channels: usize) -> Result<Waiting, AllocError>
         ensures candidates { IfOk result (λ w. w.candidates ≡ candidate_list [] processes) }
         ensures marks { IfOk result (λ w. w.marks ≡ mark_lists (replicate channels false) (replicate channels false)) }

@@ -34,8 +34,8 @@ impl Model for Board {
     ghost invariant = { λ b. b.table.shared.table_id.words ≡ 1 };
 }
 
-/// The right to publish on a board, which has one publisher. Contracts see its board, the history and phase
-/// published last, and how many watchers were made.
+/// The right to publish on a board, one for each. Contracts see its board, the history and phase published
+/// last, and how many watchers were made.
 #[derive(Drop)]
 pub struct Publisher {
     seat: Seat<(), View>,
@@ -101,8 +101,8 @@ impl Board {
     }
 
     /// Publishes a history, its number of growths and its phase with one store. The publisher must be this
-    /// board's. The history must continue the published one, with fewer than 2^22 entries, and if that had
-    /// ended, history and phase must be the same.
+    /// board's. The history must continue the published one, with fewer than 2^22 entries. If that had ended,
+    /// history and phase must be the same.
     pub fn publish(&self, publisher: &mut Publisher, history: &[Entry], growths: u32, phase: Phase)
         requires board { publisher.old.board ≡ self.now }
         requires goes_on { IsPrefix publisher.old.entries history.now }
@@ -120,8 +120,8 @@ impl Board {
         );
     }
 
-    /// Publishes kept entries, their number of growths and their phase with one store. The publisher must be
-    /// this board's. The entries must continue the published ones, there must be fewer than 2^22, and if those
+    /// Publishes kept entries, their number of growths and their phase with one store, like `publish`. The
+    /// publisher must be this board's. The entries must continue the published ones, fewer than 2^22. If those
     /// had ended, entries and phase must be the same.
     pub fn publish_kept<H: Keeper>(
         &self,
@@ -140,8 +140,8 @@ impl Board {
         self.publish_as::<Brand, &H>(publisher, kept, kept.count() as u32, growths, phase);
     }
 
-    // A step's `Play` sees no argument, so the type N passes what to publish to it. A call chooses N by the
-    // type that has the entries.
+    // A step's `Play` sees no argument, so the type N carries what to publish. A call chooses N from `_from`,
+    // which has the entries.
     fn publish_as<N: News, T: Copy>(
         &self,
         publisher: &mut Publisher,
@@ -187,8 +187,8 @@ impl Board {
     }
 
     /// Shows the watcher what is published, with one load, and returns its numbers. The history continues the
-    /// one that the watcher saw before, and equals it if that had ended. The watcher must be this board's.
-    /// Takes no lock and no memory, and never waits.
+    /// one seen before, and equals it if that had ended. The watcher must be this board's. Takes no lock and
+    /// no memory, and never waits.
     pub fn look(&self, watcher: &mut Watcher) -> Progress
         requires { watcher.old.board ≡ self.now }
         ensures board { watcher.new.board ≡ watcher.old.board }

@@ -11,7 +11,7 @@ use kpn_model::{End, Entry};
 use kpn_state::Keeper;
 use std::marker::Model;
 
-/// A publisher that remembers how many entries and growths it published, so that it counts only new entries.
+/// A publisher that remembers its numbers of entries and growths, so that it counts only new entries.
 /// Contracts see it as the publisher.
 #[derive(Drop)]
 pub struct CountingPublisher {
@@ -57,7 +57,7 @@ impl CountingPublisher {
     }
 
     /// Publishes a history and its end, if any, on the publisher's board. The history must continue the
-    /// published one, with fewer than 2^22 entries, and if that had ended, history and end must be the same.
+    /// published one, with fewer than 2^22 entries. If that had ended, history and end must be the same.
     pub fn publish(&mut self, board: &Board, history: &[Entry], ended: Option<End>)
         requires board { self.old.board ≡ board.now }
         requires goes_on { IsPrefix self.old.entries history.now }
@@ -70,8 +70,8 @@ impl CountingPublisher {
         self.publish_counted(board, history, growths, ended);
     }
 
-    /// Publishes a history like `publish`. The caller knows its number of growths, so it takes the same time
-    /// for any number of new entries.
+    /// Publishes a history like `publish`, but with a known number of growths: it takes the same time for any
+    /// number of new entries.
     pub fn publish_counted(
         &mut self,
         board: &Board,
@@ -92,7 +92,7 @@ impl CountingPublisher {
         board.publish(&mut self.publisher, history, self.growths, self.phase);
     }
 
-    /// Publishes kept entries and their end, if any, like `publish_counted`: it takes the same time for any
+    /// Publishes kept entries like `publish_counted`, with their end, if any: it takes the same time for any
     /// number of new entries.
     pub fn publish_kept<H: Keeper>(
         &mut self,

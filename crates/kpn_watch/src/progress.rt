@@ -68,7 +68,6 @@ impl Phase {
 }
 
 impl Progress {
-    // Returns the published word of these numbers.
     pub(crate) fn to_word(self) -> u64
         requires entries { self.entries < 2 ^ 22 }
         requires growths { self.growths < 2 ^ 22 }
@@ -77,7 +76,6 @@ impl Progress {
         (u64::from(self.entries) << 25) + (u64::from(self.growths) << 3) + self.phase.number()
     }
 
-    // Returns the numbers in a published word.
     pub(crate) fn of_word(word: u64) -> Progress
         requires size { word < 2 ^ 47 }
         requires phase { word % 8 < 6 }

@@ -1,7 +1,5 @@
-//! What the seats at a board have seen, the rule that relates it to the word, and their steps.
-//!
-//! The publisher has the first seat, and each watcher another. The rule: the word shows what the first seat
-//! has seen, which continues what each other seat has seen.
+//! What the seats at a board have seen, the rule that relates it to the word, and their steps. The publisher
+//! has the first seat, each watcher another.
 use crate::progress::Phase;
 use atomic_table::{Join, Play, Split, TableRule};
 use kpn_model::Entry;
@@ -20,7 +18,7 @@ pub struct View {
     pub note: Seen,
 }
 
-/// The rule: the word shows what the first seat has seen, and the others have seen prefixes of it.
+/// The rule: the word shows what the first seat has seen, which continues what each other seat has seen.
 pub struct WordRule;
 
 impl TableRule<(), View, ()> for WordRule {
