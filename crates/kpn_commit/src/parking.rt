@@ -12,8 +12,8 @@ use kpn_model::{Act, Answer, Kinds};
 use kpn_network::Net;
 use kpn_state::{Keeper, Standing, Waiting};
 
-/// Parks a ready or out process with its answer, and marks the channel at which it waits, a candidate if it
-/// waits to write. Not inlined, out of the way of a commit that parks nobody.
+/// Parks a ready or out process with its answer, and marks the channel at which it waits. If it waits to
+/// write, the channel becomes a candidate. Not inlined, out of the way of a commit that parks nobody.
 #[cold]
 #[inline(never)]
 pub fn park<K: Kinds, H: Keeper>(net: &Net<K>, core: &mut Core<H>, process: usize, answer: Answer)
@@ -43,8 +43,7 @@ pub fn park<K: Kinds, H: Keeper>(net: &Net<K>, core: &mut Core<H>, process: usiz
     core.standings.update(process, Standing::Parked(answer));
 }
 
-/// Makes a parked process ready, which must be able to do what it answered. Removes its mark and its
-/// candidate.
+/// Makes a parked process ready. It must be able to do what it answered. Removes its mark and its candidate.
 #[inline(always)]
 pub fn unpark<K: Kinds, H: Keeper>(net: &Net<K>, core: &mut Core<H>, process: usize, answer: Answer)
     requires process { process < length core.old.standings }

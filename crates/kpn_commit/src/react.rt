@@ -105,8 +105,8 @@ fn react_to<K: Kinds, H: Keeper>(
 }
 
 /// Does what a ready or out process answered, then the deed of the parked process that this enables. Leaves
-/// its standing to the caller, who makes it ready or sends it out again. Returns `None`, and changes nothing,
-/// if the act is a stop or can't be done. The history must have room for two entries.
+/// the first one's standing to the caller, who makes it ready or sends it out again. Returns `None`, and
+/// changes nothing, if the act is a stop or can't be done. The history must have room for two entries.
 #[inline(always)]
 pub(crate) fn react_on<K: Kinds, H: Keeper>(
     net: &Net<K>,
@@ -216,8 +216,8 @@ fn resume<K: Kinds, H: Keeper>(net: &Net<K>, core: &mut Core<H>, process: usize)
     true
 }
 
-/// Returns the answer, rebuilt field by field: to park a copy of the whole, all its bytes would be kept at
-/// hand while the answer is tried, and mostly it can be done.
+/// Returns the answer, rebuilt field by field: to park a copy of the whole, all its bytes would be kept while
+/// the answer is tried, and mostly it can be done.
 #[inline(always)]
 fn rebuilt(answer: Answer) -> Answer
     ensures { result ≡ answer }

@@ -70,7 +70,7 @@ fn resolve_idle<K: Kinds, H: Keeper>(net: &Net<K>, core: &mut Core<H>) -> Resolu
 }
 
 /// If no process is ready or out, ends the run, or grows the chosen channel and does its writer's put (Parks
-/// 1995). The run also ends if out of memory for the growth. The history must then have room for two entries.
+/// 1995); the history must then have room for two entries. The run also ends if out of memory for the growth.
 #[inline(always)]
 pub fn resolve<K: Kinds, H: Keeper>(net: &Net<K>, core: &mut Core<H>) -> Resolution
     requires coherent { IsCoherent (family K.Kinds) K.admits net.now core.old }

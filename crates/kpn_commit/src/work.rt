@@ -92,9 +92,10 @@ pub fn work<K: Kinds, H: Keeper>(
     (outcome_of(reaction, resolution), end)
 }
 
-/// Works on the answer of a ready or out process, but leaves its standing to the caller, who makes it ready or
-/// sends it out again. Returns the outcome; or `None`, with nothing changed, if the answer is a stop or can't
-/// be done, or if the budget has no room for three more entries. The history must have room for three entries.
+/// Works on the answer of a ready or out process, but leaves the process's standing to the caller, who makes
+/// it ready or sends it out again. Returns the outcome; or `None`, with nothing changed, if the answer is a
+/// stop or can't be done, or if the budget has no room for three more entries. The history must have room for
+/// three entries.
 #[inline(always)]
 pub fn work_on<K: Kinds, H: Keeper>(
     net: &Net<K>,

@@ -15,7 +15,7 @@ pub record IsDominated (F E : List Entry) : Type 0 where
   pub deeds : (p : ℕ) → IsPrefixOf (deeds F p) (deeds E p)
   pub entries : length F + length (growths E) ≤ length E + length (growths F)
 
--- F has no capacity above that of the chosen channel
+-- E dominates each F without a capacity above that of E's chosen channel
 abbrev pub Dominates : Family → Type 0
 Dominates kinds =
     (net : Network) (sizes : ℕ → ℕ) (E F : List Entry) (M N : State) (c : ℕ) → IsRun kinds net E M → IsArtificial kinds net M → IsChosen kinds net M c

@@ -14,7 +14,7 @@ use kpn_model::Kinds;
 ///
 /// `one_state`: a history leads from a state to one state. `prefixes`: each prefix of a history is a run, and
 /// the rest continues from its state. `within`: a network that starts with no channel above its capacity never
-/// has one. `told`: the history determines each channel's tokens and capacity. `budget`: no run spends its
+/// has one. `told`: the history determines each channel's tokens and capacity. `budget`: no run spends the
 /// budget if one that is over has fewer entries. `enabled`: a process is enabled exactly when it can do a
 /// deed. `one_cause`: a run is over for at most one cause.
 pub fn moments()

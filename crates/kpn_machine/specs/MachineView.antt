@@ -70,8 +70,8 @@ stays_in Out = 0
 stays_in (Parked a) = 1
 stays_in Stopped = 1
 
--- what always holds of a machine, its limit and its bodies' cards; each answer taken appended an entry or left
--- a process parked, or the run had ended
+-- the history is a run to the state, and all else fits; there are at most as many answers as entries and
+-- parked processes, and after the end as entries and processes that are not out
 pub record IsSound (kinds : Family) (admits : Card → List ℕ → Option Token → Type 0) (s : MachineView) (limit : ℕ) (bodies : List (Option Card)) : Type 0 where
   pub run : IsRun kinds s.network s.history s.state
   pub keeps : StandingsFit kinds admits s.network None s.state s.standings
@@ -85,9 +85,10 @@ pub record IsSound (kinds : Family) (admits : Card → List ℕ → Option Token
   pub asked : s.end ≡ None → s.commits ≤ length s.history + sum_by waits s.standings
   pub laid : s.commits ≤ length s.history + sum_by stays_in s.standings
 
--- what always holds of a machine: its history is a run that stays within capacities and well-typed, its end is
--- justified, an enabled process is ready or out, and some process is so exactly until the run ends, unless the
--- budget ended it
+-- what always holds of a machine: its history is a run to its state, always within capacities and well-typed;
+-- its end is justified; an enabled process is ready or out, and one that is neither wants what it answered;
+-- some process is ready or out exactly until the run ends, unless the budget ended it; there are at most
+-- budget + 2 entries, and at most as many answers as entries and processes
 pub record IsFaithful (kinds : Family) (admits : Card → List ℕ → Option Token → Type 0) (s : MachineView) : Type 0 where
   pub run : IsRun kinds s.network s.history s.state
   pub within : AtEachMoment kinds s.network s.history IsWithin

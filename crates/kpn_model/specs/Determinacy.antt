@@ -51,7 +51,7 @@ pub record AreAllPrefixComparable (net other : Network) (E F : List Entry) : Typ
   pub deeds : (p : ℕ) → ArePrefixComparable (deeds E p) (deeds F p)
   pub streams : (c : ℕ) → ArePrefixComparable (stream net E c) (stream other F c)
 
--- so are any two runs, whatever the starting capacities
+-- any two runs are, whatever the starting capacities
 abbrev pub AllPrefixComparable : Family → Type 0
 AllPrefixComparable kinds =
     (net : Network) (sizes : ℕ → ℕ) (E F : List Entry) (M N : State)

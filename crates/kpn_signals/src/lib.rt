@@ -4,8 +4,8 @@
 //! words as two's complement.
 //!
 //! A card has no negative arguments. So `constant`, `hold` and `clip`, and the standard `scale` and `prefix`,
-//! have a second kind each, `constant, signed` and so on. Its card has n for an argument -1 - n, and, after
-//! the arguments, how many of them are negative.
+//! have a second kind each, `constant, signed` and so on. Its card has n for a negative argument -1 - n, and,
+//! after the arguments, how many of them are negative.
 #![tactic(auto)]
 
 pub mod answers;

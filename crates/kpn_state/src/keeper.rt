@@ -27,7 +27,7 @@ pub trait Keeper: Drop {
         ensures count { result ≡ length (entries self.now) }
         ensures few { length (entries self.now) < 2 ^ 63 };
 
-    /// Appends an entry. There must be room, and its process and channel must be below 65,536.
+    /// Appends an entry. There must be room, and its process and channel numbers must be below 65,536.
     fn keep(&mut self, entry: Entry)
         requires room { length (entries self.old) < room self.old }
         requires small { IsSmall entry }

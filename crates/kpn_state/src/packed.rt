@@ -17,9 +17,9 @@ pub enum Form {
     Grew,
 }
 
-/// An entry in 16 bytes: its token's word, its flag as 0 or 1, or the new capacity; its process and channel;
-/// its form; and whether its token is a flag. Missing numbers are 0. No byte is padding, which would be
-/// written too.
+/// An entry in 16 bytes: its token's word, its flag as 0 or 1, or the new capacity; the numbers of its process
+/// and channel; its form; and whether its token is a flag. Missing numbers are 0. No byte is padding, which
+/// would be written too.
 #[derive(Clone, Copy, Debug, PartialEq, Eq)]
 pub struct PackedEntry {
     pub word: u64,
@@ -61,7 +61,7 @@ fn token_of(is_flag: bool, word: u64) -> Token
 }
 
 impl PackedEntry {
-    /// Packs an entry. Its process and channel must be below 65,536.
+    /// Packs an entry. Its process and channel numbers must be below 65,536.
     #[inline(always)]
     pub fn of(entry: Entry) -> PackedEntry
         requires { IsSmall entry }

@@ -49,8 +49,8 @@ impl<H: Keeper> Model for Store<H> {
 }
 
 impl<H: Keeper> Store<H> {
-    /// Makes a store of at most 65,536 processes and channels each, with room for `limit` entries. Errors: out
-    /// of memory.
+    /// Makes a store of these processes and channels, at most 65,536 of each, with room for `limit` entries.
+    /// Errors: out of memory.
     pub fn new(
         alloc: Global,
         statuses: Vec<Status>,

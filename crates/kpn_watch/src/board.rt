@@ -34,8 +34,8 @@ impl Model for Board {
     ghost invariant = { λ b. b.table.shared.table_id.words ≡ 1 };
 }
 
-/// The right to publish on a board, one for each. Contracts see its board, the history and phase published
-/// last, and how many watchers were made.
+/// The right to publish on a board; each board has one. Contracts see its board, the history and phase
+/// published last, and how many watchers were made.
 #[derive(Drop)]
 pub struct Publisher {
     seat: Seat<(), View>,

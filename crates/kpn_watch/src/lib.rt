@@ -9,9 +9,9 @@
 //! ```
 //!
 //! A `Board` holds the word. A history only grows at its end, so one number identifies a prefix of it: the
-//! word is `entries * 2^25 + growths * 8 + phase`. The phase is 0 while the run goes on, else the number of
-//! its end. Each board has one `Publisher` and at most 64 `Watcher`s. What a watcher sees continues all that
-//! it saw before.
+//! word is `entries * 2^25 + growths * 8 + phase`. The phase is 0 during the run, else the number of its end.
+//! Each board has one `Publisher` and at most 64 `Watcher`s. What a watcher sees continues all that it saw
+//! before.
 #![tactic(auto)]
 
 mod board;
