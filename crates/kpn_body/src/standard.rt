@@ -23,8 +23,7 @@ pub struct StandardBody {
 }
 
 impl StandardBody {
-    /// Makes a body of a card that has a signature. `call` must accept whatever the card admits, and return
-    /// the card's answer.
+    /// Makes a body of a card that has a signature. `call` must return the card's answers to what it admits.
     pub fn new(card: Card, call: Call) -> Self
         requires signed { IsSome (signature card) }
         requires callable { IsCallable (Admitted card) (pre call) }

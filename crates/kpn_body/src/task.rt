@@ -139,8 +139,7 @@ impl<B: Body> Task<B> {
     }
 }
 
-/// A called task: its answer, beside the body. Only `Task::call` and `Task::answered` make one, and it can't
-/// be copied. Its card is the body's.
+/// A called task: its answer, beside the body. Only a task makes one, and it can't be copied.
 #[derive(Drop)]
 pub struct Finished<B: Body> {
     answered: Answered<B::Kinds>,

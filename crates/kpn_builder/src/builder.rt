@@ -139,8 +139,7 @@ impl<'a> NewChannel<'a> {
     }
 }
 
-/// A description of version 2 to which processes and channels are added. Contracts see it as the sketch of its
-/// text.
+/// A growing description of version 2. Contracts see it as the sketch of its text.
 #[derive(Drop)]
 pub struct Builder {
     alloc: Global,
@@ -201,8 +200,7 @@ impl Builder {
         self.sketch.step = step;
     }
 
-    /// Adds a process of this kind with these arguments, after all others, unchecked. Errors: out of memory;
-    /// nothing has then changed.
+    /// Adds a process after all others, unchecked. Errors: out of memory; nothing has then changed.
     ///
     /// ```text
     /// made.process("src", "count", &[1, 8])?;
@@ -267,8 +265,7 @@ impl Builder {
 
     /// Writes the description: reading it gives the same sketch.
     ///
-    /// Errors: `Version` exactly if some start token is a word by its value, which no description can say;
-    /// `Memory` if out of memory.
+    /// Errors: `Version` exactly if a start token is a word by its value; `Memory` if out of memory.
     ///
     /// ```text
     /// let text = made.to_toml()?;

@@ -1,5 +1,4 @@
-//! Builds descriptions process by process and channel by channel, checks them like texts, and writes them as
-//! texts.
+//! Builds descriptions by processes and channels, checks them like texts, and writes them.
 //!
 //! ```text
 //! let mut made = Builder::new(alloc);

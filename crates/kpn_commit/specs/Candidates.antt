@@ -49,8 +49,7 @@ waits_to_write Out = false
 waits_to_write (Parked a) = is_write a.act
 waits_to_write Stopped = false
 
--- the list has exactly the candidates, no more than processes that wait to write, and room for one of each
--- process
+-- exactly the candidates, no more than processes that wait to write, and room for one of each process
 pub record AreCandidates (net : Network) (M : State) (standings : List Standing) (candidates : CandidateList) : Type 0 where
   pub each : (x : ℕ × ℕ) → Contains candidates.pairs x ↔ IsCandidate net M standings x
   pub few : length candidates.pairs ≤ count_by waits_to_write standings

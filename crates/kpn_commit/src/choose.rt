@@ -7,8 +7,7 @@ use kpn_model::Kinds;
 use kpn_network::Net;
 use kpn_state::Candidates;
 
-/// Returns the first candidate, the smallest full channel, which grows (Parks 1995), and its writer; `None` if
-/// there is none.
+/// Returns the smallest full channel, which grows (Parks 1995), and its writer; `None` if there is none.
 pub fn choose<K: Kinds>(net: &Net<K>, candidates: &Candidates) -> Option<(usize, usize)>
     requires { (x : ℕ × ℕ) → Contains candidates.now.pairs x → x.1 < length net.now.channels }
     ensures first { result ≡ option_map (with_writer net.now) (slice_get candidates.now.pairs 0) }

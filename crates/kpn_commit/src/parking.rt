@@ -72,8 +72,7 @@ pub fn unpark<K: Kinds, H: Keeper>(net: &Net<K>, core: &mut Core<H>, process: us
     core.standings.update(process, Standing::Ready);
 }
 
-/// Removes a candidate and its writer's mark, when the writer is served. The channel must be listed with this
-/// capacity.
+/// Removes the candidate with this capacity and its writer's mark, when the writer is served.
 #[inline(always)]
 pub(crate) fn unlist(waiting: &mut Waiting, capacity: usize, channel: usize)
     requires { channel < length waiting.old.marks.writers }

@@ -1,5 +1,4 @@
--- Two families joined: kind 2k is the first's kind k, and kind 2k + 1 the second's; the greatest number
--- belongs to no kind.
+-- Two families joined: kind 2k is the first's kind k, and 2k + 1 the second's; NO_KIND is no kind.
 use Rattle.std.specs.Prelude.{◌≡◌, ◌≢◌, ℕ, ◌+◌, ◌-◌, ◌*◌, ◌/◌, ◌%◌, ◌^◌, ◌==◌, nat_lt, if◌then◌else◌, Bool, true, false, List, Option, Some, None, IfSome}
 use Rattle.kpn_model.specs.declared.token.Token.{Token}
 use Rattle.kpn_model.specs.declared.kinds.Card.{Card}
@@ -33,8 +32,7 @@ both_ports first second card = if card.kind == NO_KIND then None else (if is_fir
 abbrev pub IsNameRefused : (Card → Option Signature) → Option (ℕ × ℕ) → Type 0
 IsNameRefused ports meant = IfSome meant (λ kind. (args : List ℕ) → ports (record { kind = kind.0; args = args }) ≡ None)
 
--- it takes the same number of arguments, and each card of its number is, in its own family, the card of that
--- kind
+-- it takes as many arguments, and each card of its number is, in its own family, of that kind
 abbrev pub MeansOwn : Bool → ℕ × ℕ → Option (ℕ × ℕ) → Type 0
 MeansOwn first own None = ⊥
 MeansOwn first own (Some meant) =

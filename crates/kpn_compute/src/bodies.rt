@@ -9,8 +9,7 @@ use kpn_network::Net;
 use std::alloc::{AllocError, Global};
 use std::marker::{Model, PhantomData};
 
-/// A body that is only a card, for which its family's function answers. The card has a signature. Contracts
-/// see the card.
+/// A body that is only a card with a signature; its family's function answers. Contracts see the card.
 ///
 /// ```text
 /// for body in bodies_of(alloc, net)? {

@@ -12,8 +12,7 @@ pub const NO_KIND: u16 = 65535;
 
 /// The family of all kinds of two families. Either may itself be a `Both`.
 ///
-/// Kind k of the first is kind 2k here, and kind k of the second is 2k + 1. So a kind has a number here only
-/// if its own is below 2^15 - 1.
+/// Kind k of the first is kind 2k here, of the second 2k + 1, if k is below 2^15 - 1; else it has no number.
 pub struct Both<A: Kinds, B: Kinds> {
     first: PhantomData<A>,
     second: PhantomData<B>,
@@ -37,8 +36,7 @@ pub fn own_card(card: Card) -> Card
     }
 }
 
-/// Returns the number here of a kind with this number in its own family. `place` is 0 for the first family, 1
-/// for the second.
+/// Returns a kind's number here. `place` is 0 for the first family, 1 for the second.
 fn number_in_both(place: u16, kind: u16) -> u16
     requires { place < 2 }
     ensures { result ≡ number_in_both place kind }

@@ -21,8 +21,7 @@ pub trait Filters: Send + Sync {
 
     ghost step: { Card → List ℕ → ℕ → List ℕ × ℕ };
 
-    /// Returns the number of the kind with this name and how many arguments it takes; `None` if there is no
-    /// such kind.
+    /// Returns the kind's number and its number of arguments; `None` if no kind has this name.
     fn named(name: &str) -> Option<(u16, usize)>
         ensures { result ≡ named name.now };
 

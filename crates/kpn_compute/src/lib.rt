@@ -1,5 +1,4 @@
-//! Families with a plain function that answers: their bodies, without closures; kinds that are one step; and
-//! two families joined.
+//! Families with a plain function that answers: bodies without closures, kinds that are one step, and `Both`.
 //!
 //! ```text
 //! type Mixed = Both<Standard, Both<Gains, Filtered<MovingSums>>>;

@@ -56,8 +56,7 @@ module _ (kinds : Family) (net : Network) where
 abbrev pub IsFunction : Family → Type 0
 IsFunction kinds = (net : Network) (T : Streams) (p : ℕ) (ds es : List Deed) → DoesAlone kinds net T p ds → DoesAlone kinds net T p es → ArePrefixComparable ds es
 
--- each finite part of what p does depends on the tokens taken: p does the same for all streams that begin with
--- these
+-- what p does, up to any point, depends only on the tokens taken
 abbrev pub IsContinuous : Family → Type 0
 IsContinuous kinds =
     (net : Network) (T : Streams) (p : ℕ) (ds : List Deed) → DoesAlone kinds net T p ds

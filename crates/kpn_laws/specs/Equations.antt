@@ -46,8 +46,7 @@ module _ (kinds : Family) (net : Network) where
     pub run : IsRun kinds (resized net sizes) history state
     pub at : slice_get (stream net history c) n ≡ Some t
 
-  -- T is the limit of the streams of all runs, from all capacities: it has exactly the tokens that some run
-  -- reaches
+  -- T is the limit of all runs' streams, from all capacities: exactly the tokens that some run reaches
   abbrev pub IsLimit : Streams → Type 0
   IsLimit T = (c n : ℕ) (t : Token) → (T c n ≡ Some t) ↔ IsReached c n t
 
@@ -95,8 +94,7 @@ module _ (kinds : Family) where
       (net : Network) (sizes : ℕ → ℕ) (E : List Entry) (M : State) (a : End) → IsFinal kinds (resized net sizes) E M a → IsNatural a
       → IsLeastSolution kinds net (streams_of net E)
 
-  -- completeness: what a process alone does for streams that runs reach, it does in some run, from large
-  -- enough capacities
+  -- completeness: what a process alone does for streams that runs reach, it does in some run
   abbrev pub AllIsReached : Type 0
   AllIsReached =
       (net : Network) (T : Streams) → ((c n : ℕ) (t : Token) → T c n ≡ Some t → IsReached kinds net c n t)

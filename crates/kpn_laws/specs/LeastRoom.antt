@@ -1,5 +1,4 @@
--- If the smallest full channel grows, a run takes, but for the step, no more room than any capacities that
--- suffice (Parks 1995).
+-- Growing the smallest full channel takes, but for the step, the least room (Parks 1995).
 use Rattle.std.specs.Prelude.{◌≡◌, ◌⊎◌, ℕ, ◌+◌, ◌*◌, ◌<◌, ◌≤◌, List, ◌∷◌, ◌++◌, length}
 use Rattle.kpn_model.specs.declared.history.Entry.{Entry}
 use Rattle.kpn_model.specs.declared.history.Entry.TheVariants.{Grew}

@@ -17,8 +17,7 @@ pub record TakesAtMost (kinds : Family) (net : Network) (E : List Entry) (M : St
   pub few_growths : 0 < net.step → length (growths E) ≤ length net.channels * b
   pub below_ceiling : b ≤ net.ceiling → IsOver kinds net M Ceiling → ⊥
 
--- the run takes at most any capacity that suffices, and at most the entries of any run to its end within b,
--- plus b for each channel
+-- at most any capacity that suffices, and the entries of any run to its end within b plus b for each channel
 pub record TakesLeastRoom (kinds : Family) (net : Network) (E : List Entry) (M : State) : Type 0 where
   pub within : (b : ℕ) → Suffices kinds net b → TakesAtMost kinds net E M b
   pub few_entries : (b : ℕ) (s : EndsWithin kinds net b) → 0 < net.step → length E ≤ length s.history + length net.channels * b

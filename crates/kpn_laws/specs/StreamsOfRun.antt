@@ -10,8 +10,7 @@ use Rattle.kpn_model.specs.Determinacy.{IsRun, IsFinal}
 use Rattle.kpn_laws.specs.Alone.{Streams, BeginsWith}
 use Rattle.kpn_laws.specs.Equations.{streams_of, Obeys, IsLeastSolution}
 
--- every solution begins with the streams of the run E to M; at a natural end, from any starting capacities,
--- the streams are the least solution
+-- every solution begins with the run's streams; those of a natural end, from any capacities, are the least
 pub record ApproachLeastSolution (kinds : Family) (net : Network) (E : List Entry) (M : State) : Type 0 where
   pub below : (T : Streams) → Obeys kinds net T → (c : ℕ) → BeginsWith (T c) (stream net E c)
   pub least : (a : End) → IsOver kinds net M a → IsNatural a → IsLeastSolution kinds net (streams_of net E)

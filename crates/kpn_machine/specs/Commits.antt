@@ -50,8 +50,7 @@ Commits kinds s i LaidBack t = (s.end ≢ None) × (t ≡ record s { standings =
 Commits kinds s i (Done n) t = WorksOn kinds s i (Done n) t
 Commits kinds s i (Parked n) t = WorksOn kinds s i (Parked n) t
 
--- done exactly when the process was enabled; parked exactly when it was not, with no entry or with a growth
--- and a put
+-- done exactly when the process was enabled; else parked, with no entry or with a growth and a put
 abbrev pub TellsEnabled : Family → MachineView → ℕ → Outcome → Type 0
 TellsEnabled kinds s p (Done n) = IsEnabled kinds s.network s.state p × (1 ≤ n) × (n ≤ 3)
 TellsEnabled kinds s p (Parked n) = (IsEnabled kinds s.network s.state p → ⊥) × ((n ≡ 0) ⊎ (n ≡ 2))

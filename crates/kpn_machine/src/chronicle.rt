@@ -19,8 +19,7 @@ pub struct Chronicle<K: Kinds, H: Keeper = Wide> {
     commits: u64,
 }
 
-// Written out, so that each drop is one call, proved once, and not a drop of each field, which would be most
-// of the proof of an owner.
+// Written out, so that a drop is one call, proved once. Else owners' proofs would mostly drop its fields.
 impl<K: Kinds, H: Keeper> Drop for Chronicle<K, H> {
     fn drop(self) {
         let Chronicle {

@@ -32,8 +32,7 @@ use kpn_state::{Keeper, Roster, Standing, Store, Wide};
 use std::alloc::Global;
 use std::marker::Model;
 
-/// A network at work: its processes are taken one at a time, called outside the machine, and their answers
-/// committed. `H` keeps its entries.
+/// A network at work: gives out processes one at a time, and commits their answers. `H` keeps its entries.
 pub struct Machine<B: Body, H: Keeper = Wide> {
     net: Net<B::Kinds>,
     core: Core<H>,
@@ -47,8 +46,7 @@ pub struct Machine<B: Body, H: Keeper = Wide> {
     again: Option<usize>,
 }
 
-// Written out, so that each drop is one call, proved once, and not a drop of each field, which would be most
-// of the proof of an owner.
+// Written out, so that a drop is one call, proved once. Else owners' proofs would mostly drop its fields.
 impl<B: Body, H: Keeper> Drop for Machine<B, H> {
     fn drop(self) {
         let Machine {
@@ -370,8 +368,8 @@ impl<B: Body, H: Keeper> Machine<B, H> {
     /// does its deed next. If no process is then ready or out, the run ends, or the chosen channel grows and
     /// its writer's put is done (Parks 1995). Takes no memory except that of a growth.
     ///
-    /// Errors: the process is not out with this card, local state and last token. Returns the answer, and
-    /// nothing changes.
+    /// Errors: the process is not out with this card, local state and last token. Nothing has then changed,
+    /// and the answer is returned.
     #[inline(always)]
     pub fn commit(&mut self, finished: Finished<B>) -> Result<Outcome, Stranger<B>>
         ensures stranger { IfErr result (λ stranger. (stranger.finished ≡ finished) × (self.new ≡ self.old)) }
@@ -390,8 +388,7 @@ impl<B: Body, H: Keeper> Machine<B, H> {
         Ok(self.commit_asked(finished))
     }
 
-    /// Takes an answer like `commit`. The process must be out with its card, local state and last token
-    /// (`has_asked`).
+    /// Takes an answer like `commit`. Its process must be out with its card, local state and last token.
     #[inline(always)]
     pub fn commit_asked(&mut self, finished: Finished<B>) -> Outcome
         requires { IsOut self.old finished }
@@ -467,8 +464,8 @@ fn lay_back(standings: &mut Roster, process: usize)
 }
 
 impl<B: Body, H: Keeper> Machine<B, H> {
-    /// Returns the network and, in order, bodies of the right cards. The machine must be as it was opened.
-    /// Takes no memory.
+    /// Returns the network and, in order, bodies of its cards. The machine must be as it was opened. Takes no
+    /// memory.
     pub fn into_parts(self) -> (Net<B::Kinds>, Vec<B>)
         requires { IsFresh self }
         ensures net { result.0 ≡ self.network }
@@ -557,7 +554,7 @@ impl<B: Body, H: Keeper> Machine<B, H> {
 
     /// Runs to an end in the calling thread. No process may be out. If capacity b suffices for the network, no
     /// channel of capacity b or more grows (Parks 1995; docs/least-room.md). The streams are below every
-    /// solution of the network's equations, and at a natural end they are the least solution (Kahn 1974;
+    /// solution of the network's equations, and at a natural end the least one (Kahn 1974;
     /// docs/least-solution.md).
     ///
     /// ```text
@@ -593,9 +590,9 @@ impl<B: Body, H: Keeper> Machine<B, H> {
     }
 
     /// Asks ready processes where their bodies are, one after the other, and takes their answers like
-    /// `commit`, until `most` answers were taken, no process is ready or the run has ended. Returns the number
-    /// of answers taken. Processes that are out stay out. No contract says which ready process is asked. Takes
-    /// no memory except that of growths.
+    /// `commit`, until `most` answers were taken, no process is ready or the run has ended. Returns how many
+    /// were taken. Processes that are out stay out. No contract says which ready process is asked. Takes no
+    /// memory except that of growths.
     pub fn ask_in_place(&mut self, most: u64) -> u64
         ensures rounds { (outcomes : List OutcomeV) × (length outcomes ≡ result) × GoesRounds (family B.Kinds.Kinds) self.old outcomes self.new }
         ensures goes { ContinuesRun (family B.Kinds.Kinds) self.old self.new }

@@ -122,16 +122,14 @@ fn empty_slots<B: Body>(alloc: Global, count: usize) -> Result<Vec<Option<B>>, A
     Ok(slots)
 }
 
-/// The start of a machine or a flow, except its network and its bodies: the core, and an empty slot for each
-/// body.
+/// The start of a machine or a flow: the core, and an empty slot for each body.
 #[derive(Drop)]
 pub struct Start<B: Body, H: Keeper> {
     pub core: Core<H>,
     pub slots: Vec<Option<B>>,
 }
 
-/// Makes the start of a machine or a flow of this network, with room for `limit` entries. Errors: out of
-/// memory.
+/// Makes the start for this network, with room for `limit` entries. Errors: out of memory.
 pub fn prepare<B: Body, H: Keeper>(
     alloc: Global,
     net: &Net<B::Kinds>,

@@ -1,4 +1,4 @@
--- The messages of a sketch: each fault that doesn't follow from another, at each place that has it.
+-- The messages of a sketch: each fault that no other may have caused, at each place that has it.
 use Rattle.std.specs.Prelude.{◌≡◌, ◌≢◌, ◌≤◌, ◌-◌, ℕ, zero, suc, Bool, true, not, ◌&&◌, ◌||◌, List, [], ◌∷◌, ◌++◌, length, map, take, string_bytes, Option, if◌then◌else◌}
 use Rattle.std.specs.Io.Iter.{u64_saturate}
 use Rattle.std.specs.List.{All, flat_map}
@@ -26,8 +26,7 @@ for_each_below f (suc n) = for_each_below f n ++ f n
 abbrev pub subject : Message → NetFault × Location
 subject message = (message.fault, message.place)
 
--- at most 20 messages, none empty; if memory sufficed, they are for the first 20 of those due, and the others
--- are counted
+-- at most 20 messages, none empty; if memory sufficed, of the first 20 that are due, the others counted
 pub record Tells (due : List (NetFault × Location)) (messages : Messages) : Type 0 where
   pub few : length messages.told.items ≤ MOST_MESSAGES
   pub said : All (λ message. string_bytes message.text ≢ []) messages.told.items
@@ -45,7 +44,7 @@ module _ (named : List ℕ → Option (ℕ × ℕ)) (signature : Card → Option
   abbrev pub has_wrong_end : Bool
   has_wrong_end = has_fault named signature sketch NoEnd || has_fault named signature sketch Twice
 
-  -- the fault can't just follow from another one of the sketch
+  -- no other fault of the sketch may have caused this one
   abbrev pub stands_alone : NetFault → Bool
   stands_alone NoEnd = not has_wrong_process
   stands_alone Twice = not has_wrong_process
@@ -73,7 +72,7 @@ module _ (named : List ℕ → Option (ℕ × ℕ)) (signature : Card → Option
   places_of fault =
       told_of fault Description ++ (for_each_below (λ p. told_of fault (Process p)) (length sketch.processes) ++ for_each_below (λ c. told_of fault (Channel c)) (length sketch.channels))
 
-  -- if the sketch has the fault and it doesn't follow from another
+  -- if the sketch has the fault and no other may have caused it
   abbrev pub due_of : NetFault → List (NetFault × Location)
   due_of fault = if has_fault named signature sketch fault && stands_alone fault then places_of fault else []
 

@@ -55,8 +55,7 @@ module _ (named : List ℕ → Option (ℕ × ℕ)) (signature : Card → Option
   channel_has_fault Tokens k = holds_at has_wrong_tokens sketch.channels k
   channel_has_fault _ k = false
 
-  -- the first process that has the fault; else the first channel; else the description, which then has it as a
-  -- whole
+  -- the first process with the fault; else the first channel; else the description as a whole
   abbrev pub IsLocation : NetFault → Location → Type 0
   IsLocation fault (Process k) = IsFirst (process_has_fault fault) (length sketch.processes) k
   IsLocation fault (Channel k) =

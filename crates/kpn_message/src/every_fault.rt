@@ -51,7 +51,7 @@ pub struct Messages {
 /// feed for the description, or for each process and channel that has it; at most `MOST_MESSAGES`, and the
 /// number of the others. The first is of the sketch's first fault. `kinds` names the existing kinds.
 ///
-/// Faults that may only follow from another are left out: missing ends, shared and unused ports and sorts if a
+/// Faults that another may have caused are left out: missing ends, shared and unused ports and sorts if a
 /// name, kind or argument is wrong; unused ports and sorts also if an end is missing or shared; capacities,
 /// budget and tokens if the version is wrong; tokens also if a sort is.
 ///
@@ -76,7 +76,7 @@ pub fn messages_of_sketch<K: Kinds>(alloc: Global, sketch: &Sketch, kinds: &str)
     messages
 }
 
-/// Adds the messages of a fault, if the sketch has it and it doesn't follow from another.
+/// Adds the messages of a fault, if the sketch has it and no other may have caused it.
 fn push_due<K: Kinds>(
     alloc: Global,
     messages: &mut Messages,
@@ -100,7 +100,7 @@ fn is_due<K: Kinds>(sketch: &Sketch, fault: NetFault) -> bool
     has_fault::<K>(sketch, fault) && stands_alone::<K>(sketch, fault)
 }
 
-/// Whether a fault can't just follow from another one of the sketch.
+/// Whether no other fault of the sketch may have caused this one.
 fn stands_alone<K: Kinds>(sketch: &Sketch, fault: NetFault) -> bool
     ensures { result ≡ stands_alone K.named K.signature sketch.now fault }
 {

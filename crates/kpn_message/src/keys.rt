@@ -82,8 +82,7 @@ static CHANNEL: [Key; 8] = [
 #[derive(Clone, Copy)]
 struct Tables<'a>(&'static str, &'static str, &'a [Key]);
 
-/// Appends the first thing that is wrong with the keys of `table`, which was read from `text`; nothing if they
-/// are right.
+/// Appends the first thing that is wrong with the keys of `table`, read from `text`, if anything is.
 pub(crate) fn push_misfit(
     alloc: Global,
     out: &mut String,

@@ -42,12 +42,10 @@ pub fn message_of<K: Kinds>(
     }
 }
 
-/// Returns what is wrong with a sketch, and where, on one line without a line feed, like `message_of` for its
-/// text.
+/// Returns what is wrong with a sketch, and where, on one line without a line feed, like `message_of`.
 ///
 /// `fault` must be the sketch's fault, or the message may be wrong or missing. `kinds` names the existing
-/// kinds. There is no message for `Memory` and `Input`, which say all, for `NotToml` and `Keys`, which no
-/// sketch has, nor if out of memory.
+/// kinds. There is no message for `Memory`, `Input`, `NotToml` and `Keys`, nor if out of memory.
 ///
 /// ```text
 /// message_of_sketch::<K>(alloc, sketch, fault, kinds)
@@ -120,8 +118,7 @@ fn line_and_column(before: &[u8]) -> (usize, usize) {
     (line, column)
 }
 
-/// Returns what is wrong at a place that has the fault, on one line without a line feed; `None` if out of
-/// memory.
+/// Returns what is wrong at a place that has the fault, on one line; `None` if out of memory.
 pub(crate) fn message_at<K: Kinds>(
     alloc: Global,
     sketch: &Sketch,

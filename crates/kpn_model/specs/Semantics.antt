@@ -104,8 +104,7 @@ module _ (kinds : Family) (net : Network) where
     pub channel : ℕ
     pub blocked : IsBlocked M writer channel
 
-  -- c has the least capacity of the channels with a blocked writer (Parks 1995), and of these the lowest
-  -- number
+  -- c has the least capacity, then the lowest number, of the channels with a blocked writer (Parks 1995)
   pub record IsChosen (M : State) (c : ℕ) : Type 0 where
     pub writer : ℕ
     pub blocked : IsBlocked M writer c

@@ -15,8 +15,7 @@ stands_at_write c (Writes b) = b == c
 stands_at_write c _ = false
 
 module _ (net : Network) where
-  -- whom a process with this place waits for: the writer of a channel that it reads, the reader of one that it
-  -- writes
+  -- whom a process with this place waits for: the writer of a channel it reads, the reader of one it writes
   abbrev pub other_end : Place → Option ℕ
   other_end Stopped = None
   other_end (Reads c) = option_map (λ l. l.writer) (slice_get net.channels c)
@@ -31,8 +30,7 @@ module _ (net : Network) where
     is_met zero goal p = false
     is_met (suc n) goal p = option_map_or (λ q. (q == goal) || is_met n goal q) (waits_for p) false
 
-    -- p waits for itself, directly or indirectly; the shortest way back visits no process twice, so it has at
-    -- most one step per process
+    -- p waits for itself; the shortest way back visits no process twice, so has at most one step per process
     abbrev pub is_on_cycle : ℕ → Bool
     is_on_cycle p = is_met (length net.processes) p p
 

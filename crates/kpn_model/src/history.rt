@@ -3,16 +3,15 @@
 use crate::kinds::Local;
 use crate::token::Token;
 
-/// A process is live, with its local state and the token of the read just done (`None` at its start and after
-/// a write), or it has stopped.
+/// A process is live, with its local state and last token (`None` unless its last act was a read), or done.
 #[derive(Clone, Copy, Debug, PartialEq, Eq)]
 pub enum Status {
     Live { local: Local, last: Option<Token> },
     Done,
 }
 
-/// A process took the first token of a channel, put a token at the end of one, or stopped. `channel` is a
-/// number in the network.
+/// A process took a channel's first token, put a token at the end of one, or stopped. Channels are given by
+/// their numbers in the network.
 #[derive(Clone, Copy, Debug, PartialEq, Eq)]
 pub enum Deed {
     Took { channel: usize, token: Token },
@@ -29,8 +28,8 @@ pub enum Entry {
 
 /// Why a run ended. `Terminated`: all processes have stopped. `Deadlock`: some process is live, none is
 /// enabled, and none is blocked on a write (Parks 1995's real deadlock). `Ceiling`: the channel due to grow is
-/// at the ceiling. `Budget`: the history has at least as many entries as the budget. `Memory`: out of memory
-/// for a growth.
+/// at the ceiling. `Budget`: there are at least as many entries as the budget. `Memory`: out of memory for a
+/// growth.
 #[derive(Clone, Copy, Debug, PartialEq, Eq)]
 pub enum End {
     Terminated,

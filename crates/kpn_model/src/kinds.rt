@@ -11,8 +11,8 @@ pub struct Card {
     pub args: [u64; 3],
 }
 
-/// The sorts of a card's inputs and outputs. Port k exists if item k of its list is `Some`; each list is
-/// filled from the front.
+/// The sorts of a card's ports: port k exists if item k of its list is `Some`. Lists are filled from the
+/// front.
 #[derive(Clone, Copy, Debug, PartialEq, Eq)]
 pub struct Signature {
     pub ins: [Option<Sort>; 3],
@@ -22,8 +22,7 @@ pub struct Signature {
 /// The local state of a process: four words, with a meaning that depends on the kind.
 pub type Local = [u64; 4];
 
-/// What a process wants to do next: read an input or write a token to an output, each given by its number (0
-/// to 2), or stop.
+/// The next act of a process: it reads an input, writes a token to an output (ports 0 to 2), or stops.
 #[derive(Clone, Copy, Debug, PartialEq, Eq)]
 pub enum Act {
     Read(u8),
@@ -64,13 +63,11 @@ pub trait Kinds: Send + Sync {
 
     ghost admits: { Card → List ℕ → Option Token → Type 0 };
 
-    /// Returns the number of the kind with this name and how many arguments it takes; `None` if there is no
-    /// such kind.
+    /// Returns the kind's number and its number of arguments; `None` if no kind has this name.
     fn named(name: &str) -> Option<(u16, usize)>
         ensures { result ≡ named name.now };
 
-    /// Returns the ports of a card; `None` if the family has no such kind, or if the kind rejects these
-    /// arguments.
+    /// Returns the ports of a card; `None` if the family lacks the kind, or the kind rejects the arguments.
     fn signature(card: &Card) -> Option<Signature>
         ensures is { result ≡ signature card.now }
         ensures filled { IfSome result (λ s. IsTrue (is_filled s.ins) × IsTrue (is_filled s.outs)) };

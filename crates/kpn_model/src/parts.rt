@@ -21,8 +21,8 @@ pub struct Ends {
 }
 
 /// A channel: a queue that one process writes and one reads (Kahn 1974); a write blocks while it is full
-/// (Parks 1995). Its ends are as in [`Ends`], its starting capacity is in tokens, and `tokens` are its start
-/// tokens in reading order.
+/// (Parks 1995). Its ends are as in [`Ends`], its starting capacity is in tokens, and its start tokens are in
+/// reading order.
 #[derive(Drop)]
 pub struct Channel {
     pub name: Text,

@@ -25,8 +25,7 @@ pub trait Check {
     /// The family of the network's kinds.
     type Kinds: Kinds;
 
-    /// Makes the valid network that a sketch describes. Its ceiling is 65,535 in version 1, and 1,000,000 in
-    /// version 2.
+    /// Makes the valid network of a sketch. Its ceiling is 65,535 in version 1, and 1,000,000 in version 2.
     ///
     /// Errors: the first of `Version`, `Counts`, `Name`, `Kind`, `Args`, `NoEnd`, `Twice`, `Unused`, `Sorts`,
     /// `Capacity`, `Budget`, `Tokens` and `Step` whose condition holds of the sketch; or `Memory` at any time,

@@ -56,8 +56,7 @@ pub(crate) fn first_fault<K: Kinds>(sketch: &Sketch) -> Option<NetFault>
     }
 }
 
-/// Whether the condition of a fault holds of a sketch. Those of `NotToml`, `Keys`, `Memory` and `Input` never
-/// do.
+/// Whether the condition of a fault holds; never for `NotToml`, `Keys`, `Memory` and `Input`.
 pub fn has_fault<K: Kinds>(sketch: &Sketch, fault: NetFault) -> bool
     ensures { result ≡ has_fault K.named K.signature sketch.now fault }
 {

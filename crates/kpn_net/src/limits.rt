@@ -58,8 +58,7 @@ pub(crate) fn has_wrong_budget<K: Kinds>(sketch: &Sketch) -> bool
     is_outside(1, greatest, sketch.budget)
 }
 
-/// Whether a start token has this sort: integers from 0 on and words by their value are words, booleans are
-/// flags.
+/// Whether a start token has this sort: words are integers from 0 on or given by value, flags are booleans.
 pub fn is_token(sort: Sort, token: TokenSketch) -> bool
     ensures { result ≡ is_token sort token }
 {

@@ -97,8 +97,7 @@ pub fn takes_other_count<K: Kinds>(process: &ProcessSketch) -> bool
     }
 }
 
-/// Whether the kind takes another number of arguments, or more than three, or rejects these: one is negative,
-/// or the card has no signature.
+/// Whether the number of arguments is wrong or above three, one is negative, or the kind rejects them.
 pub fn has_wrong_args<K: Kinds>(process: &ProcessSketch) -> bool
     ensures { result ≡ has_wrong_args K.named K.signature process.now }
 {

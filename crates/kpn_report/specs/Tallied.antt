@@ -31,8 +31,7 @@ abbrev pub grew_after : Bool → Entry → Bool
 grew_after grew (Grew c to) = true
 grew_after grew (Did p d) = grew
 
--- the counts of these entries, for the most processes and channels of a network; entries of others are not
--- counted
+-- the counts of these entries, for the most processes and channels of a network
 pub record AreCounts (E : List Entry) (steps puts takes : List ℕ) (grew : Bool) : Type 0 where
   pub of_steps : Tabulates 0 MOST_PROCESSES (λ p. length (deeds E p)) steps
   pub of_puts : Tabulates 0 MOST_CHANNELS (λ c. length (put_on E c)) puts

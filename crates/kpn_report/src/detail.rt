@@ -73,8 +73,7 @@ fn capacities(alloc: Global, channel_counts: &[ChannelCounts]) -> Result<Vec<usi
         .collect(alloc)
 }
 
-/// Returns the detail of a history. `places` are the places where it left the processes. Reads the history
-/// twice. Errors: out of memory.
+/// Returns the detail of a history that left the processes at `places`. Reads it twice. Errors: out of memory.
 pub fn detail_of<K: Kinds>(
     alloc: Global,
     net: &Net<K>,

@@ -27,8 +27,7 @@ fn place<K: Kinds>(net: &Net<K>, process: usize, wanted: Option<Answer>) -> Plac
 }
 
 /// Returns each process's place: a parked process reads or writes the channel at which it waits; any other
-/// counts as stopped. If no process is ready or out, these are the places in the run's report. Errors: out of
-/// memory.
+/// counts as stopped. If none is ready or out, these are the places in the report. Errors: out of memory.
 ///
 /// ```text
 /// let places = places_of(alloc, net, flow.standings())?;

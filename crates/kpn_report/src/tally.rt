@@ -125,8 +125,7 @@ fn first_counts<K: Kinds>(alloc: Global, net: &Net<K>) -> Result<Vec<ChannelCoun
     Ok(channel_counts)
 }
 
-/// Counts a history. Reads it once, unless it was counted while it was kept and no channel grew. Errors: out
-/// of memory.
+/// Counts a history. Reads it once, unless it was tallied and no channel grew. Errors: out of memory.
 pub(crate) fn tally_of<K: Kinds, E: Entries>(
     alloc: Global,
     net: &Net<K>,

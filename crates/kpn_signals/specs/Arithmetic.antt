@@ -1,5 +1,4 @@
--- The kinds that compute words. Sums, differences and products are the same in two's complement, right shifts
--- are not.
+-- The kinds that compute words. Only right shifts differ in two's complement.
 use Rattle.std.specs.Prelude.{ℕ, ◌+◌, ◌-◌, ◌*◌, ◌%◌, ◌^◌, List}
 use Rattle.std.specs.Int.{int_shr}
 use Rattle.kpn_model.specs.declared.token.Token.{Token}

@@ -1,5 +1,4 @@
-//! The kinds that only write, and one that writes a word, then copies: each function returns its kind's
-//! answer.
+//! Kinds that only write, and one that writes a word, then copies: each function returns its kind's answer.
 ghost use Rattle.std.specs.Prelude.{◌≡◌};
 ghost use Rattle.kpn_signals.specs.Ends.{constant_answer, count_up_answer, prefix_answer};
 

@@ -7,8 +7,7 @@ ghost use Rattle.kpn_signals.specs.Filters.{hold_join, delay_step, next_level, l
 use crate::turns::{flag, joined, latest, reads, word, writes_word};
 use kpn_model::{Answer, Local, Token};
 
-/// Reads a word and a flag, and writes the word if the flag is true, else the word that it wrote last,
-/// forever.
+/// Reads a word and a flag, and writes the word if the flag is true, else the last written one, forever.
 pub(crate) fn hold(local: Local, last: Option<Token>) -> Answer
     ensures { result ≡ join_answer hold_join local last }
 {
@@ -33,8 +32,7 @@ pub(crate) fn delay(n: u64, local: Local, last: Option<Token>) -> Answer
     }
 }
 
-/// Reads a word x, and writes y + (x - y) / 2^bits, rounded down, as signed numbers, forever. y is the last
-/// written word, 0 at first.
+/// Reads a word x, writes y + (x - y) / 2^bits, rounded down, signed, forever. y is the word it wrote last.
 pub(crate) fn low_pass(bits: u64, local: Local, last: Option<Token>) -> Answer
     requires { bits < 64 }
     ensures { result ≡ step_answer (low_pass_step bits) local last }

@@ -1,7 +1,6 @@
 //! Help on the kinds for signals.
 
-/// A line of help on a kind: its name, the names of its arguments, the sorts of its inputs and outputs (w a
-/// word, f a flag), and what it does.
+/// A line of help on a kind: name, arguments, sorts of inputs and outputs (w a word, f a flag), what it does.
 #[derive(Clone, Copy, Debug)]
 pub struct Help {
     pub name: &'static str,

@@ -47,8 +47,7 @@ pub enum Signal {
     Decimate,
     /// n, at least 1: writes each word n times.
     Repeat,
-    /// The first kept word: writes the word of input 0 if the flag of input 1 is true, else the word that it
-    /// wrote last.
+    /// The first kept word: writes input 0's word if input 1's flag is true, else the word written last.
     Hold,
     /// n, 1 to 4: writes n zeros, then what it reads.
     Delay,
@@ -61,8 +60,7 @@ pub enum Signal {
     SignedConstant,
     /// n and 1: `Hold` of the number -1 - n.
     SignedHold,
-    /// Two bounds, n for a negative bound -1 - n, and how many are negative: 1 (the first) or 2. `Clip` to
-    /// these bounds.
+    /// `Clip` to bounds, n for a negative one -1 - n, and how many are negative: 1 (the first) or 2.
     SignedClip,
     /// n and 1: writes the product of each word with -1 - n, modulo 2^64.
     SignedScale,
@@ -245,8 +243,7 @@ impl Signal {
         }
     }
 
-    /// Returns the kind's name in descriptions, and how many arguments it takes there: those of its row,
-    /// unless arguments are negative.
+    /// Returns the kind's name in descriptions, and its number of arguments there (no count of negatives).
     pub fn called_by(self) -> (&'static str, usize)
         ensures name { result.0.now ≡ (called_by self).0 }
         ensures arguments { result.1 ≡ (called_by self).1 }

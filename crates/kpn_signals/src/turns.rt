@@ -85,8 +85,7 @@ fn number(token: Token) -> u64
     }
 }
 
-/// Returns the answer of a process with two inputs and a kept word: it reads both, or, if it has read them,
-/// writes `token` and keeps `kept`.
+/// Returns the answer of a process with two inputs: it reads both, then writes `token` and keeps `kept`.
 pub(crate) fn joined(local: Local, last: Option<Token>, kept: u64, token: Token) -> Answer
     ensures { result ≡ join_answer (λ _ _ _. (kept, token)) local last }
 {

@@ -6,8 +6,7 @@ use Rattle.kpn_model.specs.declared.kinds.Act.TheVariants.{Read, Write}
 use Rattle.kpn_model.specs.declared.kinds.Answer.{Answer}
 use Rattle.kpn_standard.specs.Locals.{at, one, two, three, says, word}
 
--- weave's first number: whose turn it is, and whether a word was just read; the second counts the words copied
--- in this turn
+-- weave's first number: whose turn it is, and whether it just read; the second: words copied in this turn
 abbrev pub first_turn : ℕ
 first_turn = 0
 
@@ -35,8 +34,7 @@ pub data WeaveLine (a b : ℕ) : List ℕ → Option Token → Type 0 where
   weave_writes_second : {i t : ℕ} → i + 1 < b → WeaveLine a b (two second_turn_read i) (Some (Word t))
   weave_turns_to_first : {i t : ℕ} → i + 1 ≡ b → WeaveLine a b (two second_turn_read i) (Some (Word t))
 
--- merge's first number: which head it keeps (that of input 0 as second number, that of input 1 as third), and
--- which it has just read
+-- merge's first number: which head it keeps (input 0's as second number, 1's as third), and what it just read
 abbrev pub none_kept : ℕ
 none_kept = 0
 

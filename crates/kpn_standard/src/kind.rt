@@ -34,8 +34,7 @@ pub enum Kind {
     Select,
 }
 
-/// A row of the table: the kind's number in cards, its name, its number of arguments, and the sorts of its
-/// ports. Unused arguments are 0.
+/// A row of the table: number in cards, name, number of arguments, ports. Unused arguments are 0.
 #[derive(Clone, Copy, Debug)]
 pub struct Row {
     pub number: u16,

@@ -23,8 +23,7 @@ state_and_history M E limit = record { state = M; history = E; limit = limit }
 abbrev pub more : StateAndHistory → State → Entry → StateAndHistory
 more s M e = state_and_history M (s.history ++ e ∷ []) s.limit
 
--- `room` suffices for `limit` entries, `grown` counts their growths, and the numbers of processes and channels
--- fit 16 bits
+-- `room` is enough for `limit` entries, `grown` counts growths, and processes and channels fit 16 bits
 pub record IsStored (s : StateAndHistory) (room grown : ℕ) : Type 0 where
   pub enough : s.limit ≤ room
   pub counted : grown ≡ length (growths s.history)

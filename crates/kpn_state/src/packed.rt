@@ -18,8 +18,8 @@ pub enum Form {
 }
 
 /// An entry in 16 bytes: its token's word, its flag as 0 or 1, or the new capacity; the numbers of its process
-/// and channel; its form; and whether its token is a flag. Missing numbers are 0. No byte is padding, which
-/// would be written too.
+/// and channel, 0 if missing; its form; and whether its token is a flag. No byte is padding, which would be
+/// written too.
 #[derive(Clone, Copy, Debug, PartialEq, Eq)]
 pub struct PackedEntry {
     pub word: u64,

@@ -7,8 +7,7 @@ use kpn_model::Token;
 use std::alloc::{AllocError, Global};
 use std::marker::Model;
 
-/// A channel: its tokens in reading order, and its capacity. The buffer may have room for more, so that not
-/// every growth copies the tokens.
+/// A channel: its tokens in reading order, and its capacity. Its buffer may have more room, to copy less.
 #[derive(Drop)]
 pub struct Ring {
     buffer: HeapCircularBuffer<Token>,

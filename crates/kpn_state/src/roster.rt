@@ -10,11 +10,10 @@ use circular_buffer::HeapCircularBuffer;
 use std::alloc::{AllocError, Global};
 use std::marker::Model;
 
-/// The standing of each process, with a first-in, first-out queue of the ready ones.
+/// The standing of each process, with a first-in, first-out queue of the ready ones. Only `new` allocates.
 ///
 /// The numbers of processes out and live are kept; that of the parked follows. So only two calls look at more
 /// than one process: `new`, and `update` of a ready process that no longer is, with others queued behind it.
-/// Only `new` allocates.
 pub struct Roster {
     standings: Vec<Standing>,
     // Kept apart from `live`: side by side they would be loaded as one value of 16 bytes, and such a load

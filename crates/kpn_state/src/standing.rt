@@ -7,8 +7,7 @@ ghost use Rattle.kpn_state.specs.Standings.{standing, is_ready, parked_answer, s
 
 use kpn_model::{Answer, Deed};
 
-/// The standing of a process: ready to be asked; out, its answer awaited; parked with an answer that could not
-/// be done; or stopped.
+/// A process is ready to be asked, out with its answer awaited, parked with its answer, or stopped.
 #[derive(Clone, Copy, Debug, PartialEq, Eq)]
 pub enum Standing {
     Ready,

@@ -14,8 +14,7 @@ use kpn_model::{Deed, Entry, Local, Status, Token};
 use std::alloc::{AllocError, Global};
 use std::marker::Model;
 
-/// The status of each process, the channels, and the history in its keeper, with room for a fixed number of
-/// entries.
+/// The status of each process, the channels, and the history, with room for a fixed number of entries.
 pub struct Store<H: Keeper = Wide> {
     statuses: Vec<Status>,
     rings: Vec<Ring>,
@@ -49,8 +48,8 @@ impl<H: Keeper> Model for Store<H> {
 }
 
 impl<H: Keeper> Store<H> {
-    /// Makes a store of these processes and channels, at most 65,536 of each, with room for `limit` entries.
-    /// Errors: out of memory.
+    /// Makes a store of up to 65,536 processes and 65,536 channels, with room for `limit` entries. Errors: out
+    /// of memory.
     pub fn new(
         alloc: Global,
         statuses: Vec<Status>,
@@ -143,8 +142,7 @@ impl Store<Wide> {
 }
 
 impl Store<Unkept> {
-    /// Forgets the entries. The history starts again from the current state, with the same room as at the
-    /// start.
+    /// Forgets the entries. The history starts again from the current state, with as much room as at first.
     pub fn forget(&mut self)
         ensures { self.new ≡ state_and_history self.old.state [] self.old.limit }
     {
@@ -185,7 +183,7 @@ impl<H: Keeper> Store<H> {
         token
     }
 
-    /// Appends the token that a process writes to a channel, and the entry. There must be room for both.
+    /// Appends the token that a process writes to a channel, and the entry; there must be room for both.
     /// `next` is the new local state.
     #[inline(always)]
     pub fn put(&mut self, process: usize, channel: usize, next: Local, token: Token)
@@ -215,8 +213,7 @@ impl<H: Keeper> Store<H> {
         fed.put(token);
     }
 
-    /// Removes the first token of a channel and returns it to outside the network, without an entry. There
-    /// must be a token.
+    /// Removes the first token, which must exist, and returns it to outside the network, without an entry.
     pub fn drain(&mut self, channel: usize) -> Token
         requires channel { channel < length self.old.state.channels }
         requires some { 0 < length (tokens self.old.state channel) }

@@ -7,8 +7,7 @@ use crate::candidates::Candidates;
 use crate::marks::Marks;
 use std::alloc::{AllocError, Global};
 
-/// The parked processes as their channels see them: the candidates for a growth, and the marks. Only `new`
-/// allocates.
+/// Parked processes as their channels see them: growth candidates, and marks. Only `new` allocates.
 pub struct Waiting {
     pub candidates: Candidates,
     pub marks: Marks,

@@ -1,5 +1,4 @@
--- What a process of a card writes if its inputs hold certain tokens and get no more, without network, channel
--- and schedule.
+-- What a process of a card writes if its inputs hold certain tokens and get no more.
 use Rattle.std.specs.Prelude.{◌≡◌, ℕ, zero, suc, ◌≤◌, nat_lt, if◌then◌else◌, List, [], ◌∷◌, Some, None, length, get_or, set, replicate}
 use Rattle.kpn_model.specs.declared.token.Token.{Token}
 use Rattle.kpn_model.specs.declared.kinds.Card.{Card}
@@ -30,8 +29,7 @@ after_act go outputs next ins (Read j) = after_read go outputs next ins j (get_o
 after_act go outputs next ins (Write j t) = if nat_lt j outputs then put_first t j (go (Live next None) ins) else nothing outputs
 
 module _ (kinds : Family) (card : Card) where
-  -- what a process of the card writes to each output in at most n acts, from this status and with these tokens
-  -- on its inputs
+  -- what a process of the card writes to each output in at most n acts, from this status and these inputs
   abbrev pub written_in : ℕ → ℕ → Status → List (List Token) → List (List Token)
   written_in outputs zero s ins = nothing outputs
   written_in outputs (suc n) Done ins = nothing outputs
@@ -43,7 +41,6 @@ module _ (kinds : Family) (card : Card) where
     pub enough : ℕ
     pub written : (n : ℕ) → enough ≤ n → written_in (length outs) n s ins ≡ outs
 
-  -- a process of the card, fed with these tokens and no more, writes these and no more: a list for each input
-  -- and each output
+  -- fed with these tokens and no more, a process of the card writes these and no more
   abbrev pub Writes : List (List Token) → List (List Token) → Type 0
   Writes ins outs = WritesFrom (Live (kinds.start card) None) ins outs

@@ -2,8 +2,7 @@
 use Rattle.std.specs.Prelude.{◌≡◌, ◌⊎◌, ◌↔◌, ℕ, ◌<◌, ◌≤◌, List, ◌++◌, length, Contains, Any}
 use Rattle.std.specs.List.Sorted.{IsStrictlyIncreasing}
 
--- f takes turns: a numbers of the first stream, then b of the second, then the rest of both; it waits where a
--- stream ends within its turn
+-- f takes a numbers of the first stream, then b of the second, in turn; it waits where a stream ends
 pub record TakesTurns (a b : ℕ) (f : List ℕ → List ℕ → List ℕ) : Type 0 where
   pub round : (us vs xs ys : List ℕ) → length us ≡ a → length vs ≡ b → f (us ++ xs) (vs ++ ys) ≡ us ++ (vs ++ f xs ys)
   pub first_ends : (xs ys : List ℕ) → length xs < a → f xs ys ≡ xs

@@ -1,5 +1,4 @@
--- What each standard kind writes, as a function of what it is fed with (Kahn 1974). The arguments `others`
--- don't matter.
+-- What each standard kind writes when fed (Kahn 1974). The arguments `others` don't matter.
 use Rattle.std.specs.Prelude.{ℕ, ◌≤◌, Bool, not, List, [], ◌∷◌, map, take}
 use Rattle.std.specs.List.{range_with_len}
 use Rattle.std.specs.List.Sorted.{IsStrictlyIncreasing}

@@ -1,6 +1,5 @@
--- Solving a network's equations with functions on streams, without a machine: in a network a process writes
--- what it writes when fed (Kahn 1974), and approximations that start empty lead to the least solution (Kleene
--- 1952).
+-- Solving a network's equations with functions on streams: in a network a process writes what it writes when
+-- fed (Kahn 1974), and approximations that start empty lead to the least solution (Kleene 1952).
 use Rattle.std.specs.Prelude.{◌≡◌, ◌↔◌, ℕ, suc, ◌<◌, ◌≤◌, ◌==◌, nat_lt, not, ◌&&◌, ◌||◌, if◌then◌else◌, Bool, true, false, List, [], ◌++◌, Option, Some, None, IsSome, is_some, length, get_or, slice_get, map}
 use Rattle.std.specs.Option.{option_map_or}
 use Rattle.std.specs.List.{range_with_len, list_all}
@@ -70,8 +69,7 @@ written_to net c outs =
     if option_map_or (λ b. b == c) (out_of net (channel_of net c).writer (channel_of net c).out) false then get_or outs (channel_of net c).out [] else []
 
 module _ (kinds : Family) (net : Network) where
-  -- the equation of c: if the channels have the tokens X, c has ts: its start tokens, then what its writer
-  -- writes to it
+  -- the equation of c: for the tokens X it has its start tokens, then what its writer writes to it
   pub record HasEquation (X : ℕ → List Token) (c : ℕ) (ts : List Token) : Type 0 where
     pub inputs : ℕ
     pub outs : List (List Token)
@@ -93,8 +91,7 @@ module _ (kinds : Family) (net : Network) where
 abbrev pub IsLimitOf : (ℕ → ℕ → List Token) → Streams → Type 0
 IsLimitOf A T = (c k : ℕ) (t : Token) → (T c k ≡ Some t) ↔ ((n : ℕ) × (slice_get (A n c) k ≡ Some t))
 
--- X is the least solution; natural ends have exactly X, from any starting capacities; every run has prefixes
--- of it
+-- X is the least solution; natural ends have exactly X, from any capacities; every run has prefixes of it
 pub record HasStreams (kinds : Family) (net : Network) (X : ℕ → List Token) : Type 0 where
   pub least : IsLeastSolution kinds net (as_streams X)
   pub at_end : (sizes : ℕ → ℕ) (E : List Entry) (M : State) (a : End) → IsFinal kinds (resized net sizes) E M a → IsNatural a → (c : ℕ) → stream net E c ≡ X c

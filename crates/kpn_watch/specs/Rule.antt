@@ -23,8 +23,7 @@ pub record ContinuesSeen (old new : Seen) : Type 0 where
   pub front : IsPrefix old.entries new.entries
   pub ended : old.phase ≢ Running → new ≡ old
 
--- the first seat has seen what is published, the word shows it, and it continues what any seat has seen or was
--- given as a note
+-- the word shows what the first seat has seen, which continues what any seat has seen or was given as a note
 pub record WordIsTrue (s : State (Unit {0}) View) : Type 0 where
   pub published : Seen
   pub first : (v : View) × (get_elem? s.views 0 ≡ some v) × (v.seen ≡ published)

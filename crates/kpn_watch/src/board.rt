@@ -101,8 +101,8 @@ impl Board {
     }
 
     /// Publishes a history, its number of growths and its phase with one store. The publisher must be this
-    /// board's. The history must continue the published one, with fewer than 2^22 entries. If that had ended,
-    /// history and phase must be the same.
+    /// board's. The history must continue the published one, and have fewer than 2^22 entries. If that had
+    /// ended, history and phase must be the same.
     pub fn publish(&self, publisher: &mut Publisher, history: &[Entry], growths: u32, phase: Phase)
         requires board { publisher.old.board ≡ self.now }
         requires goes_on { IsPrefix publisher.old.entries history.now }
@@ -121,8 +121,8 @@ impl Board {
     }
 
     /// Publishes kept entries, their number of growths and their phase with one store, like `publish`. The
-    /// publisher must be this board's. The entries must continue the published ones, fewer than 2^22. If those
-    /// had ended, entries and phase must be the same.
+    /// publisher must be this board's. The entries must continue the published ones, and be fewer than 2^22.
+    /// If those had ended, entries and phase must be the same.
     pub fn publish_kept<H: Keeper>(
         &self,
         publisher: &mut Publisher,
@@ -140,8 +140,7 @@ impl Board {
         self.publish_as::<Brand, &H>(publisher, kept, kept.count() as u32, growths, phase);
     }
 
-    // A step's `Play` sees no argument, so the type N carries what to publish. A call chooses N from `_from`,
-    // which has the entries.
+    // A step's `Play` sees no argument: the type N, chosen from `_from`, carries what to publish.
     fn publish_as<N: News, T: Copy>(
         &self,
         publisher: &mut Publisher,
@@ -200,8 +199,7 @@ impl Board {
         Progress::of_word(word)
     }
 
-    /// Ends a watcher of this board. What is published continues what the watcher saw, and equals it if the
-    /// watcher saw an end.
+    /// Ends a watcher of this board. What is published continues what it saw, and equals it after an end.
     pub fn join(&self, watcher: Watcher, publisher: &mut Publisher)
         requires watcher { watcher.board ≡ self.now }
         requires publisher { publisher.old.board ≡ self.now }

@@ -11,8 +11,7 @@ use kpn_model::{End, Entry};
 use kpn_state::Keeper;
 use std::marker::Model;
 
-/// A publisher that remembers its numbers of entries and growths, so that it counts only new entries.
-/// Contracts see it as the publisher.
+/// A publisher that counts only new entries. Contracts see it as the publisher.
 #[derive(Drop)]
 pub struct CountingPublisher {
     publisher: Publisher,
@@ -57,7 +56,7 @@ impl CountingPublisher {
     }
 
     /// Publishes a history and its end, if any, on the publisher's board. The history must continue the
-    /// published one, with fewer than 2^22 entries. If that had ended, history and end must be the same.
+    /// published one, and have fewer than 2^22 entries. If that had ended, history and end must be the same.
     pub fn publish(&mut self, board: &Board, history: &[Entry], ended: Option<End>)
         requires board { self.old.board ≡ board.now }
         requires goes_on { IsPrefix self.old.entries history.now }
@@ -70,8 +69,7 @@ impl CountingPublisher {
         self.publish_counted(board, history, growths, ended);
     }
 
-    /// Publishes a history like `publish`, but with a known number of growths: it takes the same time for any
-    /// number of new entries.
+    /// Publishes a history like `publish`, with a known number of growths, in constant time.
     pub fn publish_counted(
         &mut self,
         board: &Board,
@@ -92,8 +90,7 @@ impl CountingPublisher {
         board.publish(&mut self.publisher, history, self.growths, self.phase);
     }
 
-    /// Publishes kept entries like `publish_counted`, with their end, if any: it takes the same time for any
-    /// number of new entries.
+    /// Publishes kept entries and their end, if any, like `publish_counted`, in constant time.
     pub fn publish_kept<H: Keeper>(
         &mut self,
         board: &Board,
@@ -117,8 +114,7 @@ impl CountingPublisher {
         self.phase = phase;
     }
 
-    /// Makes a watcher of the publisher's board that has seen what is published. Fails exactly if 64 were made
-    /// before; nothing changes then.
+    /// Makes a watcher that has seen what is published. Fails exactly if 64 were made; nothing changes then.
     pub fn watch(&mut self, board: &Board) -> Result<Watcher, WatchFault>
         requires { self.old.board ≡ board.now }
         ensures seen { IfOk result (λ w. w ≡ record { board = self.old.board; entries = self.old.entries; phase = self.old.phase }) }
