@@ -9,7 +9,6 @@ use Rattle.kpn_model.specs.declared.kinds.Act.{Act}
 use Rattle.kpn_model.specs.declared.kinds.Act.TheVariants.{Read, Write, Stop}
 use Rattle.kpn_model.specs.declared.kinds.Answer.{Answer}
 
--- a token as a number or a truth value, and back
 abbrev plain_token : Token → ℕ ⊎ Bool
 plain_token (Word w) = inl w
 plain_token (Flag f) = inr f
@@ -25,7 +24,6 @@ token_of-plain (Flag f) = λ i. Flag f
 abbrev coded_token : Coded Token
 coded_token = code_by (ℕ ⊎ Bool) (coded⊎ coded_ℕ coded_bool) plain_token token_of token_of-plain
 
--- an act as a sum of its variants, and back
 abbrev plain_act : Act → ℕ ⊎ ((ℕ × Token) ⊎ Unit {0})
 plain_act (Read k) = inl k
 plain_act (Write k t) = inr (inl (k, t))
@@ -47,6 +45,5 @@ coded_act = code_by (ℕ ⊎ ((ℕ × Token) ⊎ Unit {0})) (coded⊎ coded_ℕ 
 abbrev coded_answer : Coded Answer
 coded_answer = code_by (List ℕ × Act) (coded× (coded_list coded_ℕ) coded_act) (λ a. (a.next, a.act)) (λ p. record { next = p.0; act = p.1 }) (λ a i. a)
 
--- there is at most one proof that two answers are equal
 pub answer_set : (a b : Answer) → IsProp (a ≡ b)
 answer_set a b = Coded-set coded_answer a b

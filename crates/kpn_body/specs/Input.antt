@@ -6,7 +6,6 @@ use Rattle.kpn_model.specs.declared.kinds.Signature.{Signature}
 use Rattle.kpn_model.specs.declared.kinds.Answer.{Answer}
 use Rattle.kpn_model.specs.Network.{Family}
 
--- a process of a card, its local state, and the token of the read just done
 pub record Input : Type 0 where
   pub process : ℕ
   pub card : Card
@@ -16,11 +15,10 @@ pub record Input : Type 0 where
 abbrev pub input : ℕ → Card → List ℕ → Option Token → Input
 input process card local last = record { process = process; card = card; local = local; last = last }
 
--- what a family answers
 abbrev pub answer_to : Family → Input → Answer
 answer_to family asked = family.answer asked.card asked.local asked.last
 
--- the answer is the family's, to an input that it admits, of a card with a signature
+-- the family's answer to an admitted input of a card with a signature
 pub record IsAnswerTo (signature : Card → Option Signature) (admits : Card → List ℕ → Option Token → Type 0) (family : Family) (asked : Input) (answer : Answer) : Type 0 where
   pub signed : IsSome (signature asked.card)
   pub admitted : admits asked.card asked.local asked.last

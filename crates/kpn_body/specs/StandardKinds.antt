@@ -1,4 +1,4 @@
--- The definitions that the contracts of standard bodies use, for crates that use this one alone.
+-- Re-exports the definitions in the contracts of standard bodies.
 pub use Rattle.kpn_standard.specs.Standard.{standard}
 pub use Rattle.kpn_standard.specs.Signatures.{card, signature}
 pub use Rattle.kpn_standard.specs.Locals.{one, two, three}

@@ -6,9 +6,7 @@ ghost use Rattle.kpn_body.specs.Input.{input, answer_to, IsAnswerTo};
 use kpn_model::{Answer, Card, Kinds, Local, Token};
 use std::marker::{Model, PhantomData};
 
-/// What a process was asked, and the answer that its card gives to it.
-///
-/// Only a task makes one, and it can't be copied.
+/// What a process was asked, and its card's answer. Only a task makes one, and it can't be copied.
 #[derive(Drop)]
 pub struct Answered<K: Kinds> {
     process: usize,
@@ -31,7 +29,6 @@ impl<K: Kinds> Model for Answered<K> {
 }
 
 impl<K: Kinds> Answered<K> {
-    /// The answer of a process to this input.
     pub(crate) fn new(
         process: usize,
         card: Card,
@@ -59,7 +56,7 @@ impl<K: Kinds> Answered<K> {
         self.process
     }
 
-    /// Returns the card, which has a signature.
+    /// Returns the card. It has a signature.
     pub fn card(&self) -> Card
         ensures card { result ≡ self.now.card }
         ensures signed { IsSome (K.signature self.now.card) }
@@ -67,7 +64,7 @@ impl<K: Kinds> Answered<K> {
         self.card
     }
 
-    /// Returns the local state in which the process was asked, which is admitted with the last token.
+    /// Returns the local state in which the process was asked.
     pub fn local(&self) -> Local
         ensures local { result ≡ self.now.local }
         ensures admitted { K.admits self.now.card self.now.local self.now.last }
@@ -75,15 +72,14 @@ impl<K: Kinds> Answered<K> {
         self.local
     }
 
-    /// Returns the token of the read just done when the process was asked; `None` if its last act was
-    /// no read.
+    /// Returns the last token when the process was asked; `None` if its last act was no read.
     pub fn last(&self) -> Option<Token>
         ensures { result ≡ self.now.last }
     {
         self.last
     }
 
-    /// Returns the answer: the card's for this local state and last token.
+    /// Returns the card's answer.
     pub fn answer(&self) -> Answer
         ensures { result ≡ answer_to (family K.Kinds) self.now }
     {

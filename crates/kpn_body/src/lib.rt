@@ -1,5 +1,4 @@
-//! Bodies, which answer for the processes of a card, and of which some store a closure; the tasks in which
-//! they are called; and the answers that come back.
+//! Bodies, which answer for the processes of a card, tasks, which call them, and their answers.
 //!
 //! ```text
 //! impl Body for Burning {

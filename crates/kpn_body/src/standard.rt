@@ -9,10 +9,10 @@ use crate::body::Body;
 use kpn_model::{Answer, Card, Local, Token};
 use kpn_standard::Standard;
 
-/// A stored closure: from a local state, and the token of the read just done, to the answer.
+/// A stored closure from a local state and the last token to the answer.
 pub type Call = Box<dyn Fn(Local, Option<Token>) -> Answer + Send>;
 
-/// A standard card, and a closure that answers as the card says.
+/// A standard card, and a closure that returns its answers.
 #[derive(Drop)]
 pub struct StandardBody {
     card: Card,
@@ -23,8 +23,7 @@ pub struct StandardBody {
 }
 
 impl StandardBody {
-    /// Makes a body of a card that has a signature. It must be allowed to call `call` with whatever the
-    /// card admits, and `call` must then return the card's answer.
+    /// Makes a body of a card that has a signature. `call` must return the card's answers to what it admits.
     pub fn new(card: Card, call: Call) -> Self
         requires signed { IsSome (signature card) }
         requires callable { IsCallable (Admitted card) (pre call) }
@@ -50,10 +49,8 @@ impl Body for StandardBody {
     }
 }
 
-/// Returns the same answer, put together word by word.
-///
-/// A closure leaves its answer in memory, by stores of a word each. A copy of the local state as a whole reads two
-/// words at once, which a processor can't take from two stores under way: it would wait until both are done.
+/// Returns the answer, rebuilt word by word: a closure stores its answer in memory, one word at a time, and a
+/// copy of the whole would load two words at once, and stall until both stores are done.
 #[inline(always)]
 pub fn by_words(answer: Answer) -> Answer
     ensures { result ≡ answer }

@@ -1,4 +1,4 @@
-//! Tasks, and the answers that come back.
+//! Tasks and their answers.
 ghost use Rattle.std.specs.Prelude.{◌≡◌, IsSome};
 ghost use Rattle.kpn_model.specs.Families.{family};
 ghost use Rattle.kpn_body.specs.Input.{input, answer_to};
@@ -8,10 +8,8 @@ use crate::body::Body;
 use kpn_model::{Answer, Card, Kinds, Local, Token};
 use std::marker::Model;
 
-/// A process that is asked for its next act, with the body that answers for it. The family admits its
-/// local state and last token for the body's card.
-///
-/// A task can't be copied, and `call` calls its body once.
+/// A process that is asked for its next act, with the body that answers for it. The body's card admits the
+/// local state and last token. A task can't be copied, and `call` calls its body once.
 #[derive(Drop)]
 pub struct Task<B: Body> {
     process: usize,
@@ -31,8 +29,8 @@ impl<B: Body> Model for Task<B> {
 }
 
 impl<B: Body> Task<B> {
-    /// Makes a task of process `process`, in this local state, after it has just read `last` (`None` if
-    /// its last act was no read). The body's card must admit the two.
+    /// Makes a task of process `process` in this local state, after it read `last` (`None` if its last act was
+    /// no read). The body's card must admit the two.
     pub fn new(process: usize, body: B, local: Local, last: Option<Token>) -> Self
         requires { B.Kinds.admits (B.card body) local last }
         ensures { result ≡ input process (B.card body) local last }
@@ -52,7 +50,7 @@ impl<B: Body> Task<B> {
         self.process
     }
 
-    /// Returns the body's card, which has a signature.
+    /// Returns the body's card. It has a signature.
     pub fn card(&self) -> Card
         ensures card { result ≡ self.now.card }
         ensures signed { IsSome (B.Kinds.signature self.now.card) }
@@ -60,7 +58,7 @@ impl<B: Body> Task<B> {
         self.body.card()
     }
 
-    /// Returns the local state, which is admitted with the last token.
+    /// Returns the local state.
     pub fn local(&self) -> Local
         ensures local { result ≡ self.now.local }
         ensures admitted { B.Kinds.admits self.now.card self.now.local self.now.last }
@@ -68,15 +66,14 @@ impl<B: Body> Task<B> {
         self.local
     }
 
-    /// Returns the token of the read just done; `None` if the last act was no read.
+    /// Returns the last token; `None` if the last act was no read.
     pub fn last(&self) -> Option<Token>
         ensures { result ≡ self.now.last }
     {
         self.last
     }
 
-    /// Makes it a task of the same process and the same body in this local state, after this last token. The body's
-    /// card must admit the two.
+    /// Replaces the local state and the last token. The body's card must admit the two.
     #[inline(always)]
     pub fn renew(&mut self, local: Local, last: Option<Token>)
         requires { B.Kinds.admits self.old.card local last }
@@ -92,7 +89,7 @@ impl<B: Body> Task<B> {
         *read = last;
     }
 
-    /// Returns the body alone, which was not called; its card is unchanged.
+    /// Returns the body without calling it; its card is unchanged.
     #[inline]
     pub fn into_body(self) -> B
         ensures { B.card result ≡ self.card }
@@ -115,8 +112,8 @@ impl<B: Body> Task<B> {
         self.answered(answer)
     }
 
-    /// Calls the body and returns its answer, and leaves the task where it is: `answered` puts the two
-    /// together. Each call calls the body. Takes no lock and no memory.
+    /// Calls the body and returns its answer, and keeps the task: `answered` joins the two. Each call calls
+    /// the body. Takes no lock and no memory.
     #[inline]
     pub fn ask(&self) -> Answer
         ensures { result ≡ answer_to (family B.Kinds.Kinds) self.now }
@@ -124,7 +121,7 @@ impl<B: Body> Task<B> {
         self.body.answer(self.local, self.last)
     }
 
-    /// Puts the answer that `ask` returned together with the task.
+    /// Joins the task and the answer that `ask` returned.
     #[inline]
     pub fn answered(self, answer: Answer) -> Finished<B>
         requires { answer ≡ answer_to (family B.Kinds.Kinds) self }
@@ -142,10 +139,7 @@ impl<B: Body> Task<B> {
     }
 }
 
-/// A task that was called: its answer, beside the body.
-///
-/// Only a task makes one, by `Task::call` or `Task::answered`, and it can't be copied. Its card is the
-/// body's, and its answer is the card's for the local state and the last token that it holds.
+/// A called task: its answer, beside the body. Only a task makes one, and it can't be copied.
 #[derive(Drop)]
 pub struct Finished<B: Body> {
     answered: Answered<B::Kinds>,
@@ -171,7 +165,7 @@ impl<B: Body> Finished<B> {
         self.answered.process()
     }
 
-    /// Returns the body's card, which has a signature.
+    /// Returns the body's card. It has a signature.
     pub fn card(&self) -> Card
         ensures card { result ≡ self.now.card }
         ensures signed { IsSome (B.Kinds.signature self.now.card) }
@@ -179,7 +173,7 @@ impl<B: Body> Finished<B> {
         self.answered.card()
     }
 
-    /// Returns the local state in which the process was asked, which is admitted with the last token.
+    /// Returns the local state in which the process was asked.
     pub fn local(&self) -> Local
         ensures local { result ≡ self.now.local }
         ensures admitted { B.Kinds.admits self.now.card self.now.local self.now.last }
@@ -187,22 +181,21 @@ impl<B: Body> Finished<B> {
         self.answered.local()
     }
 
-    /// Returns the token of the read just done when the process was asked; `None` if its last act was
-    /// no read.
+    /// Returns the last token when the process was asked; `None` if its last act was no read.
     pub fn last(&self) -> Option<Token>
         ensures { result ≡ self.now.last }
     {
         self.answered.last()
     }
 
-    /// Returns the answer: the card's for this local state and last token.
+    /// Returns the card's answer.
     pub fn answer(&self) -> Answer
         ensures { result ≡ answer_to (family B.Kinds.Kinds) self.now }
     {
         self.answered.answer()
     }
 
-    /// Returns the body alone; its card is unchanged.
+    /// Returns the body; its card is unchanged.
     pub fn into_body(self) -> B
         ensures { B.card result ≡ self.card }
     {
@@ -210,7 +203,7 @@ impl<B: Body> Finished<B> {
         body
     }
 
-    /// Returns the answer with what was asked, and the body, whose card is unchanged.
+    /// Returns the answer with what was asked, and the body with its card unchanged.
     pub fn into_parts(self) -> (Answered<B::Kinds>, B)
         ensures answered { result.0 ≡ self }
         ensures card { B.card result.1 ≡ self.card }

@@ -1,4 +1,4 @@
--- What a builder adds to a sketch.
+-- The parts that a builder adds to a sketch.
 use Rattle.std.specs.Prelude.{ℕ, ℤ, List}
 use Rattle.kpn_sketch.specs.declared.sketch.ProcessSketch.{ProcessSketch}
 use Rattle.kpn_sketch.specs.declared.sketch.ChannelSketch.{ChannelSketch}

@@ -1,4 +1,4 @@
--- The document of TOML that says what a sketch says, with every key that its version has.
+-- The TOML document of a sketch, with every key of its version.
 use Rattle.std.specs.Prelude.{ℕ, pos, Bool, true, false, ◌&&◌, ◌==◌, if◌then◌else◌, codes, List, length, map}
 use Rattle.std.specs.List.{list_all}
 use Rattle.std.specs.Int.{w64, cast_signed}
@@ -15,12 +15,12 @@ use Rattle.kpn_sketch.specs.declared.sketch.ProcessSketch.{ProcessSketch}
 use Rattle.kpn_sketch.specs.declared.sketch.ChannelSketch.{ChannelSketch}
 use Rattle.kpn_sketch.specs.declared.sketch.Sketch.{Sketch}
 
--- a table with one more member, at its place in the order of the keys
+-- the table with one more member, in the order of the keys
 abbrev pub with_member : List ℕ → Data → Members → Members
 with_member k d no_members = member k d no_members
 with_member k d (member l e ms) = match_ordering (slice_cmp nat_cmp k l) (member k d (member l e ms)) (member l d ms) (member l e (with_member k d ms))
 
--- a word by its value is written as the number that it stands for in two's complement
+-- a word by its value is written in two's complement
 abbrev pub token_value : TokenSketch → Data
 token_value (Integer z) = integer z
 token_value (Boolean b) = boolean b
@@ -33,7 +33,7 @@ sort_value Flags = string (codes "flags")
 abbrev pub process_value : ProcessSketch → Data
 process_value p = table (member (codes "args") (array (items_of (map integer p.args))) (member (codes "kind") (string p.kind) (member (codes "name") (string p.name) no_members)))
 
--- version 2 alone has start tokens
+-- only version 2 has start tokens
 abbrev pub last_members : Bool → ChannelSketch → Members
 last_members two c = member (codes "to") (string c.to) (if two then member (codes "tokens") (array (items_of (map token_value c.tokens))) no_members else no_members)
 
@@ -48,7 +48,7 @@ channel_value two c = table (
     )
     )
 
--- version 2 alone has a step
+-- only version 2 has a step
 abbrev pub version_members : Sketch → Members
 version_members s =
     let version = member (codes "version") (integer s.version) no_members in
@@ -65,7 +65,7 @@ sketch_members s =
 abbrev pub has_no_tokens : ChannelSketch → Bool
 has_no_tokens c = length c.tokens == 0
 
--- the token is one that a text says
+-- a text can say the token
 abbrev pub is_said : TokenSketch → Bool
 is_said (Integer z) = true
 is_said (Boolean b) = true
@@ -74,7 +74,6 @@ is_said (Word w) = false
 abbrev pub has_said_tokens : ChannelSketch → Bool
 has_said_tokens c = list_all is_said c.tokens
 
--- a description can say all that the sketch says: in version 2 if no start token is a word by its value, in others with a step of 1 and
--- without start tokens
+-- in version 2 if no start token is a word by its value, in others with a step of 1 and no start tokens
 abbrev pub is_describable : Sketch → Bool
 is_describable s = if is_two s.version then list_all has_said_tokens s.channels else int_eq s.step (pos 1) && list_all has_no_tokens s.channels

@@ -1,4 +1,4 @@
-//! A description that is built.
+//! Builds a description.
 ghost use Rattle.std.specs.Prelude.{◌≡◌, ◌≢◌, ◌⊎◌, ◌↔◌, ◌++◌, ◌∷◌, [], false, pos, Some, None, Err, IfOk, IfErr, IfSome, OnOk, OnErr, string_bytes};
 ghost use Rattle.std.specs.List.{list_all};
 ghost use Rattle.kpn_model.specs.Valid.{IsValid};
@@ -18,11 +18,8 @@ use kpn_sketch::{ChannelSketch, NetFault, ProcessSketch, Sketch, TokenSketch};
 use std::alloc::{AllocError, Global};
 use std::marker::Model;
 
-/// A channel that is to be: its name and the names of the processes that it leads from and to. What a
-/// description may leave out is as there: it leads from output 0 to input 0, carries words, holds at
-/// most one token and at first none.
-///
-/// `NewChannel::new("later", "cp", "late").out(1).capacity(16)` leads from output 1 of `cp`.
+/// A new channel: its name and the processes that it leads from and to. By default it leads from output 0 to
+/// input 0, carries words, has capacity 1 and no start tokens.
 #[derive(Clone, Copy)]
 pub struct NewChannel<'a> {
     name: &'a str,
@@ -36,7 +33,7 @@ pub struct NewChannel<'a> {
 }
 
 impl<'a> NewChannel<'a> {
-    /// A channel of words from output 0 to input 0, with room for one token.
+    /// Makes a channel of words from output 0 to input 0, with capacity 1.
     ///
     /// ```text
     /// let wire = NewChannel::new("c0", "src", "snk");
@@ -61,7 +58,7 @@ impl<'a> NewChannel<'a> {
         }
     }
 
-    /// This channel, from this output of its writer, counted from 0.
+    /// Returns this channel from this output of its writer, counted from 0.
     ///
     /// ```text
     /// made.channel(NewChannel::new("later", "cp", "late").out(1).capacity(4))?;
@@ -72,7 +69,7 @@ impl<'a> NewChannel<'a> {
         NewChannel { out, ..self }
     }
 
-    /// This channel, to this input of its reader, counted from 0.
+    /// Returns this channel to this input of its reader, counted from 0.
     ///
     /// ```text
     /// let asked = NewChannel::new("f", "dv", "dm")
@@ -86,7 +83,7 @@ impl<'a> NewChannel<'a> {
         NewChannel { input, ..self }
     }
 
-    /// This channel, of flags.
+    /// Returns this channel for flags.
     ///
     /// ```text
     /// let asked = NewChannel::new("f", "dv", "dm")
@@ -103,7 +100,7 @@ impl<'a> NewChannel<'a> {
         }
     }
 
-    /// This channel, with room for so many tokens.
+    /// Returns this channel with this capacity, in tokens.
     ///
     /// ```text
     /// made.channel(NewChannel::new("x", "src", "x3").capacity(4))?;
@@ -114,7 +111,7 @@ impl<'a> NewChannel<'a> {
         NewChannel { capacity, ..self }
     }
 
-    /// This channel, with these tokens at first, in the order in which they are read.
+    /// Returns this channel with these start tokens, in reading order.
     ///
     /// ```text
     /// let words = [TokenSketch::Integer(5), TokenSketch::Integer(6)];
@@ -126,7 +123,6 @@ impl<'a> NewChannel<'a> {
         NewChannel { tokens, ..self }
     }
 
-    // The channel as a description has it.
     fn to_sketch(self, alloc: Global) -> Result<ChannelSketch, AllocError>
         ensures { IfOk result (λ c. c ≡ channel_of self.entry) }
     {
@@ -143,8 +139,7 @@ impl<'a> NewChannel<'a> {
     }
 }
 
-/// A description of version 2 that grows by processes and channels. Contracts see it as the sketch that
-/// a text would be read as.
+/// A growing description of version 2. Contracts see it as the sketch of its text.
 #[derive(Drop)]
 pub struct Builder {
     alloc: Global,
@@ -163,7 +158,7 @@ impl Model for Builder {
 }
 
 impl Builder {
-    /// A description without processes and channels, with a budget of 10,000 entries and a step of 1.
+    /// Makes a description without processes and channels, with a budget of 10,000 entries and a step of 1.
     ///
     /// ```text
     /// let mut made = Builder::new(alloc);
@@ -183,7 +178,7 @@ impl Builder {
         }
     }
 
-    /// Sets the budget: how many entries a run may have.
+    /// Sets the budget, in entries of a run.
     ///
     /// ```text
     /// made.set_budget(2_000_000);
@@ -194,7 +189,7 @@ impl Builder {
         self.sketch.budget = budget;
     }
 
-    /// Sets the step: how much a growth adds to a capacity.
+    /// Sets the step: the tokens that a growth adds to a capacity.
     ///
     /// ```text
     /// made.set_step(2);
@@ -205,10 +200,7 @@ impl Builder {
         self.sketch.step = step;
     }
 
-    /// Adds a process, of the kind of this name and with these arguments, after all others. Nothing is
-    /// checked of it.
-    ///
-    /// Errors: memory was refused. Nothing has changed then.
+    /// Adds a process after all others, unchecked. Errors: out of memory; nothing has then changed.
     ///
     /// ```text
     /// made.process("src", "count", &[1, 8])?;
@@ -221,9 +213,7 @@ impl Builder {
         self.sketch.processes.push(process)
     }
 
-    /// Adds a channel after all others. Nothing is checked of it.
-    ///
-    /// Errors: memory was refused. Nothing has changed then.
+    /// Adds a channel after all others, unchecked. Errors: out of memory; nothing has then changed.
     ///
     /// ```text
     /// made.channel(NewChannel::new("x", "src", "x3").capacity(4))?;
@@ -236,16 +226,16 @@ impl Builder {
         self.sketch.channels.push(channel)
     }
 
-    /// Returns what was built, as a text would be read.
+    /// Returns the sketch that was built.
     pub fn sketch(&self) -> &Sketch
         ensures { result.now ≡ self.now }
     {
         &self.sketch
     }
 
-    /// Makes the network of what was built, as `Net::check` does of a text. What was built stays.
+    /// Makes the network of the sketch, like `Net::check`. The sketch stays.
     ///
-    /// Errors: the first fault of the sketch, or memory was refused.
+    /// Errors: the first fault of the sketch, or `Memory`, if out of memory.
     ///
     /// ```text
     /// Ok(made.check()?)
@@ -258,9 +248,8 @@ impl Builder {
         Net::<K>::check(self.alloc, &self.sketch)
     }
 
-    /// Says what is wrong and where, by the names that the caller gave, on one line. `kinds` names the
-    /// kinds that there are. There is no message of `Memory`, of which the fault says all, nor where
-    /// memory is refused.
+    /// Returns what is wrong and where, with the caller's names, on one line. `kinds` names the existing
+    /// kinds. There is no message for `Memory`, which says all, nor if out of memory.
     ///
     /// ```text
     /// if let Some(message) = made.message::<Standard>(fault, KINDS) {
@@ -274,10 +263,9 @@ impl Builder {
         sketch_message::<K>(self.alloc, &self.sketch, fault, kinds)
     }
 
-    /// Writes what was built as a description: reading it gives the same sketch.
+    /// Writes the description: reading it gives the same sketch.
     ///
-    /// Errors: `Version` exactly if some start token is a word by its value, which no description says; `Memory`
-    /// if memory was refused.
+    /// Errors: `Version` exactly if a start token is a word by its value; `Memory` if out of memory.
     ///
     /// ```text
     /// let text = made.to_toml()?;

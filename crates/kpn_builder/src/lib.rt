@@ -1,5 +1,4 @@
-//! Networks that a program makes: a description that is built process by process and channel by
-//! channel, checked as a text is, and written back as a text.
+//! Builds descriptions by processes and channels, checks them like texts, and writes them.
 //!
 //! ```text
 //! let mut made = Builder::new(alloc);

@@ -1,4 +1,4 @@
-//! What is wrong with a sketch, in words.
+//! Says what is wrong with a sketch.
 ghost use Rattle.std.specs.Prelude.{◌≡◌, ◌≢◌, ◌⊎◌, [], IfSome, None, string_bytes};
 
 use kpn_message::message_of_sketch;
@@ -6,11 +6,10 @@ use kpn_model::Kinds;
 use kpn_sketch::{NetFault, Sketch};
 use std::alloc::Global;
 
-/// What is wrong with a sketch, and where, by the names in it, on one line that no line feed ends.
+/// Returns what is wrong with a sketch, and where, by the names in it, on one line without a line feed.
 ///
-/// `fault` is the fault that the sketch was refused for, and `kinds` names the kinds that there are.
-/// There is no message where the fault says all (`Memory` and `Input`), where it is that of a text that is
-/// read as no sketch (`NotToml` and `Keys`), or where memory is refused.
+/// `fault` is the sketch's fault, and `kinds` names the existing kinds. There is no message for `Memory`,
+/// `Input`, `NotToml` and `Keys`, nor if out of memory.
 ///
 /// ```text
 /// let none = sketch_message::<Standard>(alloc, made.sketch(), NetFault::Memory, KINDS);

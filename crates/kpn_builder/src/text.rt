@@ -1,4 +1,4 @@
-//! Sketches as texts.
+//! Writes sketches as texts.
 ghost use Rattle.std.specs.Prelude.{◌≡◌, ◌↔◌, false, Err, IfOk, OnOk, length, string_bytes};
 ghost use Rattle.std.specs.List.{list_all};
 ghost use Rattle.toml.specs.Data.{no_members};
@@ -25,12 +25,10 @@ pub enum TextFault {
     Memory,
 }
 
-/// Writes a sketch as a description, with every key that its version has, each table's keys in the
-/// order of their bytes. Reading it gives the same sketch, so it is checked with the same result, and its
-/// network is the same.
+/// Writes a sketch as a description, with every key of its version, each table's keys in byte order. Reading
+/// it gives the same sketch, so the same check result and the same network.
 ///
-/// Errors: `Version` exactly if no description says what the sketch says; `Memory` if memory was
-/// refused.
+/// Errors: `Version` exactly if no description can say the sketch; `Memory` if out of memory.
 ///
 /// ```text
 /// let sketch = read_sketch(alloc, SWITCHED.as_bytes()).expect(&rt, "a fault");
@@ -64,7 +62,7 @@ fn none_has_tokens(channels: &[ChannelSketch]) -> bool
     channels.iter().all(|c| has_no_tokens(c))
 }
 
-/// Whether a start token is one that a text says.
+/// Whether a text can say the start token.
 fn is_said(token: TokenSketch) -> bool
     ensures { result ≡ is_said token }
 {
@@ -83,7 +81,6 @@ fn all_have_said_tokens(channels: &[ChannelSketch]) -> bool
     channels.iter().all(|c| has_said_tokens(c))
 }
 
-/// Whether a description can say all that a sketch says.
 fn is_describable(sketch: &Sketch) -> bool
     ensures { result ≡ is_describable sketch.now }
 {
@@ -95,7 +92,7 @@ fn is_describable(sketch: &Sketch) -> bool
     }
 }
 
-/// Puts the members at the top whose keys come last into a table.
+/// Puts the last members of the top level, in key order, into a table.
 fn put_version(alloc: Global, table: &mut Table, sketch: &Sketch) -> Result<(), AllocError>
     requires { table_view table.old ≡ no_members }
     ensures { OnOk result (table_view table.new ≡ version_members sketch.now) }
@@ -108,7 +105,6 @@ fn put_version(alloc: Global, table: &mut Table, sketch: &Sketch) -> Result<(), 
     Ok(())
 }
 
-/// Puts the members of a sketch into a table.
 fn put_sketch(alloc: Global, table: &mut Table, sketch: &Sketch) -> Result<(), AllocError>
     requires { table_view table.old ≡ no_members }
     ensures { OnOk result (table_view table.new ≡ sketch_members sketch.now) }
@@ -120,7 +116,6 @@ fn put_sketch(alloc: Global, table: &mut Table, sketch: &Sketch) -> Result<(), A
     put_held(alloc, table, "budget", &sketch.budget, two)
 }
 
-/// The document of a sketch.
 fn table_of(alloc: Global, sketch: &Sketch) -> Result<Table, AllocError>
     ensures { IfOk result (λ t. table_view t ≡ sketch_members sketch.now) }
 {

@@ -1,4 +1,4 @@
-//! The parts of a sketch as values of TOML.
+//! The parts of a sketch as TOML values.
 ghost use Rattle.std.specs.Prelude.{◌≡◌, Bool, IfOk, OnOk, map};
 ghost use Rattle.toml.specs.Data.{Data, no_members, string, table as as_table};
 ghost use Rattle.toml.specs.View.{view, table_view};
@@ -9,7 +9,7 @@ use kpn_sketch::{ChannelSketch, ProcessSketch, TokenSketch};
 use std::alloc::{AllocError, Global};
 use toml::{Table, Value};
 
-/// A type of values that a description holds; how depends on whether its version is 2.
+/// A type that is written as a TOML value; how depends on whether the version is 2.
 pub(crate) trait ToValue {
     ghost value: { Bool → Self → Data };
 
@@ -17,7 +17,6 @@ pub(crate) trait ToValue {
         ensures { IfOk result (λ v. view v ≡ value two self.now) };
 }
 
-/// Puts a value into a table.
 pub(crate) fn put(
     alloc: Global,
     table: &mut Table,
@@ -33,7 +32,6 @@ pub(crate) fn put(
     }
 }
 
-/// Puts what a description holds of this into a table.
 pub(crate) fn put_held<T: ToValue>(
     alloc: Global,
     table: &mut Table,
@@ -133,7 +131,6 @@ impl ToValue for ProcessSketch {
     }
 }
 
-/// Puts the members of a process into a table.
 fn put_process(
     alloc: Global,
     table: &mut Table,
@@ -148,7 +145,7 @@ fn put_process(
     put_held(alloc, table, "args", &process.args, two)
 }
 
-/// Puts the members of a channel whose keys come last into a table.
+/// Puts the last members of a channel, in key order, into a table.
 fn put_last(
     alloc: Global,
     table: &mut Table,
@@ -164,7 +161,6 @@ fn put_last(
     put_held(alloc, table, "to", &channel.to, two)
 }
 
-/// Puts the members of a channel into a table.
 fn put_channel(
     alloc: Global,
     table: &mut Table,

@@ -1,4 +1,4 @@
--- The channels to which parked processes wait to write: the candidates for a growth, and the first of them.
+-- The candidates for a growth: the channels to which parked processes wait to write.
 use Rattle.std.specs.Prelude.{◌≡◌, ◌↔◌, ℕ, ◌<◌, ◌≤◌, ◌⊎◌, Bool, true, false, List, Option, Some, None, length, count_by, Contains}
 use Rattle.kpn_model.specs.declared.kinds.Act.{Act}
 use Rattle.kpn_model.specs.declared.kinds.Act.TheVariants.{Read, Write, Stop}
@@ -9,55 +9,47 @@ use Rattle.kpn_state.specs.declared.standing.Standing.TheVariants.{Ready, Out, P
 use Rattle.kpn_state.specs.Standings.{standing}
 use Rattle.kpn_state.specs.Candidates.{CandidateList}
 
--- the channel to which p's act writes
 abbrev pub written_by : Network → ℕ → Act → Option ℕ
 written_by net p (Read k) = None
 written_by net p (Write k t) = out_of net p k
 written_by net p Stop = None
 
--- the channel to which p waits to write, given its standing
 abbrev pub awaited_by : Network → ℕ → Standing → Option ℕ
 awaited_by net p Ready = None
 awaited_by net p Out = None
 awaited_by net p (Parked a) = written_by net p a.act
 awaited_by net p Stopped = None
 
--- the same, given the standings of all
+-- the channel to which p waits to write
 abbrev pub awaited : Network → List Standing → ℕ → Option ℕ
 awaited net standings p = awaited_by net p (standing standings p)
 
--- c has less capacity than d, or the same and no greater number
 abbrev pub IsNoLater : State → ℕ → ℕ → Type 0
 IsNoLater M c d = (capacity M c < capacity M d) ⊎ ((capacity M c ≡ capacity M d) × (c ≤ d))
 
--- no process waits to write; or this process does, to the smallest such channel, and among equals to the one of least number
+-- no process waits to write; or this one does, to the smallest such channel, of equals the lowest
 abbrev pub IsSmallest : Network → State → List Standing → Option (ℕ × ℕ) → Type 0
 IsSmallest net M standings None = (q : ℕ) → awaited net standings q ≡ None
 IsSmallest net M standings (Some best) = (awaited net standings best.1 ≡ Some best.0) × ((q d : ℕ) → awaited net standings q ≡ Some d → IsNoLater M best.0 d)
 
--- a pair's channel, and the process that writes to it
 abbrev pub with_writer : Network → ℕ × ℕ → ℕ × ℕ
 with_writer net x = (x.1, (channel_of net x.1).writer)
 
--- a channel to which some process waits to write, with its capacity
 abbrev pub IsCandidate : Network → State → List Standing → ℕ × ℕ → Type 0
 IsCandidate net M standings x = (x.0 ≡ capacity M x.1) × ((p : ℕ) × (awaited net standings p ≡ Some x.1))
 
--- whether the act is a write
 abbrev pub is_write : Act → Bool
 is_write (Read k) = false
 is_write (Write k t) = true
 is_write Stop = false
 
--- whether the process is parked with a write
 abbrev pub waits_to_write : Standing → Bool
 waits_to_write Ready = false
 waits_to_write Out = false
 waits_to_write (Parked a) = is_write a.act
 waits_to_write Stopped = false
 
--- the list has the candidates and no other pair; there are no more of them than processes that wait to write, and room for one of
--- each process
+-- exactly the candidates, no more than processes that wait to write, and room for one of each process
 pub record AreCandidates (net : Network) (M : State) (standings : List Standing) (candidates : CandidateList) : Type 0 where
   pub each : (x : ℕ × ℕ) → Contains candidates.pairs x ↔ IsCandidate net M standings x
   pub few : length candidates.pairs ≤ count_by waits_to_write standings

@@ -1,4 +1,4 @@
--- What a process's answer does to the network.
+-- The effect of a process's answer on the network.
 use Rattle.std.specs.Prelude.{◌≡◌, ℕ, List, Option, Some, set}
 use Rattle.kpn_model.specs.declared.token.Token.{Token}
 use Rattle.kpn_model.specs.declared.kinds.Card.{Card}
@@ -14,13 +14,12 @@ use Rattle.kpn_commit.specs.declared.react.Reaction.{Reaction}
 use Rattle.kpn_commit.specs.declared.react.Reaction.TheVariants.{Waits, Acts, HandsOn}
 use Rattle.kpn_state.specs.Standings.{standing, standing_after, StandingsFit, partner}
 
--- p does what it wants: one entry, and p moves on
 pub record Acted (kinds : Family) (net : Network) (s : StateAndHistory) (standings : List Standing) (p : ℕ) (d : Deed) (t : StateAndHistory) (moved : List Standing) : Type 0 where
   pub does : Does kinds net s.state p d t.state
   pub entry : t ≡ more s t.state (Did p d)
   pub moves : moved ≡ set standings p (standing_after d)
 
--- p, which was parked, does what it had answered
+-- p, which was parked, does what it answered
 pub record Resumes (kinds : Family) (admits : Card → List ℕ → Option Token → Type 0) (net : Network) (s : StateAndHistory) (standings : List Standing) (p : ℕ) (t : StateAndHistory) (moved : List Standing) : Type 0 where
   pub wanted : Answer
   pub parked : standing standings p ≡ Parked wanted
@@ -30,7 +29,7 @@ pub record Resumes (kinds : Family) (admits : Card → List ℕ → Option Token
   pub moves : moved ≡ set standings p (standing_after deed)
   pub keeps : StandingsFit kinds admits net (partner net deed) t.state moved
 
--- p does what it wants, and then the parked process at the other end of the channel does
+-- p does what it wants, then the parked process at the other end of the channel does
 pub record Handed (kinds : Family) (net : Network) (s : StateAndHistory) (standings : List Standing) (p : ℕ) (t : StateAndHistory) (moved : List Standing) : Type 0 where
   pub deed : Deed
   pub between : StateAndHistory
@@ -43,8 +42,7 @@ pub record Handed (kinds : Family) (net : Network) (s : StateAndHistory) (standi
   pub handed : Deed
   pub second : Acted kinds net between standings_between other handed t moved
 
--- p answered a: it can't do it and is parked; or it does it; or it does it and the parked process at the other end of the channel
--- goes on too
+-- p answered a, and is parked as it can't do it; or does it; or does it and the partner continues too
 abbrev pub Reacts : Family → Network → StateAndHistory → List Standing → ℕ → Answer → Reaction → StateAndHistory → List Standing → Type 0
 Reacts kinds net s standings p a Waits t moved = (IsEnabled kinds net s.state p → ⊥) × (t ≡ s) × (moved ≡ set standings p (Parked a))
 Reacts kinds net s standings p a Acts t moved = (d : Deed) × Acted kinds net s standings p d t moved

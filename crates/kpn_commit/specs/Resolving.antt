@@ -1,4 +1,4 @@
--- What happens when no process is ready or out.
+-- What follows if no process is ready or out.
 use Rattle.std.specs.Prelude.{◌≡◌, ℕ, true, false, List}
 use Rattle.std.specs.List.{list_any}
 use Rattle.kpn_model.specs.declared.token.Token.{Token}
@@ -28,7 +28,6 @@ pub record GrowsAndPuts (kinds : Family) (net : Network) (s : StateAndHistory) (
   pub token : Token
   pub puts : Acted kinds net (more s grown (Grew channel to)) standings writer (Put channel token) t moved
 
--- some process is ready or out; or none is, and the run ends, or the chosen channel grows
 abbrev pub Resolves : Family → Network → StateAndHistory → List Standing → Resolution → StateAndHistory → List Standing → Type 0
 Resolves kinds net s standings Busy t moved = (list_any is_busy standings ≡ true) × (t ≡ s) × (moved ≡ standings)
 Resolves kinds net s standings (Ended end) t moved = (list_any is_busy standings ≡ false) × (t ≡ s) × (moved ≡ standings) × NothingGoesOn kinds net s.state end

@@ -1,4 +1,4 @@
--- Who waits at the channels: the candidates for a growth, and the marks of the parked readers and writers.
+-- Who waits at the channels: the candidates for a growth, and the marks of parked readers and writers.
 use Rattle.std.specs.Prelude.{◌≡◌, ◌↔◌, ◌<◌, ℕ, Bool, true, false, List, Option, Some, None, length}
 use Rattle.kpn_model.specs.declared.kinds.Act.{Act}
 use Rattle.kpn_model.specs.declared.kinds.Act.TheVariants.{Read, Write, Stop}
@@ -13,28 +13,25 @@ use Rattle.kpn_state.specs.Standings.{standing}
 use Rattle.kpn_state.specs.Marks.{MarkLists, is_marked}
 use Rattle.kpn_commit.specs.Candidates.{awaited, AreCandidates}
 
--- the channel from which p's act reads
 abbrev pub read_by_act : Network → ℕ → Act → Option ℕ
 read_by_act net p (Read k) = in_of net p k
 read_by_act net p (Write k t) = None
 read_by_act net p Stop = None
 
--- the channel from which p waits to read, given its standing
 abbrev pub expected_by : Network → ℕ → Standing → Option ℕ
 expected_by net p Ready = None
 expected_by net p Out = None
 expected_by net p (Parked a) = read_by_act net p a.act
 expected_by net p Stopped = None
 
--- the same, given the standings of all
+-- the channel from which p waits to read
 abbrev pub expected : Network → List Standing → ℕ → Option ℕ
 expected net standings p = expected_by net p (standing standings p)
 
--- marks stand at the channels for which some process waits, and at no others
+-- exactly the channels for which some process waits are marked
 abbrev pub StandFor : List Bool → (ℕ → Option ℕ) → Type 0
 StandFor marks waits = (c : ℕ) → (is_marked marks c ≡ true) ↔ ((p : ℕ) × (waits p ≡ Some c))
 
--- at each channel whether its reader is parked on it, and whether its writer is
 pub record AreMarks (net : Network) (standings : List Standing) (marks : MarkLists) : Type 0 where
   pub readers : StandFor marks.readers (λ p. expected net standings p)
   pub writers : StandFor marks.writers (λ p. awaited net standings p)
@@ -45,13 +42,11 @@ pub record AreWaiting (net : Network) (M : State) (standings : List Standing) (w
   pub candidates : AreCandidates net M standings waiting.candidates
   pub marks : AreMarks net standings waiting.marks
 
--- whether the process at the other end of the deed's channel has a mark there
 abbrev pub partner_marked : MarkLists → Deed → Bool
 partner_marked marks (Took c t) = is_marked marks.writers c
 partner_marked marks (Put c t) = is_marked marks.readers c
 partner_marked marks DidStop = false
 
--- the deed's channel is one that may be marked
 abbrev pub HasMark : MarkLists → Deed → Type 0
 HasMark marks (Took c t) = c < length marks.writers
 HasMark marks (Put c t) = c < length marks.readers

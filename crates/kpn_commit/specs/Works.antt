@@ -1,4 +1,4 @@
--- The work of a commit: a reaction, and what follows if no process is then ready or out.
+-- The work of a commit: a reaction, then what follows if no process is ready or out.
 use Rattle.std.specs.Prelude.{◌≡◌, ℕ, ◌+◌, List, Option, Some, None, length, nat_le, if◌then◌else◌}
 use Rattle.kpn_model.specs.declared.kinds.Answer.{Answer}
 use Rattle.kpn_model.specs.declared.history.End.{End}
@@ -15,25 +15,22 @@ use Rattle.kpn_commit.specs.declared.outcome.Outcome.TheVariants.{Done, Parked}
 use Rattle.kpn_commit.specs.Reactions.{Reacts}
 use Rattle.kpn_commit.specs.Resolving.{Resolves}
 
--- how many entries the reaction appends
 abbrev pub acted_entries : Reaction → ℕ
 acted_entries Waits = 0
 acted_entries Acts = 1
 acted_entries HandsOn = 2
 
--- how many entries follow it
 abbrev pub resolution_entries : Resolution → ℕ
 resolution_entries Busy = 0
 resolution_entries (Ended end) = 0
 resolution_entries Enlarged = 2
 
--- the outcome of the commit
 abbrev pub outcome_of : Reaction → Resolution → Outcome
 outcome_of Waits resolution = Parked (resolution_entries resolution)
 outcome_of Acts resolution = Done (1 + resolution_entries resolution)
 outcome_of HandsOn resolution = Done (2 + resolution_entries resolution)
 
--- how the run ends: by the cause that was found; else by its budget, if it is spent
+-- by the cause found, else by the budget, if it is spent
 abbrev pub end_after : Resolution → ℕ → ℕ → Option End
 end_after Busy budget entries = if nat_le budget entries then Some Budget else None
 end_after (Ended end) budget entries = Some end

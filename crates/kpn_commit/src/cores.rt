@@ -1,8 +1,8 @@
-//! What a machine is without its network and its bodies.
+//! A machine without its network and its bodies.
 
 use kpn_state::{Keeper, Roster, Store, Waiting, Wide};
 
-/// What a run changes: the channels and the history, where each process stands, and who waits at which channel.
+/// The part that a run changes: channels and history, standings, and who waits at which channel.
 #[derive(Drop)]
 pub struct Core<H: Keeper = Wide> {
     pub store: Store<H>,

@@ -1,6 +1,5 @@
-//! What the answer of a process does to a network: its deed, or it is parked; the deed of the parked
-//! process that it enables; and, if no process is then ready or out, the run's end or a growth (Kahn
-//! 1974, Parks 1995).
+//! What an answer does to a network: its deed or the parking of its process; the deed of a parked process that
+//! it enables; and the run's end or a growth, if no process is then ready or out (Kahn 1974, Parks 1995).
 #![tactic(auto)]
 
 pub mod act;

@@ -1,5 +1,4 @@
-//! Tokens that come into a channel from outside of the network, and tokens that go out of one; and the
-//! parked process that this lets go on.
+//! Tokens that enter or leave a channel from outside the network.
 ghost use Rattle.std.specs.Prelude.{◌≡◌, ◌<◌, ◌++◌, ◌∷◌, ℕ, [], length, drop, Some, None, IsTrue, false};
 ghost use Rattle.kpn_model.specs.Network.{channel_of};
 ghost use Rattle.kpn_model.specs.Families.{family};
@@ -18,7 +17,6 @@ use kpn_network::Net;
 use kpn_state::standing::parked;
 use kpn_state::{Keeper, Store};
 
-/// Whether a process can read at a port: its channel holds a token.
 fn can_read<K: Kinds, H: Keeper>(net: &Net<K>, store: &Store<H>, process: usize, port: u8) -> bool
     requires channels { length store.now.state.channels ≡ length net.now.channels }
     ensures can { IsTrue result → IsPossible (family K.Kinds) net.now store.now.state process (ActV.Read port) }
@@ -31,7 +29,6 @@ fn can_read<K: Kinds, H: Keeper>(net: &Net<K>, store: &Store<H>, process: usize,
     tokens > 0
 }
 
-/// Whether a process can write at a port: its channel holds fewer tokens than its capacity.
 fn can_write<K: Kinds, H: Keeper>(
     net: &Net<K>,
     store: &Store<H>,
@@ -50,7 +47,6 @@ fn can_write<K: Kinds, H: Keeper>(
     tokens < capacity
 }
 
-/// Whether a process can do this act.
 fn can_do<K: Kinds, H: Keeper>(net: &Net<K>, store: &Store<H>, process: usize, act: Act) -> bool
     requires channels { length store.now.state.channels ≡ length net.now.channels }
     ensures can { IsTrue result → IsPossible (family K.Kinds) net.now store.now.state process act }
@@ -63,8 +59,7 @@ fn can_do<K: Kinds, H: Keeper>(net: &Net<K>, store: &Store<H>, process: usize, a
     }
 }
 
-/// Makes a process ready if it is parked and can go on. Nothing is known of it before, while each other
-/// parked process can't go on.
+/// Makes a process ready if it is parked and can continue. No other parked process can.
 fn wake<K: Kinds, H: Keeper>(net: &Net<K>, core: &mut Core<H>, process: usize)
     requires coherent { IsCoherentBut (family K.Kinds) K.admits net.now (Some process) core.old }
     ensures store { core.new.store ≡ core.old.store }
@@ -80,9 +75,8 @@ fn wake<K: Kinds, H: Keeper>(net: &Net<K>, core: &mut Core<H>, process: usize)
     unpark(net, core, process, answer);
 }
 
-/// Appends a token to a channel, from outside of the network, and makes the reader of the channel ready
-/// if it is parked and can go on. No entry tells of it. The channel must hold fewer tokens than its
-/// capacity, and the token must be of its sort.
+/// Appends a token to a channel from outside the network, without an entry, and makes the channel's reader
+/// ready if it is parked and can continue. The channel must have room, and the token must be of its sort.
 pub fn feed<K: Kinds, H: Keeper>(net: &Net<K>, core: &mut Core<H>, channel: usize, token: Token)
     requires coherent { IsCoherent (family K.Kinds) K.admits net.now core.old }
     requires channel { channel < length net.now.channels }
@@ -99,9 +93,8 @@ pub fn feed<K: Kinds, H: Keeper>(net: &Net<K>, core: &mut Core<H>, channel: usiz
     }
 }
 
-/// Removes the first token of a channel and returns it to the outside of the network, and makes the
-/// writer of the channel ready if it is parked and can go on. No entry tells of it. The channel must
-/// hold a token.
+/// Removes the first token of a channel, without an entry, and makes the channel's writer ready if it is
+/// parked and can continue. Returns the token. There must be one.
 pub fn drain<K: Kinds, H: Keeper>(net: &Net<K>, core: &mut Core<H>, channel: usize) -> Token
     requires coherent { IsCoherent (family K.Kinds) K.admits net.now core.old }
     requires channel { channel < length net.now.channels }

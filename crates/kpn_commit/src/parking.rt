@@ -1,4 +1,4 @@
-//! Processes that are parked wait at a channel, whose mark says so.
+//! Parks processes and makes them ready again.
 ghost use Rattle.std.specs.Prelude.{◌≡◌, ◌≢◌, ◌↔◌, ◌<◌, ◌+◌, ℕ, length, set, Contains, true, false};
 ghost use Rattle.kpn_model.specs.Families.{family};
 ghost use Rattle.kpn_model.specs.Semantics.{IsPossible};
@@ -12,9 +12,8 @@ use kpn_model::{Act, Answer, Kinds};
 use kpn_network::Net;
 use kpn_state::{Keeper, Standing, Waiting};
 
-/// Parks a process that was ready or out with its answer, and marks the channel at which it waits. If it
-/// waits to write, the channel becomes a candidate. It is a function of its own, out of the way of a commit
-/// that parks nobody.
+/// Parks a ready or out process with its answer, and marks the channel at which it waits. If it waits to
+/// write, the channel becomes a candidate. Not inlined, out of the way of a commit that parks nobody.
 #[cold]
 #[inline(never)]
 pub fn park<K: Kinds, H: Keeper>(net: &Net<K>, core: &mut Core<H>, process: usize, answer: Answer)
@@ -44,8 +43,7 @@ pub fn park<K: Kinds, H: Keeper>(net: &Net<K>, core: &mut Core<H>, process: usiz
     core.standings.update(process, Standing::Parked(answer));
 }
 
-/// Makes a parked process ready that can do what it answered. Its mark at the channel is removed
-/// then, and a channel to which it waited to write is no candidate any more.
+/// Makes a parked process ready. It must be able to do what it answered. Removes its mark and its candidate.
 #[inline(always)]
 pub fn unpark<K: Kinds, H: Keeper>(net: &Net<K>, core: &mut Core<H>, process: usize, answer: Answer)
     requires process { process < length core.old.standings }
@@ -74,8 +72,7 @@ pub fn unpark<K: Kinds, H: Keeper>(net: &Net<K>, core: &mut Core<H>, process: us
     core.standings.update(process, Standing::Ready);
 }
 
-/// A channel whose writer is served is no candidate any more, and the writer has no mark there. `capacity` is the channel's,
-/// by which it was listed.
+/// Removes the candidate with this capacity and its writer's mark, when the writer is served.
 #[inline(always)]
 pub(crate) fn unlist(waiting: &mut Waiting, capacity: usize, channel: usize)
     requires { channel < length waiting.old.marks.writers }

@@ -1,5 +1,4 @@
-//! What an answer does at once: a deed, or the process is parked; and the deed of the parked process
-//! that it enables.
+//! The immediate effect of an answer.
 ghost use Rattle.std.specs.Prelude.{◌≡◌, ◌≢◌, ◌↔◌, ◌<◌, ◌≤◌, ◌+◌, ℕ, length, set, Contains, Some, None, IfSome, IfNone, IsTrue, true, false};
 ghost use Rattle.kpn_model.specs.Families.{family};
 ghost use Rattle.kpn_model.specs.declared.kinds.Answer.{Answer as AnswerV};
@@ -20,9 +19,8 @@ use kpn_network::Net;
 use kpn_state::standing::parked;
 use kpn_state::{Keeper, Marks};
 
-/// What a process's answer led to. `Waits`: it could not be done, and the process is parked. `Acts`: it
-/// was done. `HandsOn`: it was done, and then the parked process at the other end of the channel did
-/// what it had answered.
+/// The effect of an answer. `Waits`: it could not be done, and the process is parked. `Acts`: it was done.
+/// `HandsOn`: it was done, then the parked process at the other end of the channel did what it had answered.
 #[derive(Clone, Copy, Debug, PartialEq, Eq)]
 pub enum Reaction {
     Waits,
@@ -30,8 +28,8 @@ pub enum Reaction {
     HandsOn,
 }
 
-/// Does the act of the answer of a process that is ready or out, or parks the process with the answer; then
-/// does the deed of the parked process that this enables. The history must have room for two entries.
+/// Does what a ready or out process answered, or parks the process with the answer; then does the deed of the
+/// parked process that this enables. The history must have room for two entries.
 #[inline(always)]
 pub fn react<K: Kinds, H: Keeper>(
     net: &Net<K>,
@@ -73,8 +71,7 @@ pub fn react<K: Kinds, H: Keeper>(
     }
 }
 
-/// The body of `react`, which calls it from three places, one for each act, so that once it is inlined the
-/// act is tested only once.
+/// The body of `react`, called once for each act, so that once inlined it tests the act only once.
 #[inline(always)]
 fn react_to<K: Kinds, H: Keeper>(
     net: &Net<K>,
@@ -107,10 +104,9 @@ fn react_to<K: Kinds, H: Keeper>(
     }
 }
 
-/// Does the act of the answer of a process that is ready or out, and then the deed of the parked process that this
-/// enables, as `react` does; but it leaves the standing of the process to the caller, who makes it ready, or sends it out
-/// again. `None` if the act is a stop or can't be done, and nothing changes then. The history must have room for two
-/// entries.
+/// Does what a ready or out process answered, then the deed of the parked process that this enables. Leaves
+/// the first one's standing to the caller, who makes it ready or sends it out again. Returns `None`, and
+/// changes nothing, if the act is a stop or can't be done. The history must have room for two entries.
 #[inline(always)]
 pub(crate) fn react_on<K: Kinds, H: Keeper>(
     net: &Net<K>,
@@ -144,9 +140,9 @@ pub(crate) fn react_on<K: Kinds, H: Keeper>(
     }
 }
 
-/// Does the act of the answer of a ready process, and then the deed of the parked process that this enables; or parks or
-/// stops it. Returns whether it is still ready: then its standing was not touched. The history must have room for two
-/// entries.
+/// Does what a ready process answered, then the deed of the parked process that this enables; or parks or
+/// stops the process. Returns whether it is still ready, its standing untouched. The history must have room
+/// for two entries.
 #[inline(always)]
 pub fn react_ready<K: Kinds, H: Keeper>(
     net: &Net<K>,
@@ -171,8 +167,8 @@ pub fn react_ready<K: Kinds, H: Keeper>(
     }
 }
 
-/// Parks a ready process with its answer, which can't be done or is a stop, or stops it. It is a function of its own, out of the
-/// way of an answer that is done.
+/// Parks a ready process with its answer, or stops it. The answer must be a stop or impossible. Not inlined,
+/// out of the way of an answer that is done.
 #[inline(never)]
 fn park_or_stop<K: Kinds, H: Keeper>(
     net: &Net<K>,
@@ -192,10 +188,8 @@ fn park_or_stop<K: Kinds, H: Keeper>(
     let _ = react(net, core, process, answer);
 }
 
-/// Does what a process answered when it was parked, if it can now be done, and returns whether it was;
-/// otherwise nothing changes. Its mark at the channel is removed then, and a channel to which it waited to
-/// write is no candidate any more. It is a function of its own, out of the way of a commit after which no parked
-/// process goes on.
+/// Does what a parked process answered, if it now can, and removes its mark and its candidate. Returns whether
+/// it did; otherwise nothing changes. Not inlined, out of the way of a commit that enables no parked process.
 #[inline(never)]
 fn resume<K: Kinds, H: Keeper>(net: &Net<K>, core: &mut Core<H>, process: usize) -> bool
     requires coherent { IsCoherentBut (family K.Kinds) K.admits net.now (Some process) core.old }
@@ -222,8 +216,8 @@ fn resume<K: Kinds, H: Keeper>(net: &Net<K>, core: &mut Core<H>, process: usize)
     true
 }
 
-/// Returns the answer, put together of its parts. To park a copy of the whole, all its bytes would have to
-/// be kept at hand while it is tried whether the answer can be done, and mostly it can.
+/// Returns the answer, rebuilt field by field: to park a copy of the whole, all its bytes would be kept while
+/// the answer is tried, and mostly it can be done.
 #[inline(always)]
 fn rebuilt(answer: Answer) -> Answer
     ensures { result ≡ answer }
@@ -238,7 +232,6 @@ fn rebuilt(answer: Answer) -> Answer
     Answer { next, act }
 }
 
-/// Returns whether the process at the other end of the deed's channel is parked on it.
 #[inline(always)]
 fn partner_waits(marks: &Marks, deed: Deed) -> bool
     requires { HasMark marks.now deed }
@@ -251,7 +244,6 @@ fn partner_waits(marks: &Marks, deed: Deed) -> bool
     }
 }
 
-/// Returns the process at the other end of the deed's channel; `None` if the deed is a stop.
 fn partner<K: Kinds>(net: &Net<K>, deed: Deed) -> Option<usize>
     requires { HasChannel net.now deed }
     ensures { result ≡ partner net.now deed }

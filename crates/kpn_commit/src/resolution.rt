@@ -1,4 +1,4 @@
-//! What follows when no process is ready or out.
+//! What follows if no process is ready or out.
 ghost use Rattle.std.specs.Prelude.{◌≡◌, ◌<◌, ◌≤◌, ◌+◌, min, length, false};
 ghost use Rattle.kpn_model.specs.Families.{family};
 ghost use Rattle.std.specs.List.{list_any};
@@ -15,8 +15,8 @@ use kpn_network::Net;
 use kpn_state::Keeper;
 use kpn_state::standing::parked;
 
-/// How the run goes on. `Busy`: some process is ready or out. `Ended`: none is, and the run ended.
-/// `Enlarged`: none was, a channel grew, and its writer's token was put.
+/// How a run continues. `Busy`: some process is ready or out. `Ended`: none is, and the run ended. `Enlarged`:
+/// none was, a channel grew, and its writer's put was done.
 #[derive(Clone, Copy, Debug, PartialEq, Eq)]
 pub enum Resolution {
     Busy,
@@ -24,7 +24,6 @@ pub enum Resolution {
     Enlarged,
 }
 
-/// The capacity after a growth.
 fn enlarged(capacity: usize, step: usize, ceiling: usize) -> usize
     requires { capacity < ceiling }
     ensures { result ≡ min (capacity + step) ceiling }
@@ -36,8 +35,6 @@ fn enlarged(capacity: usize, step: usize, ceiling: usize) -> usize
     }
 }
 
-/// Ends the run, or lets the chosen channel grow and its writer put its token. The run also ends if the
-/// growth is refused memory.
 #[cold]
 #[inline(never)]
 fn resolve_idle<K: Kinds, H: Keeper>(net: &Net<K>, core: &mut Core<H>) -> Resolution
@@ -72,9 +69,8 @@ fn resolve_idle<K: Kinds, H: Keeper>(net: &Net<K>, core: &mut Core<H>) -> Resolu
     Resolution::Enlarged
 }
 
-/// If no process is ready or out, ends the run, or lets the chosen channel grow and its writer put its
-/// token (Parks 1995). The run also ends if the growth is refused memory. In this case the history must
-/// have room for two entries.
+/// If no process is ready or out, ends the run, or grows the chosen channel and does its writer's put (Parks
+/// 1995); the history must then have room for two entries. The run also ends if out of memory for the growth.
 #[inline(always)]
 pub fn resolve<K: Kinds, H: Keeper>(net: &Net<K>, core: &mut Core<H>) -> Resolution
     requires coherent { IsCoherent (family K.Kinds) K.admits net.now core.old }

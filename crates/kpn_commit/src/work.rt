@@ -18,7 +18,6 @@ use kpn_model::{Answer, End, Kinds};
 use kpn_network::Net;
 use kpn_state::Keeper;
 
-/// How many entries were appended after the reaction.
 fn resolution_entries(resolution: Resolution) -> usize
     ensures value { result ≡ resolution_entries resolution }
     ensures few { result ≤ 2 }
@@ -29,7 +28,6 @@ fn resolution_entries(resolution: Resolution) -> usize
     }
 }
 
-/// The outcome, with the number of all entries appended.
 fn outcome_of(reaction: Reaction, resolution: Resolution) -> Outcome
     ensures { result ≡ outcome_of reaction resolution }
 {
@@ -41,7 +39,6 @@ fn outcome_of(reaction: Reaction, resolution: Resolution) -> Outcome
     }
 }
 
-/// How the run ends, if it does: by the cause that was found, or else by its budget.
 fn end_after(resolution: Resolution, budget: u64, entries: u64) -> Option<End>
     ensures { result ≡ end_after resolution budget entries }
 {
@@ -57,9 +54,9 @@ fn end_after(resolution: Resolution, budget: u64, entries: u64) -> Option<End>
     }
 }
 
-/// Sees how a run goes on that has not ended: if no process is ready or out it ends, or the chosen channel grows and its
-/// writer's token is put. Returns which, and how the run ended, if it did; by its budget, if that is spent. The history must
-/// have room for two entries if no process is ready or out.
+/// Settles a run that has not ended: if no process is ready or out, the run ends, or the chosen channel grows
+/// and its writer's put is done; the history must then have room for two entries. Returns which, and the run's
+/// end, if any; `Budget` if that is spent.
 #[inline(always)]
 pub fn settle<K: Kinds, H: Keeper>(net: &Net<K>, core: &mut Core<H>) -> (Resolution, Option<End>)
     requires coherent { IsCoherent (family K.Kinds) K.admits net.now core.old }
@@ -73,8 +70,8 @@ pub fn settle<K: Kinds, H: Keeper>(net: &Net<K>, core: &mut Core<H>) -> (Resolut
     (resolution, ended)
 }
 
-/// Works on the answer of a process that is ready or out, in a run that has not ended. Returns the outcome, and
-/// how the run ended, if it did. The history must have room for three entries.
+/// Works on the answer of a ready or out process, in a run that has not ended. Returns the outcome, and the
+/// run's end, if any. The history must have room for three entries.
 #[inline(always)]
 pub fn work<K: Kinds, H: Keeper>(
     net: &Net<K>,
@@ -95,10 +92,10 @@ pub fn work<K: Kinds, H: Keeper>(
     (outcome_of(reaction, resolution), end)
 }
 
-/// Works on the answer of a process that is ready or out, as `work` does, but leaves the standing of the process to the
-/// caller, who makes it ready, or sends it out again. Returns the outcome; `None`, and nothing changes then, if the answer
-/// is a stop or can't be done, or if the budget has no room for three more entries. The history must have room for three
-/// entries.
+/// Works on the answer of a ready or out process, but leaves the process's standing to the caller, who makes
+/// it ready or sends it out again. Returns the outcome; or `None`, with nothing changed, if the answer is a
+/// stop or can't be done, or if the budget has no room for three more entries. The history must have room for
+/// three entries.
 #[inline(always)]
 pub fn work_on<K: Kinds, H: Keeper>(
     net: &Net<K>,

@@ -1,4 +1,4 @@
--- Two families as one: kind 2k is the first's kind k, and kind 2k + 1 the second's; the greatest number belongs to no kind.
+-- Two families joined: kind 2k is the first's kind k, and 2k + 1 the second's; NO_KIND is no kind.
 use Rattle.std.specs.Prelude.{◌≡◌, ◌≢◌, ℕ, ◌+◌, ◌-◌, ◌*◌, ◌/◌, ◌%◌, ◌^◌, ◌==◌, nat_lt, if◌then◌else◌, Bool, true, false, List, Option, Some, None, IfSome}
 use Rattle.kpn_model.specs.declared.token.Token.{Token}
 use Rattle.kpn_model.specs.declared.kinds.Card.{Card}
@@ -6,19 +6,16 @@ use Rattle.kpn_model.specs.declared.kinds.Signature.{Signature}
 use Rattle.kpn_model.specs.Network.{Family}
 use Rattle.kpn_compute.specs.declared.both.TheConstants.{NO_KIND}
 
--- the card is one of the first family
 abbrev pub is_first : Card → Bool
 is_first card = card.kind % 2 == 0
 
--- the card as its own family has it
 abbrev pub own_card : Card → Card
 own_card card = record { kind = card.kind / 2; args = card.args }
 
--- the number in both families of a kind, by its number in its own; `place` is 0 for the first family and 1 for the second
+-- `place` is 0 for the first family, 1 for the second
 abbrev pub number_in_both : ℕ → ℕ → ℕ
 number_in_both place kind = if nat_lt kind (2 ^ 15 - 1) then 2 * kind + place else NO_KIND
 
--- what a name means, by what it means in each
 abbrev pub meant_by : Option (ℕ × ℕ) → Option (ℕ × ℕ) → Option (ℕ × ℕ)
 meant_by None None = None
 meant_by (Some own) None = Some (number_in_both 0 own.0, own.1)
@@ -31,12 +28,11 @@ both_named first second name = meant_by (first name) (second name)
 abbrev pub both_ports : (Card → Option Signature) → (Card → Option Signature) → Card → Option Signature
 both_ports first second card = if card.kind == NO_KIND then None else (if is_first card then first else second) (own_card card)
 
--- a name is refused whatever its arguments: no card of its kind has ports
+-- no card of the name's kind has ports
 abbrev pub IsNameRefused : (Card → Option Signature) → Option (ℕ × ℕ) → Type 0
 IsNameRefused ports meant = IfSome meant (λ kind. (args : List ℕ) → ports (record { kind = kind.0; args = args }) ≡ None)
 
--- a name means this kind of one of the families: each card of the number that it means has the same ports as the card of the own
--- kind, and stands for that card
+-- it takes as many arguments, and each card of its number is, in its own family, of that kind
 abbrev pub MeansOwn : Bool → ℕ × ℕ → Option (ℕ × ℕ) → Type 0
 MeansOwn first own None = ⊥
 MeansOwn first own (Some meant) =
@@ -49,7 +45,6 @@ both_family first second =
       answer = λ card local last. (if is_first card then first else second).answer (own_card card) local last;
     }
 
--- one of two facts, as the test chooses
 abbrev pub picked : Bool → Type 0 → Type 0 → Type 0
 picked true p q = p
 picked false p q = q

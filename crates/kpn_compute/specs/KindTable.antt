@@ -1,4 +1,4 @@
--- The definitions that a table of kinds uses, for crates that bring kinds of their own.
+-- Re-exports the definitions in a table of kinds, for crates with kinds of their own.
 pub use Rattle.kpn_model.specs.declared.token.Sort.{Sort}
 pub use Rattle.kpn_model.specs.declared.token.Sort.TheVariants.{Words, Flags}
 pub use Rattle.kpn_model.specs.declared.token.Token.{Token}

@@ -1,4 +1,4 @@
-//! Bodies that are a card alone.
+//! Bodies that are only a card.
 ghost use Rattle.std.specs.Prelude.{◌≡◌, ◌<◌, IsSome, IfOk, Some, length, map, slice_get};
 ghost use Rattle.kpn_model.specs.Valid.{IsValid};
 
@@ -9,8 +9,7 @@ use kpn_network::Net;
 use std::alloc::{AllocError, Global};
 use std::marker::{Model, PhantomData};
 
-/// A body that is a card alone: its family's function answers for it. The card has a signature.
-/// Contracts see the card.
+/// A body that is only a card with a signature; its family's function answers. Contracts see the card.
 ///
 /// ```text
 /// for body in bodies_of(alloc, net)? {
@@ -64,9 +63,9 @@ impl<K: Computes> Body for CardBody<K> {
     }
 }
 
-/// Makes a body for each process of a network, in order, as an engine wants them.
+/// Makes a body for each process of a network, in order.
 ///
-/// Errors: memory was refused.
+/// Errors: out of memory.
 ///
 /// ```text
 /// let bodies = bodies_of(alloc, &net)?;
@@ -81,7 +80,6 @@ pub fn bodies_of<K: Computes>(alloc: Global, net: &Net<K>) -> Result<Vec<CardBod
     Ok(bodies)
 }
 
-/// The card of a process, which has a signature.
 fn signed_card<K: Computes>(net: &Net<K>, process: usize) -> Card
     requires valid { IsValid K.signature net.now }
     requires within { process < length net.now.processes }

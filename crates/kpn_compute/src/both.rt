@@ -1,4 +1,4 @@
-//! Two families as one.
+//! Joins two families.
 ghost use Rattle.std.specs.Prelude.{◌≡◌, ◌⊎◌, ◌↔◌, ◌<◌, ◌-◌, ◌^◌, true, false, None, IsSome, IfSome};
 ghost use Rattle.kpn_model.specs.Families.{family};
 ghost use Rattle.kpn_compute.specs.Both.{is_first, own_card, both_named, both_ports, both_family, BothAdmit, IsNameRefused, MeansOwn, number_in_both};
@@ -7,26 +7,25 @@ use crate::computes::Computes;
 use kpn_model::{Answer, Card, Kinds, Local, Signature, Token};
 use std::marker::PhantomData;
 
-/// The number that a refused name means: no kind of two joined families has it.
+/// The number for rejected names: no kind of two joined families has it.
 pub const NO_KIND: u16 = 65535;
 
-/// The family of all kinds of two families. `Both` may itself be one of the two.
+/// The family of all kinds of two families. Either may itself be a `Both`.
 ///
-/// Kind k of the first is kind 2k here, and kind k of the second is 2k + 1. So a kind has a number here
-/// only if its own is below 2^15 - 1.
+/// Kind k of the first is kind 2k here, of the second 2k + 1, if k is below 2^15 - 1; else it has no number.
 pub struct Both<A: Kinds, B: Kinds> {
     first: PhantomData<A>,
     second: PhantomData<B>,
 }
 
-/// Returns whether a card of two joined families is one of the first.
+/// Whether a card of two joined families is one of the first.
 pub fn is_first(card: Card) -> bool
     ensures { result ≡ is_first card }
 {
     card.kind % 2 == 0
 }
 
-/// Returns the card of its own family that a card of two joined families stands for.
+/// Returns the card that a card of two joined families has in its own family.
 pub fn own_card(card: Card) -> Card
     ensures { result ≡ own_card card }
 {
@@ -37,8 +36,7 @@ pub fn own_card(card: Card) -> Card
     }
 }
 
-/// The number here of a kind, by its number in its own family: `place` is 0 for the first family, and 1
-/// for the second.
+/// Returns a kind's number here. `place` is 0 for the first family, 1 for the second.
 fn number_in_both(place: u16, kind: u16) -> u16
     requires { place < 2 }
     ensures { result ≡ number_in_both place kind }
@@ -64,9 +62,8 @@ impl<A: Kinds, B: Kinds> Kinds for Both<A, B> {
     /// Returns what a name means; `None` if neither family has it.
     ///
     /// A name that only one family has means its kind there, if that kind's number is below 2^15 - 1. Any
-    /// other name that a family has is refused: no card of the kind that it means has ports, whatever its
-    /// arguments, so a description that uses it is no network. This holds of a name that both families
-    /// have, also if `Both` is joined with `Both` and however many of the families have it.
+    /// other name that a family has is rejected: no card of its number has ports, so a description that uses
+    /// it is no network. This also holds of a name that several families of a nested `Both` have.
     fn named(name: &str) -> Option<(u16, usize)>
         ensures is { result ≡ both_named A.named B.named name.now }
         ensures known { IsSome result ↔ (IsSome (A.named name.now) ⊎ IsSome (B.named name.now)) }

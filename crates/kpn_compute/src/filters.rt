@@ -1,4 +1,4 @@
-//! Kinds that read a word and write a word, for ever.
+//! Kinds that read a word and write a word, forever.
 ghost use Rattle.std.specs.Prelude.{◌≡◌, true, IsSome};
 ghost use Rattle.kpn_compute.specs.Filters.{filter_ports, filter_family, FilterAdmits};
 
@@ -6,11 +6,8 @@ use crate::computes::Computes;
 use kpn_model::{Act, Answer, Card, Kinds, Local, Signature, Sort, Token};
 use std::marker::PhantomData;
 
-/// Kinds that read a word and write a word, for ever, and keep four words between. A type that
-/// implements this trait makes `Filtered` of itself a family, with its table and its laws.
-///
-/// `named` says which kind a name means and how many arguments it takes, `accepts` which cards there
-/// are, `start` what a process keeps at first, and `step` what it keeps and writes after a word.
+/// Kinds that read a word and write a word, forever, and keep four words in between. `Filtered` of an
+/// implementation is a family, with its table and laws.
 pub trait Filters: Send + Sync {
     ghost use Rattle.std.specs.Prelude.{ℕ, Bool, List, Option};
     ghost use Rattle.kpn_model.specs.declared.kinds.Card.{Card};
@@ -24,34 +21,32 @@ pub trait Filters: Send + Sync {
 
     ghost step: { Card → List ℕ → ℕ → List ℕ × ℕ };
 
-    /// Returns the number of the kind with this name, and how many arguments it takes; `None` if no
-    /// kind has this name.
+    /// Returns the kind's number and its number of arguments; `None` if no kind has this name.
     fn named(name: &str) -> Option<(u16, usize)>
         ensures { result ≡ named name.now };
 
-    /// Returns whether the family has this kind with these arguments.
+    /// Whether the family has this card.
     fn accepts(card: &Card) -> bool
         ensures { result ≡ accepts card.now };
 
-    /// Returns what a process of a card keeps at first.
+    /// Returns the words that a process of a card keeps at first.
     fn start(card: &Card) -> Local
         requires { accepts card.now ≡ true }
         ensures { result ≡ start card.now };
 
-    /// Returns what a process of a card that kept `kept` and has read `word` keeps from then on, and
-    /// what it writes.
+    /// Returns what a process keeps after it kept `kept` and read `word`, and the word that it writes.
     fn step(card: Card, kept: Local, word: u64) -> (Local, u64)
         requires { accepts card ≡ true }
         ensures { result ≡ step card kept word };
 
-    /// The law of filters. For each card that is accepted, the start keeps four words, and a step from
-    /// words keeps four words and writes one. Each implementation proves it here.
+    /// The law of filters, which each implementation proves here: for each accepted card the start keeps four
+    /// words, and a step from words keeps four words and writes one.
     fn lawful()
         ensures { KeepWords accepts start step };
 }
 
-/// The family of the kinds of `F`: a process reads input 0, steps, and writes to output 0. What it
-/// keeps is its local state.
+/// The family of the kinds of `F`: a process reads input 0, steps, and writes to output 0. Its local state is
+/// what it keeps.
 pub struct Filtered<F: Filters> {
     filters: PhantomData<F>,
 }

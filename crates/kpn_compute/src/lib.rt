@@ -1,5 +1,4 @@
-//! Families of kinds for which a plain function answers: their bodies, which need no closure; kinds
-//! that are one step; and two families joined into one.
+//! Families with a plain function that answers: bodies without closures, kinds that are one step, and `Both`.
 //!
 //! ```text
 //! type Mixed = Both<Standard, Both<Gains, Filtered<MovingSums>>>;

@@ -1,4 +1,4 @@
--- A run comes to its end, or goes on for ever, if the network can do so in bounded room.
+-- A run ends, or continues forever, if the network can do so in bounded room.
 use Rattle.std.specs.Prelude.{◌⊎◌, ℕ, ◌+◌, ◌*◌, ◌<◌, ◌≤◌, List, length}
 use Rattle.kpn_model.specs.declared.history.Entry.{Entry}
 use Rattle.kpn_model.specs.declared.history.End.{End}
@@ -8,46 +8,41 @@ use Rattle.kpn_model.specs.Endings.{IsNatural, IsOver}
 use Rattle.kpn_model.specs.Determinacy.{IsRun}
 use Rattle.kpn_laws.specs.Sufficient.{EndsWithin, LastsWithin}
 
--- some entry can follow
 abbrev pub CanGoOn : Family → Network → State → Type 0
 CanGoOn kinds net M = (e : Entry) × ((N : State) × Transition kinds net M e N)
 
--- a state that is over because the run terminated or ended in a deadlock
 abbrev pub IsAtOwnEnd : Family → Network → State → Type 0
 IsAtOwnEnd kinds net M = (a : End) × IsNatural a × IsOver kinds net M a
 
--- an artificial deadlock whose chosen channel is above the ceiling
 pub record IsAbove (kinds : Family) (net : Network) (M : State) : Type 0 where
   pub artificial : IsArtificial kinds net M
   pub channel : ℕ
   pub chosen : IsChosen kinds net M channel
   pub above : net.ceiling < capacity M channel
 
--- in every state some entry can follow, or it is over, or its chosen channel is above the ceiling
 abbrev pub CanAlwaysGoOn : Family → Type 0
 CanAlwaysGoOn kinds = (net : Network) (M : State) → CanGoOn kinds net M ⊎ (((a : End) × IsOver kinds net M a) ⊎ IsAbove kinds net M)
 
 module _ (kinds : Family) where
-  -- if capacity b suffices for a run to its end, and the step is not 0, each run has at most the entries of that run and b for
-  -- each channel
+  -- at most the entries of some run within b to its end, plus b for each channel
   abbrev pub FewEntries : Type 0
   FewEntries =
       (net : Network) (b : ℕ) (s : EndsWithin kinds net b) → 0 < net.step → (E : List Entry) (M : State) → IsRun kinds net E M
       → length E ≤ length s.history + length net.channels * b
 
-  -- and, with b within the ceiling, each run can go on until it terminates or ends in a deadlock
+  -- if b is within the ceiling, each run can continue until a natural end
   abbrev pub Completes : Type 0
   Completes =
       (net : Network) (b : ℕ) → EndsWithin kinds net b → b ≤ net.ceiling → (E : List Entry) (M : State) → IsRun kinds net E M
       → CanGoOn kinds net M ⊎ IsAtOwnEnd kinds net M
 
-  -- so each run goes on to such an end
+  -- so each run has a continuation to such an end
   abbrev pub HasEnd : Type 0
   HasEnd =
       (net : Network) (b : ℕ) → EndsWithin kinds net b → b ≤ net.ceiling → 0 < net.step → (E : List Entry) (M : State) → IsRun kinds net E M
       → (F : List Entry) × ((N : State) × Run kinds net M F N × IsAtOwnEnd kinds net N)
 
-  -- and if capacity b suffices for any number of deeds, and b is within the ceiling, no run comes to an end
+  -- if capacity b suffices for any number of deeds, and b is within the ceiling, no run ends
   abbrev pub NeverEnds : Type 0
   NeverEnds =
       (net : Network) (b : ℕ) → ((n : ℕ) → LastsWithin kinds net b n) → b ≤ net.ceiling → (E : List Entry) (M : State) → IsRun kinds net E M

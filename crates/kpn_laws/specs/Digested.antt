@@ -1,4 +1,4 @@
--- Every run of a network that is over has this digest.
+-- The digest that all runs of a network share if they are over.
 use Rattle.std.specs.Prelude.{◌≡◌, List}
 use Rattle.kpn_model.specs.declared.history.Entry.{Entry}
 use Rattle.kpn_model.specs.declared.history.End.{End}
@@ -7,7 +7,6 @@ use Rattle.kpn_model.specs.Semantics.{State}
 use Rattle.kpn_model.specs.History.{Digest, digest}
 use Rattle.kpn_model.specs.Determinacy.{IsFinal}
 
--- some run that is over has this digest, and so has every other
 pub record HasDigest (kinds : Family) (net : Network) (d : Digest) : Type 0 where
   pub history : List Entry
   pub state : State

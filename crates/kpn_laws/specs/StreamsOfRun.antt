@@ -1,4 +1,4 @@
--- What is known of the streams of one run of one network (Kahn 1974).
+-- The streams of one run of one network (Kahn 1974).
 use Rattle.std.specs.Prelude.{ℕ, List}
 use Rattle.kpn_model.specs.declared.history.Entry.{Entry}
 use Rattle.kpn_model.specs.declared.history.End.{End}
@@ -10,9 +10,7 @@ use Rattle.kpn_model.specs.Determinacy.{IsRun, IsFinal}
 use Rattle.kpn_laws.specs.Alone.{Streams, BeginsWith}
 use Rattle.kpn_laws.specs.Equations.{streams_of, Obeys, IsLeastSolution}
 
--- the streams of the run E to M approach the least solution of the network's equations: those of every solution begin with them;
--- if the run terminated or ended in a deadlock they are the least solution; and so are those of every run that does so, from
--- whatever starting capacities
+-- every solution begins with the run's streams; those of a natural end, from any capacities, are the least
 pub record ApproachLeastSolution (kinds : Family) (net : Network) (E : List Entry) (M : State) : Type 0 where
   pub below : (T : Streams) → Obeys kinds net T → (c : ℕ) → BeginsWith (T c) (stream net E c)
   pub least : (a : End) → IsOver kinds net M a → IsNatural a → IsLeastSolution kinds net (streams_of net E)
@@ -20,6 +18,5 @@ pub record ApproachLeastSolution (kinds : Family) (net : Network) (E : List Entr
       (sizes : ℕ → ℕ) (F : List Entry) (N : State) (a : End) → IsFinal kinds (resized net sizes) F N a → IsNatural a
       → IsLeastSolution kinds net (streams_of net F)
 
--- the streams of each run approach the least solution
 abbrev pub EachApproachesLeastSolution : Family → Type 0
 EachApproachesLeastSolution kinds = (net : Network) (E : List Entry) (M : State) → IsRun kinds net E M → ApproachLeastSolution kinds net E M

@@ -9,10 +9,8 @@ use Rattle.kpn_model.specs.Determinacy.{IsRun}
 use Rattle.kpn_model.specs.Moments.{IsWithin}
 use Rattle.kpn_model.specs.Valid.{IsValid}
 
--- no channel of a valid network begins with more tokens than its capacity
 abbrev pub StartsWithin : (Card → Option Signature) → Family → Type 0
 StartsWithin signature kinds = (net : Network) → IsValid signature net → IsWithin (start kinds net)
 
--- and no run of it brings more tokens to a channel than its capacity
 abbrev pub StaysWithin : (Card → Option Signature) → Family → Type 0
 StaysWithin signature kinds = (net : Network) → IsValid signature net → (E : List Entry) (M : State) → IsRun kinds net E M → IsWithin M

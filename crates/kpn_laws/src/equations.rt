@@ -7,26 +7,22 @@ ghost use Rattle.kpn_laws.specs.StreamsOfRun.{EachApproachesLeastSolution};
 
 use kpn_model::Kinds;
 
-/// Ghost lemma: the streams of a network are the least solution of its
-/// equations (Kahn 1974), for every family of kinds and every network.
+/// Ghost lemma: the streams of a network are the least solution of its equations (Kahn 1974).
 ///
-/// A process alone does, for given streams of its inputs, what it wants to: a read takes the next token
-/// of the stream, or waits if there is none, and a write is always possible. `function`: what it does so
-/// is in one line. `continuous`: each finite part of it depends on the tokens that it took, and so on a
-/// finite part of the streams. The equations say of each channel that its stream is its start tokens
-/// and then what its writer alone writes for the streams that it reads.
+/// The equation of a channel: its stream is its start tokens, then what its writer alone writes for the
+/// streams that it reads. A process alone does what it wants for given streams: a read takes the next token,
+/// or waits if there is none, and a write is always possible. What it does is a function of the streams
+/// (`function`), and each finite part of it depends on a finite part of them (`continuous`).
 ///
-/// `below`: in every run, over or not and from any starting capacities, each stream is a first part of
-/// that of each pre-fixed point of the equations, so of each solution. `end_is_least`: the streams of a
-/// run that terminates or ends in a deadlock are the least solution, `digest_is_least`: and so are those
-/// of its digest, which are reported. `below_digest`: at any other end of its own, the ceiling, these are
-/// below. `end_is_least_from_any`: the least solution doesn't depend on the starting capacities.
-/// `one_least`: there is but one.
+/// `below`: the streams of every run, over or not, from any starting capacities, are prefixes of those of each
+/// pre-fixed point of the equations, so of each solution. `end_is_least`, `digest_is_least`: at a natural end
+/// the streams, also as reported, are the least solution. `below_digest`: at any end they are below each
+/// pre-fixed point. `end_is_least_from_any`: the least solution does not depend on the starting capacities.
+/// `one_least`: there is only one.
 ///
-/// And for networks that go on for ever: `all_reached`: what a process alone does for streams that runs
-/// reach, it does in some run, from capacities that are great enough. `limit_is_least`: so the limit of
-/// the streams of all runs, from all capacities, is the least solution. `common_run`: what is done in
-/// two runs is done in one. `each_run`: what all this says of one run.
+/// `all_reached`: what a process alone does for streams that runs reach, it does in some run, from large
+/// enough capacities. `limit_is_least`: so the limit of the streams of all runs is the least solution, even if
+/// none ends. `common_run`: all deeds of two runs are done in one. `each_run`: what this says of one run.
 pub fn least_solution()
     ensures function { (kinds : Family) → IsFunction kinds }
     ensures continuous { (kinds : Family) → IsContinuous kinds }
@@ -42,7 +38,7 @@ pub fn least_solution()
     ensures each_run { (kinds : Family) → EachApproachesLeastSolution kinds }
 {}
 
-/// Ghost lemma: the laws of [`least_solution`] for a family that is given as a type.
+/// Ghost lemma: the laws of [`least_solution`] for the family of a type.
 pub fn least_solution_of<K: Kinds>()
     ensures function { IsFunction (family K.Kinds) }
     ensures continuous { IsContinuous (family K.Kinds) }

@@ -1,7 +1,6 @@
-//! The laws of Kahn process networks with bounded channels, over the definitions of kpn_model alone.
+//! The laws of Kahn process networks with bounded channels, over the definitions of kpn_model.
 //!
-//! A function here does nothing. What it ensures are theorems, for every family of kinds and every
-//! network; a caller that calls it may use them from there on. docs/determinacy.md,
+//! A function here does nothing. It ensures theorems for every family and network. docs/determinacy.md,
 //! docs/least-solution.md and docs/least-room.md explain the proofs.
 #![tactic(auto)]
 

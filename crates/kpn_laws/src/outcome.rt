@@ -1,4 +1,4 @@
-//! Whichever process goes on next, the outcome is the same.
+//! The outcome does not depend on the schedule.
 ghost use Rattle.kpn_model.specs.Network.{Family};
 ghost use Rattle.kpn_model.specs.Families.{family};
 ghost use Rattle.kpn_model.specs.Determinacy.{OneDigest, NoneLonger, OneOutcome, AllPrefixComparable};
@@ -7,15 +7,13 @@ ghost use Rattle.kpn_model.specs.Moments.{OneState, PrefixesAreRuns, AlwaysWithi
 use crate::run::moments;
 use kpn_model::Kinds;
 
-/// Ghost lemma: the laws of determinacy, for every family of kinds and every
-/// network (Kahn 1974, for finite runs).
+/// Ghost lemma: the laws of determinacy (Kahn 1974, for finite runs).
 ///
-/// `one_digest`: two runs that are over have one digest, so one cause, one place of each process, the
-/// same deeds, streams, rests, growths in order, last capacities and number of entries. `none_longer`:
-/// no run is longer than one that is over. `one_outcome`: whatever the starting capacities, runs that
-/// terminate or end in a deadlock have the same deeds, streams and places (growth is Parks's, 1995).
-/// `all_comparable`: in any two runs cut anywhere, from any starting capacities, the deeds of each process
-/// are prefix-comparable (one list begins with the other), and so are the streams.
+/// `one_digest`: two runs that are over have the same digest: cause, places, numbers of deeds, streams, rests,
+/// growths in order, last capacities and number of entries. `none_longer`: no run is longer than one that is
+/// over. `one_outcome`: whatever the starting capacities, natural ends have the same deeds, streams and places
+/// (growth is Parks's, 1995). `all_comparable`: in any two runs, over or not, from any starting capacities,
+/// the deeds of each process are prefix-comparable, and so are the streams.
 pub fn determinacy()
     ensures one_digest { (kinds : Family) → OneDigest kinds }
     ensures none_longer { (kinds : Family) → NoneLonger kinds }
@@ -23,8 +21,7 @@ pub fn determinacy()
     ensures all_comparable { (kinds : Family) → AllPrefixComparable kinds }
 {}
 
-/// Ghost lemma: the laws of [`determinacy`] and of `moments` for a family that
-/// is given as a type.
+/// Ghost lemma: the laws of [`determinacy`] and `moments` for the family of a type.
 pub fn determinacy_of<K: Kinds>()
     ensures one_digest { OneDigest (family K.Kinds) }
     ensures none_longer { NoneLonger (family K.Kinds) }

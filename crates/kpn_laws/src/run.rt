@@ -10,14 +10,13 @@ ghost use Rattle.kpn_laws.specs.ValidRuns.{StartsWithin, StaysWithin};
 
 use kpn_model::Kinds;
 
-/// Ghost lemma: the laws of the moments of a run, for every family of kinds and
-/// every network.
+/// Ghost lemma: the laws of the moments of a run.
 ///
-/// `one_state`: a history leads from a state to one state. `prefixes`: a prefix of a history is a run
-/// too, and the rest goes on from where it leads. `within`: a network that begins with no channel above
-/// its capacity never has one. `told`: the history determines what a channel holds, and its capacity.
-/// `budget`: no run ends because of its budget if one that is over has fewer entries. `enabled`: a
-/// process is enabled exactly when it can do a deed. `one_cause`: a run is over for at most one cause.
+/// `one_state`: a history leads from a state to one state. `prefixes`: each prefix of a history is a run, and
+/// the rest continues from its state. `within`: a network that starts with no channel above its capacity never
+/// has one. `told`: the history determines each channel's tokens and capacity. `budget`: no run spends the
+/// budget if one that is over has fewer entries. `enabled`: a process is enabled exactly when it can do a
+/// deed. `one_cause`: a run is over for at most one cause.
 pub fn moments()
     ensures one_state { (kinds : Family) → OneState kinds }
     ensures prefixes { (kinds : Family) → PrefixesAreRuns kinds }
@@ -28,15 +27,14 @@ pub fn moments()
     ensures one_cause { (kinds : Family) → OneCause kinds }
 {}
 
-/// Ghost lemma: a valid network begins with no channel above its capacity, and no run of it ever has one.
+/// Ghost lemma: no channel of a valid network ever exceeds its capacity.
 pub fn valid_runs()
     ensures start { (signature : Card → Option Signature) (kinds : Family) → StartsWithin signature kinds }
     ensures within { (signature : Card → Option Signature) (kinds : Family) → StaysWithin signature kinds }
 {}
 
-/// Ghost lemma: each run of a valid network is well-typed at each moment. Each
-/// token in a channel fits and has the channel's sort, and each live process is in a state that its
-/// card admits. This follows from the laws of the family, which each implementation of `Kinds` proves.
+/// Ghost lemma: each run of a valid network is well-typed at each moment: tokens fit and have their channels'
+/// sorts, and live processes are in admitted states. It follows from `K::lawful`.
 pub fn typed_runs<K: Kinds>()
     ensures { StaysWellTyped K.signature K.admits (family K.Kinds) }
 {

@@ -1,4 +1,4 @@
--- Ready processes are asked, one after the other.
+-- Asking ready processes, one after the other.
 use Rattle.std.specs.Prelude.{◌≡◌, ℕ, ◌<◌, List, [], ◌∷◌, Option, Some, None, length}
 use Rattle.kpn_model.specs.declared.token.Token.{Token}
 use Rattle.kpn_model.specs.declared.kinds.Card.{Card}
@@ -13,7 +13,7 @@ use Rattle.kpn_commit.specs.declared.react.Reaction.{Reaction}
 use Rattle.kpn_commit.specs.Reactions.{Reacts}
 
 module _ (kinds : Family) (admits : Card → List ℕ → Option Token → Type 0) (net : Network) where
-  -- a ready process is asked; it does what it wants, or is parked, and a parked process may go on with it
+  -- a ready process is asked, and does what it wants or is parked; a parked process may then do its deed
   pub record IsAsked (s : StateAndHistory) (standings : List Standing) (reaction : Reaction) (t : StateAndHistory) (moved : List Standing) : Type 0 where
     pub process : ℕ
     pub ready : standing standings process ≡ Ready
@@ -22,7 +22,7 @@ module _ (kinds : Family) (admits : Card → List ℕ → Option Token → Type 
     pub reacts : Reacts kinds net s standings process answer reaction t moved
     pub keeps : StandingsFit kinds admits net None t.state moved
 
-  -- one after the other, each while there are fewer entries than this
+  -- one after the other, while there are fewer than `until` entries
   abbrev pub AreAsked : ℕ → StateAndHistory → List Standing → List Reaction → StateAndHistory → List Standing → Type 0
   AreAsked until s standings [] t moved = (t ≡ s) × (moved ≡ standings)
   AreAsked until s standings (r ∷ rs) t moved = (length s.history < until) × (between : StateAndHistory) × (standings_between : List Standing) × IsAsked s standings r between standings_between × AreAsked until between standings_between rs t moved

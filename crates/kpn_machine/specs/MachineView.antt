@@ -1,4 +1,4 @@
--- What contracts see of a machine.
+-- The machine as contracts see it.
 use Rattle.std.specs.Prelude.{◌≡◌, ◌≢◌, ℕ, ◌+◌, ◌<◌, ◌≤◌, true, false, List, [], Option, Some, None, length, get_or, set}
 use Rattle.std.specs.List.{list_any, list_all, sum_by}
 use Rattle.kpn_model.specs.declared.token.Token.{Token}
@@ -19,8 +19,7 @@ use Rattle.kpn_state.specs.declared.standing.Standing.{Standing}
 use Rattle.kpn_state.specs.declared.standing.Standing.TheVariants.{Ready, Out, Parked, Stopped}
 use Rattle.kpn_state.specs.Standings.{standing, is_busy, is_ready, parked_answer, StandingsFit}
 
--- the network, its state, the entries that led to it, the standing of each process, how the run ended, and how many answers were
--- taken
+-- `end` says how the run ended, `commits` how many answers were taken
 pub record MachineView : Type 0 where
   pub network : Network
   pub state : State
@@ -32,11 +31,11 @@ pub record MachineView : Type 0 where
 abbrev pub machine_view : Network → State → List Entry → List Standing → Option End → ℕ → MachineView
 machine_view net M E standings end commits = record { network = net; state = M; history = E; standings = standings; end = end; commits = commits }
 
--- its state and history, with room for two entries more than the budget
+-- with room for two entries more than the budget
 abbrev pub state_and_history_of : MachineView → StateAndHistory
 state_and_history_of s = state_and_history s.state s.history (s.network.budget + 2)
 
--- the process of the input is out, with its card, local state and last token
+-- the process is out, with the input's card, local state and last token
 pub record IsOutAt (net : Network) (M : State) (standings : List Standing) (i : Input) : Type 0 where
   pub out : standing standings i.process ≡ Out
   pub card : card_of net i.process ≡ i.card
@@ -45,38 +44,34 @@ pub record IsOutAt (net : Network) (M : State) (standings : List Standing) (i : 
 abbrev pub IsOut : MachineView → Input → Type 0
 IsOut s i = IsOutAt s.network s.state s.standings i
 
--- a ready process goes out, asked with its local state and last token
+-- a ready process goes out, asked with its card, local state and last token
 pub record TakesOut (s : MachineView) (i : Input) (t : MachineView) : Type 0 where
   pub ready : standing s.standings i.process ≡ Ready
   pub card : card_of s.network i.process ≡ i.card
   pub live : status s.state i.process ≡ Live i.local i.last
   pub after : t ≡ record s { standings = set s.standings i.process Out }
 
--- each process that is not out has a body of its card
 abbrev pub HasBodies : Network → List Standing → List (Option Card) → Type 0
 HasBodies net standings bodies = (p : ℕ) → p < length net.processes → standing standings p ≢ Out → get_or bodies p None ≡ Some (card_of net p)
 
--- the emptied vector of the bodies has capacity for all of them
 pub record HasSpareCapacity {X : Type 0} (net : Network) (spare : List X) (capacity : ℕ) : Type 0 where
   pub emptied : spare ≡ []
   pub enough : length net.processes ≤ capacity
 
--- 1 for a process that is parked
 abbrev pub waits : Standing → ℕ
 waits Ready = 0
 waits Out = 0
 waits (Parked a) = 1
 waits Stopped = 0
 
--- 1 for a process that is not out
 abbrev pub stays_in : Standing → ℕ
 stays_in Ready = 1
 stays_in Out = 0
 stays_in (Parked a) = 1
 stays_in Stopped = 1
 
--- the history is a run to the state, and all else fits; at most as many answers were taken as there are entries and waiting
--- processes, and once the run has ended one more for each process that is not out
+-- the history is a run to the state, and all else fits; there are at most as many answers as entries and
+-- parked processes, and after the end as entries and processes that are not out
 pub record IsSound (kinds : Family) (admits : Card → List ℕ → Option Token → Type 0) (s : MachineView) (limit : ℕ) (bodies : List (Option Card)) : Type 0 where
   pub run : IsRun kinds s.network s.history s.state
   pub keeps : StandingsFit kinds admits s.network None s.state s.standings
@@ -90,11 +85,10 @@ pub record IsSound (kinds : Family) (admits : Card → List ℕ → Option Token
   pub asked : s.end ≡ None → s.commits ≤ length s.history + sum_by waits s.standings
   pub laid : s.commits ≤ length s.history + sum_by stays_in s.standings
 
--- what holds of each machine at each time: its history is a run from the start to its state, and at each moment of it no channel
--- is above its capacity and the state is well-typed; an end is justified; a process that can go on is ready or out, and one that
--- is neither wants what it answered; while the run has not ended some process is ready or out, and once it has ended, other than
--- by its budget, none is; there are at most two entries more than the budget, and at most as many answers were taken as there are
--- entries and processes
+-- what always holds of a machine: its history is a run to its state, always within capacities and well-typed;
+-- its end is justified; an enabled process is ready or out, and one that is neither wants what it answered;
+-- some process is ready or out exactly until the run ends, unless the budget ended it; there are at most
+-- budget + 2 entries, and at most as many answers as entries and processes
 pub record IsFaithful (kinds : Family) (admits : Card → List ℕ → Option Token → Type 0) (s : MachineView) : Type 0 where
   pub run : IsRun kinds s.network s.history s.state
   pub within : AtEachMoment kinds s.network s.history IsWithin
@@ -107,7 +101,6 @@ pub record IsFaithful (kinds : Family) (admits : Card → List ℕ → Option To
   pub few_entries : length s.history ≤ s.network.budget + 2
   pub few_commits : s.commits ≤ length s.history + length s.network.processes
 
--- as it was opened: no entry, no commit, no end, and every process ready
 pub record IsFresh (s : MachineView) : Type 0 where
   pub no_entry : s.history ≡ []
   pub no_commit : s.commits ≡ 0

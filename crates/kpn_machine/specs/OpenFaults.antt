@@ -1,4 +1,4 @@
--- The numbers of the faults of a machine that was not opened.
+-- The numbers of the faults on opening a machine.
 use Rattle.std.specs.Prelude.{ℕ}
 use Rattle.kpn_machine.specs.declared.opening.OpenFault.{OpenFault}
 use Rattle.kpn_machine.specs.declared.opening.OpenFault.TheVariants.{Bodies, Card, Memory}

@@ -1,4 +1,4 @@
--- How a machine starts, and when it is refused.
+-- How a machine starts, and when it fails to.
 use Rattle.std.specs.Prelude.{◌≡◌, ◌≢◌, ℕ, ◌<◌, List, Option, Some, None, length, map, get_or}
 use Rattle.kpn_model.specs.declared.kinds.Card.{Card}
 use Rattle.kpn_model.specs.declared.history.Status.{Status}
@@ -10,24 +10,20 @@ use Rattle.kpn_model.specs.Semantics.{Held}
 use Rattle.kpn_machine.specs.declared.opening.OpenFault.{OpenFault}
 use Rattle.kpn_machine.specs.declared.opening.OpenFault.TheVariants.{Bodies, Card as WrongCard, Memory}
 
--- a process at its start
 abbrev pub starting : Family → Process → Status
 starting kinds p = Live (kinds.start p.card) None
 
--- a channel with its start tokens
 abbrev pub filled : Channel → Held
 filled c = record { tokens = c.tokens; capacity = c.capacity }
 
--- the cards of the processes, in order
 abbrev pub cards_of : List Process → List Card
 cards_of ps = map (λ p. p.card) ps
 
--- what is wrong with the bodies, which have these cards; for `Memory`, nothing is
+-- what is wrong with bodies of these cards; for `Memory`, nothing is
 abbrev pub IsOpenFault : List Process → List Card → OpenFault → Type 0
 IsOpenFault ps cards Bodies = length cards ≢ length ps
 IsOpenFault ps cards WrongCard = (length cards ≡ length ps) × (cards ≢ cards_of ps)
 IsOpenFault ps cards Memory = cards ≡ cards_of ps
 
--- each slot has the body of its number
 abbrev pub AreSeated : List Card → List (Option Card) → Type 0
 AreSeated cards slots = (p : ℕ) → p < length cards → get_or slots p None ≡ Some (get_or cards p no_process.card)

@@ -1,4 +1,4 @@
-//! What a machine leaves behind.
+//! A machine after its run.
 ghost use Rattle.std.specs.Prelude.{◌≡◌};
 ghost use Rattle.kpn_model.specs.Families.{family};
 ghost use Rattle.kpn_machine.specs.MachineView.{machine_view, IsFaithful};
@@ -8,11 +8,9 @@ use kpn_network::Net;
 use kpn_state::{Keeper, Roster, Standing, Store, Wide};
 use std::marker::Model;
 
-/// A machine without its bodies: its network, its history, the standing of each process, and how the
-/// run ended, if it did. Its type names no body, so it outlives the bodies, and it can be named even if
-/// they can't.
-///
-/// Only `Machine::into_chronicle` makes one. Contracts see what they see of the machine.
+/// A machine without its bodies: its network, history, standings and end. Its type names no body, so it
+/// outlives the bodies, and can be named if they can't. Only `Machine::into_chronicle` makes one. Contracts
+/// see it as the machine.
 pub struct Chronicle<K: Kinds, H: Keeper = Wide> {
     net: Net<K>,
     store: Store<H>,
@@ -21,8 +19,7 @@ pub struct Chronicle<K: Kinds, H: Keeper = Wide> {
     commits: u64,
 }
 
-// Written out, so that letting go of a chronicle is a call, which is proved once, and not done field by field wherever
-// one ends: that would be most of what it takes to prove who owns one.
+// Written out, so that a drop is one call, proved once. Else owners' proofs would mostly drop its fields.
 impl<K: Kinds, H: Keeper> Drop for Chronicle<K, H> {
     fn drop(self) {
         let Chronicle {
@@ -73,14 +70,14 @@ impl<K: Kinds, H: Keeper> Chronicle<K, H> {
         &self.net
     }
 
-    /// Returns what keeps the entries.
+    /// Returns the keeper of the entries.
     pub fn keeper(&self) -> &H
         ensures { H.entries result.now ≡ self.now.history }
     {
         self.store.keeper()
     }
 
-    /// Returns the standing of each process, in order.
+    /// Returns the standing of each process.
     pub fn standings(&self) -> &[Standing]
         ensures { result.now ≡ self.now.standings }
     {
@@ -97,7 +94,7 @@ impl<K: Kinds, H: Keeper> Chronicle<K, H> {
 }
 
 impl<K: Kinds> Chronicle<K> {
-    /// Returns the entries, in order.
+    /// Returns the entries.
     pub fn history(&self) -> &[Entry]
         ensures { result.now ≡ self.now.history }
     {

@@ -1,4 +1,4 @@
-//! Whether two cards, local states or last tokens are equal.
+//! Equality of cards, local states and last tokens.
 ghost use Rattle.std.specs.Prelude.{◌≡◌, ◌↔◌, IsTrue};
 
 use kpn_model::{Card, Local, Token};
@@ -6,7 +6,7 @@ use kpn_model::{Card, Local, Token};
 pub(crate) fn same_card(a: Card, b: Card) -> bool
     ensures { IsTrue result ↔ (a ≡ b) }
 {
-    // It is asked once whether two arguments are equal, which takes fewer steps than to ask after each.
+    // Both arguments are compared in one test, which takes fewer steps than two.
     let [x, y, z] = a.args;
     let [u, v, w] = b.args;
     a.kind == b.kind && (x == u) & (y == v) && z == w

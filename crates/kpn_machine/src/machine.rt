@@ -32,23 +32,21 @@ use kpn_state::{Keeper, Roster, Standing, Store, Wide};
 use std::alloc::Global;
 use std::marker::Model;
 
-/// A network at work: its processes are taken one at a time, called outside the machine, and their
-/// answers committed. Its entries are kept as they are handed out, unless it is opened with another keeper.
+/// A network at work: gives out processes one at a time, and commits their answers. `H` keeps its entries.
 pub struct Machine<B: Body, H: Keeper = Wide> {
     net: Net<B::Kinds>,
     core: Core<H>,
-    /// The body of each process, but those of processes that are out.
+    /// The body of each process that is not out.
     bodies: Vec<Option<B>>,
-    /// The emptied vector in which the bodies came, for `into_parts`.
+    /// The emptied vector of the bodies, for `into_parts`.
     spare: Vec<B>,
     end: Option<End>,
     commits: u64,
-    /// The process that `ask_in_place` would have asked next, since it has just read.
+    /// The process to ask next in place, since it has just read.
     again: Option<usize>,
 }
 
-// Written out, so that letting go of a machine is a call, which is proved once, and not done field by field wherever
-// one ends: that would be most of what it takes to prove who owns one.
+// Written out, so that a drop is one call, proved once. Else owners' proofs would mostly drop its fields.
 impl<B: Body, H: Keeper> Drop for Machine<B, H> {
     fn drop(self) {
         let Machine {
@@ -77,7 +75,7 @@ impl<B: Body, H: Keeper> Model for Machine<B, H> {
     ghost invariant = { λ m. IsSound (family B.Kinds.Kinds) B.Kinds.admits (machine_view m.net m.core.store.state m.core.store.history m.core.standings m.end m.commits) m.core.store.limit (map (option_map B.card) m.bodies.items) × HasSpareCapacity m.net m.spare.items (vec_capacity m.spare) × AreWaiting m.net m.core.store.state m.core.standings m.core.waiting };
 }
 
-/// Why a machine was not opened, with the network and the bodies handed back.
+/// Why a machine was not opened, with the unchanged network and bodies.
 #[derive(Drop)]
 pub struct OpenRefused<B: Body> {
     pub net: Net<B::Kinds>,
@@ -85,19 +83,17 @@ pub struct OpenRefused<B: Body> {
     pub fault: OpenFault,
 }
 
-/// An answer that was not asked for, handed back.
+/// An answer that was not asked for.
 #[derive(Drop)]
 pub struct Stranger<B: Body> {
     pub finished: Finished<B>,
 }
 
 impl<B: Body> Machine<B> {
-    /// Opens a machine at the start of a network, with a body for each process, in order: all processes
-    /// are ready, and the channels hold their start tokens. All memory except that of growths is taken
-    /// here.
+    /// Opens a machine at the start of a network, with a body for each process, in order. All processes are
+    /// ready, and the channels hold their start tokens. Allocates all memory but that of growths.
     ///
-    /// Errors: the first of `Bodies`, `Card` and `Memory` that applies, with the network and the bodies
-    /// unchanged.
+    /// Errors: the first of `Bodies`, `Card` and `Memory` that applies, with the unchanged network and bodies.
     ///
     /// ```text
     /// let Ok(mut machine) = Machine::open(alloc, net, bodies) else {
@@ -119,7 +115,7 @@ impl<B: Body> Machine<B> {
         Machine::<B, Wide>::open_with_keeper(alloc, net, bodies)
     }
 
-    /// Returns the entries so far, in order.
+    /// Returns the entries so far.
     pub fn history(&self) -> &[Entry]
         ensures { result.now ≡ self.now.history }
     {
@@ -128,7 +124,7 @@ impl<B: Body> Machine<B> {
 }
 
 impl<B: Body, H: Keeper> Machine<B, H> {
-    /// Opens a machine as `open` does, whose entries are kept by `H`.
+    /// Opens a machine like `open`, with its entries kept by `H`.
     ///
     /// ```text
     /// let Ok(mut machine) = Machine::<B, Packed>::open_with_keeper(alloc, net, bodies) else {
@@ -180,7 +176,7 @@ impl<B: Body, H: Keeper> Machine<B, H> {
         self.end
     }
 
-    /// Ghost lemma: what holds of each machine at each time.
+    /// Ghost lemma: what always holds of a machine.
     pub fn assure_faithful(&self)
         ensures faithful { IsFaithful (family B.Kinds.Kinds) B.Kinds.admits self.now }
     {
@@ -189,14 +185,14 @@ impl<B: Body, H: Keeper> Machine<B, H> {
         typed_runs::<B::Kinds>();
     }
 
-    /// Returns what keeps the entries.
+    /// Returns the keeper of the entries.
     pub fn keeper(&self) -> &H
         ensures { H.entries result.now ≡ self.now.history }
     {
         self.core.store.keeper()
     }
 
-    /// Returns how many entries there are so far.
+    /// Returns the number of entries so far.
     #[inline(always)]
     pub fn entries(&self) -> usize
         ensures { result ≡ length self.now.history }
@@ -204,7 +200,7 @@ impl<B: Body, H: Keeper> Machine<B, H> {
         self.core.store.entries()
     }
 
-    /// Returns how many of the entries so far are growths.
+    /// Returns the number of growths among the entries so far.
     #[inline(always)]
     pub fn growths(&self) -> usize
         ensures { result ≡ length (growths_of self.now.history) }
@@ -219,29 +215,28 @@ impl<B: Body, H: Keeper> Machine<B, H> {
         &self.net
     }
 
-    /// Returns the standing of each process, in order.
+    /// Returns the standing of each process.
     pub fn standings(&self) -> &[Standing]
         ensures { result.now ≡ self.now.standings }
     {
         self.core.standings.as_slice()
     }
 
-    /// Returns how many processes are ready.
+    /// Returns the number of ready processes.
     pub fn ready(&self) -> usize
         ensures { result ≡ count_by is_ready self.now.standings }
     {
         self.core.standings.ready()
     }
 
-    /// Returns how many processes are out.
+    /// Returns the number of processes that are out.
     pub fn out(&self) -> usize
         ensures { result ≡ count_by is_out self.now.standings }
     {
         self.core.standings.out()
     }
 
-    /// Returns whether the machine is as it was opened: no entry, no commit, no end, and every process
-    /// ready.
+    /// Whether the machine is as it was opened: no entry, no commit, no end, and all processes ready.
     pub fn is_fresh(&self) -> bool
         ensures { IsTrue result ↔ IsFresh self.now }
     {
@@ -251,7 +246,7 @@ impl<B: Body, H: Keeper> Machine<B, H> {
             && all_ready(self.core.standings.as_slice())
     }
 
-    /// Returns how many answers were taken.
+    /// Returns the number of answers taken.
     pub fn commits(&self) -> u64
         ensures { result ≡ self.now.commits }
     {
@@ -260,8 +255,8 @@ impl<B: Body, H: Keeper> Machine<B, H> {
 }
 
 impl<B: Body, H: Keeper> Machine<B, H> {
-    /// Sends a ready process out and returns its task; `None` if the run has ended or no process is
-    /// ready, and nothing changes then. No contract says which ready process is taken.
+    /// Sends a ready process out and returns its task; `None`, with nothing changed, if the run has ended or
+    /// no process is ready. No contract says which ready process is taken.
     #[inline(always)]
     pub fn take(&mut self) -> Option<Task<B>>
         ensures some { IfSome result (λ task. (self.old.end ≡ None) × TakesOut self.old task self.new) }
@@ -276,7 +271,6 @@ impl<B: Body, H: Keeper> Machine<B, H> {
     }
 }
 
-/// The task of a live process, with its body.
 fn take_out<B: Body, H: Keeper>(
     net: &Net<B::Kinds>,
     store: &Store<H>,
@@ -302,7 +296,6 @@ fn take_out<B: Body, H: Keeper>(
     Task::new(process, body, *local, *last)
 }
 
-/// Whether a process is out, with this card, local state and last token: that of an answer or a task.
 #[inline(always)]
 fn is_out_with<K: Kinds, H: Keeper>(
     net: &Net<K>,
@@ -336,7 +329,7 @@ fn is_out_with<K: Kinds, H: Keeper>(
 }
 
 impl<B: Body, H: Keeper> Machine<B, H> {
-    /// Returns whether the process of an answer is out, with this card, local state and last token.
+    /// Whether the process of an answer is out, with its card, local state and last token.
     #[inline(always)]
     pub fn has_asked(&self, finished: &Finished<B>) -> bool
         ensures { IsTrue result ↔ IsOut self.now finished.now }
@@ -352,7 +345,7 @@ impl<B: Body, H: Keeper> Machine<B, H> {
         )
     }
 
-    /// Returns whether the process of a task is out, with this card, local state and last token.
+    /// Whether the process of a task is out, with its card, local state and last token.
     #[inline(always)]
     pub fn has_sent(&self, task: &Task<B>) -> bool
         ensures { IsTrue result ↔ IsOut self.now task.now }
@@ -370,14 +363,13 @@ impl<B: Body, H: Keeper> Machine<B, H> {
 
     /// Takes the answer of a process that is out, and returns what it did.
     ///
-    /// If the run has ended, the process is ready again, as it was. Otherwise its act is done if it can
-    /// be, or else the process is parked with its answer. If the deed lets the parked process at the
-    /// other end of the channel go on, that process does its deed next. If no process is then ready or
-    /// out, the run ends, or the chosen channel grows and its writer's put is done (Parks 1995). Takes
-    /// no memory except that of a growth.
+    /// If the run has ended, the process is ready again. Otherwise its act is done, or else the process is
+    /// parked with its answer. If the deed enables the parked process at the other end of the channel, that
+    /// does its deed next. If no process is then ready or out, the run ends, or the chosen channel grows and
+    /// its writer's put is done (Parks 1995). Takes no memory except that of a growth.
     ///
-    /// Errors: the process of the answer is not out, or not with this card, local state and last token.
-    /// The answer is handed back, and nothing changes.
+    /// Errors: the process is not out with this card, local state and last token. Nothing has then changed,
+    /// and the answer is returned.
     #[inline(always)]
     pub fn commit(&mut self, finished: Finished<B>) -> Result<Outcome, Stranger<B>>
         ensures stranger { IfErr result (λ stranger. (stranger.finished ≡ finished) × (self.new ≡ self.old)) }
@@ -396,8 +388,7 @@ impl<B: Body, H: Keeper> Machine<B, H> {
         Ok(self.commit_asked(finished))
     }
 
-    /// Takes the answer of a process that is out, as `commit` does. The process must be out with this
-    /// card, local state and last token, as `has_asked` tests.
+    /// Takes an answer like `commit`. Its process must be out with its card, local state and last token.
     #[inline(always)]
     pub fn commit_asked(&mut self, finished: Finished<B>) -> Outcome
         requires { IsOut self.old finished }
@@ -424,10 +415,10 @@ impl<B: Body, H: Keeper> Machine<B, H> {
 }
 
 impl<B: Body, H: Keeper> Machine<B, H> {
-    /// Takes the answer of a task, as `commit_asked` does, and sends its process out again with the same body, as the next
-    /// task. Returns the outcome; `None`, and nothing changes then, if the answer is a stop or can't be done, if the run has
-    /// ended, or if the budget has no room for three more entries. The process must be out with the task's card, local
-    /// state and last token, as `has_sent` tests.
+    /// Takes the answer of a task like `commit_asked`, and sends its process out again with the same body, as
+    /// the next task. Returns the outcome; `None`, with nothing changed, if the answer is a stop or can't be
+    /// done, if the run has ended, or if the budget has no room for three more entries. The process must be
+    /// out with the task's card, local state and last token (`has_sent`).
     #[inline(always)]
     pub fn commit_on(&mut self, task: &mut Task<B>, answer: Answer) -> Option<Outcome>
         requires out { IsOut self.old task.old }
@@ -452,8 +443,8 @@ impl<B: Body, H: Keeper> Machine<B, H> {
 }
 
 impl<B: Body, H: Keeper> Machine<B, H> {
-    /// Takes back a task that was not answered: its process is ready again, as it was. The process must be
-    /// out with the task's card, local state and last token, as `has_sent` tests.
+    /// Takes back a task without an answer: its process is ready again. It must be out with the task's card,
+    /// local state and last token (`has_sent`).
     pub fn take_back(&mut self, task: Task<B>)
         requires { IsOut self.old task }
         ensures { self.new ≡ record self.old { standings = set self.old.standings task.process Ready } }
@@ -464,7 +455,6 @@ impl<B: Body, H: Keeper> Machine<B, H> {
     }
 }
 
-/// Makes a process ready that was out.
 #[inline(always)]
 fn lay_back(standings: &mut Roster, process: usize)
     requires { process < length standings.old }
@@ -474,8 +464,8 @@ fn lay_back(standings: &mut Roster, process: usize)
 }
 
 impl<B: Body, H: Keeper> Machine<B, H> {
-    /// Returns the network and, in order, bodies of the right cards, of a machine that is as it was
-    /// opened. Takes no memory.
+    /// Returns the network and, in order, bodies of its cards. The machine must be as it was opened. Takes no
+    /// memory.
     pub fn into_parts(self) -> (Net<B::Kinds>, Vec<B>)
         requires { IsFresh self }
         ensures net { result.0 ≡ self.network }
@@ -524,7 +514,7 @@ impl<B: Body, H: Keeper> Machine<B, H> {
     }
 }
 
-/// Notes the end of a run that had none, if it was found. Mostly there is none, and nothing is written.
+/// Notes an end that was found. Mostly there is none, and nothing is written.
 #[inline(always)]
 fn note_end(end: &mut Option<End>, found: Option<End>)
     requires { end.old ≡ None }
@@ -536,9 +526,8 @@ fn note_end(end: &mut Option<End>, found: Option<End>)
 }
 
 impl<B: Body, H: Keeper> Machine<B, H> {
-    /// Asks ready processes in place, one after the other, until `most` answers were taken, the budget is spent or no
-    /// process is ready; and then sees how the run goes on. Returns how many answers were taken. The run must not have
-    /// ended.
+    /// Asks ready processes in place, until `most` answers were taken, the budget is spent or no process is
+    /// ready; then settles the run. Returns the number of answers taken. The run must not have ended.
     fn go_on(&mut self, most: u64) -> u64
         requires { self.old.end ≡ None }
         ensures rounds { (outcomes : List OutcomeV) × (length outcomes ≡ result) × GoesRounds (family B.Kinds.Kinds) self.old outcomes self.new }
@@ -563,10 +552,10 @@ impl<B: Body, H: Keeper> Machine<B, H> {
         asked
     }
 
-    /// Runs to an end in the calling thread. No process may be out. If capacity b suffices for the
-    /// network, no channel of capacity b or more grows in the run (Parks 1995; docs/least-room.md). The
-    /// streams of the run are below every solution of the network's equations, and if it terminated or
-    /// ended in a deadlock they are the least solution (Kahn 1974; docs/least-solution.md).
+    /// Runs to an end in the calling thread. No process may be out. If capacity b suffices for the network, no
+    /// channel of capacity b or more grows (Parks 1995; docs/least-room.md). The streams are below every
+    /// solution of the network's equations, and at a natural end the least one (Kahn 1974;
+    /// docs/least-solution.md).
     ///
     /// ```text
     /// machine.finish_alone();
@@ -587,14 +576,12 @@ impl<B: Body, H: Keeper> Machine<B, H> {
         least_solution_of::<B::Kinds>();
     }
 
-    // Returns the process that was to be asked again when bodies were last asked in place, if it is ready.
     fn asked_last(&self) -> Option<usize>
         ensures { IfSome result (λ p. standing self.now.standings p ≡ Ready) }
     {
         self.core.standings.if_ready(self.again?)
     }
 
-    // Whether more answers are to be taken: fewer than `most` were, and the run has not ended.
     #[inline(always)]
     fn is_to_go_on(&self, taken: u64, most: u64) -> bool
         ensures { IsTrue result ↔ (taken < most) × (self.now.end ≡ None) }
@@ -602,10 +589,10 @@ impl<B: Body, H: Keeper> Machine<B, H> {
         taken < most && self.end.is_none()
     }
 
-    /// Asks ready processes where their bodies lie, one after the other, and takes their answers as
-    /// `commit` does, until `most` answers were taken, no process is ready or the run has ended. Returns
-    /// how many answers were taken. Processes that are out stay out. No contract says which ready process
-    /// is asked. Takes no memory except that of growths.
+    /// Asks ready processes where their bodies are, one after the other, and takes their answers like
+    /// `commit`, until `most` answers were taken, no process is ready or the run has ended. Returns how many
+    /// were taken. Processes that are out stay out. No contract says which ready process is asked. Takes no
+    /// memory except that of growths.
     pub fn ask_in_place(&mut self, most: u64) -> u64
         ensures rounds { (outcomes : List OutcomeV) × (length outcomes ≡ result) × GoesRounds (family B.Kinds.Kinds) self.old outcomes self.new }
         ensures goes { ContinuesRun (family B.Kinds.Kinds) self.old self.new }

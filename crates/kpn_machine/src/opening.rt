@@ -1,4 +1,4 @@
-//! What a machine begins with.
+//! The parts with which a machine starts.
 ghost use Rattle.std.specs.Prelude.{◌≡◌, ℕ, ◌<◌, ◌+◌, length, [], All, Some, None, IsSome, IfOk, OnOk, IfSome, IfNone, map, option_map, replicate, false};
 ghost use Rattle.std.specs.Vec.{vec_capacity};
 ghost use Rattle.kpn_model.specs.Network.{card_of};
@@ -19,8 +19,8 @@ use kpn_network::Net;
 use kpn_state::{Keeper, Ring, Roster, Store, Waiting};
 use std::alloc::{AllocError, Global};
 
-/// Why a machine was not opened. `Bodies`: there are not as many bodies as processes. `Card`: a body
-/// does not have the card of its process. `Memory`: memory was refused.
+/// Why a machine was not opened. `Bodies`: there are not as many bodies as processes. `Card`: a body's card is
+/// not that of its process. `Memory`: out of memory.
 #[derive(Clone, Copy, Debug, PartialEq, Eq)]
 pub enum OpenFault {
     Bodies,
@@ -29,7 +29,7 @@ pub enum OpenFault {
 }
 
 impl OpenFault {
-    /// Returns the number of a fault: 1 to 3, in the order above.
+    /// Returns the number of a fault, 1 to 3, in the order above.
     pub fn number(&self) -> u8
         ensures { result ≡ number_of_open_fault self.now }
     {
@@ -41,10 +41,7 @@ impl OpenFault {
     }
 }
 
-/// Returns the cards of a network's processes, in order; a machine is opened with bodies of these
-/// cards. Each has a signature.
-///
-/// Errors: memory was refused.
+/// Returns the cards that a network's bodies must have, in order. Each has a signature. Errors: out of memory.
 pub fn cards_of<K: Kinds>(alloc: Global, net: &Net<K>) -> Result<Vec<Card>, AllocError>
     ensures cards { IfOk result (λ v. v.items ≡ cards_of net.now.processes) }
     ensures signed { IfOk result (λ v. All (λ card. IsSome (K.signature card)) v.items) }
@@ -56,7 +53,7 @@ pub fn cards_of<K: Kinds>(alloc: Global, net: &Net<K>) -> Result<Vec<Card>, Allo
     Ok(cards)
 }
 
-/// What is wrong with the bodies; `None` if nothing is.
+/// Returns what is wrong with the bodies, `Bodies` or `Card`; `None` if nothing is.
 pub fn misfit<B: Body>(net: &Net<B::Kinds>, bodies: &[B]) -> Option<OpenFault>
     ensures some { IfSome result (IsOpenFault net.now.processes (map B.card bodies.now)) }
     ensures none { IfNone result (map B.card bodies.now ≡ cards_of net.now.processes) }
@@ -72,7 +69,7 @@ pub fn misfit<B: Body>(net: &Net<B::Kinds>, bodies: &[B]) -> Option<OpenFault>
     None
 }
 
-/// Each process live, with its card's start.
+/// Returns each process's status, live with its card's start. Errors: out of memory.
 pub fn start_statuses<K: Kinds>(alloc: Global, net: &Net<K>) -> Result<Vec<Status>, AllocError>
     ensures items { IfOk result (λ v. v.items ≡ map (starting (family K.Kinds)) net.now.processes) }
     ensures admitted { OnOk result ((p : ℕ) → p < length net.now.processes → K.admits (card_of net.now p) (K.start (card_of net.now p)) None) }
@@ -89,7 +86,7 @@ pub fn start_statuses<K: Kinds>(alloc: Global, net: &Net<K>) -> Result<Vec<Statu
     Ok(statuses)
 }
 
-/// Each channel with its start tokens, and room for its capacity.
+/// Returns each channel with its start tokens and its capacity. Errors: out of memory.
 pub fn start_rings<K: Kinds>(alloc: Global, net: &Net<K>) -> Result<Vec<Ring>, AllocError>
     ensures { IfOk result (λ v. v.items ≡ map filled net.now.channels) }
 {
@@ -101,7 +98,6 @@ pub fn start_rings<K: Kinds>(alloc: Global, net: &Net<K>) -> Result<Vec<Ring>, A
     Ok(rings)
 }
 
-/// The start of a network, with room for `limit` entries.
 fn start_store<K: Kinds, H: Keeper>(
     alloc: Global,
     net: &Net<K>,
@@ -116,7 +112,6 @@ fn start_store<K: Kinds, H: Keeper>(
     Store::new(alloc, statuses, rings, limit)
 }
 
-/// An empty slot for each body.
 fn empty_slots<B: Body>(alloc: Global, count: usize) -> Result<Vec<Option<B>>, AllocError>
     ensures { IfOk result (λ v. length v.items ≡ count) }
 {
@@ -127,17 +122,14 @@ fn empty_slots<B: Body>(alloc: Global, count: usize) -> Result<Vec<Option<B>>, A
     Ok(slots)
 }
 
-/// What a machine or a flow begins with, except its network and its bodies: the state, the standings of the
-/// processes, nobody who waits, and an empty slot for each body.
+/// The start of a machine or a flow: the core, and an empty slot for each body.
 #[derive(Drop)]
 pub struct Start<B: Body, H: Keeper> {
     pub core: Core<H>,
     pub slots: Vec<Option<B>>,
 }
 
-/// Makes what a machine or a flow of this network begins with, with room for `limit` entries.
-///
-/// Errors: memory was refused.
+/// Makes the start for this network, with room for `limit` entries. Errors: out of memory.
 pub fn prepare<B: Body, H: Keeper>(
     alloc: Global,
     net: &Net<B::Kinds>,

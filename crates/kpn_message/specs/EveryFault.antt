@@ -1,4 +1,4 @@
--- What is told of a sketch: each fault that stands by itself, at each place that has it.
+-- The messages of a sketch: each fault that no other may have caused, at each place that has it.
 use Rattle.std.specs.Prelude.{◌≡◌, ◌≢◌, ◌≤◌, ◌-◌, ℕ, zero, suc, Bool, true, not, ◌&&◌, ◌||◌, List, [], ◌∷◌, ◌++◌, length, map, take, string_bytes, Option, if◌then◌else◌}
 use Rattle.std.specs.Io.Iter.{u64_saturate}
 use Rattle.std.specs.List.{All, flat_map}
@@ -15,41 +15,36 @@ use Rattle.kpn_message.specs.declared.every_fault.Messages.{Messages}
 use Rattle.kpn_message.specs.declared.every_fault.TheConstants.{MOST_MESSAGES}
 use Rattle.kpn_message.specs.Location.{is_of_description, process_has_fault, channel_has_fault}
 
--- the faults that a sketch may have, in the order of their numbers
 abbrev pub every_fault : List NetFault
 every_fault = Version ∷ Counts ∷ Name ∷ Kind ∷ Args ∷ NoEnd ∷ Twice ∷ Unused ∷ Sorts ∷ Capacity ∷ Budget ∷ Tokens ∷ Step ∷ []
 
--- what f gives for each number below n, in order
+-- f's lists for the numbers below n, joined
 abbrev pub for_each_below : {A : Type 0} → (ℕ → List A) → ℕ → List A
 for_each_below f zero = []
 for_each_below f (suc n) = for_each_below f n ++ f n
 
--- of which fault a message is, and of which place
 abbrev pub subject : Message → NetFault × Location
 subject message = (message.fault, message.place)
 
--- there are at most 20 messages, and none is empty; if none lacks, their subjects are the first 20 of those that are due, and the
--- others are counted
+-- at most 20 messages, none empty; if memory sufficed, of the first 20 that are due, the others counted
 pub record Tells (due : List (NetFault × Location)) (messages : Messages) : Type 0 where
   pub few : length messages.told.items ≤ MOST_MESSAGES
   pub said : All (λ message. string_bytes message.text ≢ []) messages.told.items
   pub all : messages.are_all ≡ true → map subject messages.told.items ≡ take MOST_MESSAGES due
   pub counted : messages.are_all ≡ true → messages.more ≡ u64_saturate (length due - MOST_MESSAGES)
 
--- to what was due before this is due too
+-- adds `more` to those due before
 abbrev pub Adds : List (NetFault × Location) → Messages → Messages → Type 0
 Adds more first last = (before : List (NetFault × Location)) → Tells before first → Tells (before ++ more) last
 
 module _ (named : List ℕ → Option (ℕ × ℕ)) (signature : Card → Option Signature) (sketch : Sketch) where
-  -- a name, a kind or an argument is wrong
   abbrev pub has_wrong_process : Bool
   has_wrong_process = has_fault named signature sketch Name || (has_fault named signature sketch Kind || has_fault named signature sketch Args)
 
-  -- a channel lacks an end, or shares one
   abbrev pub has_wrong_end : Bool
   has_wrong_end = has_fault named signature sketch NoEnd || has_fault named signature sketch Twice
 
-  -- the fault is none that may only follow from another one of the sketch
+  -- no other fault of the sketch may have caused this one
   abbrev pub stands_alone : NetFault → Bool
   stands_alone NoEnd = not has_wrong_process
   stands_alone Twice = not has_wrong_process
@@ -60,30 +55,26 @@ module _ (named : List ℕ → Option (ℕ × ℕ)) (signature : Card → Option
   stands_alone Tokens = not (has_fault named signature sketch Version) && not (has_fault named signature sketch Sorts)
   stands_alone _ = true
 
-  -- the fault is told of process k; of one whose kind is unknown nothing is said of its arguments
+  -- wrong arguments don't count if the kind is unknown
   abbrev pub is_of_process : NetFault → ℕ → Bool
   is_of_process Args k = process_has_fault named signature sketch Args k && not (process_has_fault named signature sketch Kind k)
   is_of_process fault k = process_has_fault named signature sketch fault k
 
-  -- the fault is told of the place
   abbrev pub is_of : NetFault → Location → Bool
   is_of fault Description = is_of_description fault
   is_of fault (Process k) = is_of_process fault k
   is_of fault (Channel k) = channel_has_fault named signature sketch fault k
 
-  -- the fault and the place, if it is told of that
   abbrev pub told_of : NetFault → Location → List (NetFault × Location)
   told_of fault place = if is_of fault place then (fault, place) ∷ [] else []
 
-  -- the fault at the description, or at each process and each channel of which it is told
   abbrev pub places_of : NetFault → List (NetFault × Location)
   places_of fault =
       told_of fault Description ++ (for_each_below (λ p. told_of fault (Process p)) (length sketch.processes) ++ for_each_below (λ c. told_of fault (Channel c)) (length sketch.channels))
 
-  -- the same, if the sketch has the fault and it stands by itself
+  -- if the sketch has the fault and no other may have caused it
   abbrev pub due_of : NetFault → List (NetFault × Location)
   due_of fault = if has_fault named signature sketch fault && stands_alone fault then places_of fault else []
 
-  -- what is due of a sketch
   abbrev pub due : List (NetFault × Location)
   due = flat_map due_of every_fault

@@ -1,44 +1,38 @@
--- Where the tables of an array stand in a text: at their headers, each of which begins its line.
+-- The lines of an array's tables in a text: those of their headers, which begin their lines.
 use Rattle.std.specs.Prelude.{◌≡◌, ◌==◌, ◌<◌, ◌+◌, ℕ, zero, suc, Bool, true, not, ◌||◌, ◌&&◌, nat_eq, List, [], ◌∷◌, length, drop, slice_index, if◌then◌else◌}
 use Rattle.std.specs.List.{starts_with}
 
--- how many of the numbers below n pass the test
 abbrev pub count_below : (ℕ → Bool) → ℕ → ℕ
 count_below test zero = 0
 count_below test (suc n) = count_below test n + (if test n then 1 else 0)
 
--- a space or a tab
 abbrev pub is_blank : ℕ → Bool
 is_blank byte = byte == 32 || byte == 9
 
--- between the beginning of its line and place i there are blanks alone
+-- only blanks precede place i in its line
 abbrev pub begins_line : List ℕ → ℕ → Bool
 begins_line text zero = true
 begins_line text (suc i) = slice_index text i == 10 || (is_blank (slice_index text i) && begins_line text i)
 
--- the line of place i, counted from 1: one more than there are line feeds before it
+-- counted from 1
 abbrev pub line_of : List ℕ → ℕ → ℕ
 line_of text i = 1 + count_below (λ j. slice_index text j == 10) i
 
--- the word stands at place i
 abbrev pub stands_at : List ℕ → List ℕ → ℕ → Bool
 stands_at text word i = starts_with nat_eq (drop i text) word
 
--- the header stands at place i, and begins its line
 abbrev pub is_header : List ℕ → List ℕ → ℕ → Bool
 is_header text header i = begins_line text i && stands_at text header i
 
--- the word stands somewhere
 abbrev pub has_word : List ℕ → List ℕ → Bool
 has_word text word = not (count_below (stands_at text word) (length text) == 0)
 
--- the text has as many headers as there are tables, and no string of several lines, in which one might stand: three quotation marks
--- or three apostrophes
+-- the text has as many headers as tables, and no string of several lines, which might contain a header
 abbrev pub tells_lines : List ℕ → List ℕ → ℕ → Bool
 tells_lines text header tables =
     not (has_word text (34 ∷ 34 ∷ 34 ∷ [])) && (not (has_word text (39 ∷ 39 ∷ 39 ∷ [])) && count_below (is_header text header) (length text) == tables)
 
--- line l has the header of table k: k headers stand before it
+-- line l has the header of table k: k headers precede it
 pub record IsLineOf (text header : List ℕ) (k l : ℕ) : Type 0 where
   pub place : ℕ
   pub within : place < length text

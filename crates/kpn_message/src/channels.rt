@@ -1,4 +1,4 @@
-//! What is wrong with a channel.
+//! Messages about channels.
 use crate::processes::NAME_FORM;
 use crate::quoted::Quoted;
 use kpn_net::faults::{
@@ -9,7 +9,7 @@ use kpn_net::{ChannelSketch, Kinds, NetFault, Sketch, Sort, TokenSketch};
 use std::alloc::AllocError;
 use std::fmt::Write;
 
-/// What is wrong with a channel that has the fault, and that comes after these.
+/// Appends what is wrong with a channel that has the fault and follows the `earlier` ones.
 pub(crate) fn push_channel<K: Kinds>(
     out: &mut String,
     sketch: &Sketch,
@@ -39,7 +39,6 @@ pub(crate) fn push_channel<K: Kinds>(
     }
 }
 
-/// Which end of a channel is at no port.
 fn push_no_end<K: Kinds>(
     out: &mut String,
     sketch: &Sketch,
@@ -62,7 +61,7 @@ fn push_no_end<K: Kinds>(
     }
 }
 
-/// The earlier channel that ends at the same port.
+/// Appends the earlier channel at the same port.
 fn push_shared(
     out: &mut String,
     earlier: &[ChannelSketch],
@@ -87,19 +86,16 @@ fn push_shared(
     Ok(())
 }
 
-/// The name of the channel that begins at the same port.
 fn same_out<'a>(earlier: &'a [ChannelSketch], channel: &ChannelSketch) -> Option<&'a str> {
     let other = earlier.iter().find(|c| SameOut::clash(c, channel))?;
     Some(other.name.as_str())
 }
 
-/// The name of the channel that ends at the same port.
 fn same_in<'a>(earlier: &'a [ChannelSketch], channel: &ChannelSketch) -> Option<&'a str> {
     let other = earlier.iter().find(|c| SameIn::clash(c, channel))?;
     Some(other.name.as_str())
 }
 
-/// Which end of a channel is of the other sort.
 fn push_sorts<K: Kinds>(
     out: &mut String,
     sketch: &Sketch,
@@ -121,7 +117,6 @@ fn push_sorts<K: Kinds>(
     )
 }
 
-/// What is wrong with the tokens that a channel holds at first.
 fn push_tokens(out: &mut String, channel: &ChannelSketch) -> Result<(), AllocError> {
     let tokens = channel.tokens.as_slice();
     match tokens.iter().position(|t| !is_token(channel.sort, *t)) {
@@ -137,7 +132,7 @@ fn push_tokens(out: &mut String, channel: &ChannelSketch) -> Result<(), AllocErr
     }
 }
 
-/// What is wrong with the token of this number, which is none of the sort.
+/// Appends what is wrong with token `k`, which has the wrong sort.
 fn push_token(
     out: &mut String,
     sort: Sort,

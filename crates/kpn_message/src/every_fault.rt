@@ -10,10 +10,10 @@ use kpn_net::faults::has_fault;
 use kpn_net::{Kinds, NetFault, Sketch};
 use std::alloc::Global;
 
-/// How many messages are told at most.
+/// The most messages that are returned.
 pub const MOST_MESSAGES: usize = 20;
 
-/// The faults that a sketch may have, in the order of their numbers.
+/// The possible faults of a sketch, in the order of their numbers.
 const FAULTS: [NetFault; 13] = [
     NetFault::Version,
     NetFault::Counts,
@@ -30,7 +30,7 @@ const FAULTS: [NetFault; 13] = [
     NetFault::Step,
 ];
 
-/// A fault of a sketch at a place that has it, in words.
+/// A fault of a sketch, a place that has it, and a message.
 #[derive(Drop)]
 pub struct Message {
     pub fault: NetFault,
@@ -38,8 +38,8 @@ pub struct Message {
     pub text: String,
 }
 
-/// What is wrong with a sketch; how many faults more it has than are told (`u64::MAX` if they are as many or
-/// more); and whether memory sufficed: where it is refused, messages may lack, and so may the count.
+/// What is wrong with a sketch; how many more faults there are (at most `u64::MAX`); and whether there was
+/// memory for all: else messages may be missing, and the count too low.
 #[derive(Drop)]
 pub struct Messages {
     pub told: Vec<Message>,
@@ -47,13 +47,15 @@ pub struct Messages {
     pub are_all: bool,
 }
 
-/// Returns what is wrong with a sketch: for each fault that stands by itself, in the order of their numbers,
-/// each process and each channel that has it, on a line of its own that no line feed ends; at most
-/// `MOST_MESSAGES` of them, and how many more there are. So the first is of the fault that the sketch is refused for. What may only follow
-/// from another fault is not told: an end that is missing, or an unused port, where a name, a kind or an
-/// argument is wrong; or a capacity where the version is. `kinds` names the kinds that there are.
+/// Returns what is wrong with a sketch: for each fault, in the order of their numbers, a line without a line
+/// feed for the description, or for each process and channel that has it; at most `MOST_MESSAGES`, and the
+/// number of the others. The first is of the sketch's first fault. `kinds` names the existing kinds.
 ///
-/// Where memory is refused some messages may lack, and `are_all` is false.
+/// Faults that another may have caused are left out: missing ends, shared and unused ports and sorts if a
+/// name, kind or argument is wrong; unused ports and sorts also if an end is missing or shared; capacities,
+/// budget and tokens if the version is wrong; tokens also if a sort is.
+///
+/// If out of memory, messages may be missing, and `are_all` is false.
 ///
 /// ```text
 /// for message in &messages_of_sketch::<AllKinds>(rt.alloc(), &sketch, KINDS).told {
@@ -74,7 +76,7 @@ pub fn messages_of_sketch<K: Kinds>(alloc: Global, sketch: &Sketch, kinds: &str)
     messages
 }
 
-/// The messages of a fault, if the sketch has it and it stands by itself.
+/// Adds the messages of a fault, if the sketch has it and no other may have caused it.
 fn push_due<K: Kinds>(
     alloc: Global,
     messages: &mut Messages,
@@ -92,14 +94,13 @@ fn push_due<K: Kinds>(
     push_channels::<K>(alloc, messages, sketch, fault, kinds);
 }
 
-/// Whether a sketch has a fault, which stands by itself.
 fn is_due<K: Kinds>(sketch: &Sketch, fault: NetFault) -> bool
     ensures { result ≡ has_fault K.named K.signature sketch.now fault && stands_alone K.named K.signature sketch.now fault }
 {
     has_fault::<K>(sketch, fault) && stands_alone::<K>(sketch, fault)
 }
 
-/// Whether a fault is none that may follow from another one of the sketch.
+/// Whether no other fault of the sketch may have caused this one.
 fn stands_alone<K: Kinds>(sketch: &Sketch, fault: NetFault) -> bool
     ensures { result ≡ stands_alone K.named K.signature sketch.now fault }
 {
@@ -116,7 +117,6 @@ fn stands_alone<K: Kinds>(sketch: &Sketch, fault: NetFault) -> bool
     }
 }
 
-/// Whether a name, a kind or an argument is wrong.
 fn has_wrong_process<K: Kinds>(sketch: &Sketch) -> bool
     ensures { result ≡ has_wrong_process K.named K.signature sketch.now }
 {
@@ -125,14 +125,12 @@ fn has_wrong_process<K: Kinds>(sketch: &Sketch) -> bool
         || has_fault::<K>(sketch, NetFault::Args)
 }
 
-/// Whether a channel lacks an end, or shares one.
 fn has_wrong_end<K: Kinds>(sketch: &Sketch) -> bool
     ensures { result ≡ has_wrong_end K.named K.signature sketch.now }
 {
     has_fault::<K>(sketch, NetFault::NoEnd) || has_fault::<K>(sketch, NetFault::Twice)
 }
 
-/// The messages of the processes that have a fault.
 fn push_processes<K: Kinds>(
     alloc: Global,
     messages: &mut Messages,
@@ -147,7 +145,6 @@ fn push_processes<K: Kinds>(
     }
 }
 
-/// The messages of the channels that have a fault.
 fn push_channels<K: Kinds>(
     alloc: Global,
     messages: &mut Messages,
@@ -162,7 +159,7 @@ fn push_channels<K: Kinds>(
     }
 }
 
-/// The message of a fault at a place, if it is told of that and there is room for one more.
+/// Adds the message of a fault at a place, if the place has it.
 fn push_place<K: Kinds>(
     alloc: Global,
     messages: &mut Messages,
@@ -179,7 +176,7 @@ fn push_place<K: Kinds>(
     push_message::<K>(alloc, messages, sketch, fault, place, kinds);
 }
 
-/// The message of a fault at a place, if there is room for one more; else it is counted.
+/// Adds the message of a fault at a place if there is room; else counts it.
 fn push_message<K: Kinds>(
     alloc: Global,
     messages: &mut Messages,
@@ -201,7 +198,6 @@ fn push_message<K: Kinds>(
     add(messages, Message { fault, place, text });
 }
 
-/// Whether there is no room for one more message.
 fn is_full(messages: &Messages) -> bool
     ensures full { result ≡ true → MOST_MESSAGES ≤ length messages.now.told.items }
     ensures room { result ≡ false → length messages.now.told.items < MOST_MESSAGES }
@@ -209,7 +205,7 @@ fn is_full(messages: &Messages) -> bool
     messages.told.len() >= MOST_MESSAGES
 }
 
-/// Adds a message, for which there is room; where memory is refused it lacks.
+/// Adds a message, for which there must be room. It is dropped if out of memory.
 fn add(messages: &mut Messages, message: Message)
     requires room { length messages.old.told.items < MOST_MESSAGES }
     requires said { string_bytes message.text ≢ [] }
@@ -219,7 +215,7 @@ fn add(messages: &mut Messages, message: Message)
     messages.are_all = is_added & messages.are_all;
 }
 
-/// Whether a fault is told of a place that has it.
+/// Whether a place has a fault and gets a message.
 fn is_of<K: Kinds>(sketch: &Sketch, fault: NetFault, place: Location) -> bool
     ensures { result ≡ is_of K.named K.signature sketch.now fault place }
 {
@@ -230,7 +226,6 @@ fn is_of<K: Kinds>(sketch: &Sketch, fault: NetFault, place: Location) -> bool
     }
 }
 
-/// Whether a fault is one of the description as a whole.
 fn is_of_description(fault: NetFault) -> bool
     ensures { result ≡ is_of_description fault }
 {
@@ -240,7 +235,7 @@ fn is_of_description(fault: NetFault) -> bool
     )
 }
 
-/// Whether a fault is told of process `p`. Of one whose kind is unknown nothing is said of its arguments.
+/// Whether process `p` has the fault; wrong arguments don't count if its kind is unknown.
 fn is_of_process<K: Kinds>(sketch: &Sketch, fault: NetFault, p: usize) -> bool
     ensures { result ≡ is_of_process K.named K.signature sketch.now fault p }
 {

@@ -1,4 +1,4 @@
-//! What is wrong with the keys of a description, and with the forms of their values.
+//! Messages about keys of a description and the types of their values.
 use crate::lines::line_of_table;
 use crate::quoted::Quoted;
 use Presence::{Optional, Required};
@@ -7,7 +7,7 @@ use std::alloc::{AllocError, Global};
 use std::fmt::Write;
 use toml::{Table, Value};
 
-/// The form that the value of a key has to have.
+/// The type that a key's value must have.
 #[derive(Clone, Copy)]
 enum Form {
     Integer,
@@ -42,18 +42,16 @@ impl Form {
     }
 }
 
-/// Whether a key has to be there.
 #[derive(Clone, Copy)]
 enum Presence {
     Required,
     Optional,
 }
 
-/// A key, the form of its value, and whether it has to be there.
 #[derive(Clone, Copy)]
 struct Key(&'static str, Form, Presence);
 
-/// The keys at the top: the first is the version, and the last is of version 2.
+/// The keys at the top level: the first is the version, the last only in version 2.
 static TOP: [Key; 5] = [
     Key("version", Form::Integer, Required),
     Key("budget", Form::Integer, Optional),
@@ -68,7 +66,7 @@ static PROCESS: [Key; 3] = [
     Key("args", Form::Integers, Optional),
 ];
 
-/// The keys of a channel: the last is of version 2.
+/// The keys of a channel: the last only in version 2.
 static CHANNEL: [Key; 8] = [
     Key("name", Form::Text, Required),
     Key("from", Form::Text, Required),
@@ -80,12 +78,11 @@ static CHANNEL: [Key; 8] = [
     Key("tokens", Form::Tokens, Optional),
 ];
 
-/// An array of tables: its key, the header of each of its tables, and the keys that each has.
+/// An array of tables: its key, the header of each table, and the keys of each.
 #[derive(Clone, Copy)]
 struct Tables<'a>(&'static str, &'static str, &'a [Key]);
 
-/// What is first wrong with the keys of a document, which was read of this text; nothing where they are as
-/// they should be.
+/// Appends the first thing that is wrong with the keys of `table`, read from `text`, if anything is.
 pub(crate) fn push_misfit(
     alloc: Global,
     out: &mut String,
@@ -113,7 +110,7 @@ pub(crate) fn push_misfit(
     Ok(())
 }
 
-/// What is first wrong with the tables of an array, and whether anything is.
+/// Appends the first thing that is wrong with an array's tables. Returns whether anything is.
 fn push_items(
     alloc: Global,
     out: &mut String,
@@ -139,7 +136,7 @@ fn push_items(
     Ok(false)
 }
 
-/// What is wrong with an item of an array of tables, and whether anything is.
+/// Appends what is wrong with an item of an array. Returns whether anything is.
 fn push_item(out: &mut String, item: &Value, keys: &[Key]) -> Result<bool, AllocError> {
     match item.as_table() {
         Some(table) => push_keys(out, table, keys),
@@ -150,8 +147,8 @@ fn push_item(out: &mut String, item: &Value, keys: &[Key]) -> Result<bool, Alloc
     }
 }
 
-/// What is first wrong with a table that has to have these keys, and whether anything is: a key that
-/// is unknown, and then what is wrong with one of these.
+/// Appends the first thing that is wrong with a table of these keys, unknown ones first. Returns whether
+/// anything is.
 fn push_keys(out: &mut String, table: &Table, keys: &[Key]) -> Result<bool, AllocError> {
     if let Some(unknown) = table.keys().find(|key| !is_among(keys, key.as_str())) {
         write!(
@@ -170,7 +167,7 @@ fn push_keys(out: &mut String, table: &Table, keys: &[Key]) -> Result<bool, Allo
     Ok(false)
 }
 
-/// What is wrong with a key of a table, and whether anything is.
+/// Appends what is wrong with a key of a table. Returns whether anything is.
 fn push_key(out: &mut String, table: &Table, key: Key) -> Result<bool, AllocError> {
     let Key(name, form, presence) = key;
     match table.get(name) {
@@ -186,7 +183,6 @@ fn push_key(out: &mut String, table: &Table, key: Key) -> Result<bool, AllocErro
     }
 }
 
-/// The names of keys, with commas between them.
 fn push_names(out: &mut String, keys: &[Key]) -> Result<(), AllocError> {
     let mut comma = "";
     for key in keys {

@@ -1,5 +1,4 @@
-//! Messages for people: what is wrong with a refused description, and where. Which fault it is,
-//! `kpn_net` says.
+//! Messages for people: what is wrong with a description, and where. `kpn_net` finds the fault.
 //!
 //! ```text
 //! if let Some(message) = message_of::<Mixed>(rt.alloc(), text, refused.fault, KINDS) {

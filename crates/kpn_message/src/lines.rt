@@ -1,16 +1,16 @@
-//! Where the tables of an array stand in a text.
+//! Finds the tables of an array in a text.
 ghost use Rattle.std.specs.Prelude.{◌≡◌, ◌≤◌, ◌==◌, ◌||◌, ◌&&◌, true, length, slice_index, if◌then◌else◌, IfSome, IfNone, OnSome};
 ghost use Rattle.kpn_message.specs.Lines.{count_below, is_blank, stands_at, is_header, has_word, tells_lines, IsLineOf};
 
-/// Three quotation marks, or three apostrophes: a string of several lines may begin with them.
+/// A string of several lines may begin with three quotation marks or three apostrophes.
 const QUOTES: [u8; 3] = [b'"', b'"', b'"'];
 
 const APOSTROPHES: [u8; 3] = [b'\'', b'\'', b'\''];
 
-/// The line, counted from 1, of table `k` of an array of so many tables: that of its header, as
-/// `[[process]]`. There are as many headers as tables if each table begins with one, and then header `k`
-/// is that of table `k`, since no other line of a TOML text begins like this but in a string of several
-/// lines. `None` if the text has such a string, or another number of headers; and if there is no table `k`.
+/// Returns the line, counted from 1, of the header, such as `[[process]]`, of table `k` of an array of
+/// `tables` tables. With as many headers as tables, header `k` is that of table `k`: only in a string of
+/// several lines can another line of a TOML text begin like it. `None` if the text has such a string or
+/// another number of headers, or if there is no table `k`.
 ///
 /// ```text
 /// line_of_table(TEXT.as_bytes(), b"[[process]]", tables, k)
@@ -36,7 +36,6 @@ fn tells_lines(text: &[u8], header: &[u8], tables: usize) -> bool
         && count_headers(text, header) == tables
 }
 
-/// The line of header `k`.
 fn line_of_header(text: &[u8], header: &[u8], k: usize) -> Option<usize>
     ensures line { IfSome result (IsLineOf text.now header.now k) }
     ensures none { IfNone result (count_below (is_header text.now header.now) (length text.now) ≤ k) }
@@ -87,7 +86,6 @@ fn count_word(text: &[u8], word: &[u8]) -> usize
     count
 }
 
-/// Whether the header stands at place `i`, which begins a line or doesn't.
 fn is_header(text: &[u8], header: &[u8], i: usize, begins: bool) -> bool
     requires { i ≤ length text.now }
     ensures { result ≡ (begins && stands_at text.now header.now i) }
@@ -102,7 +100,7 @@ fn stands_at(text: &[u8], word: &[u8], i: usize) -> bool
     text[i..].starts_with(word)
 }
 
-/// Whether what follows this byte begins a line, but for blanks.
+/// Whether only blanks precede the byte after this one in its line.
 fn begins_after(byte: u8, begins: bool) -> bool
     ensures { result ≡ (byte == 10 || (is_blank byte && begins)) }
 {

@@ -1,4 +1,4 @@
-//! Where a fault of a sketch is.
+//! Locates a fault of a sketch.
 ghost use Rattle.std.specs.Prelude.{◌≡◌, ◌||◌, length, not, pos, IfSome, IfNone};
 ghost use Rattle.std.specs.List.{list_any};
 ghost use Rattle.kpn_message.specs.Location.{clashes_at, holds_at, IsFirst, HoldsNowhere, process_has_fault, channel_has_fault, IsLocation};
@@ -12,7 +12,7 @@ use kpn_net::faults::{
 };
 use kpn_net::{ChannelSketch, Kinds, NetFault, ProcessSketch, Sketch};
 
-/// A place in a sketch: all of it, or one of its processes or channels, by its number.
+/// A place in a sketch: all of it, or a process or channel by its number.
 #[derive(Clone, Copy, Debug, PartialEq, Eq)]
 pub enum Location {
     Description,
@@ -20,10 +20,9 @@ pub enum Location {
     Channel(usize),
 }
 
-/// Where a sketch has a fault: the first process that has it; where none has it, the first channel;
-/// and `Description` where no channel has it either. Of a name that stands twice the later is at
-/// fault, and so of a port. `Version`, `Counts`, `Budget` and `Step` are of no process and no
-/// channel, and any other fault that the sketch has is of one.
+/// Locates a fault: returns the first process that has it, else the first channel, else `Description`. Of two
+/// equal names, or two channels at one port, the later has the fault. `Version`, `Counts`, `Budget` and `Step`
+/// have no process or channel; any other fault of the sketch has one.
 #[tactic(auto, using(crate::proofs::Locations::nowhere_else))]
 pub fn locate<K: Kinds>(sketch: &Sketch, fault: NetFault) -> Location
     ensures { IsLocation K.named K.signature sketch.now fault result }
@@ -61,7 +60,6 @@ fn first_channel<K: Kinds>(sketch: &Sketch, fault: NetFault) -> Option<usize>
     None
 }
 
-/// Whether process `p` has the fault.
 pub(crate) fn process_has_fault<K: Kinds>(sketch: &Sketch, fault: NetFault, p: usize) -> bool
     ensures { result ≡ process_has_fault K.named K.signature sketch.now fault p }
 {
@@ -78,7 +76,6 @@ pub(crate) fn process_has_fault<K: Kinds>(sketch: &Sketch, fault: NetFault, p: u
     }
 }
 
-/// Whether process `p` has no name, or that of an earlier one.
 fn is_process_misnamed(processes: &[ProcessSketch], p: usize) -> bool
     ensures { result ≡ (holds_at (λ x. not (is_name x.name)) processes.now p || clashes_at same_process processes.now p) }
 {
@@ -90,7 +87,6 @@ fn is_process_misnamed(processes: &[ProcessSketch], p: usize) -> bool
     }
 }
 
-/// Whether channel `c` has the fault.
 pub(crate) fn channel_has_fault<K: Kinds>(sketch: &Sketch, fault: NetFault, c: usize) -> bool
     ensures { result ≡ channel_has_fault K.named K.signature sketch.now fault c }
 {
@@ -109,7 +105,6 @@ pub(crate) fn channel_has_fault<K: Kinds>(sketch: &Sketch, fault: NetFault, c: u
     }
 }
 
-/// Whether channel `c` has no name, or that of an earlier one.
 fn is_channel_misnamed(channels: &[ChannelSketch], c: usize) -> bool
     ensures { result ≡ (holds_at (λ x. not (is_name x.name)) channels.now c || clashes_at same_channel channels.now c) }
 {
@@ -129,14 +124,12 @@ fn shares_an_end(channels: &[ChannelSketch], c: usize) -> bool
         || clashes_at::<ChannelSketch, SameIn>(channels, c)
 }
 
-/// Whether the version of a sketch has no such capacity as a channel's.
 fn is_capacity_wrong(sketch: &Sketch, channel: &ChannelSketch) -> bool
     ensures { result ≡ is_outside (pos 1) (pos (ceiling_in sketch.now.version)) channel.now.capacity }
 {
     has_wrong_capacity(sketch.version, channel)
 }
 
-/// Whether item `k` clashes with an earlier one.
 fn clashes_at<T, C: Clash<T>>(items: &[T], k: usize) -> bool
     ensures { result ≡ clashes_at C.clash items.now k }
 {

@@ -1,4 +1,4 @@
-//! The message of a refused description.
+//! The message about a description's fault.
 ghost use Rattle.std.specs.Prelude.{◌≡◌, ◌≢◌, ◌⊎◌, [], true, option_map, slice_get, IfSome, string_bytes};
 
 use crate::channels::push_channel;
@@ -11,11 +11,10 @@ use kpn_net::{Kinds, NetFault, ProcessSketch, Sketch, read_sketch};
 use std::alloc::{AllocError, Global};
 use std::fmt::Write;
 
-/// What is wrong with the text of a description, and where, on one line that no line feed ends.
+/// Returns what is wrong with the text of a description, and where, on one line without a line feed.
 ///
-/// `fault` is the fault that the description was refused for, and `kinds` names the kinds that there
-/// are. There is no message where the fault says all (`Memory` and `Input`), or where memory is refused.
-/// Of a text that does not have the fault the message may say what isn't so, and there may be none.
+/// `fault` must be the text's fault, or the message may be wrong or missing. `kinds` names the existing kinds.
+/// There is no message for `Memory` and `Input`, which say all, nor if out of memory.
 ///
 /// ```text
 /// if let Some(message) = message_of::<Mixed>(rt.alloc(), text, refused.fault, KINDS) {
@@ -43,12 +42,10 @@ pub fn message_of<K: Kinds>(
     }
 }
 
-/// What is wrong with a sketch, and where, as `message_of` says it of a text that is read as this sketch.
+/// Returns what is wrong with a sketch, and where, on one line without a line feed, like `message_of`.
 ///
-/// `fault` is the fault that the sketch was refused for, and `kinds` names the kinds that there are. There
-/// is no message where the fault says all (`Memory` and `Input`), where it is that of a text that is read as
-/// no sketch (`NotToml` and `Keys`), or where memory is refused. Of a sketch that does not have the fault
-/// the message may say what isn't so, and there may be none.
+/// `fault` must be the sketch's fault, or the message may be wrong or missing. `kinds` names the existing
+/// kinds. There is no message for `Memory`, `Input`, `NotToml` and `Keys`, nor if out of memory.
 ///
 /// ```text
 /// message_of_sketch::<K>(alloc, sketch, fault, kinds)
@@ -68,14 +65,13 @@ pub fn message_of_sketch<K: Kinds>(
     }
 }
 
-/// Whether no text has the fault, so that its name says all.
+/// Whether the fault's name says all, as no text has it.
 fn says_all(fault: NetFault) -> bool
     ensures { (fault ≡ NetFault.Memory) ⊎ (fault ≡ NetFault.Input) → result ≡ true }
 {
     matches!(fault, NetFault::Memory | NetFault::Input)
 }
 
-/// What is wrong with a text that is read as no sketch, on one line.
 fn message_of_text(alloc: Global, text: &[u8]) -> Option<String>
     ensures said { IfSome result (λ message. string_bytes message ≢ []) }
 {
@@ -84,7 +80,7 @@ fn message_of_text(alloc: Global, text: &[u8]) -> Option<String>
     unless_empty(out)
 }
 
-/// What is wrong with a text that is not TOML, or else with its keys.
+/// Appends what is wrong with a text that is not TOML, or else with its keys.
 fn push_unread(alloc: Global, out: &mut String, text: &[u8]) -> Result<(), AllocError> {
     match toml::table_from_slice(alloc, text) {
         Ok(table) => push_misfit(alloc, out, text, &table),
@@ -92,14 +88,13 @@ fn push_unread(alloc: Global, out: &mut String, text: &[u8]) -> Result<(), Alloc
     }
 }
 
-/// A message that says something.
 fn unless_empty(out: String) -> Option<String>
     ensures { IfSome result (λ message. string_bytes message ≢ []) }
 {
     if out.is_empty() { None } else { Some(out) }
 }
 
-/// What the text has in place of TOML; nothing where memory was refused.
+/// Appends the syntax error and its place; nothing if out of memory.
 fn push_syntax(out: &mut String, text: &[u8], error: &toml::de::Error) -> Result<(), AllocError> {
     let Some(span) = error.span() else {
         return Ok(());
@@ -108,7 +103,7 @@ fn push_syntax(out: &mut String, text: &[u8], error: &toml::de::Error) -> Result
     write!(out, "line {line}, column {column}: {}", error.message())
 }
 
-/// The line and the column of what follows, both from 1. A column counts characters.
+/// Returns the line and the column, both from 1, of the byte after these. A column counts characters.
 fn line_and_column(before: &[u8]) -> (usize, usize) {
     let mut line = 1usize;
     let mut column = 1usize;
@@ -123,8 +118,7 @@ fn line_and_column(before: &[u8]) -> (usize, usize) {
     (line, column)
 }
 
-/// What is wrong at a place of a sketch that has the fault there, on one line that no line feed ends.
-/// There is no message where memory is refused.
+/// Returns what is wrong at a place that has the fault, on one line; `None` if out of memory.
 pub(crate) fn message_at<K: Kinds>(
     alloc: Global,
     sketch: &Sketch,
@@ -139,7 +133,6 @@ pub(crate) fn message_at<K: Kinds>(
     unless_empty(out)
 }
 
-/// What is wrong at a place of a sketch that has the fault there.
 fn push_place<K: Kinds>(
     out: &mut String,
     sketch: &Sketch,
@@ -163,14 +156,12 @@ fn push_place<K: Kinds>(
     }
 }
 
-/// The process of this number.
 fn process_at(sketch: &Sketch, p: usize) -> Option<&ProcessSketch>
     ensures { option_map (λ process. process.now) result ≡ slice_get sketch.now.processes p }
 {
     sketch.processes.as_slice().get(p)
 }
 
-/// What is wrong with a description as a whole.
 fn push_whole(out: &mut String, sketch: &Sketch, fault: NetFault) -> Result<(), AllocError> {
     match fault {
         NetFault::Version => write!(out, "version {}; it must be 1 or 2", sketch.version),

@@ -1,4 +1,4 @@
-//! What is wrong with a process.
+//! Messages about processes.
 use crate::quoted::Quoted;
 use kpn_net::faults::{is_name, is_unused_in, is_unused_out, signature_of};
 use kpn_net::{Kinds, NetFault, ProcessSketch, Sketch};
@@ -9,7 +9,7 @@ use std::fmt::Write;
 pub(crate) const NAME_FORM: &str =
     "a name has 1 to 16 of a to z, 0 to 9 and _, and begins with a letter";
 
-/// What is wrong with a process that has the fault.
+/// Appends what is wrong with a process that has the fault.
 pub(crate) fn push_process<K: Kinds>(
     out: &mut String,
     sketch: &Sketch,
@@ -33,7 +33,6 @@ pub(crate) fn push_process<K: Kinds>(
     }
 }
 
-/// What is wrong with the arguments of a process.
 fn push_args<K: Kinds>(out: &mut String, process: &ProcessSketch) -> Result<(), AllocError> {
     let kind = Quoted(process.kind.as_str());
     let args = process.args.as_slice();
@@ -60,7 +59,7 @@ fn push_args<K: Kinds>(out: &mut String, process: &ProcessSketch) -> Result<(), 
     }
 }
 
-/// Numbers in brackets, the first three of them.
+/// Appends the first three numbers, in brackets.
 fn push_numbers(out: &mut String, numbers: &[i64]) -> Result<(), AllocError> {
     let shown = numbers.get(..3).unwrap_or(numbers);
     let end = if numbers.len() > 3 { ", ..]" } else { "]" };
@@ -77,7 +76,7 @@ fn push_number(out: &mut String, comma: &str, number: i64) -> Result<(), AllocEr
     write!(out, "{comma}{number}")
 }
 
-/// The first port of a process that is the end of no channel.
+/// Appends the first port of a process without a channel.
 fn push_unused<K: Kinds>(
     out: &mut String,
     sketch: &Sketch,

@@ -1,11 +1,10 @@
-//! Texts of a description, as they are shown to people.
+//! Texts of a description, as shown to people.
 use std::fmt;
 
-/// How many characters of a text are shown.
+/// The most characters of a text that are shown.
 const LONGEST: usize = 40;
 
-/// A text in quotation marks, on one line: characters that would break it are escaped, and of a long
-/// text the beginning is shown.
+/// A text in quotation marks, on one line: characters that would break it are escaped, and a long text is cut.
 #[derive(Clone, Copy)]
 pub(crate) struct Quoted<'a>(pub(crate) &'a str);
 
@@ -19,7 +18,7 @@ impl fmt::Display for Quoted<'_> {
     }
 }
 
-/// What stands after the characters that are shown.
+/// Returns the text's end: the quotation mark, after dots if it is cut.
 fn end_of(text: &str) -> &'static str {
     match text.chars().nth(LONGEST) {
         Some(_) => "..\"",

@@ -1,4 +1,4 @@
--- Whatever the schedule, the outcome is the same.
+-- The outcome does not depend on the schedule.
 use Rattle.std.specs.Prelude.{◌≡◌, ◌⊎◌, ℕ, ◌≤◌, List, ◌++◌, length}
 use Rattle.kpn_model.specs.declared.history.Entry.{Entry}
 use Rattle.kpn_model.specs.declared.history.End.{End}
@@ -10,51 +10,48 @@ use Rattle.kpn_model.specs.History.{deeds, stream, place_of, digest}
 abbrev pub IsPrefixOf : {X : Type 0} → List X → List X → Type 0
 IsPrefixOf {X} xs ys = (rest : List X) × (xs ++ rest ≡ ys)
 
--- one of the two begins with the other
 abbrev pub ArePrefixComparable : {X : Type 0} → List X → List X → Type 0
 ArePrefixComparable xs ys = IsPrefixOf xs ys ⊎ IsPrefixOf ys xs
 
 module _ (kinds : Family) where
-  -- E leads from the start of the network to M
+  -- E leads from the network's start to M
   abbrev pub IsRun : Network → List Entry → State → Type 0
   IsRun net E M = Run kinds net (start kinds net) E M
 
-  -- E leads to M, which is over for this cause
+  -- and M is over for this cause
   pub record IsFinal (net : Network) (E : List Entry) (M : State) (cause : End) : Type 0 where
     pub run : IsRun net E M
     pub over : IsOver kinds net M cause
 
--- two runs that are over have one digest
 abbrev pub OneDigest : Family → Type 0
 OneDigest kinds =
     (net : Network) (E F : List Entry) (M N : State) (a b : End)
     → IsFinal kinds net E M a → IsFinal kinds net F N b → digest kinds net a E M ≡ digest kinds net b F N
 
--- no run is longer than one that is over
 abbrev pub NoneLonger : Family → Type 0
 NoneLonger kinds =
     (net : Network) (E F : List Entry) (M N : State) (a : End)
     → IsFinal kinds net E M a → IsRun kinds net F N → length F ≤ length E
 
--- what two runs that are over have in common, whatever the capacities
+-- what two runs that are over share, whatever their capacities
 pub record AgreeInTheEnd (kinds : Family) (net other : Network) (E F : List Entry) (M N : State) : Type 0 where
   pub deeds : (p : ℕ) → deeds E p ≡ deeds F p
   pub streams : (c : ℕ) → stream net E c ≡ stream other F c
   pub places : (p : ℕ) → place_of net p (wants kinds net M p) ≡ place_of other p (wants kinds other N p)
 
--- runs that terminate or end in a deadlock have one outcome, whatever the starting capacities
+-- runs to natural ends have one outcome, whatever the starting capacities
 abbrev pub OneOutcome : Family → Type 0
 OneOutcome kinds =
     (net : Network) (sizes : ℕ → ℕ) (E F : List Entry) (M N : State) (a b : End)
     → IsFinal kinds net E M a → IsNatural a → IsFinal kinds (resized net sizes) F N b → IsNatural b
     → AgreeInTheEnd kinds net (resized net sizes) E F M N
 
--- in two histories the deeds of each process are prefix-comparable, and so are the streams of each channel
+-- the deeds of each process are prefix-comparable, and so are the streams
 pub record AreAllPrefixComparable (net other : Network) (E F : List Entry) : Type 0 where
   pub deeds : (p : ℕ) → ArePrefixComparable (deeds E p) (deeds F p)
   pub streams : (c : ℕ) → ArePrefixComparable (stream net E c) (stream other F c)
 
--- any two runs are prefix-comparable in this way, whatever the starting capacities
+-- any two runs are, whatever the starting capacities
 abbrev pub AllPrefixComparable : Family → Type 0
 AllPrefixComparable kinds =
     (net : Network) (sizes : ℕ → ℕ) (E F : List Entry) (M N : State)

@@ -1,4 +1,4 @@
--- How runs end: when a growth is due, when a run is over, how an end may stand, and which ends have a report.
+-- How runs end.
 use Rattle.std.specs.Prelude.{◌≡◌, ◌≢◌, ℕ, ◌+◌, ◌<◌, ◌≤◌, Bool, true, false, List, Option, Some, None, length}
 use Rattle.kpn_model.specs.declared.history.Entry.{Entry}
 use Rattle.kpn_model.specs.declared.history.End.{End}
@@ -7,7 +7,6 @@ use Rattle.kpn_model.specs.declared.history.Status.TheVariants.{Done}
 use Rattle.kpn_model.specs.Network.{Family, Network}
 use Rattle.kpn_model.specs.Semantics.{State, status, capacity, IsQuiet, IsBlocked, IsArtificial, IsChosen, Grows}
 
--- a growth is due
 pub record CanGrow (kinds : Family) (net : Network) (M : State) : Type 0 where
   pub channel : ℕ
   pub to : ℕ
@@ -22,28 +21,28 @@ IsOver kinds net M Ceiling = IsArtificial kinds net M × ((c : ℕ) × IsChosen 
 IsOver kinds net M Budget = ⊥
 IsOver kinds net M Memory = ⊥
 
--- nothing goes on any more: the run is over for this cause; or it is `Memory`, and the growth that is due was refused
+-- the run is over, or out of memory for a growth that is due
 abbrev pub NothingGoesOn : Family → Network → State → End → Type 0
 NothingGoesOn kinds net M Memory = CanGrow kinds net M
 NothingGoesOn kinds net M end = IsOver kinds net M end
 
--- how the run E from the start to M may end: nothing goes on any more, or the budget is spent
+-- how the run E from the start to M may end
 abbrev pub MayEnd : Family → Network → List Entry → State → End → Type 0
 MayEnd kinds net E M Budget = (net.budget ≤ length E) × (length E ≤ net.budget + 2)
 MayEnd kinds net E M end = NothingGoesOn kinds net M end
 
--- how it may stand: without an end, while the budget is not spent, or with one
+-- the run may have this end, or, within its budget, none yet
 abbrev pub MayStand : Family → Network → List Entry → State → Option End → Type 0
 MayStand kinds net E M None = length E < net.budget
 MayStand kinds net E M (Some end) = MayEnd kinds net E M end
 
--- whether a run with this end is over, so that there is more to report than the end
+-- whether a run with this end is over, so that its report has more than the end
 abbrev pub has_report : End → Bool
 has_report Budget = false
 has_report Memory = false
 has_report _ = true
 
--- the end is natural, the same from all capacities: the run terminated or ended in a deadlock
+-- the end does not depend on the capacities
 abbrev pub IsNatural : End → Type 0
 IsNatural Terminated = Unit {0}
 IsNatural Deadlock = Unit {0}

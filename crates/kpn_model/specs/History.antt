@@ -15,35 +15,31 @@ use Rattle.kpn_model.specs.declared.history.Place.TheVariants.{Stopped, Reads, W
 use Rattle.kpn_model.specs.Network.{Family, Network, channel_of, in_of, out_of}
 use Rattle.kpn_model.specs.Semantics.{State, wants}
 
--- the deeds of p, in order
 abbrev pub deeds : List Entry → ℕ → List Deed
 deeds [] p = []
 deeds (Did q d ∷ es) p = if q == p then d ∷ deeds es p else deeds es p
 deeds (Grew c to ∷ es) p = deeds es p
 
--- the tokens put on c, in order
 abbrev pub put_on : List Entry → ℕ → List Token
 put_on [] c = []
 put_on (Did p (Put b t) ∷ es) c = if b == c then t ∷ put_on es c else put_on es c
 put_on (_ ∷ es) c = put_on es c
 
--- what went through c: its start tokens, and those put on it
+-- what went through c: its start tokens, then those put on it
 abbrev pub stream : Network → List Entry → ℕ → List Token
 stream net E c = (channel_of net c).tokens ++ put_on E c
 
--- the tokens taken from c, in order
 abbrev pub taken : List Entry → ℕ → List Token
 taken [] c = []
 taken (Did p (Took b t) ∷ es) c = if b == c then t ∷ taken es c else taken es c
 taken (_ ∷ es) c = taken es c
 
--- the growths, in order: a channel and its new capacity
 abbrev pub growths : List Entry → List (ℕ × ℕ)
 growths [] = []
 growths (Grew c to ∷ es) = (c, to) ∷ growths es
 growths (Did p d ∷ es) = growths es
 
--- the capacity of c after these growths: that of its last growth, or n if it did not grow
+-- the capacity of c after these growths, from n
 abbrev pub grown : ℕ → List (ℕ × ℕ) → ℕ → ℕ
 grown n [] c = n
 grown n (g ∷ gs) c = if g.0 == c then grown g.1 gs c else grown n gs c
@@ -58,7 +54,7 @@ pub record Digest : Type 0 where
   pub growths : List (ℕ × ℕ)
   pub entries : ℕ
 
--- the place of a process that wants this; `Stopped` also if no channel is at the port, which no valid network has
+-- `Stopped` also if no channel is at the port, which no valid network has
 abbrev pub reads : Option ℕ → Place
 reads None = Stopped
 reads (Some c) = Reads c
@@ -82,7 +78,7 @@ each_process net f = map f (range_with_len 0 (length net.processes))
 abbrev pub each_channel : {X : Type 0} → Network → (ℕ → X) → List X
 each_channel net f = map f (range_with_len 0 (length net.channels))
 
--- what is reported of a run E from the start to M, which is over for this cause
+-- the report of a run E from the start to M, which is over for this cause
 abbrev pub digest : Family → Network → End → List Entry → State → Digest
 digest kinds net cause E M =
     record {

@@ -14,40 +14,34 @@ use Rattle.kpn_model.specs.declared.history.Deed.{Deed}
 use Rattle.kpn_model.specs.declared.history.Deed.TheVariants.{Took, Put, Stopped}
 use Rattle.kpn_model.specs.Network.{Family}
 
--- the sort of a token
 abbrev pub sort_of : Token → Sort
 sort_of (Word n) = Words
 sort_of (Flag b) = Flags
 
--- a word has 64 bits
 abbrev pub Fits : Token → Type 0
 Fits (Word n) = n < 2 ^ 64
 Fits (Flag b) = Unit {0}
 
--- the numbers of a card fit: a kind of 16 bits, and three arguments of 64 bits
 pub record CardFits (card : Card) : Type 0 where
   pub kind : card.kind < 2 ^ 16
   pub three : length card.args ≡ 3
   pub args : All (λ n. n < 2 ^ 64) card.args
 
--- the token that a deed took; for any other deed an arbitrary token
+-- the token that a deed took; arbitrary for any other deed
 abbrev pub read_by : Deed → Token
 read_by (Took c t) = t
 read_by (Put c t) = Flag false
 read_by Stopped = Flag false
 
--- the ports are filled from the front: none follows an absent one
 abbrev pub is_filled : List (Option Sort) → Bool
 is_filled [] = true
 is_filled (Some sort ∷ ports) = is_filled ports
 is_filled (None ∷ ports) = list_all is_none ports
 
--- the sort of port k, or none if there is no such port
 abbrev pub port_at : List (Option Sort) → ℕ → Option Sort
 port_at ports k = option_and_then (λ sort. sort) (slice_get ports k)
 
 module _ (signature : Card → Option Signature) where
-  -- the sort of a card's input k and output k, or none if there is no such port
   abbrev pub in_sort : Card → ℕ → Option Sort
   in_sort card k = option_and_then (λ s. port_at s.ins k) (signature card)
 
@@ -66,11 +60,11 @@ module _ (signature : Card → Option Signature) where
     AfterAct card next (Read k) token = in_sort card k ≡ Some (sort_of token) → Fits token → admits card next (Some token)
     AfterAct card next (Write k t) token = admits card next None
 
-    -- what follows an answer is admitted; if the answer is a read, then after it read this token
+    -- what follows an answer is admitted; after a read, with this token
     abbrev pub LeadsOn : Card → Answer → Token → Type 0
     LeadsOn card answer token = AfterAct card answer.next answer.act token
 
-    -- the laws of a family, of the cards that have a signature
+    -- the laws of a family, for cards that have a signature
     pub record AreLawful (kinds : Family) : Type 0 where
       pub names_port : (card : Card) (local : List ℕ) (last : Option Token) → CardFits card → IsSome (signature card) → admits card local last → NamesPort card (kinds.answer card local last).act
       pub leads_on : (card : Card) (local : List ℕ) (last : Option Token) (token : Token) → CardFits card → IsSome (signature card) → admits card local last → LeadsOn card (kinds.answer card local last) token

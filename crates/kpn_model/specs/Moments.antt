@@ -14,15 +14,14 @@ use Rattle.kpn_model.specs.Determinacy.{IsRun, IsFinal}
 abbrev pub IsWithin : State → Type 0
 IsWithin M = (c : ℕ) → length (tokens M c) ≤ capacity M c
 
--- each prefix of the history leads from the start to a state of which this holds
+-- P holds of the state that each prefix of the history leads to
 abbrev pub AtEachMoment : Family → Network → List Entry → (State → Type 0) → Type 0
 AtEachMoment kinds net E P = (F G : List Entry) → F ++ G ≡ E → (N : State) × IsRun kinds net F N × P N
 
--- the entries lead to one state
 abbrev pub OneState : Family → Type 0
 OneState kinds = (net : Network) (S M N : State) (E : List Entry) → Run kinds net S E M → Run kinds net S E N → M ≡ N
 
--- a prefix of a history is a run too, to a state from which the rest goes on
+-- each prefix of a history is a run, to a state from which the rest is one
 abbrev pub PrefixesAreRuns : Family → Type 0
 PrefixesAreRuns kinds = (net : Network) (S N : State) (E F : List Entry) → Run kinds net S (E ++ F) N → (M : State) × Run kinds net S E M × Run kinds net M F N
 
@@ -35,7 +34,7 @@ HistoryTellsState kinds =
     (net : Network) (E : List Entry) (M : State) → IsRun kinds net E M
     → (c : ℕ) → (stream net E c ≡ taken E c ++ tokens M c) × (drop (length (taken E c)) (stream net E c) ≡ tokens M c) × (grown (channel_of net c).capacity (growths E) c ≡ capacity M c)
 
--- if some run that is over has fewer entries than the budget, no run ends because of its budget
+-- if some run that is over has fewer entries than the budget, no run spends the budget
 abbrev pub BudgetSuffices : Family → Type 0
 BudgetSuffices kinds =
     (net : Network) (E F : List Entry) (M N : State) (a b : End) → IsRun kinds net E M → MayEnd kinds net E M a
@@ -46,6 +45,5 @@ abbrev pub EnabledCanDo : Family → Type 0
 EnabledCanDo kinds =
     (net : Network) (M : State) (p : ℕ) → IsEnabled kinds net M p ↔ ((d : Deed) × ((N : State) × Does kinds net M p d N))
 
--- a run is over for at most one cause
 abbrev pub OneCause : Family → Type 0
 OneCause kinds = (net : Network) (M : State) (a b : End) → IsOver kinds net M a → IsOver kinds net M b → a ≡ b

@@ -1,4 +1,4 @@
--- The names of a network's processes and channels, and texts of several lines.
+-- The names of processes and channels, and texts of several lines.
 use Rattle.std.specs.Prelude.{ℕ, zero, suc, List, [], ◌++◌, slice_get}
 use Rattle.std.specs.Option.{option_map_or}
 use Rattle.kpn_model.specs.Network.{Network}

@@ -8,8 +8,7 @@ use Rattle.kpn_model.specs.declared.kinds.Answer.{Answer}
 use Rattle.kpn_model.specs.declared.parts.Process.{Process}
 use Rattle.kpn_model.specs.declared.parts.Channel.{Channel}
 
--- how the processes of a family of kinds begin, and what they answer by their card, their local
--- state and the token of the read just done
+-- how processes begin, and what they answer after a read of this token, if any
 pub record Family : Type 0 where
   pub start : Card → List ℕ
   pub answer : Card → List ℕ → Option Token → Answer
@@ -17,8 +16,7 @@ pub record Family : Type 0 where
 abbrev pub family_of : (Card → List ℕ) → (Card → List ℕ → Option Token → Answer) → Family
 family_of begin answers = record { start = begin; answer = answers }
 
--- a channel leads from a port of its one writer to a port of its one reader; a growth adds `step` to a capacity, up to the
--- ceiling
+-- a growth adds `step` to a capacity, up to the ceiling
 pub record Network : Type 0 where
   pub processes : List Process
   pub channels : List Channel
@@ -38,18 +36,16 @@ card_of net p = (get_or net.processes p no_process).card
 abbrev pub channel_of : Network → ℕ → Channel
 channel_of net c = get_or net.channels c no_channel
 
--- the channel at p's port k
 abbrev pub in_of : Network → ℕ → ℕ → Option ℕ
 in_of net p k = position (λ l. (l.reader == p) && (l.input == k)) net.channels
 
 abbrev pub out_of : Network → ℕ → ℕ → Option ℕ
 out_of net p k = position (λ l. (l.writer == p) && (l.out == k)) net.channels
 
--- the number of the channel with this name
 abbrev pub number_of_channel : Network → List ℕ → Option ℕ
 number_of_channel net name = position (λ l. bytes_eq l.name name) net.channels
 
--- the same network with other starting capacities, channel by channel
+-- the network with other starting capacities
 abbrev pub resize : List Channel → (ℕ → ℕ) → List Channel
 resize [] sizes = []
 resize (l ∷ ls) sizes = record l { capacity = sizes 0 } ∷ resize ls (λ c. sizes (c + 1))

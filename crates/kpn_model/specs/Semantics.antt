@@ -1,4 +1,4 @@
--- The sequential machine: any process that can go on may be next, and a channel grows only when none can.
+-- The sequential machine: any enabled process may be next, and a channel grows only if none is enabled.
 use Rattle.std.specs.Prelude.{min, ◌≡◌, ◌≢◌, ℕ, ◌+◌, ◌<◌, ◌≤◌, List, [], ◌∷◌, ◌++◌, Option, Some, None, length, get_or, set, drop, map}
 use Rattle.kpn_model.specs.declared.token.Token.{Token}
 use Rattle.kpn_model.specs.declared.kinds.Act.{Act}
@@ -12,7 +12,7 @@ use Rattle.kpn_model.specs.declared.history.Status.{Status}
 use Rattle.kpn_model.specs.declared.history.Status.TheVariants.{Live, Done}
 use Rattle.kpn_model.specs.Network.{Family, Network, card_of, in_of, out_of}
 
--- the tokens that a channel holds, in the order in which they are read, and how many it may hold
+-- the tokens in a channel, in reading order, and its capacity
 pub record Held : Type 0 where
   pub tokens : List Token
   pub capacity : ℕ
@@ -40,7 +40,6 @@ abbrev pub with_channel : State → ℕ → List Token → ℕ → State
 with_channel M c ts n = record M { channels = set M.channels c (record { tokens = ts; capacity = n }) }
 
 module _ (kinds : Family) (net : Network) where
-  -- every process is live with its card's start, every channel holds its start tokens
   abbrev pub start : State
   start =
       record {
@@ -52,11 +51,9 @@ module _ (kinds : Family) (net : Network) where
   answered p (Live local last) = Some (kinds.answer (card_of net p) local last)
   answered p Done = None
 
-  -- what p wants to do next, if it is live
   abbrev pub wants : State → ℕ → Option Answer
   wants M p = answered p (status M p)
 
-  -- the act can be done now
   abbrev pub IsPossible : State → ℕ → Act → Type 0
   IsPossible M p Stop = Unit {0}
   IsPossible M p (Read k) = (c : ℕ) × (in_of net p k ≡ Some c) × (tokens M c ≢ [])
@@ -67,20 +64,20 @@ module _ (kinds : Family) (net : Network) where
     pub wanted : wants M p ≡ Some answer
     pub possible : IsPossible M p answer.act
 
-  -- the deed is what the act comes to
+  -- the deed carries out the act
   abbrev pub IsDeed : State → ℕ → Act → Deed → Type 0
   IsDeed M p Stop Stopped = Unit {0}
   IsDeed M p (Read k) (Took c t) = (in_of net p k ≡ Some c) × ((rest : List Token) × (tokens M c ≡ t ∷ rest))
   IsDeed M p (Write k w) (Put c t) = (out_of net p k ≡ Some c) × (t ≡ w) × (length (tokens M c) < capacity M c)
   IsDeed M p a d = ⊥
 
-  -- the state after a deed of p, which goes on with this local state
+  -- the state after a deed of p, with p's next local state
   abbrev pub after_deed : State → ℕ → List ℕ → Deed → State
   after_deed M p next Stopped = with_status M p Done
   after_deed M p next (Took c t) = with_channel (with_status M p (Live next (Some t))) c (drop 1 (tokens M c)) (capacity M c)
   after_deed M p next (Put c t) = with_channel (with_status M p (Live next None)) c (tokens M c ++ t ∷ []) (capacity M c)
 
-  -- p does what it wants to do
+  -- p does the deed that it wants
   pub record Does (M : State) (p : ℕ) (d : Deed) (N : State) : Type 0 where
     pub answer : Answer
     pub wanted : wants M p ≡ Some answer
@@ -100,14 +97,14 @@ module _ (kinds : Family) (net : Network) where
     pub at : out_of net p port ≡ Some c
     pub full : capacity M c ≤ length (tokens M c)
 
-  -- no process can go on, and some writer is blocked
+  -- no process is enabled, and some writer is blocked
   pub record IsArtificial (M : State) : Type 0 where
     pub quiet : IsQuiet M
     pub writer : ℕ
     pub channel : ℕ
     pub blocked : IsBlocked M writer channel
 
-  -- the channel of least capacity among those with a blocked writer (Parks 1995); among equals the one of least number
+  -- c has the least capacity, then the lowest number, of the channels with a blocked writer (Parks 1995)
   pub record IsChosen (M : State) (c : ℕ) : Type 0 where
     pub writer : ℕ
     pub blocked : IsBlocked M writer c
@@ -122,12 +119,10 @@ module _ (kinds : Family) (net : Network) where
     pub to_is : to ≡ min (capacity M c + net.step) net.ceiling
     pub leaves : N ≡ with_channel M c (tokens M c) to
 
-  -- an entry leads from M to N: a deed, or a growth
   abbrev pub Transition : State → Entry → State → Type 0
   Transition M (Did p d) N = Does M p d N
   Transition M (Grew c to) N = Grows M c to N
 
-  -- the entries lead from M to N, one transition each
   abbrev pub Run : State → List Entry → State → Type 0
   Run M [] N = N ≡ M
   Run M (e ∷ es) N = (mid : State) × Transition M e mid × Run mid es N

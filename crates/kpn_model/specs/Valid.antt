@@ -1,4 +1,4 @@
--- Valid networks, and states whose tokens have their channels' sorts.
+-- Valid networks, and states with tokens of their channels' sorts.
 use Rattle.std.specs.Prelude.{◌≡◌, ◌≢◌, ℕ, ◌<◌, ◌≤◌, true, List, Option, Some, IsSome, length}
 use Rattle.std.specs.List.{All, Any, AllPairs, AllByRecursion}
 use Rattle.kpn_model.specs.declared.token.Token.{Token}
@@ -15,24 +15,22 @@ use Rattle.kpn_model.specs.Lawful.{sort_of, Fits, CardFits, in_sort, out_sort}
 use Rattle.kpn_model.specs.Semantics.{State, status, tokens}
 use Rattle.kpn_model.specs.Determinacy.{IsRun}
 
--- exactly one of the items
 abbrev pub JustOne : {A : Type 0} → (A → Type 0) → List A → Type 0
 JustOne P xs = Any P xs × AllPairs (λ x y. P x → P y → ⊥) xs
 
--- the token is one that a channel of this sort may hold
 abbrev pub IsOfSort : Sort → Token → Type 0
 IsOfSort sort t = (sort_of t ≡ sort) × Fits t
 
 module _ (signature : Card → Option Signature) (net : Network) where
-  -- the ends of a channel are ports of processes, and have its sort
+  -- the ends of a channel are ports of its sort
   pub record HasEnds (c : Channel) : Type 0 where
     pub writer : c.writer < length net.processes
     pub out : out_sort signature (card_of net c.writer) c.out ≡ Some c.sort
     pub reader : c.reader < length net.processes
     pub input : in_sort signature (card_of net c.reader) c.input ≡ Some c.sort
 
-  -- each port of each process is the end of exactly one channel, of its sort; the ceiling and the greatest budget both depend on
-  -- the version of the description
+  -- each port of each process is an end of exactly one channel, of its sort; the ceiling and the greatest
+  -- budget depend on the description's version
   pub record IsValid : Type 0 where
     pub some_process : 1 ≤ length net.processes
     pub few_processes : length net.processes ≤ MOST_PROCESSES
@@ -61,7 +59,7 @@ pub record IsWellTyped (admits : Card → List ℕ → Option Token → Type 0) 
   pub tokens : (c : ℕ) → AllByRecursion (IsOfSort (channel_of net c).sort) (tokens M c)
   pub locals : (p : ℕ) (local : List ℕ) (last : Option Token) → status M p ≡ Live local last → admits (card_of net p) local last
 
--- under lawful kinds each run of a valid network is well-typed at each moment
+-- each run of a valid network is well-typed at each moment
 abbrev pub StaysWellTyped : (Card → Option Signature) → (Card → List ℕ → Option Token → Type 0) → Family → Type 0
 StaysWellTyped signature admits kinds =
     (net : Network) → IsValid signature net → (E : List Entry) (M : State) → IsRun kinds net E M → IsWellTyped admits net M

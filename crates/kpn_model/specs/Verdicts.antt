@@ -1,4 +1,4 @@
--- What the end of a run says of the network, given where the run left each process.
+-- The verdict on a network, from where the run left each process.
 use Rattle.std.specs.Prelude.{◌≡◌, ◌<◌, ℕ, true, false, List, length}
 use Rattle.kpn_model.specs.declared.history.End.{End}
 use Rattle.kpn_model.specs.declared.history.End.TheVariants.{Terminated, Deadlock, Ceiling, Budget, Memory}
@@ -9,23 +9,19 @@ use Rattle.kpn_model.specs.Network.{Network}
 use Rattle.kpn_model.specs.Waits.{is_on_cycle}
 
 module _ (net : Network) (places : List Place) where
-  -- no process waits for itself, directly or through others
   abbrev pub HasNoCycle : Type 0
   HasNoCycle = (p : ℕ) → p < length net.processes → is_on_cycle net places p ≡ false
 
-  -- p is the process of least number that does
   pub record IsFirstOnCycle (p : ℕ) : Type 0 where
     pub within : p < length net.processes
     pub on_cycle : is_on_cycle net places p ≡ true
     pub first : (q : ℕ) → q < p → is_on_cycle net places q ≡ false
 
-  -- what a deadlock says
   abbrev pub IsVerdictOfDeadlock : Verdict → Type 0
   IsVerdictOfDeadlock RanDry = HasNoCycle
   IsVerdictOfDeadlock (Cycle p) = IsFirstOnCycle p
   IsVerdictOfDeadlock _ = ⊥
 
-  -- what an end says
   abbrev pub IsVerdict : End → Verdict → Type 0
   IsVerdict Terminated verdict = verdict ≡ Finished
   IsVerdict Deadlock verdict = IsVerdictOfDeadlock verdict

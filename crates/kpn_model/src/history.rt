@@ -3,16 +3,15 @@
 use crate::kinds::Local;
 use crate::token::Token;
 
-/// Whether a process goes on: it is live, with its local state and the token of the read just done
-/// (`None` at its start and after a write), or it has stopped.
+/// A process is live, with its local state and last token (`None` unless its last act was a read), or done.
 #[derive(Clone, Copy, Debug, PartialEq, Eq)]
 pub enum Status {
     Live { local: Local, last: Option<Token> },
     Done,
 }
 
-/// What a process did: it took the first token of a channel, put a token at the end of a channel, or
-/// stopped. Channels are given by their numbers in the network.
+/// A process took a channel's first token, put a token at the end of one, or stopped. Channels are given by
+/// their numbers in the network.
 #[derive(Clone, Copy, Debug, PartialEq, Eq)]
 pub enum Deed {
     Took { channel: usize, token: Token },
@@ -20,19 +19,17 @@ pub enum Deed {
     Stopped,
 }
 
-/// One event of a run: a process did something, or a channel grew to a new capacity, in tokens.
+/// A process did a deed, or a channel grew to a new capacity, in tokens.
 #[derive(Clone, Copy, Debug, PartialEq, Eq)]
 pub enum Entry {
     Did { process: usize, deed: Deed },
     Grew { channel: usize, to: usize },
 }
 
-/// Why a run ended.
-///
-/// `Terminated`: every process has stopped. `Deadlock`: some process is live, none can go on, and none
-/// is blocked on a write (a real deadlock, Parks 1995). `Ceiling`: the channel that had to grow is at
-/// the ceiling. `Budget`: the history has at least as many entries as the budget. `Memory`: the channel
-/// that had to grow was refused memory.
+/// Why a run ended. `Terminated`: all processes have stopped. `Deadlock`: some process is live, none is
+/// enabled, and none is blocked on a write (Parks 1995's real deadlock). `Ceiling`: the channel due to grow is
+/// at the ceiling. `Budget`: there are at least as many entries as the budget. `Memory`: out of memory for a
+/// growth.
 #[derive(Clone, Copy, Debug, PartialEq, Eq)]
 pub enum End {
     Terminated,
@@ -42,8 +39,7 @@ pub enum End {
     Memory,
 }
 
-/// Where a process came to rest, as a report says it: it has stopped, or wants to read or to write the
-/// channel of this number.
+/// Where a run left a process: stopped, or waiting to read or write the channel of this number.
 #[derive(Clone, Copy, Debug, PartialEq, Eq)]
 pub enum Place {
     Stopped,

@@ -4,27 +4,25 @@ ghost use Rattle.kpn_model.specs.Lawful.{CardFits};
 
 use crate::token::{Sort, Token};
 
-/// What makes a process: the number of its kind, and three arguments, of which those that the kind
-/// does not use are 0.
+/// An instance of a kind: the kind's number, and three arguments. Unused arguments are 0.
 #[derive(Clone, Copy, Debug, PartialEq, Eq)]
 pub struct Card {
     pub kind: u16,
     pub args: [u64; 3],
 }
 
-/// The sorts of a card's inputs and outputs. There is an input k if entry k of `ins` is `Some`, and an
-/// output k if entry k of `outs` is. Each list is filled from the front.
+/// The sorts of a card's ports: port k exists if item k of its list is `Some`. Lists are filled from the
+/// front.
 #[derive(Clone, Copy, Debug, PartialEq, Eq)]
 pub struct Signature {
     pub ins: [Option<Sort>; 3],
     pub outs: [Option<Sort>; 3],
 }
 
-/// What a process keeps between its acts: four words, whose meaning depends on the kind.
+/// The local state of a process: four words, with a meaning that depends on the kind.
 pub type Local = [u64; 4];
 
-/// What a process wants to do next: read an input, write a token to an output, each by its number
-/// (0 to 2), or stop.
+/// The next act of a process: it reads an input, writes a token to an output (ports 0 to 2), or stops.
 #[derive(Clone, Copy, Debug, PartialEq, Eq)]
 pub enum Act {
     Read(u8),
@@ -32,26 +30,21 @@ pub enum Act {
     Stop,
 }
 
-/// What a process answers: its next act, and its local state once the act is done.
+/// A process's next act, and its local state once the act is done.
 #[derive(Clone, Copy, Debug, PartialEq, Eq)]
 pub struct Answer {
     pub next: Local,
     pub act: Act,
 }
 
-/// A family of kinds of processes.
+/// A family of kinds of processes. Callers may implement their own.
 ///
-/// A process is a function of what it has read (Kahn 1974): its card, its local state and the token of
-/// the read just done give its answer. A type that implements this trait stands for a family; callers
-/// may bring families of their own.
+/// A process is a function of what it has read (Kahn 1974): its card, its local state and the token of the
+/// read just done determine its answer. `admits` says with which local states and last tokens it may be asked:
+/// only with local states of four numbers and with words, all below 2^64.
 ///
-/// `start` says how a process of a card begins, `answer_of` what it answers, `signature` which ports a card
-/// has, `named` which kind a name means, and `admits` with which local states and last tokens a process of a
-/// card may be asked: it holds only of local states of four numbers and of words, all below 2^64.
-///
-/// The laws of a family are functions that do nothing: a caller that calls one may use what it ensures.
-/// An implementation proves them in `lawful`; `names_port`, `leads_on` and `starts`, which state them
-/// for given values, come with the trait.
+/// The laws of a family are functions that do nothing: a caller may use what they ensure. An implementation
+/// proves them in `lawful`; the others state them for given values.
 pub trait Kinds: Send + Sync {
     ghost use Rattle.kpn_model.specs.declared.kinds.Card.{Card};
     ghost use Rattle.kpn_model.specs.declared.kinds.Signature.{Signature};
@@ -70,30 +63,26 @@ pub trait Kinds: Send + Sync {
 
     ghost admits: { Card → List ℕ → Option Token → Type 0 };
 
-    /// Returns the number of the kind that has this name, and how many arguments it takes; `None` if no
-    /// kind has this name.
+    /// Returns the kind's number and its number of arguments; `None` if no kind has this name.
     fn named(name: &str) -> Option<(u16, usize)>
         ensures { result ≡ named name.now };
 
-    /// Returns the ports of a card, filled from the front; `None` if the family has no such kind, or if
-    /// the kind refuses these arguments.
+    /// Returns the ports of a card; `None` if the family lacks the kind, or the kind rejects the arguments.
     fn signature(card: &Card) -> Option<Signature>
         ensures is { result ≡ signature card.now }
         ensures filled { IfSome result (λ s. IsTrue (is_filled s.ins) × IsTrue (is_filled s.outs)) };
 
-    /// Returns the local state with which a process of a card begins. The card must have a signature.
+    /// Returns the local state in which a process of a card begins. The card must have a signature.
     fn start(card: &Card) -> Local
         requires { IsSome (signature card.now) }
         ensures { result ≡ start card.now };
 
-    /// The laws of the family, of every card that has a signature: an admitted answer names a port of
-    /// the card, and a written token has the port's sort; what follows an admitted answer is
-    /// admitted; the start is admitted. Each implementation proves them here.
+    /// For each card with a signature: an admitted answer names a port of the card, and a written token has
+    /// the port's sort; what follows an admitted answer is admitted; the start is admitted.
     fn lawful()
         ensures { AreLawful signature admits (family_of start answer_of) };
 
-    /// The law that an admitted answer names a port of the card, and that a written token has the
-    /// port's sort.
+    /// An admitted answer names a port of the card, and a written token has the port's sort.
     fn names_port(card: Card, local: Local, last: Option<Token>)
         requires signed { IsSome (signature card) }
         requires admitted { admits card local last }
@@ -103,8 +92,8 @@ pub trait Kinds: Send + Sync {
         card_fits(card);
     }
 
-    /// The law that what follows an admitted answer is admitted: after a read, with each token of
-    /// the port's sort; after a write, with none.
+    /// What follows an admitted answer is admitted: after a read, with any token of the port's sort; after a
+    /// write, with none.
     fn leads_on(card: Card, local: Local, last: Option<Token>, token: Token)
         requires signed { IsSome (signature card) }
         requires admitted { admits card local last }
@@ -114,7 +103,7 @@ pub trait Kinds: Send + Sync {
         card_fits(card);
     }
 
-    /// The law that the start is admitted, with no token read.
+    /// The start is admitted, with no token read.
     fn starts(card: Card)
         requires { IsSome (signature card) }
         ensures { admits card (start card) None }

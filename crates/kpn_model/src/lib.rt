@@ -1,6 +1,5 @@
-//! The model of Kahn process networks (Kahn 1974): tokens, cards and families of kinds, what a run
-//! does; and, in specs/, the definitions of the network, of its runs and of what is read off them. It
-//! depends on std alone.
+//! The model of Kahn process networks (Kahn 1974): tokens, cards, families of kinds and histories, and, in
+//! specs/, the definitions of networks and runs. It depends on std alone.
 #![tactic(auto)]
 
 pub mod history;

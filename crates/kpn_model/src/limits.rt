@@ -1,15 +1,15 @@
-//! The limits of descriptions and of the networks that they describe.
+//! The limits of descriptions and networks.
 
-/// How many processes a network may have. It has at least one.
+/// The most processes that a network may have. It has at least one.
 pub const MOST_PROCESSES: usize = 64;
 
-/// How many channels a network may have.
+/// The most channels that a network may have.
 pub const MOST_CHANNELS: usize = 256;
 
-/// The capacity in tokens beyond which no channel grows, in version 1.
+/// The capacity in tokens above which no channel grows, in version 1.
 pub const CEILING: u32 = 65535;
 
-/// The capacity in tokens beyond which no channel grows, in version 2.
+/// The capacity in tokens above which no channel grows, in version 2.
 pub const HIGH_CEILING: u32 = 1000000;
 
 /// The greatest budget in entries, in version 1.
@@ -18,11 +18,11 @@ pub const GREATEST_BUDGET: u32 = 1000000;
 /// The greatest budget in entries, in version 2.
 pub const GREATEST_HIGH_BUDGET: u32 = 2000000;
 
-/// The budget in entries of a description that gives none.
+/// The budget in entries if the description gives none.
 pub const DEFAULT_BUDGET: u32 = 10000;
 
-/// By how many tokens a growth may enlarge a capacity.
+/// The greatest step, in tokens, of a growth.
 pub const GREATEST_STEP: u32 = 1024;
 
-/// How many bytes a description may have.
+/// The most bytes that a description may have.
 pub const LONGEST_TEXT: usize = 1048576;

@@ -3,15 +3,15 @@ use crate::kinds::Card;
 use crate::small::{Listed, Text};
 use crate::token::{Sort, Token};
 
-/// A process: its name, and the card that says what it does.
+/// A process: its name and its card.
 #[derive(Drop)]
 pub struct Process {
     pub name: Text,
     pub card: Card,
 }
 
-/// Where a channel begins and ends: output `out` of process `writer`, and input `input` of process
-/// `reader`. In a network processes are numbered from 0, and ports are 0 to 2.
+/// The ends of a channel: output `out` of process `writer`, and input `input` of process `reader`. Processes
+/// are numbered from 0; ports are 0 to 2.
 #[derive(Clone, Copy, Debug, PartialEq, Eq)]
 pub struct Ends {
     pub writer: usize,
@@ -20,11 +20,9 @@ pub struct Ends {
     pub input: usize,
 }
 
-/// A channel: its name, its ends as in [`Ends`], its sort, its starting capacity in tokens, and the
-/// tokens that it holds at first, in the order in which they are read.
-///
-/// It is a queue that one process writes and one reads (Kahn 1974), and a write to a full channel
-/// blocks (Parks 1995).
+/// A channel: a queue that one process writes and one reads (Kahn 1974); a write blocks while it is full
+/// (Parks 1995). Its ends are as in [`Ends`], its starting capacity is in tokens, and its start tokens are in
+/// reading order.
 #[derive(Drop)]
 pub struct Channel {
     pub name: Text,

@@ -1,6 +1,6 @@
-//! What travels on channels.
+//! What channels carry.
 
-/// A token: a word of 64 bits, from 0 to 2^64 - 1, or a flag.
+/// A token: a word of 64 bits or a flag.
 #[derive(Clone, Copy, Debug, PartialEq, Eq)]
 pub enum Token {
     Word(u64),

@@ -1,12 +1,9 @@
-//! What the end of a run says to those who wanted to know whether all went well.
+//! The verdict on a network after a run.
 
-/// What the end of a run says of the network.
-///
-/// `Finished`: every process has stopped. `RanDry`: the run ended in a deadlock without a cycle of waits,
-/// so each process that waits does so, over one or more others, for one that has stopped: the usual end
-/// of a network that was fed with a stream. `Cycle`: a deadlock in which processes wait for one another
-/// in a circle; this is the process of least number on such a circle. `Cut`: the budget was spent.
-/// `Full`: a channel at the ceiling would have had to grow. `Memory`: a growth was refused memory.
+/// The verdict. `Finished`: all processes have stopped. `RanDry`: a deadlock without a cycle of waits: each
+/// waiting process waits, directly or indirectly, for a stopped one, as usual in a network fed with a stream.
+/// `Cycle`: a deadlock with a cycle of waits, and the process with the lowest number on one. `Cut`: the budget
+/// was spent. `Full`: the channel due to grow is at the ceiling. `Memory`: out of memory for a growth.
 #[derive(Clone, Copy, Debug, PartialEq, Eq)]
 pub enum Verdict {
     Finished,

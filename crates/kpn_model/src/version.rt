@@ -4,14 +4,14 @@ ghost use Rattle.kpn_model.specs.Version.{is_two, ceiling_in, greatest_budget_in
 
 use crate::limits::{CEILING, GREATEST_BUDGET, GREATEST_HIGH_BUDGET, HIGH_CEILING};
 
-/// Whether the version is 2: channels may have start tokens, and a step may be given.
+/// Whether the version is 2, which allows start tokens and a step.
 pub fn is_two(version: i64) -> bool
     ensures { result ≡ is_two version }
 {
     version == 2
 }
 
-/// The capacity beyond which no channel grows, in tokens.
+/// Returns the capacity in tokens above which no channel grows.
 pub fn ceiling_in(version: i64) -> u32
     ensures { result ≡ ceiling_in version }
 {
@@ -22,7 +22,7 @@ pub fn ceiling_in(version: i64) -> u32
     }
 }
 
-/// The greatest budget, in entries.
+/// Returns the greatest budget, in entries.
 pub fn greatest_budget_in(version: i64) -> u32
     ensures { result ≡ greatest_budget_in version }
 {

@@ -1,4 +1,4 @@
--- The faults of a sketch, and which of them is the first.
+-- The faults of a sketch, and the first of them.
 use Rattle.std.specs.Prelude.{ℕ, ℤ, pos, negsuc, Bool, true, false, not, ◌&&◌, ◌||◌, ◌==◌, nat_lt, int_lt, unsigned_abs, List, [], ◌∷◌, length, slice_index_or, Option, Some, None, is_some, is_none, option_and_then}
 use Rattle.std.specs.Option.{option_map_or}
 use Rattle.std.specs.List.{find, list_any}
@@ -25,7 +25,6 @@ abbrev pub any_pair : {A : Type 0} → (A → A → Bool) → List A → Bool
 any_pair test [] = false
 any_pair test (x ∷ xs) = list_any (test x) xs || any_pair test xs
 
--- the number is outside the range
 abbrev pub is_outside : ℤ → ℤ → ℤ → Bool
 is_outside low high z = int_lt z low || int_lt high z
 
@@ -41,7 +40,6 @@ same_out c d = bytes_eq c.from d.from && int_eq c.out d.out
 abbrev pub same_in : ChannelSketch → ChannelSketch → Bool
 same_in c d = bytes_eq c.to d.to && int_eq c.input d.input
 
--- the sort of a port, if there is such a port
 abbrev pub port_sort : List (Option Sort) → ℤ → Option Sort
 port_sort ports (pos k) = port_at ports k
 port_sort ports (negsuc k) = None
@@ -52,7 +50,7 @@ is_sort Words (Some Words) = true
 is_sort Flags (Some Flags) = true
 is_sort _ (Some _) = false
 
--- an integer from 0 on is a word, and so is what is given as one; a boolean is a flag
+-- an integer from 0 on and a word by its value are words; a boolean is a flag
 abbrev pub is_token : Sort → TokenSketch → Bool
 is_token Words (Integer z) = not (int_lt z (pos 0))
 is_token Flags (Boolean b) = true
@@ -61,11 +59,10 @@ is_token Words (Boolean b) = false
 is_token Flags (Integer z) = false
 is_token Flags (Word w) = false
 
--- some start token is not of the channel's sort, or there are more than the channel may hold
 abbrev pub has_wrong_tokens : ChannelSketch → Bool
 has_wrong_tokens c = list_any (λ t. not (is_token c.sort t)) c.tokens || int_lt c.capacity (pos (length c.tokens))
 
--- the card of a kind with these arguments; missing arguments are 0
+-- missing arguments are 0
 abbrev pub card_with : ℕ → List ℤ → Card
 card_with kind args =
     let arg : ℕ → ℕ = λ k. unsigned_abs (slice_index_or args k (pos 0)) in
@@ -85,18 +82,16 @@ module _ (named : List ℕ → Option (ℕ × ℕ)) (signature : Card → Option
   has_wrong_args p = takes_other_count p || (nat_lt 3 (length p.args) || (list_any (λ z. int_lt z (pos 0)) p.args || is_none (signature_of p)))
 
   module _ (sketch : Sketch) where
-    -- the signature of the process of this name
     abbrev pub signature_named : List ℕ → Option Signature
     signature_named name = option_and_then signature_of (find (λ p. bytes_eq p.name name) sketch.processes)
 
-    -- the sorts of the two ports of a channel, if there are such ports
     abbrev pub sketched_out_sort : ChannelSketch → Option Sort
     sketched_out_sort c = option_and_then (λ s. port_sort s.outs c.out) (signature_named c.from)
 
     abbrev pub sketched_in_sort : ChannelSketch → Option Sort
     sketched_in_sort c = option_and_then (λ s. port_sort s.ins c.input) (signature_named c.to)
 
-    -- the port is there, and no channel leads from it, or to it
+    -- the port exists, and has no channel
     abbrev pub is_unused_out : List ℕ → Signature → ℤ → Bool
     is_unused_out name s k = is_some (port_sort s.outs k) && not (list_any (λ c. bytes_eq c.from name && int_eq c.out k) sketch.channels)
 
@@ -110,7 +105,6 @@ module _ (named : List ℕ → Option (ℕ × ℕ)) (signature : Card → Option
     has_unused_port p =
         option_map_or (λ s. is_unused p.name s (pos 0) || (is_unused p.name s (pos 1) || is_unused p.name s (pos 2))) (signature_of p) false
 
-    -- the conditions of the faults
     abbrev pub has_fault : NetFault → Bool
     has_fault Version = not (int_eq sketch.version (pos 1) || is_two sketch.version)
     has_fault Counts = length sketch.processes == 0 || (nat_lt MOST_PROCESSES (length sketch.processes) || nat_lt MOST_CHANNELS (length sketch.channels))
@@ -129,6 +123,6 @@ module _ (named : List ℕ → Option (ℕ × ℕ)) (signature : Card → Option
     has_fault Step = is_outside (pos 1) (pos GREATEST_STEP) sketch.step
     has_fault _ = false
 
-    -- the fault of least number whose condition holds
+    -- the fault with the lowest number whose condition holds
     abbrev pub first_fault : Option NetFault
     first_fault = find has_fault (Version ∷ Counts ∷ Name ∷ Kind ∷ Args ∷ NoEnd ∷ Twice ∷ Unused ∷ Sorts ∷ Capacity ∷ Budget ∷ Tokens ∷ Step ∷ [])

@@ -14,7 +14,6 @@ use Rattle.kpn_model.specs.Network.{Network}
 use Rattle.kpn_net.specs.Faults.{card_with}
 use Rattle.kpn_model.specs.Version.{ceiling_in}
 
--- the number of the process with this name
 abbrev pub index_of : List ProcessSketch → List ℕ → ℕ
 index_of processes name = unwrap_or (position (λ p. bytes_eq p.name name) processes) 0
 
@@ -38,7 +37,7 @@ channel_in processes c = record {
   tokens = map token_in c.tokens;
 }
 
--- the network that a sketch without a fault describes; its ceiling depends on the version
+-- the network of a sketch without a fault
 abbrev pub net_of : (List ℕ → Option (ℕ × ℕ)) → Sketch → Network
 net_of named s = record {
   processes = map (process_in named) s.processes;

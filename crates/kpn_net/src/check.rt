@@ -1,4 +1,4 @@
-//! The check of a sketch, which makes a network of it.
+//! Makes a network of a sketch.
 ghost use Rattle.std.specs.Prelude.{All, ◌≡◌, ◌≢◌, ◌++◌, ◌∷◌, [], Some, None, IfOk, IfErr, OnOk, map, position};
 ghost use Rattle.std.specs.Str.{bytes_eq};
 ghost use Rattle.kpn_model.specs.Lawful.{CardFits, Fits};
@@ -14,8 +14,8 @@ use kpn_network::{Net, Parts};
 use kpn_sketch::{ChannelSketch, NetFault, ProcessSketch, Sketch, TokenSketch};
 use std::alloc::Global;
 
-/// The check of a sketch, `Net::check`. It is a trait, which a caller brings into scope, since `Net` is a type of
-/// `kpn_network`, and only the crate of a type can give it methods of its own. `Net` alone implements it.
+/// The check of a sketch, `Net::check`. It is a trait, implemented by `Net` alone and brought into scope by
+/// callers, because `Net` is a type of `kpn_network`, and only a type's own crate can give it methods.
 ///
 /// ```text
 /// let sketch = read_sketch(alloc, text.as_bytes())?;
@@ -25,13 +25,11 @@ pub trait Check {
     /// The family of the network's kinds.
     type Kinds: Kinds;
 
-    /// Makes the valid network that a sketch describes. Its channels grow up to a capacity of 65,535 in
-    /// version 1, and of 1,000,000 in version 2. The sketch stays as it is.
+    /// Makes the valid network of a sketch. Its ceiling is 65,535 in version 1, and 1,000,000 in version 2.
     ///
-    /// Errors: the first of `Version`, `Counts`, `Name`, `Kind`, `Args`, `NoEnd`, `Twice`, `Unused`,
-    /// `Sorts`, `Capacity`, `Budget`, `Tokens` and `Step` whose condition holds of the sketch; or
-    /// `Memory`, at any time, if memory was refused. A sketch without such a fault is refused for
-    /// memory alone.
+    /// Errors: the first of `Version`, `Counts`, `Name`, `Kind`, `Args`, `NoEnd`, `Twice`, `Unused`, `Sorts`,
+    /// `Capacity`, `Budget`, `Tokens` and `Step` whose condition holds of the sketch; or `Memory` at any time,
+    /// if out of memory. Without such a fault it fails only with `Memory`.
     final fn check(alloc: Global, sketch: &Sketch) -> Result<Net<Self::Kinds>, NetFault>
         ensures ok { IfOk result (λ n. (first_fault Self.Kinds.named Self.Kinds.signature sketch.now ≡ None) × (n ≡ net_of Self.Kinds.named sketch.now)) }
         ensures valid { IfOk result (IsValid Self.Kinds.signature) }
@@ -61,7 +59,7 @@ impl<K: Kinds> Check for Net<K> {
     type Kinds = K;
 }
 
-/// The process of a sketch; a kind that the family lacks counts as kind 0. Fails if memory was refused.
+/// A kind that the family lacks counts as kind 0.
 fn process_in<K: Kinds>(alloc: Global, sketch: &ProcessSketch) -> Result<Process, NetFault>
     ensures ok { IfOk result (λ p. p ≡ process_in K.named sketch.now) }
     ensures fits { IfOk result (λ p. CardFits p.card) }
@@ -77,14 +75,13 @@ fn process_in<K: Kinds>(alloc: Global, sketch: &ProcessSketch) -> Result<Process
     })
 }
 
-/// The number of the first process with this name.
 fn find_process(processes: &[ProcessSketch], name: &str) -> Option<usize>
     ensures { result ≡ position (λ p. bytes_eq p.name name.now) processes.now }
 {
     processes.iter().position(|p| p.name.as_str() == name)
 }
 
-/// The place of the process with this name; 0 if there is none.
+/// Returns the number of the process with this name; 0 if there is none.
 fn index_of(processes: &[ProcessSketch], name: &str) -> usize
     ensures { result ≡ index_of processes.now name.now }
 {
@@ -94,7 +91,7 @@ fn index_of(processes: &[ProcessSketch], name: &str) -> usize
     }
 }
 
-/// The token of a sketch; of an integer its size counts.
+/// Drops an integer's sign.
 fn token_in(sketch: TokenSketch) -> Token
     ensures is { result ≡ token_in sketch }
     ensures fits { Fits result }
@@ -106,7 +103,6 @@ fn token_in(sketch: TokenSketch) -> Token
     }
 }
 
-/// The tokens of some sketches, in order. Fails if memory was refused.
 fn tokens_in(alloc: Global, sketches: &[TokenSketch]) -> Result<Vec<Token>, NetFault>
     ensures ok { IfOk result (λ v. v.items ≡ map token_in sketches.now) }
     ensures fit { IfOk result (λ v. All Fits v.items) }
@@ -121,7 +117,6 @@ fn tokens_in(alloc: Global, sketches: &[TokenSketch]) -> Result<Vec<Token>, NetF
     Ok(tokens)
 }
 
-/// The tokens of a channel's sketch, in order. Fails if memory was refused.
 fn tokens_of(alloc: Global, sketch: &ChannelSketch) -> Result<Listed<Token>, NetFault>
     ensures ok { IfOk result (λ l. l ≡ map token_in sketch.now.tokens) }
     ensures fit { IfOk result (λ l. All Fits l) }
@@ -131,7 +126,6 @@ fn tokens_of(alloc: Global, sketch: &ChannelSketch) -> Result<Listed<Token>, Net
     Ok(Listed::new(tokens))
 }
 
-/// The channel of a sketch, between these processes. Fails if memory was refused.
 fn channel_in(
     alloc: Global,
     processes: &[ProcessSketch],
@@ -153,7 +147,6 @@ fn channel_in(
     })
 }
 
-/// The processes of some sketches, in order. Fails if memory was refused.
 fn processes_of<K: Kinds>(
     alloc: Global,
     sketches: &[ProcessSketch],
@@ -169,7 +162,6 @@ fn processes_of<K: Kinds>(
     Ok(processes)
 }
 
-/// Adds the process of a sketch. Fails if memory was refused.
 fn add_process<K: Kinds>(
     alloc: Global,
     sketch: &ProcessSketch,
@@ -186,7 +178,6 @@ fn add_process<K: Kinds>(
     Ok(())
 }
 
-/// The channels of some sketches, in order, between these processes. Fails if memory was refused.
 fn channels_of(
     alloc: Global,
     processes: &[ProcessSketch],
@@ -203,7 +194,6 @@ fn channels_of(
     Ok(channels)
 }
 
-/// Adds the channel of a sketch, between these processes. Fails if memory was refused.
 fn add_channel(
     alloc: Global,
     processes: &[ProcessSketch],
@@ -221,7 +211,6 @@ fn add_channel(
     Ok(())
 }
 
-/// A text once more. Fails if memory was refused.
 fn copied(alloc: Global, text: &Text) -> Result<Text, NetFault>
     ensures ok { IfOk result (λ t. t ≡ text.now) }
     ensures memory { IfErr result (λ e. e ≡ NetFault.Memory) }

@@ -1,4 +1,4 @@
-//! The faults of a sketch: the first of them, and the conditions by which each is found.
+//! The first fault of a sketch, and the condition of each.
 ghost use Rattle.std.specs.Prelude.{◌≡◌};
 ghost use Rattle.kpn_net.specs.Faults.{first_fault, has_fault};
 
@@ -21,7 +21,7 @@ pub use crate::ports::{
 use kpn_model::Kinds;
 use kpn_sketch::{NetFault, Sketch};
 
-/// The fault of least number whose condition holds.
+/// Returns the fault with the lowest number whose condition holds, if any.
 pub(crate) fn first_fault<K: Kinds>(sketch: &Sketch) -> Option<NetFault>
     ensures { result ≡ first_fault K.named K.signature sketch.now }
 {
@@ -56,8 +56,7 @@ pub(crate) fn first_fault<K: Kinds>(sketch: &Sketch) -> Option<NetFault>
     }
 }
 
-/// Returns whether the condition of a fault holds of a sketch. No condition of `NotToml`, `Keys`, `Memory` and
-/// `Input` does.
+/// Whether the condition of a fault holds; never for `NotToml`, `Keys`, `Memory` and `Input`.
 pub fn has_fault<K: Kinds>(sketch: &Sketch, fault: NetFault) -> bool
     ensures { result ≡ has_fault K.named K.signature sketch.now fault }
 {

@@ -1,5 +1,5 @@
-//! Descriptions of Kahn process networks (Kahn 1974), and the check that makes a network of one. `Net`
-//! and the types of the model are exported here too.
+//! Descriptions of Kahn process networks (Kahn 1974), and the check that makes a network of one. It re-exports
+//! `Net` and the types of the model.
 //!
 //! ```text
 //! let sketch = read_sketch(alloc, text.as_bytes())?;

@@ -9,7 +9,6 @@ use kpn_model::version::{ceiling_in, greatest_budget_in, is_two};
 use kpn_model::{Kinds, Sort};
 use kpn_sketch::{ChannelSketch, NetFault, Sketch, TokenSketch};
 
-/// Whether a number is below a least or above a greatest one.
 fn is_outside(low: i64, high: i64, x: i64) -> bool
     ensures { result ≡ is_outside low high x }
 {
@@ -23,7 +22,7 @@ pub(crate) fn has_wrong_version<K: Kinds>(sketch: &Sketch) -> bool
     sketch.version != 1 && !is_two(sketch.version)
 }
 
-/// Fault 4: there is no process, or there are too many processes or channels.
+/// Fault 4: no process, or too many processes or channels.
 pub(crate) fn has_wrong_counts<K: Kinds>(sketch: &Sketch) -> bool
     ensures { result ≡ has_fault K.named K.signature sketch.now NetFault.Counts }
 {
@@ -33,14 +32,14 @@ pub(crate) fn has_wrong_counts<K: Kinds>(sketch: &Sketch) -> bool
         || sketch.channels.as_slice().len() > MOST_CHANNELS
 }
 
-/// Whether the capacity is outside of 1 to the ceiling of the version.
+/// Whether the capacity is outside 1 to the version's ceiling.
 pub fn has_wrong_capacity(version: i64, channel: &ChannelSketch) -> bool
     ensures { result ≡ is_outside (pos 1) (pos (ceiling_in version)) channel.now.capacity }
 {
     is_outside(1, i64::from(ceiling_in(version)), channel.capacity)
 }
 
-/// Fault 12: the capacity of some channel is outside of its limits.
+/// Fault 12: some capacity is out of range.
 pub(crate) fn has_wrong_capacities<K: Kinds>(sketch: &Sketch) -> bool
     ensures { result ≡ has_fault K.named K.signature sketch.now NetFault.Capacity }
 {
@@ -51,7 +50,7 @@ pub(crate) fn has_wrong_capacities<K: Kinds>(sketch: &Sketch) -> bool
         .any(|c| has_wrong_capacity(sketch.version, c))
 }
 
-/// Fault 13: the budget is outside of 1 to the greatest of the version.
+/// Fault 13: the budget is outside 1 to the version's greatest.
 pub(crate) fn has_wrong_budget<K: Kinds>(sketch: &Sketch) -> bool
     ensures { result ≡ has_fault K.named K.signature sketch.now NetFault.Budget }
 {
@@ -59,8 +58,7 @@ pub(crate) fn has_wrong_budget<K: Kinds>(sketch: &Sketch) -> bool
     is_outside(1, greatest, sketch.budget)
 }
 
-/// Whether a start token is of this sort: words are integers from 0 on and words by their value, flags are
-/// booleans.
+/// Whether a start token has this sort: words are integers from 0 on or given by value, flags are booleans.
 pub fn is_token(sort: Sort, token: TokenSketch) -> bool
     ensures { result ≡ is_token sort token }
 {
@@ -72,14 +70,12 @@ pub fn is_token(sort: Sort, token: TokenSketch) -> bool
     }
 }
 
-/// Whether some start token is not of this sort.
 fn has_other_token(sort: Sort, tokens: &[TokenSketch]) -> bool
     ensures { result ≡ list_any (λ t. not (is_token sort t)) tokens.now }
 {
     tokens.iter().any(|t| !is_token(sort, *t))
 }
 
-/// Whether a capacity is less than a number of tokens.
 fn is_below(capacity: i64, count: usize) -> bool
     ensures { result ≡ int_lt capacity (pos count) }
 {
@@ -89,7 +85,7 @@ fn is_below(capacity: i64, count: usize) -> bool
     }
 }
 
-/// Whether a start token is not of the sort of the channel, or there are more than its capacity.
+/// Whether some start token is not of the channel's sort, or there are more than its capacity.
 pub fn has_wrong_tokens(channel: &ChannelSketch) -> bool
     ensures { result ≡ has_wrong_tokens channel.now }
 {
@@ -97,7 +93,7 @@ pub fn has_wrong_tokens(channel: &ChannelSketch) -> bool
     has_other_token(channel.sort, tokens) || is_below(channel.capacity, tokens.len())
 }
 
-/// Fault 16: some channel has start tokens that aren't of its sort, or more than its capacity.
+/// Fault 16: some channel has wrong start tokens.
 pub(crate) fn has_channel_with_wrong_tokens<K: Kinds>(sketch: &Sketch) -> bool
     ensures { result ≡ has_fault K.named K.signature sketch.now NetFault.Tokens }
 {
@@ -108,7 +104,7 @@ pub(crate) fn has_channel_with_wrong_tokens<K: Kinds>(sketch: &Sketch) -> bool
         .any(|c| has_wrong_tokens(c))
 }
 
-/// Fault 17: the step of growths is outside of its limits.
+/// Fault 17: the step is out of range.
 pub(crate) fn has_wrong_step<K: Kinds>(sketch: &Sketch) -> bool
     ensures { result ≡ has_fault K.named K.signature sketch.now NetFault.Step }
 {

@@ -1,4 +1,4 @@
-//! Faults of names: which may be one, and that none stands twice.
+//! Faults of names: wrong ones and duplicates.
 ghost use Rattle.std.specs.Prelude.{◌≡◌, not, Bool, option_copied, slice_index};
 ghost use Rattle.std.specs.List.{find, list_any, list_all};
 ghost use Rattle.std.specs.Str.{bytes_eq};
@@ -8,28 +8,24 @@ ghost use Rattle.kpn_net.specs.Faults.{any_pair, same_process, same_channel, has
 use kpn_model::Kinds;
 use kpn_sketch::{ChannelSketch, NetFault, ProcessSketch, Sketch};
 
-/// Whether a byte is one of `a` to `z`.
 fn is_letter(b: u8) -> bool
     ensures { result ≡ is_letter b }
 {
     b'a' <= b && b <= b'z'
 }
 
-/// Whether a byte may stand in a name.
 fn is_name_byte(b: u8) -> bool
     ensures { result ≡ is_name_byte b }
 {
     is_letter(b) || (b'0' <= b && b <= b'9') || b == b'_'
 }
 
-/// Whether each of these bytes may stand in a name.
 fn are_name_bytes(bytes: &[u8]) -> bool
     ensures { result ≡ list_all is_name_byte bytes.now }
 {
     bytes.iter().all(|b| is_name_byte(*b))
 }
 
-/// Whether the first of these bytes is a letter; not if there is none.
 fn begins_with_letter(bytes: &[u8]) -> bool
     ensures { result ≡ is_letter (slice_index bytes.now 0) }
 {
@@ -39,7 +35,7 @@ fn begins_with_letter(bytes: &[u8]) -> bool
     }
 }
 
-/// Whether this may be a name: 1 to 16 of `a` to `z`, `0` to `9` and `_`, the first a letter.
+/// Whether the text is a name: 1 to 16 of `a` to `z`, `0` to `9` and `_`, beginning with a letter.
 pub fn is_name(text: &str) -> bool
     ensures { result ≡ is_name text.now }
 {
@@ -51,12 +47,12 @@ pub fn is_name(text: &str) -> bool
 pub trait Clash<T> {
     ghost clash: { T → T → Bool };
 
-    /// Whether two items stand in the relation.
+    /// Whether two items clash.
     fn clash(x: &T, y: &T) -> bool
         ensures { result ≡ clash x.now y.now };
 }
 
-/// Two processes, or two channels, of one name.
+/// The clash of two processes, or two channels, with one name.
 pub struct SameName;
 
 impl Clash<ProcessSketch> for SameName {
@@ -75,14 +71,12 @@ impl Clash<ChannelSketch> for SameName {
     }
 }
 
-/// Whether an item clashes with one of those after it.
 fn clashes_later<T, C: Clash<T>>(x: &T, later: &[T]) -> bool
     ensures { result ≡ list_any (C.clash x.now) later.now }
 {
     later.iter().any(|y| C::clash(x, y))
 }
 
-/// Whether any two items clash.
 pub(crate) fn any_clash<T, C: Clash<T>>(items: &[T]) -> bool
     ensures { result ≡ any_pair C.clash items.now }
 {
@@ -96,28 +90,26 @@ pub(crate) fn any_clash<T, C: Clash<T>>(items: &[T]) -> bool
     false
 }
 
-/// The first process with this name.
+/// Returns the first process with this name.
 pub fn process_named<'a>(processes: &'a [ProcessSketch], name: &str) -> Option<&'a ProcessSketch>
     ensures { option_copied result ≡ find (λ p. bytes_eq p.name name.now) processes.now }
 {
     processes.iter().find(|p| p.name.as_str() == name)
 }
 
-/// Whether some process has a name that may not be one.
 fn has_bad_process_name(processes: &[ProcessSketch]) -> bool
     ensures { result ≡ list_any (λ p. not (is_name p.name)) processes.now }
 {
     processes.iter().any(|p| !is_name(p.name.as_str()))
 }
 
-/// Whether some channel has a name that may not be one.
 fn has_bad_channel_name(channels: &[ChannelSketch]) -> bool
     ensures { result ≡ list_any (λ c. not (is_name c.name)) channels.now }
 {
     channels.iter().any(|c| !is_name(c.name.as_str()))
 }
 
-/// Fault 5: a name may not be one, or two processes or two channels have the same.
+/// Fault 5: a name is wrong, or two processes or two channels share one.
 pub(crate) fn has_wrong_names<K: Kinds>(sketch: &Sketch) -> bool
     ensures { result ≡ has_fault K.named K.signature sketch.now NetFault.Name }
 {

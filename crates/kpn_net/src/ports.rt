@@ -10,10 +10,10 @@ use crate::names::{Clash, any_clash, process_named};
 use kpn_model::{Card, Kinds, Signature, Sort};
 use kpn_sketch::{ChannelSketch, NetFault, ProcessSketch, Sketch};
 
-/// Two channels from one port.
+/// The clash of two channels from one port.
 pub struct SameOut;
 
-/// Two channels to one port.
+/// The clash of two channels to one port.
 pub struct SameIn;
 
 impl Clash<ChannelSketch> for SameOut {
@@ -32,7 +32,7 @@ impl Clash<ChannelSketch> for SameIn {
     }
 }
 
-/// The sort of a port; `None` if there is no port of this number.
+/// Returns the sort of a port; `None` if there is no such port.
 pub fn port_sort(ports: &[Option<Sort>; 3], port: i64) -> Option<Sort>
     ensures { result ≡ port_sort ports.now port }
 {
@@ -42,7 +42,7 @@ pub fn port_sort(ports: &[Option<Sort>; 3], port: i64) -> Option<Sort>
     }
 }
 
-/// Whether the sort was found, and is this one.
+/// Whether `found` is this sort.
 pub fn is_sort(sort: Sort, found: Option<Sort>) -> bool
     ensures { result ≡ is_sort sort found }
 {
@@ -54,14 +54,14 @@ pub fn is_sort(sort: Sort, found: Option<Sort>) -> bool
     }
 }
 
-/// The argument of this number, without its sign; 0 if it is missing.
+/// Returns argument `k` without its sign; 0 if it is missing.
 fn arg(args: &[i64], k: usize) -> u64
     ensures { result ≡ unsigned_abs (slice_index_or args.now k (pos 0)) }
 {
     args.get(k).copied().unwrap_or(0).unsigned_abs()
 }
 
-/// The card of a kind with these arguments; missing arguments are 0.
+/// Returns the card of a kind with these arguments; missing ones are 0.
 pub(crate) fn card_with(kind: u16, args: &[i64]) -> Card
     ensures is { result ≡ card_with kind args.now }
     ensures fits { CardFits result }
@@ -72,7 +72,7 @@ pub(crate) fn card_with(kind: u16, args: &[i64]) -> Card
     }
 }
 
-/// The ports of a process; `None` if the family has no kind of its name, or refuses its arguments.
+/// Returns the ports of a process; `None` if the family has no kind of its name, or rejects its arguments.
 pub fn signature_of<K: Kinds>(process: &ProcessSketch) -> Option<Signature>
     ensures { result ≡ signature_of K.named K.signature process.now }
 {
@@ -80,14 +80,14 @@ pub fn signature_of<K: Kinds>(process: &ProcessSketch) -> Option<Signature>
     K::signature(&card_with(kind, process.args.as_slice()))
 }
 
-/// Whether the family has no kind of the name that the process gives.
+/// Whether the family has no kind of the process's name for it.
 pub fn has_unknown_kind<K: Kinds>(process: &ProcessSketch) -> bool
     ensures { result ≡ has_unknown_kind K.named K.signature process.now }
 {
     K::named(process.kind.as_str()).is_none()
 }
 
-/// Whether the kind of the process takes another number of arguments, or is unknown.
+/// Whether the kind is unknown or takes another number of arguments.
 pub fn takes_other_count<K: Kinds>(process: &ProcessSketch) -> bool
     ensures { result ≡ takes_other_count K.named K.signature process.now }
 {
@@ -97,8 +97,7 @@ pub fn takes_other_count<K: Kinds>(process: &ProcessSketch) -> bool
     }
 }
 
-/// Whether the kind takes another number of arguments, or more than three, or refuses these: one is
-/// below 0, or no process of the kind has them.
+/// Whether the number of arguments is wrong or above three, one is negative, or the kind rejects them.
 pub fn has_wrong_args<K: Kinds>(process: &ProcessSketch) -> bool
     ensures { result ≡ has_wrong_args K.named K.signature process.now }
 {
@@ -109,7 +108,7 @@ pub fn has_wrong_args<K: Kinds>(process: &ProcessSketch) -> bool
         || signature_of::<K>(process).is_none()
 }
 
-/// The signature of the process with this name; `None` if there is no such process, kind or card.
+/// Returns the ports of the process with this name; `None` if it, its kind or its signature is missing.
 fn signature_named<K: Kinds>(sketch: &Sketch, name: &str) -> Option<Signature>
     ensures { result ≡ signature_named K.named K.signature sketch.now name.now }
 {
@@ -117,7 +116,7 @@ fn signature_named<K: Kinds>(sketch: &Sketch, name: &str) -> Option<Signature>
     signature_of::<K>(process)
 }
 
-/// The sort of the output port that a channel begins at; `None` if there is none.
+/// Returns the sort of the output that a channel begins at; `None` if there is none.
 pub fn out_sort<K: Kinds>(sketch: &Sketch, channel: &ChannelSketch) -> Option<Sort>
     ensures { result ≡ sketched_out_sort K.named K.signature sketch.now channel.now }
 {
@@ -125,7 +124,7 @@ pub fn out_sort<K: Kinds>(sketch: &Sketch, channel: &ChannelSketch) -> Option<So
     port_sort(&signature.outs, channel.out)
 }
 
-/// The sort of the input port that a channel ends at; `None` if there is none.
+/// Returns the sort of the input that a channel ends at; `None` if there is none.
 pub fn in_sort<K: Kinds>(sketch: &Sketch, channel: &ChannelSketch) -> Option<Sort>
     ensures { result ≡ sketched_in_sort K.named K.signature sketch.now channel.now }
 {
@@ -133,7 +132,6 @@ pub fn in_sort<K: Kinds>(sketch: &Sketch, channel: &ChannelSketch) -> Option<Sor
     port_sort(&signature.ins, channel.input)
 }
 
-/// Whether some channel begins at this port of the process with this name.
 fn leads_from(channels: &[ChannelSketch], name: &str, port: i64) -> bool
     ensures { result ≡ list_any (λ c. bytes_eq c.from name.now && int_eq c.out port) channels.now }
 {
@@ -142,7 +140,6 @@ fn leads_from(channels: &[ChannelSketch], name: &str, port: i64) -> bool
         .any(|c| c.from.as_str() == name && c.out == port)
 }
 
-/// Whether some channel ends at this port of the process with this name.
 fn leads_to(channels: &[ChannelSketch], name: &str, port: i64) -> bool
     ensures { result ≡ list_any (λ c. bytes_eq c.to name.now && int_eq c.input port) channels.now }
 {
@@ -151,7 +148,7 @@ fn leads_to(channels: &[ChannelSketch], name: &str, port: i64) -> bool
         .any(|c| c.to.as_str() == name && c.input == port)
 }
 
-/// Whether a process with this name and signature has this output port, and no channel leads from it.
+/// Whether a process with this name and signature has this output, and no channel leads from it.
 pub fn is_unused_out<K: Kinds>(
     sketch: &Sketch,
     name: &str,
@@ -164,15 +161,13 @@ pub fn is_unused_out<K: Kinds>(
         && !leads_from(sketch.channels.as_slice(), name, port)
 }
 
-/// Whether a process with this name and signature has this input port, and no channel leads to it.
+/// Whether a process with this name and signature has this input, and no channel leads to it.
 pub fn is_unused_in<K: Kinds>(sketch: &Sketch, name: &str, signature: &Signature, port: i64) -> bool
     ensures { result ≡ is_unused_in K.named K.signature sketch.now name.now signature.now port }
 {
     port_sort(&signature.ins, port).is_some() && !leads_to(sketch.channels.as_slice(), name, port)
 }
 
-/// Whether a process with this name and signature has this input or output port, and no channel is at
-/// it.
 fn is_unused<K: Kinds>(sketch: &Sketch, name: &str, signature: &Signature, port: i64) -> bool
     ensures { result ≡ is_unused K.named K.signature sketch.now name.now signature.now port }
 {
@@ -180,7 +175,7 @@ fn is_unused<K: Kinds>(sketch: &Sketch, name: &str, signature: &Signature, port:
         || is_unused_in::<K>(sketch, name, signature, port)
 }
 
-/// Whether no channel leads from or to a port of the process.
+/// Whether some port of the process has no channel.
 pub fn has_unused_port<K: Kinds>(sketch: &Sketch, process: &ProcessSketch) -> bool
     ensures { result ≡ has_unused_port K.named K.signature sketch.now process.now }
 {
@@ -195,7 +190,7 @@ pub fn has_unused_port<K: Kinds>(sketch: &Sketch, process: &ProcessSketch) -> bo
     }
 }
 
-/// Fault 6: the family has no kind of the name that some process gives.
+/// Fault 6: the kind of some process is unknown.
 pub(crate) fn has_unknown_kinds<K: Kinds>(sketch: &Sketch) -> bool
     ensures { result ≡ has_fault K.named K.signature sketch.now NetFault.Kind }
 {
@@ -206,7 +201,7 @@ pub(crate) fn has_unknown_kinds<K: Kinds>(sketch: &Sketch) -> bool
         .any(|p| has_unknown_kind::<K>(p))
 }
 
-/// Fault 7: some process has arguments that its kind refuses.
+/// Fault 7: some process has wrong arguments.
 pub(crate) fn has_process_with_wrong_args<K: Kinds>(sketch: &Sketch) -> bool
     ensures { result ≡ has_fault K.named K.signature sketch.now NetFault.Args }
 {
@@ -217,7 +212,7 @@ pub(crate) fn has_process_with_wrong_args<K: Kinds>(sketch: &Sketch) -> bool
         .any(|p| has_wrong_args::<K>(p))
 }
 
-/// Whether the channel begins or ends at no port: of no process of that name, or of none that has it.
+/// Whether the channel begins or ends at no port: its process doesn't exist or lacks the port.
 pub fn lacks_end<K: Kinds>(sketch: &Sketch, channel: &ChannelSketch) -> bool
     ensures { result ≡ (is_none (sketched_out_sort K.named K.signature sketch.now channel.now) || is_none (sketched_in_sort K.named K.signature sketch.now channel.now)) }
 {
@@ -243,7 +238,7 @@ pub(crate) fn shares_port<K: Kinds>(sketch: &Sketch) -> bool
     any_clash::<ChannelSketch, SameOut>(channels) || any_clash::<ChannelSketch, SameIn>(channels)
 }
 
-/// Fault 10: no channel is at some port of a process.
+/// Fault 10: some port of a process has no channel.
 pub(crate) fn has_unused_ports<K: Kinds>(sketch: &Sketch) -> bool
     ensures { result ≡ has_fault K.named K.signature sketch.now NetFault.Unused }
 {
@@ -254,7 +249,7 @@ pub(crate) fn has_unused_ports<K: Kinds>(sketch: &Sketch) -> bool
         .any(|p| has_unused_port::<K>(sketch, p))
 }
 
-/// Whether a port at an end of the channel is of another sort than the channel, or is missing.
+/// Whether a port at an end of the channel is missing or has another sort than the channel.
 pub fn has_wrong_sort<K: Kinds>(sketch: &Sketch, channel: &ChannelSketch) -> bool
     ensures { result ≡ (not (is_sort channel.now.sort (sketched_out_sort K.named K.signature sketch.now channel.now)) || not (is_sort channel.now.sort (sketched_in_sort K.named K.signature sketch.now channel.now))) }
 {
@@ -262,7 +257,7 @@ pub fn has_wrong_sort<K: Kinds>(sketch: &Sketch, channel: &ChannelSketch) -> boo
         || !is_sort(channel.sort, in_sort::<K>(sketch, channel))
 }
 
-/// Fault 11: some channel is of another sort than a port at its ends.
+/// Fault 11: some channel has another sort than a port at its ends.
 pub(crate) fn has_wrong_sorts<K: Kinds>(sketch: &Sketch) -> bool
     ensures { result ≡ has_fault K.named K.signature sketch.now NetFault.Sorts }
 {

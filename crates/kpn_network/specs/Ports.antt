@@ -1,9 +1,8 @@
--- The channels at the ports of each process, as a table.
+-- A table of the channels at the ports of each process.
 use Rattle.std.specs.Prelude.{◌≡◌, ℕ, ◌<◌, ◌==◌, ◌&&◌, List, [], ◌∷◌, Option, length, get_or, position}
 use Rattle.kpn_model.specs.declared.parts.Channel.{Channel}
 use Rattle.kpn_network.specs.declared.ports.Ports.{Ports}
 
--- the channel at p's port k
 abbrev pub in_at : List Channel → ℕ → ℕ → Option ℕ
 in_at channels p k = position (λ l. (l.reader == p) && (l.input == k)) channels
 
@@ -16,7 +15,6 @@ ports_at channels p = record { ins = in_at channels p 0 ∷ in_at channels p 1 �
 abbrev pub no_ports : Ports
 no_ports = record { ins = []; outs = [] }
 
--- the table holds the channels at the ports of the first `count` processes
 pub record HasPorts (channels : List Channel) (count : ℕ) (ports : List Ports) : Type 0 where
   pub many : length ports ≡ count
   pub each : (p : ℕ) → p < count → get_or ports p no_ports ≡ ports_at channels p

@@ -1,4 +1,4 @@
-//! Valid networks of processes (Kahn 1974), and what is asked of one.
+//! Valid networks of processes (Kahn 1974), and queries on them.
 //!
 //! ```text
 //! let Some(channel) = net.find_channel(word) else {

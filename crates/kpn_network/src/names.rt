@@ -1,11 +1,11 @@
-//! Names of what a network may have.
+//! Names of processes and channels that a network may have.
 ghost use Rattle.std.specs.Prelude.{◌≡◌};
 ghost use Rattle.kpn_model.specs.NamesAndLines.{channel_name, process_name};
 
 use crate::net::Net;
 use kpn_model::Kinds;
 
-/// Returns the name of a process; nothing if the network has no such process.
+/// Returns the name of a process; empty if the network has no such process.
 pub fn process_name<K: Kinds>(net: &Net<K>, process: usize) -> &str
     ensures { result.now ≡ process_name net.now process }
 {
@@ -16,7 +16,7 @@ pub fn process_name<K: Kinds>(net: &Net<K>, process: usize) -> &str
     }
 }
 
-/// Returns the name of a channel; nothing if the network has no such channel.
+/// Returns the name of a channel; empty if the network has no such channel.
 pub fn channel_name<K: Kinds>(net: &Net<K>, channel: usize) -> &str
     ensures { result.now ≡ channel_name net.now channel }
 {

@@ -1,18 +1,18 @@
-//! The channels at the ports of the processes, as a table.
+//! A table of the channels at the ports of the processes.
 ghost use Rattle.std.specs.Prelude.{◌≡◌, ◌<◌, length, IfOk, IfSome};
 ghost use Rattle.kpn_network.specs.Ports.{in_at, out_at, ports_at, HasPorts};
 
 use kpn_model::Channel;
 use std::alloc::{AllocError, Global};
 
-/// The numbers of the channels at the inputs and at the outputs of a process.
+/// The numbers of the channels at a process's inputs and outputs.
 #[derive(Clone, Copy, Debug, PartialEq, Eq)]
 pub struct Ports {
     pub ins: [Option<usize>; 3],
     pub outs: [Option<usize>; 3],
 }
 
-/// The channel that leads to input `port` of process `p`: all channels are looked through.
+/// Returns the channel at input `port` of process `p`, searching all channels.
 pub(crate) fn find_in(channels: &[Channel], p: usize, port: usize) -> Option<usize>
     ensures is { result ≡ in_at channels.now p port }
     ensures within { IfSome result (λ c. c < length channels.now) }
@@ -22,7 +22,7 @@ pub(crate) fn find_in(channels: &[Channel], p: usize, port: usize) -> Option<usi
         .position(|c| c.reader == p && c.input == port)
 }
 
-/// The channel that leads from output `port` of process `p`: all channels are looked through.
+/// Returns the channel at output `port` of process `p`, searching all channels.
 pub(crate) fn find_out(channels: &[Channel], p: usize, port: usize) -> Option<usize>
     ensures is { result ≡ out_at channels.now p port }
     ensures within { IfSome result (λ c. c < length channels.now) }
@@ -30,7 +30,6 @@ pub(crate) fn find_out(channels: &[Channel], p: usize, port: usize) -> Option<us
     channels.iter().position(|c| c.writer == p && c.out == port)
 }
 
-/// The channels at the ports of one process.
 fn ports_at(channels: &[Channel], p: usize) -> Ports
     ensures { result ≡ ports_at channels.now p }
 {
@@ -48,7 +47,7 @@ fn ports_at(channels: &[Channel], p: usize) -> Ports
     }
 }
 
-/// The channels at the ports of the first `count` processes. Fails if memory was refused.
+/// Returns the table for the first `count` processes. Errors: out of memory.
 pub(crate) fn table_of(
     alloc: Global,
     channels: &[Channel],

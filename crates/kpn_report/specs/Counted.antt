@@ -1,4 +1,4 @@
--- The lines of a report, from what was counted of a history.
+-- The lines of a report, from the counts of a history.
 use Rattle.std.specs.Prelude.{ℕ, ◌+◌, ◌-◌, ◌++◌, codes, decimal, List, [], Option, Some, None, length, slice_index_or}
 use Rattle.std.specs.List.{flat_map}
 use Rattle.kpn_model.specs.declared.history.Entry.{Entry}
@@ -10,7 +10,7 @@ use Rattle.kpn_report.specs.Tally.{counts_at}
 use Rattle.kpn_model.specs.NamesAndLines.{lines_upto}
 use Rattle.kpn_report.specs.Text.{process_line, channel_line, growth_line, stream_line}
 
--- the line of channel c: what is left are its start tokens and those put on it, without those taken
+-- left are the start tokens and those put on the channel, without those taken
 abbrev pub counted_line : Network → List ChannelCounts → ℕ → List ℕ
 counted_line net channel_counts c =
     let a = counts_at channel_counts c in channel_line net a.put (length (channel_of net c).tokens + a.put - a.taken) a.capacity c
@@ -21,7 +21,6 @@ counted_text net places steps channel_counts growths entries =
     lines_upto (process_line net places steps) (length net.processes) ++ lines_upto (counted_line net channel_counts) (length net.channels)
     ++ flat_map (growth_line net) growths ++ codes "entries " ++ decimal entries ++ codes "\n"
 
--- the line of the channel to show, if there is one
 abbrev pub shown_of : Network → List Entry → Option ℕ → List ℕ
 shown_of net E None = []
 shown_of net E (Some c) = stream_line net (slice_index_or (each_channel net (λ b. stream net E b)) c []) c

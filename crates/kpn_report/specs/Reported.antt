@@ -8,7 +8,6 @@ use Rattle.kpn_model.specs.Endings.{has_report}
 use Rattle.kpn_model.specs.History.{Digest, digest}
 use Rattle.kpn_report.specs.declared.detail.Detail.{Detail}
 
--- the digest of this cause and this detail
 abbrev pub digest_with : End → Detail → Digest
 digest_with cause d = record {
   cause = cause;
@@ -21,7 +20,7 @@ digest_with cause d = record {
   entries = d.entries;
 }
 
--- the report is that of a run to M that ended for this cause
+-- the detail is that of a run to M that ended for this cause
 pub record IsReport (kinds : Family) (net : Network) (cause : End) (E : List Entry) (M : State) (detail : Option Detail) : Type 0 where
   pub none : has_report cause ≡ false → detail ≡ None
   pub some : has_report cause ≡ true → (d : Detail) × (detail ≡ Some d) × (digest_with cause d ≡ digest kinds net cause E M)

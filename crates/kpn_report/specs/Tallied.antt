@@ -1,4 +1,4 @@
--- Entries that are counted while they are kept.
+-- Entries counted while they are kept.
 use Rattle.std.specs.Prelude.{◌≡◌, ℕ, Bool, true, false, List, [], length}
 use Rattle.kpn_model.specs.declared.limits.TheConstants.{MOST_PROCESSES, MOST_CHANNELS}
 use Rattle.kpn_model.specs.declared.history.Deed.TheVariants.{Took, Put, Stopped}
@@ -7,7 +7,6 @@ use Rattle.kpn_model.specs.declared.history.Entry.TheVariants.{Did, Grew}
 use Rattle.kpn_model.specs.History.{deeds, put_on, taken, growths}
 use Rattle.kpn_report.specs.Tally.{Tabulates, one_more_at}
 
--- the entries, and how many there is room for
 pub record TalliedEntries : Type 0 where
   pub entries : List Entry
   pub room : ℕ
@@ -15,7 +14,7 @@ pub record TalliedEntries : Type 0 where
 abbrev pub tallied_entries : List Entry → ℕ → TalliedEntries
 tallied_entries E room = record { entries = E; room = room }
 
--- after one more entry: the tokens put on each channel and those taken from it, and whether a channel grew
+-- the counts after one more entry
 abbrev pub puts_after : List ℕ → Entry → List ℕ
 puts_after puts (Did p (Put c t)) = one_more_at puts c
 puts_after puts (Did p (Took c t)) = puts
@@ -32,7 +31,7 @@ abbrev pub grew_after : Bool → Entry → Bool
 grew_after grew (Grew c to) = true
 grew_after grew (Did p d) = grew
 
--- what is counted of these entries, for as many processes and channels as a network may have; entries of others are not counted
+-- the counts of these entries, for the most processes and channels of a network
 pub record AreCounts (E : List Entry) (steps puts takes : List ℕ) (grew : Bool) : Type 0 where
   pub of_steps : Tabulates 0 MOST_PROCESSES (λ p. length (deeds E p)) steps
   pub of_puts : Tabulates 0 MOST_CHANNELS (λ c. length (put_on E c)) puts

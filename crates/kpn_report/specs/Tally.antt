@@ -1,4 +1,4 @@
--- What is counted and kept of a history.
+-- The counts of a history.
 use Rattle.std.specs.Prelude.{◌≡◌, ℕ, ◌+◌, ◌<◌, List, [], ◌∷◌, ◌++◌, length, get_or, set}
 use Rattle.kpn_model.specs.declared.token.Token.{Token}
 use Rattle.kpn_model.specs.declared.history.Deed.{Deed}
@@ -9,34 +9,28 @@ use Rattle.kpn_model.specs.Network.{Network, channel_of}
 use Rattle.kpn_model.specs.History.{deeds, put_on, stream, taken, growths, grown}
 use Rattle.kpn_report.specs.declared.channel_counts.ChannelCounts.{ChannelCounts}
 
--- the counts of channel c
 abbrev pub counts_of : Network → List Entry → ℕ → ChannelCounts
 counts_of net E c = record { put = length (put_on E c); taken = length (taken E c); capacity = grown (channel_of net c).capacity (growths E) c }
 
 abbrev pub no_counts : ChannelCounts
 no_counts = record { put = 0; taken = 0; capacity = 0 }
 
--- the list has n items, and item i of it is f i
 pub record Tabulates {X : Type 0} (none : X) (n : ℕ) (f : ℕ → X) (xs : List X) : Type 0 where
   pub count : length xs ≡ n
   pub each : (i : ℕ) → i < n → get_or xs i none ≡ f i
 
--- the number of deeds of each process
 abbrev pub CountsSteps : Network → List Entry → List ℕ → Type 0
 CountsSteps net E steps = Tabulates 0 (length net.processes) (λ p. length (deeds E p)) steps
 
--- the counts of each channel
 abbrev pub KeepsCounts : Network → List Entry → List ChannelCounts → Type 0
 KeepsCounts net E channel_counts = Tabulates no_counts (length net.channels) (counts_of net E) channel_counts
 
--- the stream of each channel
 abbrev pub KeepsStreams : Network → List Entry → List (List Token) → Type 0
 KeepsStreams net E streams = Tabulates [] (length net.channels) (stream net E) streams
 
 abbrev pub counts_at : List ChannelCounts → ℕ → ChannelCounts
 counts_at channel_counts c = get_or channel_counts c no_counts
 
--- the counts of a channel after a put, a take and a growth
 abbrev pub with_put : ChannelCounts → ChannelCounts
 with_put a = record a { put = a.put + 1 }
 
@@ -46,11 +40,11 @@ with_taken a = record a { taken = a.taken + 1 }
 abbrev pub with_capacity : ChannelCounts → ℕ → ChannelCounts
 with_capacity a n = record a { capacity = n }
 
--- one more at place k; the same if the list has no such place
+-- unchanged if there is no such place
 abbrev pub one_more_at : List ℕ → ℕ → List ℕ
 one_more_at counts k = set counts k (get_or counts k 0 + 1)
 
--- the steps and the counts of the channels after one more entry
+-- after one more entry
 abbrev pub steps_after : List ℕ → Entry → List ℕ
 steps_after steps (Did p d) = one_more_at steps p
 steps_after steps (Grew c to) = steps
@@ -64,7 +58,7 @@ abbrev pub counts_after : List ChannelCounts → Entry → List ChannelCounts
 counts_after channel_counts (Did p d) = counts_after_deed channel_counts d
 counts_after channel_counts (Grew c to) = set channel_counts c (with_capacity (counts_at channel_counts c) to)
 
--- the streams after one more deed, or one more entry
+-- after one more deed or entry
 abbrev pub streams_after_deed : List (List Token) → Deed → List (List Token)
 streams_after_deed streams (Took c t) = streams
 streams_after_deed streams (Put c t) = set streams c (get_or streams c [] ++ t ∷ [])

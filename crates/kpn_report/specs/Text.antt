@@ -54,7 +54,7 @@ module _ (net : Network) where
   stream_line tokens c = codes "stream " ++ channel_name net c ++ flat_map token_part tokens ++ codes "\n"
 
   module _ (d : Digest) where
-    -- how many tokens were put on a channel: its stream without its start tokens
+    -- the stream without the start tokens
     abbrev pub put_count : ℕ → ℕ
     put_count c = length (slice_index_or d.streams c []) - length (channel_of net c).tokens
 
@@ -64,7 +64,6 @@ module _ (net : Network) where
     abbrev pub digest_line : ℕ → List ℕ
     digest_line c = channel_line (put_count c) (left_count c) (slice_index d.capacities c) c
 
-    -- the line of the channel to show, if there is one
     abbrev pub shown_line : Option ℕ → List ℕ
     shown_line None = []
     shown_line (Some c) = stream_line (slice_index_or d.streams c []) c
@@ -74,7 +73,7 @@ module _ (net : Network) where
         lines_upto (process_line d.places d.steps) (length net.processes) ++ lines_upto digest_line (length net.channels)
         ++ flat_map growth_line d.growths ++ codes "entries " ++ decimal d.entries ++ codes "\n" ++ shown_line show
 
--- the text of a run to M that ended for this cause; if its budget was spent or memory was refused, only the first line
+-- only the first line if the budget was spent or the run was out of memory
 abbrev pub report_text : Family → Network → End → List Entry → State → Option ℕ → List ℕ
 report_text kinds net Budget E M show = end_line Budget
 report_text kinds net Memory E M show = end_line Memory

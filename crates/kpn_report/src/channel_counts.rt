@@ -1,6 +1,6 @@
-//! What went through one channel, in numbers.
+//! The counts of one channel.
 
-/// How many tokens were put on a channel, how many were taken from it, and its capacity.
+/// How many tokens were put on a channel and taken from it, and its capacity.
 #[derive(Clone, Copy)]
 pub(crate) struct ChannelCounts {
     pub put: usize,

@@ -10,7 +10,7 @@ use kpn_model::Kinds;
 use kpn_network::Net;
 use std::alloc::{AllocError, Global};
 
-/// The tally of counted entries among which is no growth. Fails if memory was refused.
+/// Returns the tally of counted entries without growths. Errors: out of memory.
 pub(crate) fn counted_tally<K: Kinds>(
     alloc: Global,
     net: &Net<K>,
@@ -28,7 +28,6 @@ pub(crate) fn counted_tally<K: Kinds>(
     })
 }
 
-/// The number of deeds of each process.
 fn counted_steps<K: Kinds>(
     alloc: Global,
     net: &Net<K>,
@@ -44,7 +43,7 @@ fn counted_steps<K: Kinds>(
     Ok(steps)
 }
 
-/// The counts of a channel that didn't grow.
+/// Returns the counts of a channel that didn't grow.
 fn counted_channel<K: Kinds>(net: &Net<K>, tallied: &Tallied, c: usize) -> ChannelCounts
     requires channel { c < length net.now.channels }
     requires none { growths_of tallied.now.entries ≡ [] }
@@ -58,7 +57,6 @@ fn counted_channel<K: Kinds>(net: &Net<K>, tallied: &Tallied, c: usize) -> Chann
     }
 }
 
-/// The counts of each channel, if none grew.
 fn counted_channels<K: Kinds>(
     alloc: Global,
     net: &Net<K>,

@@ -16,10 +16,10 @@ use kpn_model::{End, Entry, Kinds, Listed, Place, Token};
 use kpn_network::Net;
 use std::alloc::{AllocError, Global};
 
-/// The place of each process, in order.
+/// Each process's place, in order.
 pub type Places = Listed<Place>;
 
-/// The number of deeds of each process, in order.
+/// Each process's number of deeds, in order.
 pub type Steps = Listed<u64>;
 
 /// A number of tokens for each channel, in order.
@@ -28,9 +28,8 @@ pub type Sizes = Listed<usize>;
 /// A channel and its new capacity for each growth, in order.
 pub type Growths = Listed<(usize, usize)>;
 
-/// What a run that is over did: for each process its place and the number of its deeds; for each
-/// channel its last capacity, its stream and what it still holds; the growths; and the number of
-/// entries.
+/// What a run that is over did: each process's place and number of deeds; each channel's last capacity, stream
+/// and remaining tokens; the growths; and the number of entries.
 #[derive(Drop)]
 pub struct Detail {
     pub places: Places,
@@ -42,7 +41,7 @@ pub struct Detail {
     pub entries: u64,
 }
 
-/// A stream without its first `taken` tokens.
+/// Returns a stream without its first `taken` tokens.
 fn rest(alloc: Global, stream: &[Token], taken: usize) -> Result<Stream, AllocError>
     ensures { IfOk result (λ r. r ≡ drop taken stream.now) }
 {
@@ -50,7 +49,6 @@ fn rest(alloc: Global, stream: &[Token], taken: usize) -> Result<Stream, AllocEr
     Ok(Listed::new(Vec::from_slice(alloc, &stream[from..])?))
 }
 
-/// What each channel still holds.
 fn rests(
     alloc: Global,
     streams: &[Stream],
@@ -66,7 +64,6 @@ fn rests(
     Ok(rests)
 }
 
-/// The last capacity of each channel.
 fn capacities(alloc: Global, channel_counts: &[ChannelCounts]) -> Result<Vec<usize>, AllocError>
     ensures { IfOk result (λ v. v.items ≡ map (λ a. a.capacity) channel_counts.now) }
 {
@@ -76,9 +73,7 @@ fn capacities(alloc: Global, channel_counts: &[ChannelCounts]) -> Result<Vec<usi
         .collect(alloc)
 }
 
-/// Returns the detail of a history. `places` are the places where it left the processes.
-///
-/// The history is read twice. Errors: memory was refused.
+/// Returns the detail of a history that left the processes at `places`. Reads it twice. Errors: out of memory.
 pub fn detail_of<K: Kinds>(
     alloc: Global,
     net: &Net<K>,
@@ -103,17 +98,15 @@ pub fn detail_of<K: Kinds>(
     })
 }
 
-/// What is reported of a run: why it ended, and its detail if it came to its own end.
+/// The report of a run: why it ended, and its detail if it is over.
 #[derive(Drop)]
 pub struct Report {
     pub end: End,
     pub detail: Option<Detail>,
 }
 
-/// Returns the report of a history with this end. If the end has a detail, `places` are the places
-/// where the history left the processes.
-///
-/// There is a detail exactly for `Terminated`, `Deadlock` and `Ceiling`. Errors: memory was refused.
+/// Returns the report of a history with this end. There is a detail exactly for `Terminated`, `Deadlock` and
+/// `Ceiling`; then `places` must be the places where the history left the processes. Errors: out of memory.
 pub fn report_of<K: Kinds>(
     alloc: Global,
     net: &Net<K>,
@@ -132,7 +125,6 @@ pub fn report_of<K: Kinds>(
     }
 }
 
-/// Whether a run with this end came to its own end, and so has a detail.
 pub(crate) fn has_report(end: End) -> bool
     ensures { result ≡ has_report end }
 {

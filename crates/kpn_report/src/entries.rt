@@ -1,19 +1,18 @@
-//! The entries of a history, as a report reads them.
+//! Entries of a history, as reports read them.
 ghost use Rattle.std.specs.Prelude.{◌≡◌, ◌<◌, ◌^◌, IfSome, List, get_or, length};
 
 use crate::tallied::Tallied;
 use kpn_model::Entry;
 use kpn_state::{Keeper, Packed, Recall, Wide};
 
-/// The entries of a history: how many there are, each at its place, and their counts if they were counted while they
-/// were kept.
+/// The entries of a history, with their counts if they were counted while they were kept.
 pub trait Entries {
     ghost use Rattle.std.specs.Prelude.{List};
     ghost use Rattle.kpn_model.specs.declared.history.Entry.{Entry};
 
     ghost entries: { Self → List Entry };
 
-    /// Returns how many entries there are.
+    /// Returns the number of entries.
     fn count(&self) -> usize
         ensures count { result ≡ length (entries self.now) }
         ensures few { length (entries self.now) < 2 ^ 63 };
@@ -23,12 +22,11 @@ pub trait Entries {
         requires { place < length (entries self.now) }
         ensures { (d : Entry) → get_or (entries self.now) place d ≡ result };
 
-    /// Returns the same entries with their counts; `None` if they were not counted.
+    /// Returns the entries with their counts; `None` if they were not counted.
     fn tallied(&self) -> Option<&Tallied>
         ensures { IfSome result (λ t. t.now.entries ≡ entries self.now) };
 }
 
-/// A history in a slice.
 #[derive(Clone, Copy)]
 pub(crate) struct Slice<'a> {
     pub(crate) history: &'a [Entry],

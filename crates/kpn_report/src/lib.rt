@@ -1,4 +1,4 @@
-//! The report of a run: what each process did, what went through each channel, and its text.
+//! The report of a run: each process's deeds, each channel's tokens, and its text.
 //!
 //! ```text
 //! let net = finish.net();

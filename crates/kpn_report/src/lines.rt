@@ -10,7 +10,7 @@ use kpn_network::names::channel_name;
 use std::alloc::{AllocError, Global};
 use std::fmt::Write;
 
-/// Appends the line of a process: its place, and the number of its deeds.
+/// Appends the line of a process: its place and its number of deeds.
 fn push_process<K: Kinds>(
     out: &mut String,
     net: &Net<K>,
@@ -36,7 +36,7 @@ fn push_process<K: Kinds>(
     }
 }
 
-/// Appends the line of each process: its place, and the number of its deeds.
+/// Appends the line of each process.
 pub(crate) fn push_processes<K: Kinds>(
     out: &mut String,
     net: &Net<K>,
@@ -69,7 +69,6 @@ pub(crate) fn push_channel<K: Kinds>(
     )
 }
 
-/// Appends the line of a growth.
 fn push_growth<K: Kinds>(
     out: &mut String,
     net: &Net<K>,
@@ -82,7 +81,7 @@ fn push_growth<K: Kinds>(
     write!(out, "grew {name} {to}\n")
 }
 
-/// Appends a line for each growth, in order.
+/// Appends a line for each growth.
 pub(crate) fn push_growths<K: Kinds>(
     out: &mut String,
     net: &Net<K>,
@@ -96,7 +95,6 @@ pub(crate) fn push_growths<K: Kinds>(
     Ok(())
 }
 
-/// Appends a space and a token.
 fn push_token(out: &mut String, token: Token) -> Result<(), AllocError>
     ensures { OnOk result (string_bytes out.new ≡ string_bytes out.old ++ token_part token) }
 {
@@ -106,7 +104,7 @@ fn push_token(out: &mut String, token: Token) -> Result<(), AllocError>
     }
 }
 
-/// Appends some tokens, each after a space.
+/// Appends tokens, each after a space.
 fn push_tokens(out: &mut String, tokens: &[Token]) -> Result<(), AllocError>
     ensures { OnOk result (string_bytes out.new ≡ string_bytes out.old ++ flat_map token_part tokens.now) }
 {
@@ -116,7 +114,7 @@ fn push_tokens(out: &mut String, tokens: &[Token]) -> Result<(), AllocError>
     Ok(())
 }
 
-/// Appends the line of the tokens that went through a channel.
+/// Appends the line of a channel's stream.
 pub(crate) fn push_stream<K: Kinds>(
     out: &mut String,
     net: &Net<K>,
@@ -131,7 +129,6 @@ pub(crate) fn push_stream<K: Kinds>(
     out.push_str("\n")
 }
 
-/// The word for why a run ended.
 fn end_text(end: End) -> &'static str
     ensures { result.now ≡ end_text end }
 {
@@ -144,7 +141,7 @@ fn end_text(end: End) -> &'static str
     }
 }
 
-/// The first line.
+/// Returns the first line.
 pub(crate) fn end_line(alloc: Global, end: End) -> Result<String, AllocError>
     ensures { IfOk result (λ line. string_bytes line ≡ end_line end) }
 {

@@ -1,4 +1,4 @@
-//! Where the processes of a network came to rest.
+//! Where a run left the processes.
 ghost use Rattle.std.specs.Prelude.{◌≡◌, IfOk};
 ghost use Rattle.kpn_model.specs.History.{each_process, place_of};
 ghost use Rattle.kpn_state.specs.Standings.{standing, parked_answer};
@@ -9,7 +9,7 @@ use kpn_state::Standing;
 use kpn_state::standing::parked;
 use std::alloc::{AllocError, Global};
 
-/// The place of a process that wants this.
+/// Returns the place of a process with this answer, if any.
 fn place<K: Kinds>(net: &Net<K>, process: usize, wanted: Option<Answer>) -> Place
     ensures { result ≡ place_of net.now process wanted }
 {
@@ -26,11 +26,8 @@ fn place<K: Kinds>(net: &Net<K>, process: usize, wanted: Option<Answer>) -> Plac
     }
 }
 
-/// Returns the place of each process, from the standings: a parked process reads or writes the channel
-/// for which it waits, and every other process counts as stopped.
-///
-/// If no process is ready or out, these are the places in the report of the run. Errors: memory was
-/// refused.
+/// Returns each process's place: a parked process reads or writes the channel at which it waits; any other
+/// counts as stopped. If none is ready or out, these are the places in the report. Errors: out of memory.
 ///
 /// ```text
 /// let places = places_of(alloc, net, flow.standings())?;

@@ -1,4 +1,4 @@
-//! The tokens that went through the channels.
+//! The streams of the channels.
 ghost use Rattle.std.specs.Prelude.{◌≡◌, ◌<◌, ◌≤◌, ◌++◌, ◌∷◌, [], length, IfOk, OnOk};
 ghost use Rattle.kpn_model.specs.History.{stream, put_on};
 ghost use Rattle.kpn_report.specs.Tally.{KeepsStreams, streams_after};
@@ -14,7 +14,6 @@ pub type Stream = Listed<Token>;
 /// A stream for each channel.
 pub type Streams = Listed<Stream>;
 
-/// The stream of a channel before any entry: its start tokens.
 fn first_stream<K: Kinds>(alloc: Global, net: &Net<K>, c: usize) -> Result<Stream, AllocError>
     requires { c < length net.now.channels }
     ensures { IfOk result (λ s. s ≡ stream net.now [] c) }
@@ -22,7 +21,7 @@ fn first_stream<K: Kinds>(alloc: Global, net: &Net<K>, c: usize) -> Result<Strea
     Ok(Listed::new(Vec::from_slice(alloc, net.tokens(c))?))
 }
 
-/// The stream of each channel before any entry.
+/// Returns each channel's start tokens.
 fn first_streams<K: Kinds>(alloc: Global, net: &Net<K>) -> Result<Vec<Stream>, AllocError>
     ensures { IfOk result (λ v. KeepsStreams net.now [] v.items) }
 {
@@ -33,7 +32,7 @@ fn first_streams<K: Kinds>(alloc: Global, net: &Net<K>) -> Result<Vec<Stream>, A
     Ok(streams)
 }
 
-/// Appends the token that an entry puts, to its channel's stream. Fails if memory was refused.
+/// Appends the token that an entry puts to its channel's stream. Errors: out of memory.
 fn push_put(streams: &mut Vec<Stream>, entry: Entry) -> Result<(), AllocError>
     ensures { OnOk result (streams.new.items ≡ streams_after streams.old.items entry) }
 {
@@ -50,7 +49,7 @@ fn push_put(streams: &mut Vec<Stream>, entry: Entry) -> Result<(), AllocError>
     Ok(())
 }
 
-/// The streams of a history, which is read once. Fails if memory was refused.
+/// Returns the streams of a history, which it reads once. Errors: out of memory.
 pub(crate) fn streams_of<K: Kinds, E: Entries>(
     alloc: Global,
     net: &Net<K>,
@@ -65,7 +64,7 @@ pub(crate) fn streams_of<K: Kinds, E: Entries>(
     Ok(streams)
 }
 
-/// Appends what an entry puts on this channel.
+/// Appends the token that an entry puts on this channel.
 fn push_put_on(tokens: &mut Vec<Token>, channel: usize, entry: Entry) -> Result<(), AllocError>
     ensures { OnOk result (tokens.new.items ≡ tokens.old.items ++ put_on (entry ∷ []) channel) }
 {
@@ -81,7 +80,7 @@ fn push_put_on(tokens: &mut Vec<Token>, channel: usize, entry: Entry) -> Result<
     }
 }
 
-/// Appends what the entries of a history put on this channel.
+/// Appends the tokens that a history puts on this channel.
 fn push_all_put_on<E: Entries>(
     tokens: &mut Vec<Token>,
     channel: usize,
@@ -95,8 +94,8 @@ fn push_all_put_on<E: Entries>(
     Ok(())
 }
 
-/// Returns what went through a channel: its start tokens, and those that the entries put on it, in
-/// order; no tokens if the network has no such channel. Errors: memory was refused.
+/// Returns the stream of a channel: its start tokens, then those that the entries put on it; empty if the
+/// network has no such channel. Errors: out of memory.
 ///
 /// ```text
 /// for token in stream_of(alloc, run.net(), run.history(), channel)? {
@@ -117,7 +116,7 @@ pub fn stream_of<K: Kinds>(
     stream_of_entries(alloc, net, &Slice { history }, channel)
 }
 
-/// Returns the stream of a channel ([`stream_of`]), whatever has the entries.
+/// Returns the stream of a channel, like [`stream_of`], from any type of entries.
 ///
 /// ```text
 /// let tokens = stream_of_entries(alloc, net, history, channel.channel)?;

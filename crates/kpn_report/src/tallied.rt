@@ -1,4 +1,4 @@
-//! Entries that are counted while they are kept.
+//! Entries counted while they are kept.
 ghost use Rattle.std.specs.Prelude.{◌≡◌, ◌<◌, ◌+◌, ◌^◌, ℕ, [], false, length, get_or};
 ghost use Rattle.kpn_model.specs.History.{deeds, put_on, taken, growths};
 ghost use Rattle.kpn_report.specs.Tally.{steps_after};
@@ -12,8 +12,8 @@ use kpn_state::{Keeper, Packed, Recall};
 use std::alloc::{AllocError, Global};
 use std::marker::Model;
 
-/// Entries in 16 bytes each, with how many deeds of each process and how many tokens put on each channel and taken
-/// from it they tell of, and whether a channel grew.
+/// Entries in 16 bytes each, with the numbers of deeds of each process and of tokens put on and taken from
+/// each channel, and whether a channel grew.
 #[derive(Drop)]
 pub struct Tallied {
     packed: Packed,
@@ -34,7 +34,7 @@ impl Model for Tallied {
 }
 
 impl Tallied {
-    /// Returns whether a channel grew.
+    /// Whether a channel grew.
     pub(crate) fn has_growths(&self) -> bool
         ensures { result ≡ false → growths self.now.entries ≡ [] }
     {
@@ -49,7 +49,7 @@ impl Tallied {
         self.steps[process]
     }
 
-    /// Returns how many tokens were put on a channel.
+    /// Returns the number of tokens put on a channel.
     pub(crate) fn puts(&self, channel: usize) -> u64
         requires { channel < MOST_CHANNELS }
         ensures { result ≡ length (put_on self.now.entries channel) }
@@ -57,7 +57,7 @@ impl Tallied {
         self.puts[channel]
     }
 
-    /// Returns how many tokens were taken from a channel.
+    /// Returns the number of tokens taken from a channel.
     pub(crate) fn takes(&self, channel: usize) -> u64
         requires { channel < MOST_CHANNELS }
         ensures { result ≡ length (taken self.now.entries channel) }
@@ -66,7 +66,6 @@ impl Tallied {
     }
 }
 
-/// Counts one more entry.
 #[inline(always)]
 fn count_entry(
     steps: &mut Vec<u64>,

@@ -1,4 +1,4 @@
-//! What is counted of a history, entry by entry.
+//! Counts a history, entry by entry.
 ghost use Rattle.std.specs.Prelude.{◌≡◌, ◌<◌, ◌+◌, ◌^◌, ◌++◌, ◌∷◌, [], ℕ, set, get_or, length, IfOk, OnOk};
 ghost use Rattle.kpn_model.specs.History.{growths as growths_of};
 ghost use Rattle.kpn_report.specs.Tally.{CountsSteps, KeepsCounts, one_more_at, with_put, with_taken, with_capacity, counts_at, steps_after, counts_after_deed, counts_after, counts_of};
@@ -10,8 +10,7 @@ use kpn_model::{Deed, Entry, Kinds};
 use kpn_network::Net;
 use std::alloc::{AllocError, Global};
 
-/// What is counted of a history: the deeds of each process; what was put on each channel and taken
-/// from it, and its last capacity; and the growths.
+/// The counts of a history: each process's deeds, each channel's counts, and the growths.
 #[derive(Drop)]
 pub(crate) struct Tally {
     pub(crate) steps: Vec<u64>,
@@ -19,7 +18,7 @@ pub(crate) struct Tally {
     pub(crate) growths: Vec<(usize, usize)>,
 }
 
-/// Counts one more at this place, if there is such a place.
+/// Adds one at this place, if there is such a place.
 #[inline(always)]
 pub(crate) fn count_at(counts: &mut Vec<u64>, place: usize)
     requires { get_or counts.old.items place 0 + 1 < 2 ^ 64 }
@@ -30,7 +29,6 @@ pub(crate) fn count_at(counts: &mut Vec<u64>, place: usize)
     }
 }
 
-/// Counts one more token put on a channel.
 fn count_put(channel_counts: &mut Vec<ChannelCounts>, channel: usize)
     requires { (counts_at channel_counts.old.items channel).put + 1 < 2 ^ 64 }
     ensures { channel_counts.new.items ≡ set channel_counts.old.items channel (with_put (counts_at channel_counts.old.items channel)) }
@@ -41,7 +39,6 @@ fn count_put(channel_counts: &mut Vec<ChannelCounts>, channel: usize)
     }
 }
 
-/// Counts one more token taken from a channel.
 fn count_taken(channel_counts: &mut Vec<ChannelCounts>, channel: usize)
     requires { (counts_at channel_counts.old.items channel).taken + 1 < 2 ^ 64 }
     ensures { channel_counts.new.items ≡ set channel_counts.old.items channel (with_taken (counts_at channel_counts.old.items channel)) }
@@ -52,7 +49,6 @@ fn count_taken(channel_counts: &mut Vec<ChannelCounts>, channel: usize)
     }
 }
 
-/// Notes the new capacity of a channel.
 fn note_capacity(channel_counts: &mut Vec<ChannelCounts>, channel: usize, to: usize)
     ensures { channel_counts.new.items ≡ set channel_counts.old.items channel (with_capacity (counts_at channel_counts.old.items channel) to) }
 {
@@ -62,7 +58,6 @@ fn note_capacity(channel_counts: &mut Vec<ChannelCounts>, channel: usize, to: us
     }
 }
 
-/// Counts what a deed puts or takes.
 fn note_deed(channel_counts: &mut Vec<ChannelCounts>, deed: Deed)
     requires few_put { (c : ℕ) → (counts_at channel_counts.old.items c).put + 1 < 2 ^ 64 }
     requires few_taken { (c : ℕ) → (counts_at channel_counts.old.items c).taken + 1 < 2 ^ 64 }
@@ -75,7 +70,7 @@ fn note_deed(channel_counts: &mut Vec<ChannelCounts>, deed: Deed)
     }
 }
 
-/// Counts one more entry. Fails if memory was refused.
+/// Counts an entry. Errors: out of memory.
 fn note(
     steps: &mut Vec<u64>,
     channel_counts: &mut Vec<ChannelCounts>,
@@ -103,14 +98,12 @@ fn note(
     }
 }
 
-/// The counts of deeds before any entry: 0 for each process.
 fn no_steps<K: Kinds>(alloc: Global, net: &Net<K>) -> Result<Vec<u64>, AllocError>
     ensures { IfOk result (λ v. CountsSteps net.now [] v.items) }
 {
     vec![in alloc; 0u64; net.processes()]
 }
 
-/// The counts of a channel before any entry.
 fn first_counts_of<K: Kinds>(net: &Net<K>, c: usize) -> ChannelCounts
     requires { c < length net.now.channels }
     ensures { result ≡ counts_of net.now [] c }
@@ -122,7 +115,6 @@ fn first_counts_of<K: Kinds>(net: &Net<K>, c: usize) -> ChannelCounts
     }
 }
 
-/// The counts of each channel before any entry.
 fn first_counts<K: Kinds>(alloc: Global, net: &Net<K>) -> Result<Vec<ChannelCounts>, AllocError>
     ensures { IfOk result (λ v. KeepsCounts net.now [] v.items) }
 {
@@ -133,8 +125,7 @@ fn first_counts<K: Kinds>(alloc: Global, net: &Net<K>) -> Result<Vec<ChannelCoun
     Ok(channel_counts)
 }
 
-/// Counts a history. It is read once, unless it was counted while it was kept and no channel grew. Fails if memory was
-/// refused.
+/// Counts a history. Reads it once, unless it was tallied and no channel grew. Errors: out of memory.
 pub(crate) fn tally_of<K: Kinds, E: Entries>(
     alloc: Global,
     net: &Net<K>,
@@ -150,7 +141,7 @@ pub(crate) fn tally_of<K: Kinds, E: Entries>(
     }
 }
 
-/// Counts a history, which is read once. Fails if memory was refused.
+/// Counts a history by reading it once. Errors: out of memory.
 fn read_tally<K: Kinds, E: Entries>(
     alloc: Global,
     net: &Net<K>,

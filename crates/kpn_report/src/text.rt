@@ -21,7 +21,7 @@ use kpn_network::Net;
 use std::alloc::{AllocError, Global};
 use std::fmt::Write;
 
-/// Appends the line of a channel, from what was counted of it.
+/// Appends the line of a channel from its counts.
 fn push_counted<K: Kinds>(
     out: &mut String,
     net: &Net<K>,
@@ -38,7 +38,6 @@ fn push_counted<K: Kinds>(
     push_channel(out, net, counts.put, left, counts.capacity, c)
 }
 
-/// Appends the lines of the channels, from what was counted of them.
 fn push_channels<K: Kinds>(
     out: &mut String,
     net: &Net<K>,
@@ -54,7 +53,7 @@ fn push_channels<K: Kinds>(
     Ok(())
 }
 
-/// Appends the line of the channel to show, if there is one.
+/// Appends the stream of the channel to show, if any.
 fn push_shown<K: Kinds, E: Entries>(
     alloc: Global,
     out: &mut String,
@@ -73,14 +72,14 @@ fn push_shown<K: Kinds, E: Entries>(
     }
 }
 
-/// Appends the line of the number of entries.
+/// Appends the line with the number of entries.
 fn push_entries(out: &mut String, entries: usize) -> Result<(), AllocError>
     ensures { OnOk result (string_bytes out.new ≡ string_bytes out.old ++ (codes "entries " ++ decimal entries ++ codes "\n")) }
 {
     write!(out, "entries {entries}\n")
 }
 
-/// Appends the lines of what was counted of a history with this number of entries.
+/// Appends the lines of a tally and the number of entries.
 fn push_tally<K: Kinds>(
     out: &mut String,
     net: &Net<K>,
@@ -98,7 +97,7 @@ fn push_tally<K: Kinds>(
     push_entries(out, entries)
 }
 
-/// Appends the lines of a history after the first line.
+/// Appends all lines but the first.
 fn push_history<K: Kinds, E: Entries>(
     alloc: Global,
     out: &mut String,
@@ -116,15 +115,14 @@ fn push_history<K: Kinds, E: Entries>(
     Ok(())
 }
 
-/// Returns the text of the report of a history with this end, with the stream of channel `show` if it
-/// is given. If the end has a detail, `places` are the places where the history left the processes.
+/// Returns the text of the report of a history with this end, with the stream of channel `show` if given. If
+/// the end has a detail, `places` must be the places where the history left the processes.
 ///
-/// Each line ends in a line feed, and numbers are decimal. The lines are `end` and the cause; for each
-/// process its name, its place and the number of its deeds; for each channel its name, how many tokens
-/// were put on it and are left, and its capacity; each growth; the number of entries; and the stream.
-/// If the budget was spent or memory was refused, there is only the first line. The history is counted
-/// in one pass, and no stream is kept except that of the channel to show, which takes one pass more.
-/// Errors: memory was refused.
+/// Each line ends with a line feed; numbers are decimal. The lines are: the end; each process's name, place
+/// and number of deeds; each channel's name, how many tokens were put on it and are left, and its capacity;
+/// each growth; the number of entries; and the stream. If the budget was spent or the run was out of memory,
+/// there is only the first line. Counts the history in one pass; the stream takes one more, and no other
+/// stream is kept. Errors: out of memory.
 pub fn text_of<K: Kinds>(
     alloc: Global,
     net: &Net<K>,
@@ -138,8 +136,8 @@ pub fn text_of<K: Kinds>(
     text_of_entries(alloc, net, &Slice { history }, places, end, show)
 }
 
-/// The text of a report ([`text_of`]), whatever has the entries. Those that were counted while they were kept are counted
-/// again only if a channel grew.
+/// Returns the text of a report, like [`text_of`], from any type of entries. Entries that were counted while
+/// they were kept are counted again only if a channel grew.
 pub fn text_of_entries<K: Kinds, E: Entries>(
     alloc: Global,
     net: &Net<K>,

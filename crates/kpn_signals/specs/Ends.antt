@@ -1,5 +1,4 @@
--- The kinds that stop at once, that only read, or that only write, and the one that writes a word before it copies: what they answer
--- in a local state.
+-- The kinds that stop at once, only read or only write, and one that writes a word, then copies.
 use Rattle.std.specs.Prelude.{ℕ, ◌+◌, ◌%◌, ◌^◌, ◌==◌, if◌then◌else◌, List, Option, Some, None}
 use Rattle.kpn_model.specs.declared.token.Token.{Token}
 use Rattle.kpn_model.specs.declared.token.Token.TheVariants.{Word}
@@ -7,22 +6,22 @@ use Rattle.kpn_model.specs.declared.kinds.Act.TheVariants.{Read, Write}
 use Rattle.kpn_model.specs.declared.kinds.Answer.{Answer}
 use Rattle.kpn_standard.specs.Locals.{at, says, stays, word}
 
--- input and input_flags: stop at once; what their channels hold comes from outside
+-- input and input_flags: stop at once; their channels' tokens come from outside
 --     any   the same   stop
 abbrev pub input_answer : List ℕ → Answer
 input_answer l = stays l
 
--- drain and drain_flags: read for ever
+-- drain and drain_flags: read forever
 --     any   the same   read input 0
 abbrev pub drain_answer : List ℕ → Answer
 drain_answer l = record { next = l; act = Read 0 }
 
--- constant: writes its argument for ever
+-- constant: writes its argument forever
 --     any   the same   write v to output 0
 abbrev pub constant_answer : ℕ → List ℕ → Answer
 constant_answer v l = record { next = l; act = Write 0 (Word v) }
 
--- count_up: writes 0, 1, 2, .. modulo 2^64 for ever
+-- count_up: writes 0, 1, 2, .. modulo 2^64 forever
 --     [i]   [(i + 1) % 2^64]   write i to output 0
 abbrev pub count_up_answer : List ℕ → Answer
 count_up_answer l = says ((at l 0 + 1) % 2 ^ 64) 0 0 (Write 0 (Word (at l 0)))

@@ -17,7 +17,6 @@ use Rattle.kpn_signals.specs.Rates.{decimate_answer, repeat_answer}
 use Rattle.kpn_signals.specs.Filters.{hold_join, delay_step, low_pass_step, clip_step}
 use Rattle.kpn_signals.specs.Table.{numbered}
 
--- what a kind answers, by its arguments, its local state and the token of the read just done
 abbrev pub answer_of : Signal → List ℕ → List ℕ → Option Token → Answer
 answer_of Input args l last = input_answer l
 answer_of InputFlags args l last = input_answer l
@@ -46,7 +45,7 @@ answer_of SignedClip args l last = step_answer (clip_step (word_below (at args 0
 answer_of SignedScale args l last = step_answer (scale_step (word_below (at args 0))) l last
 answer_of SignedPrefix args l last = prefix_answer (word_below (at args 0)) l last
 
--- the local state in which a process of a kind begins: hold keeps its argument at first, all else is 0
+-- hold keeps its argument, all else is 0
 abbrev pub start_of : Signal → List ℕ → List ℕ
 start_of Hold args = three READS_FIRST 0 (at args 0)
 start_of SignedHold args = three READS_FIRST 0 (word_below (at args 0))

@@ -1,4 +1,4 @@
--- What the names and the cards of the kinds for signals mean.
+-- What names and cards of the kinds for signals mean.
 use Rattle.std.specs.Prelude.{ℕ, ◌^◌, nat_lt, ◌==◌, ◌&&◌, ◌||◌, int_le, Bool, true, List, Option, option_map, option_and_then}
 use Rattle.kpn_model.specs.declared.kinds.Card.{Card}
 use Rattle.kpn_model.specs.declared.kinds.Signature.{Signature}
@@ -9,24 +9,22 @@ use Rattle.kpn_signals.specs.declared.signal.Signal.TheVariants.{Shift, Left, Lo
 use Rattle.kpn_signals.specs.Words.{signed, word_below, bound}
 use Rattle.kpn_signals.specs.Table.{row_of, numbered, called}
 
--- the number of the kind with this name, and how many arguments it takes
 abbrev pub number_named : List ℕ → Option (ℕ × ℕ)
 number_named name = option_map (λ kind. ((row_of kind).number, (row_of kind).arguments)) (called name)
 
--- an argument below 0, of which a card has n for -1 - n
+-- n may stand for the negative argument -1 - n
 abbrev pub is_below : ℕ → Bool
 is_below n = nat_lt n (2 ^ 63)
 
--- the arguments of a kind that takes one below 0: that one, and how many there are
+-- one negative argument, and the number 1 of such
 abbrev pub is_one_below : List ℕ → Bool
 is_one_below args = is_below (at args 0) && (at args 1 == 1)
 
--- the arguments of `clip, signed`: the first bound is below 0, and the second one too if two are
+-- the bounds of `clip, signed`: the first is negative, and if `below` is 2 the second too
 abbrev pub are_bounds : ℕ → ℕ → ℕ → Bool
 are_bounds lo hi below = is_below lo && (is_below hi && ((below == 1 || below == 2) && int_le (signed (word_below lo)) (signed (bound hi below))))
 
--- what a kind asks of its arguments: a shift is by 0 to 63, a rate at least 1, a delay 1 to 4, and the least is no greater than the
--- greatest; the last argument of a kind with arguments below 0 is how many of the others are, from the first on
+-- after negative arguments comes how many they are, from the first on
 abbrev pub suit : Signal → List ℕ → Bool
 suit Shift args = nat_lt (at args 0) 64
 suit Left args = nat_lt (at args 0) 64
@@ -42,7 +40,6 @@ suit SignedPrefix args = is_one_below args
 suit SignedClip args = are_bounds (at args 0) (at args 1) (at args 2)
 suit _ args = true
 
--- no arguments but those that a kind takes are used
 abbrev pub are_own : Signal → List ℕ → Bool
 are_own SignedClip args = true
 are_own kind args = are_used (row_of kind).arguments args

@@ -11,7 +11,6 @@ use Rattle.kpn_signals.specs.declared.signal.Signal.TheVariants.{Input, InputFla
 abbrev pub two_flags : List (Option Sort)
 two_flags = Some Flags ∷ Some Flags ∷ None ∷ []
 
--- the number of a kind in cards, its name, how many arguments it takes, its inputs and its outputs
 abbrev pub row_of : Signal → Row
 row_of Input = tabled 0 (codes "input") 0 no_port one_word
 row_of InputFlags = tabled 1 (codes "input_flags") 0 no_port one_flag
@@ -40,8 +39,7 @@ row_of SignedClip = tabled 23 (codes "clip, signed") 3 one_word one_word
 row_of SignedScale = tabled 24 (codes "scale, signed") 2 one_word one_word
 row_of SignedPrefix = tabled 25 (codes "prefix, signed") 2 one_word one_word
 
--- the name by which a description calls a kind, and how many arguments it then takes: another one than its own only where arguments are
--- below 0
+-- a kind's name in descriptions, and its number of arguments there: its own, unless arguments are negative
 abbrev pub called_by : Signal → List ℕ × ℕ
 called_by SignedConstant = (codes "constant", 1)
 called_by SignedHold = (codes "hold", 1)
@@ -53,10 +51,8 @@ called_by kind = ((row_of kind).name, (row_of kind).arguments)
 abbrev pub all_kinds : List Signal
 all_kinds = Input ∷ InputFlags ∷ Drain ∷ DrainFlags ∷ Constant ∷ CountUp ∷ Sub ∷ Mul ∷ Shift ∷ Left ∷ Less ∷ Equal ∷ Not ∷ And ∷ Or ∷ Decimate ∷ Repeat ∷ Hold ∷ Delay ∷ LowPass ∷ Clip ∷ SignedConstant ∷ SignedHold ∷ SignedClip ∷ SignedScale ∷ SignedPrefix ∷ []
 
--- the kind with this number
 abbrev pub numbered : ℕ → Option Signal
 numbered number = find (λ kind. number == (row_of kind).number) all_kinds
 
--- the kind with this name
 abbrev pub called : List ℕ → Option Signal
 called name = find (λ kind. bytes_eq name (row_of kind).name) all_kinds

@@ -13,8 +13,8 @@ use crate::signs::{bound, word_below};
 use crate::turns::{reads, stops};
 use kpn_model::{Answer, Local, Token};
 
-/// Returns the answer of a process of a kind with these arguments, in this local state and after it has
-/// just read `last` (`None` if its last act was no read). The kind must accept the arguments.
+/// Returns the answer of a process of a kind with these arguments in this local state, after it read `last`
+/// (`None` if its last act was no read). The kind must accept the arguments.
 #[inline(always)]
 pub fn answer(kind: Signal, args: [u64; 3], local: Local, last: Option<Token>) -> Answer
     requires { accepts kind args ≡ true }

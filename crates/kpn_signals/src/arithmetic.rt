@@ -1,4 +1,4 @@
-//! The kinds that compute words: each function returns the next answer of its kind.
+//! The kinds that compute words: each function returns its kind's answer.
 ghost use Rattle.std.specs.Prelude.{◌≡◌, ◌<◌};
 ghost use Rattle.kpn_signals.specs.Shapes.{step_answer, join_answer};
 ghost use Rattle.kpn_signals.specs.Arithmetic.{sub_join, mul_join, right_shift, scale_step, shift_step, left_step};
@@ -6,7 +6,7 @@ ghost use Rattle.kpn_signals.specs.Arithmetic.{sub_join, mul_join, right_shift, 
 use crate::turns::{joined, latest, reads, word, writes_word};
 use kpn_model::{Answer, Local, Token};
 
-/// Reads two words, and writes the first minus the second modulo 2^64, for ever.
+/// Reads two words, and writes the first minus the second modulo 2^64, forever.
 pub(crate) fn sub(local: Local, last: Option<Token>) -> Answer
     ensures { result ≡ join_answer sub_join local last }
 {
@@ -15,7 +15,6 @@ pub(crate) fn sub(local: Local, last: Option<Token>) -> Answer
     joined(local, last, kept, Token::Word(difference))
 }
 
-/// Reads two words, and writes their product modulo 2^64, for ever.
 pub(crate) fn mul(local: Local, last: Option<Token>) -> Answer
     ensures { result ≡ join_answer mul_join local last }
 {
@@ -24,7 +23,6 @@ pub(crate) fn mul(local: Local, last: Option<Token>) -> Answer
     joined(local, last, kept, Token::Word(product))
 }
 
-/// Reads a word, and writes its product by `factor` modulo 2^64, for ever.
 pub(crate) fn scale(factor: u64, local: Local, last: Option<Token>) -> Answer
     ensures { result ≡ step_answer (scale_step factor) local last }
 {
@@ -34,7 +32,7 @@ pub(crate) fn scale(factor: u64, local: Local, last: Option<Token>) -> Answer
     }
 }
 
-/// Reads a word, and writes it shifted to the right by `bits` as a signed number, for ever.
+/// Reads a word, and writes it shifted right by `bits` as a signed number, forever.
 pub(crate) fn shift(bits: u64, local: Local, last: Option<Token>) -> Answer
     requires { bits < 64 }
     ensures { result ≡ step_answer (shift_step bits) local last }
@@ -45,7 +43,6 @@ pub(crate) fn shift(bits: u64, local: Local, last: Option<Token>) -> Answer
     }
 }
 
-/// Reads a word, and writes it shifted to the left by `bits`, for ever.
 pub(crate) fn left(bits: u64, local: Local, last: Option<Token>) -> Answer
     requires { bits < 64 }
     ensures { result ≡ step_answer (left_step bits) local last }
@@ -56,7 +53,6 @@ pub(crate) fn left(bits: u64, local: Local, last: Option<Token>) -> Answer
     }
 }
 
-/// A word shifted to the right as a signed number, which copies its sign.
 fn right_shift(bits: u64, word: u64) -> u64
     requires { bits < 64 }
     ensures { result ≡ right_shift bits word }

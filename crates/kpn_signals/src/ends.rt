@@ -1,18 +1,16 @@
-//! The kinds that only write, and the one that writes a word before it copies: each function returns the next answer of its kind.
+//! Kinds that only write, and one that writes a word, then copies: each function returns its kind's answer.
 ghost use Rattle.std.specs.Prelude.{◌≡◌};
 ghost use Rattle.kpn_signals.specs.Ends.{constant_answer, count_up_answer, prefix_answer};
 
 use crate::turns::{reads, word, writes_word};
 use kpn_model::{Answer, Local, Token};
 
-/// Writes `value` for ever.
 pub(crate) fn constant(value: u64, local: Local) -> Answer
     ensures { result ≡ constant_answer value local }
 {
     writes_word(local, value)
 }
 
-/// Writes 0, 1, 2, .. modulo 2^64 for ever.
 pub(crate) fn count_up(local: Local) -> Answer
     ensures { result ≡ count_up_answer local }
 {
@@ -20,7 +18,7 @@ pub(crate) fn count_up(local: Local) -> Answer
     writes_word([count.wrapping_add(1), 0, 0, 0], count)
 }
 
-/// Writes `first`, and then each word that it reads, for ever.
+/// Writes `first`, then each word that it reads, forever.
 pub(crate) fn prefix(first: u64, local: Local, last: Option<Token>) -> Answer
     ensures { result ≡ prefix_answer first local last }
 {

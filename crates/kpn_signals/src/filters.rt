@@ -1,5 +1,4 @@
-//! The kinds whose words depend on earlier ones, and the one that keeps words within bounds: each function
-//! returns the next answer of its kind.
+//! The kinds that keep words, and one that clips them: each function returns its kind's answer.
 ghost use Rattle.std.specs.Prelude.{◌≡◌, ◌<◌, ◌≤◌, ◌≤ℤ◌};
 ghost use Rattle.kpn_signals.specs.Words.{signed};
 ghost use Rattle.kpn_signals.specs.Shapes.{step_answer, join_answer};
@@ -8,8 +7,7 @@ ghost use Rattle.kpn_signals.specs.Filters.{hold_join, delay_step, next_level, l
 use crate::turns::{flag, joined, latest, reads, word, writes_word};
 use kpn_model::{Answer, Local, Token};
 
-/// Reads a word and a flag, and writes the word if the flag is true, else the word that it wrote last, for
-/// ever.
+/// Reads a word and a flag, and writes the word if the flag is true, else the last written one, forever.
 pub(crate) fn hold(local: Local, last: Option<Token>) -> Answer
     ensures { result ≡ join_answer hold_join local last }
 {
@@ -18,7 +16,7 @@ pub(crate) fn hold(local: Local, last: Option<Token>) -> Answer
     joined(local, last, choice, Token::Word(choice))
 }
 
-/// Reads a word, and writes the word `n` before it (1 to 4), or 0 if there is none, for ever.
+/// Reads a word, and writes the one `n` words earlier (1 to 4), or 0 if there is none, forever.
 pub(crate) fn delay(n: u64, local: Local, last: Option<Token>) -> Answer
     requires least { 0 < n }
     requires greatest { n ≤ 4 }
@@ -34,8 +32,7 @@ pub(crate) fn delay(n: u64, local: Local, last: Option<Token>) -> Answer
     }
 }
 
-/// Reads a word x, and writes y + (x - y) / 2^bits, rounded down, as signed numbers, where y is the word
-/// that it wrote last, 0 at first; for ever.
+/// Reads a word x, writes y + (x - y) / 2^bits, rounded down, signed, forever. y is the word it wrote last.
 pub(crate) fn low_pass(bits: u64, local: Local, last: Option<Token>) -> Answer
     requires { bits < 64 }
     ensures { result ≡ step_answer (low_pass_step bits) local last }
@@ -50,7 +47,6 @@ pub(crate) fn low_pass(bits: u64, local: Local, last: Option<Token>) -> Answer
     }
 }
 
-/// `level` + (`word` - `level`) / 2^bits, rounded down, as signed numbers.
 fn next_level(bits: u64, level: u64, word: u64) -> u64
     requires { bits < 64 }
     ensures { result ≡ next_level bits level word }
@@ -61,7 +57,7 @@ fn next_level(bits: u64, level: u64, word: u64) -> u64
     (next as i64).cast_unsigned()
 }
 
-/// Reads a word, and writes the nearest one from `least` to `greatest`, as signed numbers, for ever.
+/// Reads a word, and writes the nearest one from `least` to `greatest`, as signed numbers, forever.
 pub(crate) fn clip(least: u64, greatest: u64, local: Local, last: Option<Token>) -> Answer
     requires { signed least ≤ℤ signed greatest }
     ensures { result ≡ step_answer (clip_step least greatest) local last }
@@ -72,7 +68,6 @@ pub(crate) fn clip(least: u64, greatest: u64, local: Local, last: Option<Token>)
     }
 }
 
-/// The nearest word from `least` to `greatest`, as signed numbers.
 fn nearest(least: u64, greatest: u64, word: u64) -> u64
     requires { signed least ≤ℤ signed greatest }
     ensures { result ≡ nearest least greatest word }

@@ -1,7 +1,6 @@
-//! What a program's help says of the kinds for signals.
+//! Help on the kinds for signals.
 
-/// What a program's help says of a kind: its name, the names of its arguments, the sorts of its inputs and
-/// of its outputs (w a word, f a flag), and what it does.
+/// A line of help on a kind: name, arguments, sorts of inputs and outputs (w a word, f a flag), what it does.
 #[derive(Clone, Copy, Debug)]
 pub struct Help {
     pub name: &'static str,
@@ -10,11 +9,11 @@ pub struct Help {
     pub does: &'static str,
 }
 
-/// What "signed" means in the lines of help.
+/// Explains "signed" in the lines of help.
 pub const SIGNED: &str =
     "signed: a word is a number in two's complement, from 2^63 on itself less 2^64";
 
-/// A line of help for each kind, in the order of their numbers.
+/// The lines of help, in the order of the kinds' numbers.
 pub const HELP: [Help; 21] = [
     Help {
         name: "input",

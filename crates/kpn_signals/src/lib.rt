@@ -1,12 +1,11 @@
-//! Kinds of processes for signals, as a family: their names, arguments, ports and answers, and a line of
-//! help for each.
+//! The family of the kinds for signals: names, arguments, ports, answers, and lines of help.
 //!
-//! Sums, differences and products are modulo 2^64. Where a kind is signed (`shift`, `less`, `low_pass`
-//! and `clip`), a word is a number in two's complement: from 2^63 on it stands for itself less 2^64.
+//! Sums, differences and products are modulo 2^64. Signed kinds (`shift`, `less`, `low_pass` and `clip`) read
+//! words as two's complement.
 //!
-//! `constant`, `hold` and `clip`, and the standard `scale` and `prefix`, have a second kind each, `constant, signed`
-//! and so on, for arguments below 0, which no card has: of -1 - n it has n, and after its arguments how many of them
-//! are below 0.
+//! A card has no negative arguments. So `constant`, `hold` and `clip`, and the standard `scale` and `prefix`,
+//! have a second kind each, `constant, signed` and so on. Its card has n for a negative argument -1 - n, and,
+//! after the arguments, how many of them are negative.
 #![tactic(auto)]
 
 pub mod answers;

@@ -1,4 +1,4 @@
-//! The kinds that make flags: each function returns the next answer of its kind.
+//! The kinds that write flags: each function returns its kind's answer.
 ghost use Rattle.std.specs.Prelude.{◌≡◌};
 ghost use Rattle.kpn_signals.specs.Shapes.{step_answer, join_answer};
 ghost use Rattle.kpn_signals.specs.Logic.{less_join, equal_join, not_step, and_join, or_join};
@@ -6,10 +6,10 @@ ghost use Rattle.kpn_signals.specs.Logic.{less_join, equal_join, not_step, and_j
 use crate::turns::{flag, joined, latest, reads, word, writes};
 use kpn_model::{Answer, Local, Token};
 
-/// How a flag that was read first is kept if it is true.
+/// A true flag that was read first, as it is kept.
 const TRUE: u64 = 1;
 
-/// Reads two words, and writes whether the first is less than the second as signed numbers, for ever.
+/// Reads two words, and writes whether the first is less than the second as signed numbers, forever.
 pub(crate) fn less(local: Local, last: Option<Token>) -> Answer
     ensures { result ≡ join_answer less_join local last }
 {
@@ -18,7 +18,6 @@ pub(crate) fn less(local: Local, last: Option<Token>) -> Answer
     joined(local, last, kept, Token::Flag(is_less))
 }
 
-/// Reads two words, and writes whether they are equal, for ever.
 pub(crate) fn equal(local: Local, last: Option<Token>) -> Answer
     ensures { result ≡ join_answer equal_join local last }
 {
@@ -27,7 +26,6 @@ pub(crate) fn equal(local: Local, last: Option<Token>) -> Answer
     joined(local, last, kept, Token::Flag(is_equal))
 }
 
-/// Reads a flag, and writes the other one, for ever.
 pub(crate) fn not(local: Local, last: Option<Token>) -> Answer
     ensures { result ≡ step_answer not_step local last }
 {
@@ -37,7 +35,6 @@ pub(crate) fn not(local: Local, last: Option<Token>) -> Answer
     }
 }
 
-/// Reads two flags, and writes whether both are true, for ever.
 pub(crate) fn and(local: Local, last: Option<Token>) -> Answer
     ensures { result ≡ join_answer and_join local last }
 {
@@ -47,7 +44,6 @@ pub(crate) fn and(local: Local, last: Option<Token>) -> Answer
     joined(local, last, kept, Token::Flag(are_both))
 }
 
-/// Reads two flags, and writes whether one of them is true, for ever.
 pub(crate) fn or(local: Local, last: Option<Token>) -> Answer
     ensures { result ≡ join_answer or_join local last }
 {

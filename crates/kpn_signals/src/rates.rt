@@ -1,12 +1,11 @@
-//! The kinds that write fewer words than they read, or more: each function returns the next answer of its
-//! kind.
+//! The kinds that write fewer or more words than they read: each function returns its kind's answer.
 ghost use Rattle.std.specs.Prelude.{◌≡◌, ◌<◌};
 ghost use Rattle.kpn_signals.specs.Rates.{decimate_answer, repeat_answer};
 
 use crate::turns::{reads, word, writes_word};
 use kpn_model::{Answer, Local, Token};
 
-/// Of each `n` words writes the first, for ever.
+/// Writes the first of each `n` words, forever.
 pub(crate) fn decimate(n: u64, local: Local, last: Option<Token>) -> Answer
     requires { 0 < n }
     ensures { result ≡ decimate_answer n local last }
@@ -19,7 +18,7 @@ pub(crate) fn decimate(n: u64, local: Local, last: Option<Token>) -> Answer
     }
 }
 
-/// Writes each word `n` times, for ever.
+/// Writes each word `n` times, forever.
 pub(crate) fn repeat(n: u64, local: Local, last: Option<Token>) -> Answer
     requires { 0 < n }
     ensures { result ≡ repeat_answer n local last }

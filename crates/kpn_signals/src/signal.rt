@@ -10,28 +10,28 @@ use crate::turns::READS_FIRST;
 use kpn_model::{Local, Sort};
 use kpn_standard::kind::Row;
 
-/// A kind for signals.
+/// A kind for signals. Each variant names its arguments first.
 #[derive(Clone, Copy, Debug, PartialEq, Eq)]
 pub enum Signal {
-    /// Stops at once; its channel holds words that come from outside.
+    /// Stops at once; its channel's words come from outside.
     Input,
-    /// Stops at once; its channel holds flags that come from outside.
+    /// Stops at once; its channel's flags come from outside.
     InputFlags,
-    /// Reads words for ever.
+    /// Reads words forever.
     Drain,
-    /// Reads flags for ever.
+    /// Reads flags forever.
     DrainFlags,
-    /// A word: writes it for ever.
+    /// A word: writes it forever.
     Constant,
-    /// Writes 0, 1, 2, .. modulo 2^64 for ever.
+    /// Writes 0, 1, 2, .. modulo 2^64 forever.
     CountUp,
     /// Writes the words of input 0 minus those of input 1, modulo 2^64.
     Sub,
     /// Writes the products modulo 2^64.
     Mul,
-    /// How many bits, 0 to 63: writes each word shifted to the right as a signed number.
+    /// A number of bits, 0 to 63: writes each word shifted right as a signed number.
     Shift,
-    /// How many bits, 0 to 63: writes each word shifted to the left.
+    /// A number of bits, 0 to 63: writes each word shifted left.
     Left,
     /// Writes whether the word of input 0 is less than that of input 1, as signed numbers.
     Less,
@@ -41,37 +41,34 @@ pub enum Signal {
     Not,
     /// Writes whether both flags are true.
     And,
-    /// Writes whether one of the flags is true.
+    /// Writes whether at least one flag is true.
     Or,
-    /// A number n, at least 1: of each n words writes the first.
+    /// n, at least 1: writes the first of each n words.
     Decimate,
-    /// A number n, at least 1: writes each word n times.
+    /// n, at least 1: writes each word n times.
     Repeat,
-    /// The word that is written at first: writes the word of input 0 if the flag of input 1 is true, else
-    /// the word that it wrote last.
+    /// The first kept word: writes input 0's word if input 1's flag is true, else the word written last.
     Hold,
-    /// A number n, 1 to 4: writes n zeros, then what it reads.
+    /// n, 1 to 4: writes n zeros, then what it reads.
     Delay,
-    /// How many bits, 0 to 63: writes y + (x - y) / 2^bits for each word x, rounded down, as signed
-    /// numbers, where y is the word that it wrote last, 0 at first.
+    /// A number of bits, 0 to 63: writes y + (x - y) / 2^bits for each word x, rounded down, as signed
+    /// numbers. y is the last written word, 0 at first.
     LowPass,
     /// The least and the greatest word, as signed numbers: writes the nearest one within them.
     Clip,
-    /// `Constant` of a number below 0: n for the number -1 - n, and 1, as one argument is below 0.
+    /// n and 1: `Constant` of the number -1 - n.
     SignedConstant,
-    /// `Hold` of a number below 0, which is given in the same way.
+    /// n and 1: `Hold` of the number -1 - n.
     SignedHold,
-    /// `Clip` of numbers of which the first alone or both are below 0: for such a number -1 - n it is given n;
-    /// and how many are below 0.
+    /// `Clip` to bounds, n for a negative one -1 - n, and how many are negative: 1 (the first) or 2.
     SignedClip,
-    /// Writes the product of each word by a number below 0, which is given in the same way as to `SignedConstant`,
-    /// modulo 2^64.
+    /// n and 1: writes the product of each word with -1 - n, modulo 2^64.
     SignedScale,
-    /// Writes a number below 0, which is given in the same way, and then each word.
+    /// n and 1: writes -1 - n, then each word.
     SignedPrefix,
 }
 
-/// The longest delay: as many words as a process keeps.
+/// The longest delay: a process keeps four words.
 const MAX_DELAY: u64 = 4;
 
 const WORDS: Option<Sort> = Some(Sort::Words);
@@ -91,7 +88,7 @@ const TWO_FLAGS: [Option<Sort>; 3] = [FLAGS, FLAGS, None];
 const WORD_AND_FLAG: [Option<Sort>; 3] = [WORDS, FLAGS, None];
 
 impl Signal {
-    /// Returns the row of the kind in the table. Its name means this kind.
+    /// Returns the kind's row of the table.
     pub fn row(self) -> Row
         ensures number { result.number ≡ (row_of self).number }
         ensures name { result.name.now ≡ (row_of self).name }
@@ -111,7 +108,6 @@ impl Signal {
         }
     }
 
-    /// The number of the kind in cards, its name, and how many arguments it takes.
     fn heading(self) -> (u16, &'static str, usize)
         ensures number { result.0 ≡ (row_of self).number }
         ensures name { result.1.now ≡ (row_of self).name }
@@ -147,7 +143,6 @@ impl Signal {
         }
     }
 
-    /// The sorts of its inputs and of its outputs.
     fn ports(self) -> ([Option<Sort>; 3], [Option<Sort>; 3])
         ensures ins { result.0 ≡ (row_of self).ins }
         ensures outs { result.1 ≡ (row_of self).outs }
@@ -248,8 +243,7 @@ impl Signal {
         }
     }
 
-    /// Returns the name by which a description calls the kind, and how many arguments it then takes: those of
-    /// its row, unless arguments are below 0.
+    /// Returns the kind's name in descriptions, and its number of arguments there (no count of negatives).
     pub fn called_by(self) -> (&'static str, usize)
         ensures name { result.0.now ≡ (called_by self).0 }
         ensures arguments { result.1 ≡ (called_by self).1 }
@@ -267,7 +261,7 @@ impl Signal {
         }
     }
 
-    /// Returns whether a process of the kind can have these arguments.
+    /// Whether a process of the kind can have these arguments.
     pub fn accepts(self, args: [u64; 3]) -> bool
         ensures { result ≡ accepts self args }
     {
@@ -290,7 +284,7 @@ impl Signal {
         }
     }
 
-    /// Returns the local state in which a process of the kind begins: `hold` keeps its argument at first.
+    /// Returns the local state in which a process of the kind begins: `hold` keeps its argument.
     pub fn start(self, args: [u64; 3]) -> Local
         ensures { result ≡ start_of self args }
     {
@@ -302,7 +296,6 @@ impl Signal {
     }
 }
 
-/// Whether these are an argument below 0 and how many there are: one.
 fn is_one_below(args: [u64; 3]) -> bool
     ensures { result ≡ (at args 2 == 0 && is_one_below args) }
 {
@@ -310,7 +303,6 @@ fn is_one_below(args: [u64; 3]) -> bool
     none == 0 && a < FIRST_BELOW && below == 1
 }
 
-/// Whether a process can clip to these bounds, of which the first alone or both are below 0.
 fn are_bounds(lo: u64, hi: u64, below: u64) -> bool
     ensures { result ≡ are_bounds lo hi below }
 {

@@ -1,20 +1,19 @@
-//! What an answer is made of, and the turns of a process with two inputs.
+//! Answers, and the turns of a process with two inputs.
 ghost use Rattle.std.specs.Prelude.{◌≡◌};
 ghost use Rattle.kpn_standard.specs.Locals.{got, word as word_of, flag as flag_of};
 ghost use Rattle.kpn_signals.specs.Shapes.{join_answer, number_of};
 
 use kpn_model::{Act, Answer, Local, Token};
 
-/// The first number of the local state of a process with two inputs before it reads input 0.
+/// The first number of the local state of a process with two inputs, before it reads input 0.
 pub const READS_FIRST: u64 = 0;
 
-/// That number before it reads input 1.
+/// The first number before it reads input 1.
 pub const READS_SECOND: u64 = 1;
 
-/// That number before it writes.
+/// The first number before it writes.
 pub const WRITES: u64 = 2;
 
-/// Returns the answer that reads input 0.
 pub(crate) fn reads(next: Local) -> Answer
     ensures { result ≡ record { next = next; act = Act.Read 0 } }
 {
@@ -24,7 +23,6 @@ pub(crate) fn reads(next: Local) -> Answer
     }
 }
 
-/// Returns the answer that writes a token to output 0.
 pub(crate) fn writes(next: Local, token: Token) -> Answer
     ensures { result ≡ record { next = next; act = Act.Write 0 token } }
 {
@@ -34,14 +32,12 @@ pub(crate) fn writes(next: Local, token: Token) -> Answer
     }
 }
 
-/// Returns the answer that writes a word to output 0.
 pub(crate) fn writes_word(next: Local, word: u64) -> Answer
     ensures { result ≡ record { next = next; act = Act.Write 0 (Token.Word word) } }
 {
     writes(next, Token::Word(word))
 }
 
-/// Returns the answer that stops.
 pub(crate) fn stops(local: Local) -> Answer
     ensures { result ≡ record { next = local; act = Act.Stop } }
 {
@@ -71,14 +67,14 @@ pub(crate) fn flag(token: Token) -> bool
     }
 }
 
-/// Returns the token of the read just done; the word 0 if there was none.
+/// Returns the last token; the word 0 if there is none.
 pub(crate) fn latest(last: Option<Token>) -> Token
     ensures { result ≡ got last }
 {
     last.unwrap_or(Token::Word(0))
 }
 
-/// Returns a token as a number: a flag is 1 if it is true, and else 0.
+/// Returns a token as a number: a true flag is 1, a false one 0.
 fn number(token: Token) -> u64
     ensures { result ≡ number_of token }
 {
@@ -89,8 +85,7 @@ fn number(token: Token) -> u64
     }
 }
 
-/// Returns the answer of a process with two inputs, which keeps a word: it reads both, or writes `token`
-/// if it has read them, and keeps `kept` from then on.
+/// Returns the answer of a process with two inputs: it reads both, then writes `token` and keeps `kept`.
 pub(crate) fn joined(local: Local, last: Option<Token>, kept: u64, token: Token) -> Answer
     ensures { result ≡ join_answer (λ _ _ _. (kept, token)) local last }
 {

@@ -20,7 +20,7 @@ infixl 10 ◌>>=◌
 abbrev ◌>>=◌ : {A B : Type 0} → Option A → (A → Option B) → Option B
 o >>= f = option_and_then f o
 
--- the table of a value, if it has no other keys than these
+-- the table, if it has no other keys than these
 abbrev pub known_table : List (List ℕ) → Data → Option Members
 known_table known d = as_table d >>= (λ table. if has_only known table then Some table else None)
 
@@ -41,7 +41,6 @@ described_process d =
     optional (array_of as_integer) [] (codes "args") table >>= (λ args.
     Some (record { name = name; kind = kind; args = args })))))
 
--- a token that a channel holds at first
 abbrev pub token_of : Data → Option TokenSketch
 token_of (integer z) = Some (Integer z)
 token_of (boolean b) = Some (Boolean b)
@@ -82,11 +81,10 @@ sketch_of table =
     Some (record { version = version; budget = budget; step = step; processes = processes; channels = channels })))))
     else None)
 
--- the text is TOML, and this sketch is what it describes
 abbrev pub Describes : List ℕ → Sketch → Type 0
 Describes text sketch = IsUtf8 text × (option_and_then sketch_of (parse_document text) ≡ Some sketch)
 
--- when each fault is found in a text: `Memory` at any time; otherwise one of the others, in each text that describes no sketch
+-- `Memory` at any time; else one of the others, if the text describes no sketch
 abbrev pub IsReadFault : List ℕ → NetFault → Type 0
 IsReadFault text NotToml = IsUtf8 text → parse_document text ≡ None
 IsReadFault text Keys = IsUtf8 text × IsSome (parse_document text) × (option_and_then sketch_of (parse_document text) ≡ None)

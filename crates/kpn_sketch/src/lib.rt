@@ -1,5 +1,5 @@
-//! What a description says: the sketch that is read of its TOML text, and the faults for which one is
-//! refused. `kpn_net` hands all this on, beside the check that makes a network of a sketch.
+//! Reads a description, TOML text, as a sketch, or finds its fault. `kpn_net` re-exports all this, beside the
+//! check that makes a network of a sketch.
 //!
 //! ```text
 //! let sketch = read_sketch(alloc, text.as_bytes())?;

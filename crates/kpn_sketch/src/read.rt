@@ -18,19 +18,18 @@ use std::alloc::Global;
 use toml::de::Error;
 use toml::{Table, Value};
 
-/// Reads a description, a TOML document in UTF-8, and fills in its defaults. Ranges and names are not
-/// checked: `Net::check` does that.
+/// Reads a description, a TOML document in UTF-8, and fills in its defaults. It does not check ranges and
+/// names; `Net::check` does.
 ///
-/// The top level has `version`, `budget` and `step` (integers; by default the budget is 10000 and the
-/// step 1), `process` (an array of tables) and `channel` (an array of tables, by default empty). A
-/// process has `name` and `kind` (texts) and `args` (an array of integers, by default empty). A channel
-/// has `name`, `from` and `to` (texts), `out` and `in` (integers, by default 0), `sort` (`words` or
-/// `flags`, by default `words`), `capacity` (an integer, by default 1) and `tokens` (an array of
-/// integers and booleans, by default empty). `step` and `tokens` are keys of version 2 alone. There are
-/// no other keys.
+/// The top level has `version`, `budget` and `step` (integers; by default the budget is 10000 and the step 1),
+/// `process` (an array of tables) and `channel` (an array of tables, by default empty). A process has `name`
+/// and `kind` (texts) and `args` (an array of integers, by default empty). A channel has `name`, `from` and
+/// `to` (texts), `out` and `in` (integers, by default 0), `sort` (`words` or `flags`, by default `words`),
+/// `capacity` (an integer, by default 1) and `tokens` (an array of integers and booleans, by default empty).
+/// Only version 2 has `step` and `tokens`. There are no other keys.
 ///
-/// Errors: `NotToml` if the bytes are not UTF-8 or not TOML; `Keys` if a key is missing or unknown or
-/// its value is of another form; `Memory`, at any time, if memory was refused.
+/// Errors: `NotToml` if the bytes are not UTF-8 or not TOML; `Keys` if a key is missing or unknown or its
+/// value has the wrong type; `Memory` at any time, if out of memory.
 ///
 /// ```text
 /// let sketch = read_sketch(alloc, text.as_bytes())?;
@@ -45,7 +44,6 @@ pub fn read_sketch(alloc: Global, text: &[u8]) -> Result<Sketch, NetFault>
     }
 }
 
-/// The fault of a text that was not read as TOML.
 fn fault_of(error: &Error) -> NetFault
     ensures { (text : List ℕ) → ((IsMemory error.now → ⊥) → IsUtf8 text → parse_document text ≡ None) → IsReadFault text result }
 {
@@ -65,7 +63,6 @@ fn version_of(table: &Table) -> Result<i64, NetFault>
     }
 }
 
-/// Whether the keys at the top level are all keys of this version.
 fn has_only_top_keys(version: i64, table: &Table) -> bool
     ensures { result ≡ has_only (top_keys version) (table_view table.now) }
 {
@@ -76,7 +73,6 @@ fn has_only_top_keys(version: i64, table: &Table) -> bool
     }
 }
 
-/// Reads the budget.
 fn budget_of(alloc: Global, version: i64, table: &Table) -> Result<i64, NetFault>
     ensures { Reads result (optional as_integer (pos DEFAULT_BUDGET) (codes "budget") (table_view table.now)) }
 {
@@ -124,7 +120,6 @@ impl Form for ProcessSketch {
     }
 }
 
-/// Whether the keys of a channel are all keys of this version.
 fn has_only_channel_keys(version: i64, table: &Table) -> bool
     ensures { result ≡ has_only (channel_keys version) (table_view table.now) }
 {
@@ -143,14 +138,13 @@ fn has_only_channel_keys(version: i64, table: &Table) -> bool
     }
 }
 
-/// Reads to which input a channel leads.
 fn input_of(alloc: Global, version: i64, table: &Table) -> Result<i64, NetFault>
     ensures { Reads result (optional as_integer (pos 0) (codes "in") (table_view table.now)) }
 {
     optional(alloc, version, table, "in", 0)
 }
 
-/// Reads the channel of a table, whatever other keys it has.
+/// Reads a channel; other keys are ignored.
 fn channel_from(alloc: Global, version: i64, table: &Table) -> Result<ChannelSketch, NetFault>
     ensures { Reads result (channel_from (table_view table.now)) }
 {

@@ -1,4 +1,4 @@
--- With which local state and last token a process of a standard card may be asked.
+-- With which local states and last tokens a process of a standard card may be asked.
 use Rattle.std.specs.Prelude.{ℕ, List, Option, Some, None}
 use Rattle.kpn_model.specs.declared.token.Token.{Token}
 use Rattle.kpn_model.specs.declared.kinds.Card.{Card}
@@ -12,7 +12,6 @@ use Rattle.kpn_standard.specs.Merging.{WeaveLine, MergeLine}
 use Rattle.kpn_standard.specs.Flags.{DividesLine, SwitchLine, SelectLine}
 use Rattle.kpn_standard.specs.Table.{numbered}
 
--- the lines of each kind
 abbrev pub LineOf : Option Kind → List ℕ → List ℕ → Option Token → Type 0
 LineOf None args = λ local last. ⊥
 LineOf (Some Count) args = CountLine (at args 1)
@@ -28,11 +27,10 @@ LineOf (Some Divides) args = DividesLine
 LineOf (Some Switch) args = SwitchLine
 LineOf (Some Select) args = SelectLine
 
--- the kind with this number has a line for the local state and the last token
 abbrev pub HasLine : ℕ → List ℕ → List ℕ → Option Token → Type 0
 HasLine number = LineOf (numbered number)
 
--- the kind has a line for the local state and the last token, and their numbers have 64 bits
+-- the kind has a line for the two, and all numbers have 64 bits
 pub record Admitted (card : Card) (local : List ℕ) (last : Option Token) : Type 0 where
   pub local_fits : IsLocal local
   pub last_fits : LastFits last

@@ -1,4 +1,4 @@
--- The kinds that compute words: what they answer, and their states, a line for each act.
+-- The kinds that compute words: answers, and states, a line for each act.
 use Rattle.std.specs.Prelude.{ℕ, ◌+◌, ◌*◌, ◌%◌, ◌^◌, ◌==◌, if◌then◌else◌, List, Option, Some, None}
 use Rattle.kpn_model.specs.declared.token.Token.{Token}
 use Rattle.kpn_model.specs.declared.token.Token.TheVariants.{Word}
@@ -6,7 +6,6 @@ use Rattle.kpn_model.specs.declared.kinds.Act.TheVariants.{Read, Write}
 use Rattle.kpn_model.specs.declared.kinds.Answer.{Answer}
 use Rattle.kpn_standard.specs.Locals.{at, one, two, says, word}
 
--- add: reads a word of each input, writes their sum modulo 2^64
 abbrev pub add_answer : List ℕ → List ℕ → Token → Answer
 add_answer args l t =
     if at l 0 == 0 then says 1 0 0 (Read 0) else
@@ -18,7 +17,6 @@ pub data AddLine : List ℕ → Option Token → Type 0 where
   add_reads_second : {x : ℕ} → AddLine (one 1) (Some (Word x))
   add_writes : {x y : ℕ} → AddLine (two 2 x) (Some (Word y))
 
--- scale: reads a word, writes its product by the argument modulo 2^64
 abbrev pub scale_answer : List ℕ → List ℕ → Token → Answer
 scale_answer args l t = if at l 0 == 0 then says 1 0 0 (Read 0) else says 0 0 0 (Write 0 (Word ((at args 0 * word t) % 2 ^ 64)))
 

@@ -1,4 +1,4 @@
--- The kinds that write what they read: what they answer, and their states, a line for each act.
+-- The kinds that write what they read: answers, and states, a line for each act.
 use Rattle.std.specs.Prelude.{◌≡◌, ℕ, ◌+◌, ◌<◌, ◌==◌, nat_lt, if◌then◌else◌, List, Option, Some, None}
 use Rattle.kpn_model.specs.declared.token.Token.{Token}
 use Rattle.kpn_model.specs.declared.token.Token.TheVariants.{Word}
@@ -6,7 +6,6 @@ use Rattle.kpn_model.specs.declared.kinds.Act.TheVariants.{Read, Write}
 use Rattle.kpn_model.specs.declared.kinds.Answer.{Answer}
 use Rattle.kpn_standard.specs.Locals.{at, one, two, says, stays, word}
 
--- take: reads and writes n words, then stops
 abbrev pub take_answer : List ℕ → List ℕ → Token → Answer
 take_answer args l t =
     if at l 0 == 1 then says 0 (at l 1 + 1) 0 (Write 0 t) else
@@ -18,7 +17,6 @@ pub data TakeLine (n : ℕ) : List ℕ → Option Token → Type 0 where
   take_writes : {i t : ℕ} → i < n → TakeLine n (two 1 i) (Some (Word t))
   take_stops : {i : ℕ} → i ≡ n → TakeLine n (two 0 i) None
 
--- copy: reads a word, writes it to output 0 and then to output 1
 abbrev pub copy_answer : List ℕ → List ℕ → Token → Answer
 copy_answer args l t =
     if at l 0 == 0 then says 1 0 0 (Read 0) else
@@ -30,7 +28,6 @@ pub data CopyLine : List ℕ → Option Token → Type 0 where
   copy_writes_first : {t : ℕ} → CopyLine (one 1) (Some (Word t))
   copy_writes_second : {t : ℕ} → CopyLine (two 2 t) None
 
--- prefix: writes a word of its own, then reads and writes
 abbrev pub prefix_answer : List ℕ → List ℕ → Token → Answer
 prefix_answer args l t =
     if at l 0 == 0 then says 1 0 0 (Write 0 (Word (at args 0))) else

@@ -1,4 +1,4 @@
--- The kinds that only write, or only read: what they answer, and their states, a line for each act.
+-- The kinds that only write or only read: answers, and states, a line for each act.
 use Rattle.std.specs.Prelude.{◌≡◌, ℕ, ◌+◌, ◌<◌, nat_lt, if◌then◌else◌, List, Option, Some, None}
 use Rattle.kpn_model.specs.declared.token.Token.{Token}
 use Rattle.kpn_model.specs.declared.token.Token.TheVariants.{Word}
@@ -6,7 +6,6 @@ use Rattle.kpn_model.specs.declared.kinds.Act.TheVariants.{Read, Write}
 use Rattle.kpn_model.specs.declared.kinds.Answer.{Answer}
 use Rattle.kpn_standard.specs.Locals.{at, one, says, stays}
 
--- count: writes n words, from a first one on, then stops
 abbrev pub count_answer : List ℕ → List ℕ → Token → Answer
 count_answer args l t = if nat_lt (at l 0) (at args 1) then says (at l 0 + 1) 0 0 (Write 0 (Word (at args 0 + at l 0))) else stays l
 
@@ -14,7 +13,6 @@ pub data CountLine (n : ℕ) : List ℕ → Option Token → Type 0 where
   count_writes : {i : ℕ} → i < n → CountLine n (one i) None
   count_stops : {i : ℕ} → i ≡ n → CountLine n (one i) None
 
--- sink: reads n words, then stops
 abbrev pub sink_answer : List ℕ → List ℕ → Token → Answer
 sink_answer args l t = if nat_lt (at l 0) (at args 0) then says (at l 0 + 1) 0 0 (Read 0) else stays l
 

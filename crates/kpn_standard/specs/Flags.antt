@@ -1,4 +1,4 @@
--- The kinds that write or read flags: what they answer, and their states, a line for each act.
+-- The kinds that write or read flags: answers, and states, a line for each act.
 use Rattle.std.specs.Prelude.{ℕ, ◌%◌, ◌==◌, if◌then◌else◌, Bool, List, Option, Some, None}
 use Rattle.kpn_model.specs.declared.token.Token.{Token}
 use Rattle.kpn_model.specs.declared.token.Token.TheVariants.{Word, Flag}
@@ -6,7 +6,6 @@ use Rattle.kpn_model.specs.declared.kinds.Act.TheVariants.{Read, Write}
 use Rattle.kpn_model.specs.declared.kinds.Answer.{Answer}
 use Rattle.kpn_standard.specs.Locals.{at, one, two, says, word, flag}
 
--- divides: reads a word, writes whether the argument divides it
 abbrev pub divides_answer : List ℕ → List ℕ → Token → Answer
 divides_answer args l t = if at l 0 == 0 then says 1 0 0 (Read 0) else says 0 0 0 (Write 0 (Flag (word t % at args 0 == 0)))
 
@@ -14,7 +13,6 @@ pub data DividesLine : List ℕ → Option Token → Type 0 where
   divides_reads : DividesLine (one 0) None
   divides_writes : {t : ℕ} → DividesLine (one 1) (Some (Word t))
 
--- switch: reads a flag and then a word, writes the word to the output that the flag selects
 abbrev pub switch_answer : List ℕ → List ℕ → Token → Answer
 switch_answer args l t =
     if at l 0 == 0 then says 1 0 0 (Read 1) else
@@ -27,7 +25,6 @@ pub data SwitchLine : List ℕ → Option Token → Type 0 where
   switch_writes_first : {t : ℕ} → SwitchLine (two 2 0) (Some (Word t))
   switch_writes_second : {t : ℕ} → SwitchLine (two 2 1) (Some (Word t))
 
--- select: reads a flag and then a word of the input that the flag selects, writes the word
 abbrev pub select_answer : List ℕ → List ℕ → Token → Answer
 select_answer args l t =
     if at l 0 == 0 then says 1 0 0 (Read 2) else

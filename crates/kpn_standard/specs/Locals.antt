@@ -1,4 +1,4 @@
--- Local states, last tokens, and answers. A local state is written with its first numbers; the others are 0.
+-- Local states, last tokens and answers. A local state is written with its first numbers; the others are 0.
 use Rattle.std.specs.Prelude.{ℕ, ◌<◌, ◌^◌, Bool, false, List, [], ◌∷◌, Option, Some, None, get_or}
 use Rattle.kpn_model.specs.declared.token.Token.{Token}
 use Rattle.kpn_model.specs.declared.token.Token.TheVariants.{Word, Flag}
@@ -7,11 +7,9 @@ use Rattle.kpn_model.specs.declared.kinds.Act.TheVariants.{Stop}
 use Rattle.kpn_model.specs.declared.kinds.Answer.{Answer}
 use Rattle.kpn_model.specs.Lawful.{Fits}
 
--- the number at place k
 abbrev pub at : List ℕ → ℕ → ℕ
 at xs k = get_or xs k 0
 
--- local states with one, two or three first numbers, the others 0
 abbrev pub one : ℕ → List ℕ
 one a = a ∷ 0 ∷ 0 ∷ 0 ∷ []
 
@@ -21,17 +19,15 @@ two a b = a ∷ b ∷ 0 ∷ 0 ∷ []
 abbrev pub three : ℕ → ℕ → ℕ → List ℕ
 three a b c = a ∷ b ∷ c ∷ 0 ∷ []
 
--- four numbers of 64 bits
 abbrev pub IsLocal : List ℕ → Type 0
 IsLocal (a ∷ b ∷ c ∷ d ∷ []) = (a < 2 ^ 64) × (b < 2 ^ 64) × (c < 2 ^ 64) × (d < 2 ^ 64)
 IsLocal l = ⊥
 
--- the last token, if there is one, fits: a word has 64 bits
 abbrev pub LastFits : Option Token → Type 0
 LastFits None = Unit {0}
 LastFits (Some t) = Fits t
 
--- the answer with this act, after which the local state has these numbers
+-- the answer with this act and the next local state a, b, c, 0
 abbrev pub says : ℕ → ℕ → ℕ → Act → Answer
 says a b c act = record { next = a ∷ b ∷ c ∷ 0 ∷ []; act = act }
 
@@ -39,12 +35,10 @@ says a b c act = record { next = a ∷ b ∷ c ∷ 0 ∷ []; act = act }
 abbrev pub stays : List ℕ → Answer
 stays local = record { next = local; act = Stop }
 
--- the token of the read just done
 abbrev pub got : Option Token → Token
 got None = Word 0
 got (Some t) = t
 
--- a token's word, or its flag
 abbrev pub word : Token → ℕ
 word (Word n) = n
 word (Flag b) = 0

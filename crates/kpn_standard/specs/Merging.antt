@@ -1,4 +1,4 @@
--- The kinds that join two inputs: what they answer, and their states, a line for each act.
+-- The kinds that join two inputs: answers, and states, a line for each act.
 use Rattle.std.specs.Prelude.{◌≡◌, ℕ, ◌+◌, ◌<◌, ◌==◌, nat_lt, if◌then◌else◌, List, Option, Some, None}
 use Rattle.kpn_model.specs.declared.token.Token.{Token}
 use Rattle.kpn_model.specs.declared.token.Token.TheVariants.{Word}
@@ -6,8 +6,7 @@ use Rattle.kpn_model.specs.declared.kinds.Act.TheVariants.{Read, Write}
 use Rattle.kpn_model.specs.declared.kinds.Answer.{Answer}
 use Rattle.kpn_standard.specs.Locals.{at, one, two, three, says, word}
 
--- where weave is, the first number of its local state: at the turn of input 0 or 1, or it has just read from that input. The second
--- number is how many words of this turn it has copied
+-- weave's first number: whose turn it is, and whether it just read; the second: words copied in this turn
 abbrev pub first_turn : ℕ
 first_turn = 0
 
@@ -20,7 +19,6 @@ second_turn = 2
 abbrev pub second_turn_read : ℕ
 second_turn_read = 3
 
--- weave: copies a words of input 0 and then b of input 1, in turn
 abbrev pub weave_answer : List ℕ → List ℕ → Token → Answer
 weave_answer args l t =
     if at l 0 == first_turn then says first_turn_read (at l 1) 0 (Read 0) else
@@ -36,8 +34,7 @@ pub data WeaveLine (a b : ℕ) : List ℕ → Option Token → Type 0 where
   weave_writes_second : {i t : ℕ} → i + 1 < b → WeaveLine a b (two second_turn_read i) (Some (Word t))
   weave_turns_to_first : {i t : ℕ} → i + 1 ≡ b → WeaveLine a b (two second_turn_read i) (Some (Word t))
 
--- where merge is, the first number of its local state: which head it keeps (that of input 0 as second number, that of input 1 as third),
--- and which it has just read
+-- merge's first number: which head it keeps (input 0's as second number, 1's as third), and what it just read
 abbrev pub none_kept : ℕ
 none_kept = 0
 
@@ -56,8 +53,7 @@ first_kept = 4
 abbrev pub second_kept_first_read : ℕ
 second_kept_first_read = 5
 
--- merge: writes the lesser of the two inputs' heads and reads the next of that input; if the heads are equal, it writes one and
--- reads both inputs
+-- of equal heads merge writes one and reads both inputs
 abbrev pub emit : ℕ → ℕ → Answer
 emit x y =
     if nat_lt x y then says second_kept 0 y (Write 0 (Word x)) else

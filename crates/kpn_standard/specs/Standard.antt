@@ -14,7 +14,6 @@ use Rattle.kpn_standard.specs.Merging.{weave_answer, merge_answer}
 use Rattle.kpn_standard.specs.Flags.{divides_answer, switch_answer, select_answer}
 use Rattle.kpn_standard.specs.Table.{numbered}
 
--- what a kind answers, by its arguments, its local state and the token of the read just done
 abbrev pub answer_of : Kind → List ℕ → List ℕ → Token → Answer
 answer_of Count = count_answer
 answer_of Sink = sink_answer
@@ -29,7 +28,7 @@ answer_of Divides = divides_answer
 answer_of Switch = switch_answer
 answer_of Select = select_answer
 
--- the answer of the kind with this number; a card of any other number stops
+-- a card of an unknown number stops
 abbrev pub answer_by_number : ℕ → List ℕ → List ℕ → Token → Answer
 answer_by_number number args local t = option_map_or (λ kind. answer_of kind args local t) (numbered number) (stays local)
 

@@ -7,7 +7,6 @@ use Rattle.kpn_model.specs.declared.token.Sort.TheVariants.{Words, Flags}
 use Rattle.kpn_standard.specs.declared.kind.Kind.{Kind}
 use Rattle.kpn_standard.specs.declared.kind.Kind.TheVariants.{Count, Sink, Take, Copy, Prefix, Add, Scale, Weave, Merge, Divides, Switch, Select}
 
--- the sorts of three ports, some of them absent
 abbrev pub no_port : List (Option Sort)
 no_port = None ∷ None ∷ None ∷ []
 
@@ -26,7 +25,6 @@ word_and_flag = Some Words ∷ Some Flags ∷ None ∷ []
 abbrev pub two_words_and_flag : List (Option Sort)
 two_words_and_flag = Some Words ∷ Some Words ∷ Some Flags ∷ []
 
--- the number of a kind in cards, its name, how many arguments it takes, its inputs and its outputs
 pub record Row : Type 0 where
   pub number : ℕ
   pub name : List ℕ
@@ -54,10 +52,8 @@ row_of Select = tabled 11 (codes "select") 0 two_words_and_flag one_word
 abbrev pub all_kinds : List Kind
 all_kinds = Count ∷ Sink ∷ Take ∷ Copy ∷ Prefix ∷ Add ∷ Scale ∷ Weave ∷ Merge ∷ Divides ∷ Switch ∷ Select ∷ []
 
--- the kind with this number
 abbrev pub numbered : ℕ → Option Kind
 numbered number = find (λ kind. number == (row_of kind).number) all_kinds
 
--- the kind with this name
 abbrev pub called : List ℕ → Option Kind
 called name = find (λ kind. bytes_eq name (row_of kind).name) all_kinds

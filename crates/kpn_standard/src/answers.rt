@@ -13,8 +13,8 @@ use crate::merging::{merge, weave};
 use crate::token::stops;
 use kpn_model::{Answer, Card, Local, Token};
 
-/// Returns the answer of a process of a standard card, in this local state and after it has just read
-/// `last` (`None` if its last act was no read). The card must have a signature, and must admit the two.
+/// Returns the answer of a process of a standard card in this local state, after it read `last` (`None` if its
+/// last act was no read). The card must have a signature, and admit the two.
 #[inline(always)]
 pub fn answer(card: Card, local: Local, last: Option<Token>) -> Answer
     requires signed { IsSome (signature card) }

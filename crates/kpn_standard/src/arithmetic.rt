@@ -1,5 +1,4 @@
-//! The kinds that compute words: each function returns the next answer of its kind, for an admitted
-//! local state and last token.
+//! The kinds that compute words: each function returns its kind's answer.
 ghost use Rattle.std.specs.Prelude.{◌≡◌, IsSome};
 ghost use Rattle.kpn_standard.specs.Standard.{standard};
 ghost use Rattle.kpn_standard.specs.Signatures.{card_of_kind, signature};
@@ -9,7 +8,7 @@ use crate::kind::Kind;
 use crate::token::{reads, word, writes};
 use kpn_model::{Answer, Local, Token};
 
-/// Reads a word of input 0 and one of input 1, and writes their sum modulo 2^64, for ever.
+/// Reads a word of each input, 0 first, and writes their sum modulo 2^64, forever.
 pub fn add(args: [u64; 3], local: Local, last: Option<Token>) -> Answer
     requires signed { IsSome (signature (card_of_kind Kind.Add args)) }
     requires admitted { Admitted (card_of_kind Kind.Add args) local last }
@@ -25,7 +24,7 @@ pub fn add(args: [u64; 3], local: Local, last: Option<Token>) -> Answer
     }
 }
 
-/// Reads a word, and writes its product by `args[0]` modulo 2^64, for ever.
+/// Reads a word, and writes its product with `args[0]` modulo 2^64, forever.
 pub fn scale(args: [u64; 3], local: Local, last: Option<Token>) -> Answer
     requires signed { IsSome (signature (card_of_kind Kind.Scale args)) }
     requires admitted { Admitted (card_of_kind Kind.Scale args) local last }

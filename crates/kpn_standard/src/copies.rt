@@ -1,5 +1,4 @@
-//! The kinds that write what they read: each function returns the next answer of its kind, for an
-//! admitted local state and last token.
+//! The kinds that write what they read: each function returns its kind's answer.
 ghost use Rattle.std.specs.Prelude.{◌≡◌, IsSome};
 ghost use Rattle.kpn_standard.specs.Standard.{standard};
 ghost use Rattle.kpn_standard.specs.Signatures.{card_of_kind, signature};
@@ -25,7 +24,7 @@ pub fn take(args: [u64; 3], local: Local, last: Option<Token>) -> Answer
     }
 }
 
-/// Reads a word, and writes it to output 0 and then to output 1, for ever.
+/// Reads a word, and writes it to output 0, then to output 1, forever.
 pub fn copy(args: [u64; 3], local: Local, last: Option<Token>) -> Answer
     requires signed { IsSome (signature (card_of_kind Kind.Copy args)) }
     requires admitted { Admitted (card_of_kind Kind.Copy args) local last }
@@ -38,7 +37,7 @@ pub fn copy(args: [u64; 3], local: Local, last: Option<Token>) -> Answer
     }
 }
 
-/// Writes the word `args[0]`, then reads and writes for ever.
+/// Writes the word `args[0]`, then reads and writes forever.
 pub fn prefix(args: [u64; 3], local: Local, last: Option<Token>) -> Answer
     requires signed { IsSome (signature (card_of_kind Kind.Prefix args)) }
     requires admitted { Admitted (card_of_kind Kind.Prefix args) local last }

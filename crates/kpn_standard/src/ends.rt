@@ -1,5 +1,4 @@
-//! The kinds that only write, or only read: each function returns the next answer of its kind, for an
-//! admitted local state and last token.
+//! The kinds that only write or only read: each function returns its kind's answer.
 ghost use Rattle.std.specs.Prelude.{◌≡◌, IsSome};
 ghost use Rattle.kpn_standard.specs.Standard.{standard};
 ghost use Rattle.kpn_standard.specs.Signatures.{card_of_kind, signature};

@@ -1,5 +1,4 @@
-//! The kinds that write or read flags: each function returns the next answer of its kind, for an
-//! admitted local state and last token.
+//! The kinds that write or read flags: each function returns its kind's answer.
 ghost use Rattle.std.specs.Prelude.{◌≡◌, IsSome};
 ghost use Rattle.kpn_standard.specs.Standard.{standard};
 ghost use Rattle.kpn_standard.specs.Signatures.{card_of_kind, signature};
@@ -9,7 +8,7 @@ use crate::kind::Kind;
 use crate::token::{flag, got, reads, word, writes};
 use kpn_model::{Answer, Local, Token};
 
-/// Reads a word, and writes whether `args[0]` divides it, for ever.
+/// Reads a word, and writes whether `args[0]` divides it, forever.
 pub fn divides(args: [u64; 3], local: Local, last: Option<Token>) -> Answer
     requires signed { IsSome (signature (card_of_kind Kind.Divides args)) }
     requires admitted { Admitted (card_of_kind Kind.Divides args) local last }
@@ -24,8 +23,8 @@ pub fn divides(args: [u64; 3], local: Local, last: Option<Token>) -> Answer
     }
 }
 
-/// Reads a flag of input 1 and then a word of input 0, and writes the word to output 1 if the flag is
-/// true and else to output 0, for ever.
+/// Reads a flag of input 1, then a word of input 0, and writes the word to output 1 if the flag is true, else
+/// to output 0, forever.
 pub fn switch(args: [u64; 3], local: Local, last: Option<Token>) -> Answer
     requires signed { IsSome (signature (card_of_kind Kind.Switch args)) }
     requires admitted { Admitted (card_of_kind Kind.Switch args) local last }
@@ -40,8 +39,8 @@ pub fn switch(args: [u64; 3], local: Local, last: Option<Token>) -> Answer
     }
 }
 
-/// Reads a flag of input 2 and then a word, of input 1 if the flag is true and else of input 0, and
-/// writes the word, for ever.
+/// Reads a flag of input 2, then a word, of input 1 if the flag is true, else of input 0, and writes the word,
+/// forever.
 pub fn select(args: [u64; 3], local: Local, last: Option<Token>) -> Answer
     requires signed { IsSome (signature (card_of_kind Kind.Select args)) }
     requires admitted { Admitted (card_of_kind Kind.Select args) local last }

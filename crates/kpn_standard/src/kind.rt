@@ -5,10 +5,10 @@ ghost use Rattle.kpn_standard.specs.Signatures.{accepts, named};
 
 use kpn_model::Sort;
 
-/// A standard kind.
+/// A standard kind. Each variant names its arguments first.
 #[derive(Clone, Copy, Debug, PartialEq, Eq)]
 pub enum Kind {
-    /// `from` and `n`: writes the n words from `from` on. `from + n` is at most 2^64 - 1.
+    /// `from`, `n`: writes the n words from `from` on. `from + n` is at most 2^64 - 1.
     Count,
     /// `n`: reads n words.
     Sink,
@@ -18,13 +18,13 @@ pub enum Kind {
     Copy,
     /// The first word: writes it, then what it reads.
     Prefix,
-    /// Writes the sums modulo 2^64.
+    /// Writes sums modulo 2^64.
     Add,
-    /// The factor: writes the products modulo 2^64.
+    /// The factor: writes products modulo 2^64.
     Scale,
-    /// How many words of input 0 and how many of input 1, each at least 1: copies them in turn.
+    /// How many words, each at least 1, it copies in turn from inputs 0 and 1.
     Weave,
-    /// Writes the lesser of the two heads, and one of equal heads.
+    /// Writes the lesser of the two heads, one of equal heads.
     Merge,
     /// The divisor, at least 1: writes whether it divides each word.
     Divides,
@@ -34,8 +34,7 @@ pub enum Kind {
     Select,
 }
 
-/// What the table has of a kind: its number in cards, its name, how many arguments it takes, and the
-/// sorts of its inputs and outputs. The arguments that a kind doesn't take are 0.
+/// A row of the table: number in cards, name, number of arguments, ports. Unused arguments are 0.
 #[derive(Clone, Copy, Debug)]
 pub struct Row {
     pub number: u16,
@@ -62,7 +61,7 @@ const WORD_AND_FLAG: [Option<Sort>; 3] = [WORDS, FLAGS, None];
 const TWO_WORDS_AND_FLAG: [Option<Sort>; 3] = [WORDS, WORDS, FLAGS];
 
 impl Kind {
-    /// Returns the row of the kind in the table. Its name means this kind.
+    /// Returns the kind's row of the table.
     pub fn row(self) -> Row
         ensures number { result.number ≡ (row_of self).number }
         ensures name { result.name.now ≡ (row_of self).name }
@@ -82,7 +81,6 @@ impl Kind {
         }
     }
 
-    /// The number of the kind in cards, its name, and how many arguments it takes.
     fn heading(self) -> (u16, &'static str, usize)
         ensures number { result.0 ≡ (row_of self).number }
         ensures name { result.1.now ≡ (row_of self).name }
@@ -104,7 +102,6 @@ impl Kind {
         }
     }
 
-    /// The sorts of its inputs and of its outputs.
     fn ports(self) -> ([Option<Sort>; 3], [Option<Sort>; 3])
         ensures ins { result.0 ≡ (row_of self).ins }
         ensures outs { result.1 ≡ (row_of self).outs }
@@ -164,7 +161,7 @@ impl Kind {
         }
     }
 
-    /// Returns whether a process of the kind can have these arguments.
+    /// Whether a process of the kind can have these arguments.
     pub fn accepts(self, args: [u64; 3]) -> bool
         ensures { result ≡ accepts self args }
     {

@@ -1,4 +1,4 @@
-//! The twelve standard kinds of processes, as a family: their names, arguments, ports and answers.
+//! The family of the twelve standard kinds: names, arguments, ports and answers.
 //!
 //! ```text
 //! let net: Net<Standard> = made.check().expect(&rt, "a fault");

@@ -1,5 +1,4 @@
-//! The kinds that join two inputs: each function returns the next answer of its kind, for an admitted
-//! local state and last token.
+//! The kinds that join two inputs: each function returns its kind's answer.
 ghost use Rattle.std.specs.Prelude.{◌≡◌, IsSome};
 ghost use Rattle.kpn_standard.specs.Standard.{standard};
 ghost use Rattle.kpn_standard.specs.Merging.{emit};
@@ -11,8 +10,8 @@ use crate::token::{got, reads, word, writes};
 use kpn_model::{Answer, Local, Token};
 use std::cmp::Ordering;
 
-/// Where `weave` is, the first number of its local state: at the turn of input 0 or 1, or it has just read
-/// from that input. The second number is how many words of this turn it has copied.
+/// The first number of `weave`'s local state: whose turn it is, and whether a word was just read. The second
+/// counts the words copied in this turn.
 const FIRST_TURN: u64 = 0;
 
 const FIRST_TURN_READ: u64 = 1;
@@ -21,8 +20,8 @@ const SECOND_TURN: u64 = 2;
 
 const SECOND_TURN_READ: u64 = 3;
 
-/// Where `merge` is, the first number of its local state: which head it keeps (that of input 0 as second
-/// number, that of input 1 as third), and which it has just read.
+/// The first number of `merge`'s local state: which head it keeps (that of input 0 as second number, that of
+/// input 1 as third), and which it has just read.
 const NONE_KEPT: u64 = 0;
 
 const FIRST_READ: u64 = 1;
@@ -35,7 +34,7 @@ const FIRST_KEPT: u64 = 4;
 
 const SECOND_KEPT_FIRST_READ: u64 = 5;
 
-/// Copies `args[0]` words of input 0, and then `args[1]` of input 1, for ever.
+/// Copies `args[0]` words of input 0, then `args[1]` of input 1, forever.
 pub fn weave(args: [u64; 3], local: Local, last: Option<Token>) -> Answer
     requires signed { IsSome (signature (card_of_kind Kind.Weave args)) }
     requires admitted { Admitted (card_of_kind Kind.Weave args) local last }
@@ -53,9 +52,8 @@ pub fn weave(args: [u64; 3], local: Local, last: Option<Token>) -> Answer
     }
 }
 
-/// Keeps the next word of each input, writes the lesser, and reads that input again, for ever.
-///
-/// If the two are equal, it writes one and reads both inputs again, input 0 first.
+/// Keeps the next word of each input, writes the lesser, and reads that input again, forever. Of two equal
+/// words it writes one and reads both inputs again, input 0 first.
 pub fn merge(args: [u64; 3], local: Local, last: Option<Token>) -> Answer
     requires signed { IsSome (signature (card_of_kind Kind.Merge args)) }
     requires admitted { Admitted (card_of_kind Kind.Merge args) local last }
@@ -71,7 +69,6 @@ pub fn merge(args: [u64; 3], local: Local, last: Option<Token>) -> Answer
     }
 }
 
-/// The lesser of the heads is written, and the other is kept.
 fn lesser(x: u64, y: u64) -> Answer
     ensures { result ≡ emit x y }
 {

@@ -1,4 +1,4 @@
-//! Answers, and what a last token is.
+//! Answers and last tokens.
 ghost use Rattle.std.specs.Prelude.{◌≡◌};
 ghost use Rattle.kpn_standard.specs.Locals.{got as got_token, word as word_of, flag as flag_of};
 
@@ -34,14 +34,14 @@ pub fn stops(local: Local) -> Answer
     }
 }
 
-/// Returns the token of the read just done, or the word 0 if there was none.
+/// Returns the last token, or the word 0 if there is none.
 pub fn got(last: Option<Token>) -> Token
     ensures { result ≡ got_token last }
 {
     last.unwrap_or(Token::Word(0))
 }
 
-/// Returns the word of the read just done, or 0 if it was no word.
+/// Returns the last token's word, or 0 if it is no word.
 pub fn word(last: Option<Token>) -> u64
     ensures { result ≡ word_of (got_token last) }
 {
@@ -51,7 +51,7 @@ pub fn word(last: Option<Token>) -> u64
     }
 }
 
-/// Returns the flag of the read just done, or false if it was no flag.
+/// Returns the last token's flag, or false if it is no flag.
 pub fn flag(last: Option<Token>) -> bool
     ensures { result ≡ flag_of (got_token last) }
 {

@@ -1,15 +1,12 @@
--- The candidates for a growth: pairs of a capacity and a channel, in the order in which channels grow (Parks 1995).
+-- The candidates for a growth, in the order in which channels grow (Parks 1995).
 use Rattle.std.specs.Prelude.{◌≡◌, ℕ, ◌<◌, ◌⊎◌, List, length, get_or}
 
--- it has less capacity, or the same and the lesser number
 abbrev pub IsBefore : ℕ × ℕ → ℕ × ℕ → Type 0
 IsBefore x y = (x.0 < y.0) ⊎ ((x.0 ≡ y.0) × (x.1 < y.1))
 
--- each pair is before all that follow it
 abbrev pub IsInOrder : List (ℕ × ℕ) → Type 0
 IsInOrder pairs = (i j : ℕ) (d : ℕ × ℕ) → i < j → j < length pairs → IsBefore (get_or pairs i d) (get_or pairs j d)
 
--- the pairs, in order, and how many there may be
 pub record CandidateList : Type 0 where
   pub pairs : List (ℕ × ℕ)
   pub limit : ℕ

@@ -8,6 +8,6 @@ pub record MarkLists : Type 0 where
 abbrev pub mark_lists : List Bool → List Bool → MarkLists
 mark_lists readers writers = record { readers = readers; writers = writers }
 
--- whether channel c has a mark; a number that is no channel's has none
+-- false for a number that is no channel's
 abbrev pub is_marked : List Bool → ℕ → Bool
 is_marked marks c = get_or marks c false

@@ -1,14 +1,12 @@
--- The queue of the ready processes and the counts beside it, and how they fit the standings.
+-- The queue of the ready processes, the counts beside it, and how they fit the standings.
 use Rattle.std.specs.Prelude.{◌≡◌, ℕ, ◌≤◌, List, [], ◌∷◌, ◌++◌, length, if◌then◌else◌, nat_eq, count_by, filter, not}
 use Rattle.kpn_state.specs.declared.standing.Standing.{Standing}
 use Rattle.kpn_state.specs.Standings.{standing, is_ready, is_out, is_live}
 
--- how often p is in a queue
 abbrev pub times : List ℕ → ℕ → ℕ
 times queue p = count_by (λ q. nat_eq q p) queue
 
--- each ready process is in the queue once, and no other is; the queue has room for all; `out` processes are out, and `live` have
--- not stopped
+-- each ready process is in the queue once, and no other is; the queue has room for all
 pub record Agrees (standings : List Standing) (queue : List ℕ) (capacity out live : ℕ) : Type 0 where
   pub queued : (p : ℕ) → times queue p ≡ if is_ready (standing standings p) then 1 else 0
   pub ready : length queue ≡ count_by is_ready standings
@@ -16,10 +14,9 @@ pub record Agrees (standings : List Standing) (queue : List ℕ) (capacity out l
   pub out_is : out ≡ count_by is_out standings
   pub live_is : live ≡ count_by is_live standings
 
--- the queue after p, which was not queued, has been given this standing
+-- the queue after p, which was not queued, got this standing
 abbrev pub queue_after : List ℕ → ℕ → Standing → List ℕ
 queue_after queue p x = if is_ready x then queue ++ p ∷ [] else queue
 
--- the queue without p
 abbrev pub without : ℕ → List ℕ → List ℕ
 without p queue = filter (λ q. not (nat_eq q p)) queue

@@ -1,4 +1,4 @@
--- The standing of each process, and how the standings fit the state.
+-- The standings of the processes, and how they fit the state.
 use Rattle.std.specs.Prelude.{◌≡◌, ◌≢◌, ℕ, ◌<◌, ◌≤◌, Bool, true, false, List, Option, Some, None, length, get_or}
 use Rattle.kpn_model.specs.declared.token.Token.{Token}
 use Rattle.kpn_model.specs.declared.kinds.Card.{Card}
@@ -12,11 +12,10 @@ use Rattle.kpn_model.specs.Valid.{IsWellTyped}
 use Rattle.kpn_state.specs.declared.standing.Standing.{Standing}
 use Rattle.kpn_state.specs.declared.standing.Standing.TheVariants.{Ready, Out, Parked, Stopped}
 
--- the standing of process p; a number that is no process's counts as stopped
+-- `Stopped` for a number that is no process's
 abbrev pub standing : List Standing → ℕ → Standing
 standing standings p = get_or standings p Stopped
 
--- a process that is ready or out
 abbrev pub is_busy : Standing → Bool
 is_busy Ready = true
 is_busy Out = true
@@ -35,7 +34,6 @@ is_out Out = true
 is_out (Parked a) = false
 is_out Stopped = false
 
--- what a parked process answered
 abbrev pub parked_answer : Standing → Option Answer
 parked_answer Ready = None
 parked_answer Out = None
@@ -48,7 +46,6 @@ has_stopped Out = false
 has_stopped (Parked a) = false
 has_stopped Stopped = true
 
--- a process that has not stopped
 abbrev pub is_live : Standing → Bool
 is_live Ready = true
 is_live Out = true
@@ -61,7 +58,6 @@ is_parked Out = false
 is_parked (Parked a) = true
 is_parked Stopped = false
 
--- the standing of a process after its deed
 abbrev pub standing_after : Deed → Standing
 standing_after (Took c t) = Ready
 standing_after (Put c t) = Ready
@@ -79,8 +75,8 @@ HasChannel net (Took c t) = c < length net.channels
 HasChannel net (Put c t) = c < length net.channels
 HasChannel net DidStop = Unit {0}
 
--- the state is one of the network, with tokens of their sorts; the standing of each process fits its status; each parked process
--- wants what it answered and, except for the spared one, can't do it
+-- tokens have their channels' sorts, standings fit statuses, and each parked process wants what it answered
+-- and, except for the spared one, can't do it
 pub record StandingsFit (kinds : Family) (admits : Card → List ℕ → Option Token → Type 0) (net : Network) (spared : Option ℕ) (M : State) (standings : List Standing) : Type 0 where
   pub processes : length M.processes ≡ length net.processes
   pub channels : length M.channels ≡ length net.channels

@@ -12,7 +12,6 @@ state statuses channels = record { processes = statuses; channels = channels }
 abbrev pub held : List Token → ℕ → Held
 held tokens capacity = record { tokens = tokens; capacity = capacity }
 
--- a state, the entries that led to it, and how many entries there may be
 pub record StateAndHistory : Type 0 where
   pub state : State
   pub history : List Entry
@@ -21,11 +20,10 @@ pub record StateAndHistory : Type 0 where
 abbrev pub state_and_history : State → List Entry → ℕ → StateAndHistory
 state_and_history M E limit = record { state = M; history = E; limit = limit }
 
--- the state and history after one more entry
 abbrev pub more : StateAndHistory → State → Entry → StateAndHistory
 more s M e = state_and_history M (s.history ++ e ∷ []) s.limit
 
--- there is room for the entries that there may be, and their growths were counted; and the numbers of processes and of channels fit 16 bits
+-- `room` is enough for `limit` entries, `grown` counts growths, and processes and channels fit 16 bits
 pub record IsStored (s : StateAndHistory) (room grown : ℕ) : Type 0 where
   pub enough : s.limit ≤ room
   pub counted : grown ≡ length (growths s.history)

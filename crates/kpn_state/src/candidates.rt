@@ -5,9 +5,8 @@ ghost use Rattle.kpn_state.specs.Candidates.{IsBefore, IsInOrder, candidate_list
 use std::alloc::{AllocError, Global};
 use std::marker::Model;
 
-/// The candidates for a growth, each a pair of a capacity and a channel: sorted by capacity, and among
-/// equals by the channel's number, so that the first is the one that grows (Parks 1995). All memory is
-/// taken by `new`.
+/// The candidates for a growth: pairs of a capacity and a channel, sorted by capacity, then by number, so that
+/// the first grows (Parks 1995). Only `new` allocates.
 #[derive(Drop)]
 pub struct Candidates {
     pairs: Vec<(usize, usize)>,
@@ -27,7 +26,7 @@ impl Model for Candidates {
 }
 
 impl Candidates {
-    /// Makes an empty list with room for `limit` pairs. Fails if memory was refused.
+    /// Makes an empty list with room for `limit` pairs. Errors: out of memory.
     pub fn new(alloc: Global, limit: usize) -> Result<Candidates, AllocError>
         ensures { IfOk result (λ c. c ≡ candidate_list [] limit) }
     {
@@ -35,8 +34,7 @@ impl Candidates {
         Ok(Candidates { pairs, limit })
     }
 
-    /// Returns the first pair: the capacity and the channel that grows before all others; `None` if
-    /// there is no pair.
+    /// Returns the capacity and number of the channel that grows first; `None` if there is no candidate.
     pub fn first(&self) -> Option<(usize, usize)>
         ensures first { result ≡ slice_get self.now.pairs 0 }
         ensures ordered { IsInOrder self.now.pairs }
@@ -44,8 +42,7 @@ impl Candidates {
         self.pairs.as_slice().first().copied()
     }
 
-    /// Inserts a channel of this capacity at its place; if it is there already, nothing changes. There
-    /// must be room. Takes no memory.
+    /// Inserts a channel of this capacity, if it is missing. There must be room. Takes no memory.
     pub fn insert(&mut self, capacity: usize, channel: usize)
         requires { length self.old.pairs < self.old.limit }
         ensures pairs { (x : ℕ × ℕ) → Contains self.new.pairs x ↔ ((x ≡ (capacity, channel)) ⊎ Contains self.old.pairs x) }
@@ -62,7 +59,7 @@ impl Candidates {
         }
     }
 
-    /// Removes a channel of this capacity; if it isn't there, nothing changes.
+    /// Removes a channel of this capacity, if it is listed.
     pub fn remove(&mut self, capacity: usize, channel: usize)
         ensures pairs { (x : ℕ × ℕ) → Contains self.new.pairs x ↔ ((x ≢ (capacity, channel)) × Contains self.old.pairs x) }
         ensures many { Contains self.old.pairs (capacity, channel) → length self.new.pairs + 1 ≡ length self.old.pairs }
@@ -76,14 +73,12 @@ impl Candidates {
     }
 }
 
-/// Whether a pair is before another.
 fn is_before(pair: (usize, usize), other: (usize, usize)) -> bool
     ensures { IsTrue result ↔ IsBefore pair other }
 {
     pair.0 < other.0 || (pair.0 == other.0 && pair.1 < other.1)
 }
 
-/// Whether this pair is at this place.
 fn is_at(pairs: &[(usize, usize)], place: usize, pair: (usize, usize)) -> bool
     ensures { IsTrue result ↔ ((place < length pairs.now) × (get_or pairs.now place pair ≡ pair)) }
 {
@@ -94,7 +89,7 @@ fn is_at(pairs: &[(usize, usize)], place: usize, pair: (usize, usize)) -> bool
     found.0 == pair.0 && found.1 == pair.1
 }
 
-/// How many pairs are before this one: its place.
+/// Returns the number of pairs before this one.
 fn place_of(pairs: &[(usize, usize)], pair: (usize, usize)) -> usize
     requires { IsInOrder pairs.now }
     ensures within { result ≤ length pairs.now }

@@ -1,4 +1,4 @@
-//! What keeps the entries of a history.
+//! Keepers of a history's entries.
 ghost use Rattle.std.specs.Prelude.{◌≡◌, ◌++◌, ◌∷◌, [], ◌<◌, ◌≤◌, ◌^◌, length, map, get_or, IfOk, List, ℕ};
 ghost use Rattle.std.specs.Vec.{vec_capacity};
 ghost use Rattle.kpn_state.specs.Packed.{IsSmall};
@@ -7,8 +7,8 @@ use kpn_model::Entry;
 use std::alloc::{AllocError, Global};
 use std::snapshot::Snapshot;
 
-/// What keeps the entries of a history, in order, with room for a fixed number of them: each as it is handed out
-/// (`Wide`), in 16 bytes (`Packed`), or not at all (`Unkept`). Contracts see the entries in any case.
+/// Keeps the entries of a history, with room for a fixed number: as they are (`Wide`), in 16 bytes each
+/// (`Packed`), or not at all (`Unkept`). Contracts see the entries in any case.
 pub trait Keeper: Drop {
     ghost use Rattle.std.specs.Prelude.{List, ℕ};
     ghost use Rattle.kpn_model.specs.declared.history.Entry.{Entry};
@@ -17,20 +17,17 @@ pub trait Keeper: Drop {
 
     ghost room: { Self → ℕ };
 
-    /// Makes room for this many entries, of which there are none yet.
-    ///
-    /// Errors: memory was refused.
+    /// Makes a keeper with room for `count` entries. Errors: out of memory.
     fn with_room(alloc: Global, count: usize) -> Result<Self, AllocError>
         ensures entries { IfOk result (λ h. entries h ≡ []) }
         ensures room { IfOk result (λ h. count ≤ room h) };
 
-    /// Returns how many entries there are.
+    /// Returns the number of entries.
     fn count(&self) -> usize
         ensures count { result ≡ length (entries self.now) }
         ensures few { length (entries self.now) < 2 ^ 63 };
 
-    /// Appends an entry, for which there must be room. The numbers of its process and its channel must be below
-    /// 65,536.
+    /// Appends an entry. There must be room, and its process and channel numbers must be below 65,536.
     fn keep(&mut self, entry: Entry)
         requires room { length (entries self.old) < room self.old }
         requires small { IsSmall entry }
@@ -38,7 +35,7 @@ pub trait Keeper: Drop {
         ensures room { room self.new ≡ room self.old };
 }
 
-/// Kept entries that can be read again.
+/// A keeper with readable entries.
 pub trait Recall: Keeper {
     /// Returns the entry at a place, counted from 0.
     fn entry(&self, place: usize) -> Entry
@@ -46,7 +43,7 @@ pub trait Recall: Keeper {
         ensures { (d : Entry) → get_or (Self.entries self.now) place d ≡ result };
 }
 
-/// Entries as they are handed out, in 48 bytes each.
+/// Entries as they are, in 48 bytes each.
 #[derive(Drop)]
 pub struct Wide {
     items: Vec<Entry>,
@@ -88,8 +85,7 @@ impl Recall for Wide {
     }
 }
 
-/// Entries that are counted, and of which nothing else is kept: a snapshot has no bytes, so that only contracts see
-/// what it was taken of.
+/// Entries that are only counted: a snapshot has no bytes, and only contracts see its entry.
 #[derive(Drop)]
 pub struct Unkept {
     seen: Vec<Snapshot<Entry>>,

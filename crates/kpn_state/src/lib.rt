@@ -1,5 +1,4 @@
-//! The state of a network, with its channels as rings; the history that led to it; the standing of each
-//! process; and who waits at the channels: the candidates for a growth, and the marks.
+//! The state of a network, its history, the standings of its processes, and who waits at its channels.
 #![tactic(auto)]
 
 pub mod candidates;

@@ -5,9 +5,8 @@ ghost use Rattle.kpn_state.specs.Marks.{mark_lists, is_marked};
 use std::alloc::{AllocError, Global};
 use std::marker::Model;
 
-/// For each channel a mark whether its reader is parked on it, and one whether its writer is: so a
-/// commit knows without a look at a process whether its deed lets another go on. All memory is taken by
-/// `new`.
+/// For each channel, whether its reader and whether its writer is parked on it. So a commit knows, without
+/// looking at a process, whether its deed enables another. Only `new` allocates.
 #[derive(Drop)]
 pub struct Marks {
     readers: Vec<bool>,
@@ -23,7 +22,7 @@ impl Model for Marks {
 }
 
 impl Marks {
-    /// Makes the marks of so many channels, on which nobody is parked. Fails if memory was refused.
+    /// Makes the marks of `channels` channels with nobody parked. Errors: out of memory.
     pub fn new(alloc: Global, channels: usize) -> Result<Marks, AllocError>
         ensures { IfOk result (λ m. m ≡ mark_lists (replicate channels false) (replicate channels false)) }
     {
@@ -32,7 +31,7 @@ impl Marks {
         Ok(Marks { readers, writers })
     }
 
-    /// Returns whether the channel's reader is parked on it.
+    /// Whether the channel's reader is parked on it.
     #[inline(always)]
     pub fn reader_waits(&self, channel: usize) -> bool
         requires { channel < length self.now.readers }
@@ -41,7 +40,7 @@ impl Marks {
         self.readers[channel]
     }
 
-    /// Returns whether the channel's writer is parked on it.
+    /// Whether the channel's writer is parked on it.
     #[inline(always)]
     pub fn writer_waits(&self, channel: usize) -> bool
         requires { channel < length self.now.writers }
@@ -50,7 +49,7 @@ impl Marks {
         self.writers[channel]
     }
 
-    /// Notes whether the channel's reader is parked on it.
+    /// Sets whether the channel's reader is parked on it.
     #[inline(always)]
     pub fn note_reader(&mut self, channel: usize, waits: bool)
         requires { channel < length self.old.readers }
@@ -59,7 +58,7 @@ impl Marks {
         self.readers[channel] = waits;
     }
 
-    /// Notes whether the channel's writer is parked on it.
+    /// Sets whether the channel's writer is parked on it.
     #[inline(always)]
     pub fn note_writer(&mut self, channel: usize, waits: bool)
         requires { channel < length self.old.writers }
@@ -69,7 +68,6 @@ impl Marks {
     }
 }
 
-/// So many channels without a mark.
 fn unmarked(alloc: Global, channels: usize) -> Result<Vec<bool>, AllocError>
     ensures { IfOk result (λ v. v.items ≡ replicate channels false) }
 {

@@ -8,7 +8,7 @@ use crate::keeper::{Keeper, Recall};
 use kpn_model::{Deed, Entry, Token};
 use std::alloc::{AllocError, Global};
 
-/// What an entry tells, without its numbers and its token.
+/// The form of an entry, without its numbers and its token.
 #[derive(Clone, Copy, Debug, PartialEq, Eq)]
 pub enum Form {
     Took,
@@ -17,9 +17,9 @@ pub enum Form {
     Grew,
 }
 
-/// An entry in 16 bytes: its token's word, its flag as 0 or 1, or the new capacity; the numbers of its process and
-/// of its channel; what it tells; and whether its token is a flag. A number that an entry doesn't have is 0. None of its
-/// bytes is padding, which would be written too.
+/// An entry in 16 bytes: its token's word, its flag as 0 or 1, or the new capacity; the numbers of its process
+/// and channel, 0 if missing; its form; and whether its token is a flag. No byte is padding, which would be
+/// written too.
 #[derive(Clone, Copy, Debug, PartialEq, Eq)]
 pub struct PackedEntry {
     pub word: u64,
@@ -29,7 +29,6 @@ pub struct PackedEntry {
     pub is_flag: bool,
 }
 
-/// The word of a token: for a flag, 1 if it is true and else 0.
 #[inline(always)]
 fn word_of(token: Token) -> u64
     ensures { result ≡ word_of token }
@@ -40,7 +39,6 @@ fn word_of(token: Token) -> u64
     }
 }
 
-/// Whether a token is a flag.
 #[inline(always)]
 fn is_flag(token: Token) -> bool
     ensures { result ≡ is_flag token }
@@ -51,7 +49,6 @@ fn is_flag(token: Token) -> bool
     }
 }
 
-/// The token with this word, which is a flag or not.
 #[inline(always)]
 fn token_of(is_flag: bool, word: u64) -> Token
     ensures { result ≡ token_of is_flag word }
@@ -64,7 +61,7 @@ fn token_of(is_flag: bool, word: u64) -> Token
 }
 
 impl PackedEntry {
-    /// Packs an entry. The numbers of its process and its channel must be below 65,536.
+    /// Packs an entry. Its process and channel numbers must be below 65,536.
     #[inline(always)]
     pub fn of(entry: Entry) -> PackedEntry
         requires { IsSmall entry }

@@ -7,9 +7,7 @@ use kpn_model::Token;
 use std::alloc::{AllocError, Global};
 use std::marker::Model;
 
-/// A channel: the tokens that it holds, in the order in which they will be read, and its capacity.
-///
-/// The buffer may have room for more than the capacity, so that not every growth copies the tokens.
+/// A channel: its tokens in reading order, and its capacity. Its buffer may have more room, to copy less.
 #[derive(Drop)]
 pub struct Ring {
     buffer: HeapCircularBuffer<Token>,
@@ -29,8 +27,7 @@ impl Model for Ring {
 }
 
 impl Ring {
-    /// Makes a channel that holds these tokens, with room for its capacity. Fails if memory was
-    /// refused.
+    /// Makes a channel with these tokens and this capacity. Errors: out of memory.
     pub fn new(alloc: Global, tokens: &[Token], capacity: usize) -> Result<Ring, AllocError>
         requires { length tokens.now ≤ capacity }
         ensures { IfOk result (λ r. r ≡ held tokens.now capacity) }
@@ -40,7 +37,7 @@ impl Ring {
         Ok(Ring { buffer, capacity })
     }
 
-    /// Returns how many tokens the channel holds, and its capacity.
+    /// Returns the number of tokens in the channel, and its capacity.
     pub fn tokens_and_capacity(&self) -> (usize, usize)
         ensures tokens { result.0 ≡ length self.now.tokens }
         ensures capacity { result.1 ≡ self.now.capacity }
@@ -49,7 +46,7 @@ impl Ring {
         (self.buffer.len(), self.capacity)
     }
 
-    /// Removes and returns the first token. The channel must hold one.
+    /// Removes and returns the first token. There must be one.
     pub fn take(&mut self) -> Token
         requires { 0 < length self.old.tokens }
         ensures first { self.old.tokens ≡ result ∷ drop 1 self.old.tokens }
@@ -61,7 +58,7 @@ impl Ring {
         }
     }
 
-    /// Appends a token. The channel must hold fewer than its capacity.
+    /// Appends a token. The channel must have room.
     pub fn put(&mut self, token: Token)
         requires { length self.old.tokens < self.old.capacity }
         ensures { self.new ≡ held (self.old.tokens ++ token ∷ []) self.old.capacity }
@@ -71,9 +68,7 @@ impl Ring {
         }
     }
 
-    /// Sets the capacity to `to` tokens, and makes room for them.
-    ///
-    /// Errors: memory was refused. The channel is then unchanged.
+    /// Sets the capacity to `to` tokens. Errors: out of memory; the channel is then unchanged.
     pub fn grow(&mut self, to: usize) -> Result<(), AllocError>
         requires { length self.old.tokens ≤ to }
         ensures ok { OnOk result (self.new ≡ held self.old.tokens to) }
@@ -87,10 +82,8 @@ impl Ring {
     }
 }
 
-/// Makes room for `needed` tokens. It asks for twice the old room if that is more, and for exactly
-/// `needed` if that is refused; so n growths by one copy no more than 2n tokens.
-///
-/// Errors: memory was refused. The buffer is then unchanged.
+/// Makes room for `needed` tokens, if possible for twice the old room if that is more. So n growths by one
+/// copy at most 2n tokens. Errors: out of memory; the buffer is then unchanged.
 fn make_room(buffer: &mut HeapCircularBuffer<Token>, needed: usize) -> Result<(), AllocError>
     requires { buffer.old.capacity < needed }
     ensures items { OnOk result (buffer.new.items ≡ buffer.old.items) }

@@ -1,4 +1,4 @@
-//! The standings of the processes, with the ready ones in a queue.
+//! The standings of the processes, with a queue of the ready ones.
 ghost use Rattle.std.specs.Prelude.{◌≡◌, ◌≢◌, ◌<◌, ◌≤◌, ℕ, length, set, replicate, if◌then◌else◌, count_by, IsTrue, IfOk, IfSome, IfNone};
 ghost use Rattle.std.specs.List.{list_any, list_all};
 ghost use Rattle.kpn_state.specs.declared.standing.Standing.TheVariants.{Ready, Out};
@@ -10,23 +10,20 @@ use circular_buffer::HeapCircularBuffer;
 use std::alloc::{AllocError, Global};
 use std::marker::Model;
 
-/// The standing of each process, in order.
+/// The standing of each process, with a first-in, first-out queue of the ready ones. Only `new` allocates.
 ///
-/// The numbers of the ready processes are in a queue, first in, first out. How many processes are out
-/// and how many are live is kept, and how many are parked follows from these. So only two calls look at
-/// more than one process: `new` goes through all of them, and `update` through the queue, if a process
-/// that was ready no longer is and others were queued behind it. All memory is taken by `new`.
+/// The numbers of processes out and live are kept; that of the parked follows. So only two calls look at more
+/// than one process: `new`, and `update` of a ready process that no longer is, with others queued behind it.
 pub struct Roster {
     standings: Vec<Standing>,
-    // The two counts are kept apart: side by side they would be loaded and stored as one value of 16
-    // bytes, and such a load stalls if one of them was stored alone just before.
+    // Kept apart from `live`: side by side they would be loaded as one value of 16 bytes, and such a load
+    // stalls if one of them was just stored alone.
     out: usize,
     queue: HeapCircularBuffer<usize>,
     live: usize,
 }
 
-// Written out, so that letting go of a roster is a call, which is proved once, and not done field by field wherever
-// one ends.
+// Written out, so that each drop is one call, proved once, and not a drop of each field.
 impl Drop for Roster {
     fn drop(self) {
         let Roster {
@@ -51,8 +48,7 @@ impl Model for Roster {
 }
 
 impl Roster {
-    /// Makes the standings of `count` processes, all ready and queued in order. Fails if memory was
-    /// refused.
+    /// Makes the standings of `count` processes, all ready and queued in order. Errors: out of memory.
     pub fn new(alloc: Global, count: usize) -> Result<Roster, AllocError>
         ensures { IfOk result (λ r. r ≡ replicate count Ready) }
     {
@@ -77,50 +73,49 @@ impl Roster {
         self.standings.as_slice()
     }
 
-    /// Returns whether some process is ready or out.
+    /// Whether some process is ready or out.
     pub fn any_busy(&self) -> bool
         ensures { result ≡ list_any is_busy self.now }
     {
         self.ready() + self.out > 0
     }
 
-    /// Returns whether all processes have stopped.
+    /// Whether all processes have stopped.
     pub fn all_stopped(&self) -> bool
         ensures { result ≡ list_all has_stopped self.now }
     {
         self.live == 0
     }
 
-    /// Returns how many processes are ready.
+    /// Returns the number of ready processes.
     pub fn ready(&self) -> usize
         ensures { result ≡ count_by is_ready self.now }
     {
         self.queue.len()
     }
 
-    /// Returns how many processes are out.
+    /// Returns the number of processes that are out.
     pub fn out(&self) -> usize
         ensures { result ≡ count_by is_out self.now }
     {
         self.out
     }
 
-    /// Returns how many processes are live: those that have not stopped.
+    /// Returns the number of live processes, those that have not stopped.
     pub fn live(&self) -> usize
         ensures { result ≡ count_by is_live self.now }
     {
         self.live
     }
 
-    /// Returns how many processes are parked: the live ones that are neither ready nor out.
+    /// Returns the number of parked processes: live, but neither ready nor out.
     pub fn parked(&self) -> usize
         ensures { result ≡ count_by is_parked self.now }
     {
         self.live - self.ready() - self.out
     }
 
-    /// Takes the first process of the queue, which has been ready for the longest time, and sends it
-    /// out. Returns its number; `None` if no process is ready.
+    /// Sends out the process that has been ready the longest, and returns its number; `None` if none is ready.
     pub fn send_out(&mut self) -> Option<usize>
         ensures some { IfSome result (λ p. standing self.old p ≡ Ready) }
         ensures within { IfSome result (λ p. p < length self.old) }
@@ -134,8 +129,8 @@ impl Roster {
         Some(process)
     }
 
-    /// Returns a ready process: this one, or if none is given the first of the queue, which goes to its
-    /// end; `None` if no process is ready. No standing changes.
+    /// Returns a ready process: `again` if it is given, else the first of the queue, which moves to its end;
+    /// `None` if none is ready. No standing changes.
     #[inline(always)]
     pub fn turn(&mut self, again: Option<usize>) -> Option<usize>
         requires { IfSome again (λ p. standing self.old p ≡ Ready) }
@@ -152,7 +147,7 @@ impl Roster {
         Some(process)
     }
 
-    /// Returns the process, if it is ready.
+    /// Returns the process if it is ready.
     #[inline(always)]
     pub fn if_ready(&self, process: usize) -> Option<usize>
         ensures { IfSome result (λ p. standing self.now p ≡ Ready) }
@@ -163,8 +158,8 @@ impl Roster {
         }
     }
 
-    /// Sets the standing of a process. If it becomes ready, it goes to the end of the queue; if it was
-    /// ready and stays so, it keeps its place there.
+    /// Sets the standing of a process. If it becomes ready, it joins the end of the queue; if it stays ready,
+    /// it keeps its place.
     #[inline(always)]
     pub fn update(&mut self, process: usize, next: Standing)
         requires { process < length self.old }
@@ -178,7 +173,6 @@ impl Roster {
         }
     }
 
-    /// Sets the standing of a process that is ready.
     #[inline(always)]
     fn update_ready(&mut self, process: usize, next: Standing)
         requires process { process < length self.old }
@@ -196,7 +190,6 @@ impl Roster {
         }
     }
 
-    /// Sets the standing of a process that is not ready.
     #[inline(always)]
     fn update_unready(&mut self, process: usize, next: Standing)
         requires process { process < length self.old }
@@ -211,7 +204,6 @@ impl Roster {
     }
 }
 
-/// How much a process with this standing adds to the count of those that are out.
 fn out_weight(standing: &Standing) -> usize
     ensures value { result ≡ if is_out standing.now then 1 else 0 }
     ensures few { result ≤ 1 }
@@ -222,7 +214,6 @@ fn out_weight(standing: &Standing) -> usize
     }
 }
 
-/// How much a process with this standing takes from the count of those that are live.
 fn stopped_weight(standing: &Standing) -> usize
     ensures value { result ≡ if has_stopped standing.now then 1 else 0 }
     ensures few { result ≤ 1 }
@@ -233,7 +224,6 @@ fn stopped_weight(standing: &Standing) -> usize
     }
 }
 
-/// Appends a process to the queue if its new standing is ready.
 fn enqueue(queue: &mut HeapCircularBuffer<usize>, process: usize, standing: &Standing)
     requires { IsTrue (is_ready standing.now) → length queue.old.items < queue.old.capacity }
     ensures items { queue.new.items ≡ queue_after queue.old.items process standing.now }
@@ -246,7 +236,6 @@ fn enqueue(queue: &mut HeapCircularBuffer<usize>, process: usize, standing: &Sta
     }
 }
 
-/// Takes a process out of the queue, in which it is once; the others keep their order.
 #[inline(always)]
 fn withdraw(queue: &mut HeapCircularBuffer<usize>, process: usize)
     requires { times queue.old.items process ≡ 1 }
@@ -262,7 +251,7 @@ fn withdraw(queue: &mut HeapCircularBuffer<usize>, process: usize)
     sift(queue, process);
 }
 
-/// Takes a process out of the queue, wherever it is there; the others keep their order.
+/// Removes a process from the queue, wherever it is; the others keep their order.
 #[cold]
 #[inline(never)]
 fn sift(queue: &mut HeapCircularBuffer<usize>, process: usize)

@@ -1,4 +1,4 @@
-//! Where a process stands in the machine.
+//! The standing of a process in the machine.
 ghost use Rattle.std.specs.Prelude.{◌≡◌, ◌≢◌, ◌<◌, ◌↔◌, length, IfSome, IfNone, IsSome, IsTrue};
 ghost use Rattle.std.specs.List.{list_all};
 ghost use Rattle.kpn_model.specs.declared.kinds.Answer.{Answer as AnswerV};
@@ -7,8 +7,7 @@ ghost use Rattle.kpn_state.specs.Standings.{standing, is_ready, parked_answer, s
 
 use kpn_model::{Answer, Deed};
 
-/// The standing of a process: it may be taken; it was taken and its answer has not come back; its
-/// answer came back and could not be done; or it has stopped.
+/// A process is ready to be asked, out with its answer awaited, parked with its answer, or stopped.
 #[derive(Clone, Copy, Debug, PartialEq, Eq)]
 pub enum Standing {
     Ready,
@@ -27,7 +26,7 @@ pub fn standing_after(deed: Deed) -> Standing
     }
 }
 
-/// Returns what a parked process answered; `None` if the process is not parked.
+/// Returns a parked process's answer; `None` if it is not parked.
 pub fn parked(standings: &[Standing], process: usize) -> Option<Answer>
     ensures is { result ≡ parked_answer (standing standings.now process) }
     ensures some { IfSome result (λ a. standing standings.now process ≡ Parked a) }
@@ -40,7 +39,7 @@ pub fn parked(standings: &[Standing], process: usize) -> Option<Answer>
     }
 }
 
-/// Returns whether a process is parked.
+/// Whether a process is parked.
 #[inline(always)]
 pub fn is_parked(standings: &[Standing], process: usize) -> bool
     ensures { IsTrue result ↔ IsSome (parked_answer (standing standings.now process)) }
@@ -48,7 +47,7 @@ pub fn is_parked(standings: &[Standing], process: usize) -> bool
     matches!(standings.get(process), Some(Standing::Parked(_)))
 }
 
-/// Returns whether all processes are ready.
+/// Whether all processes are ready.
 pub fn all_ready(standings: &[Standing]) -> bool
     ensures { result ≡ list_all is_ready standings.now }
 {

@@ -14,19 +14,17 @@ use kpn_model::{Deed, Entry, Local, Status, Token};
 use std::alloc::{AllocError, Global};
 use std::marker::Model;
 
-/// The status of each process, each channel, and the history, which has room for a fixed number of entries, as its
-/// keeper has them.
+/// The status of each process, the channels, and the history, with room for a fixed number of entries.
 pub struct Store<H: Keeper = Wide> {
     statuses: Vec<Status>,
     rings: Vec<Ring>,
     history: H,
     limit: usize,
-    /// How many entries of the history are growths, so that nobody has to go through it to count them.
+    /// How many entries are growths, so that nobody has to count them.
     growths: usize,
 }
 
-// Written out, so that letting go of a store is a call, which is proved once, and not done field by field wherever
-// one ends.
+// Written out, so that each drop is one call, proved once, and not a drop of each field.
 impl<H: Keeper> Drop for Store<H> {
     fn drop(self) {
         let Store {
@@ -50,10 +48,8 @@ impl<H: Keeper> Model for Store<H> {
 }
 
 impl<H: Keeper> Store<H> {
-    /// Makes a store of these processes and channels, at most 65,536 of each, with no entry yet and with room for
-    /// `limit` entries.
-    ///
-    /// Errors: memory was refused.
+    /// Makes a store of up to 65,536 processes and 65,536 channels, with room for `limit` entries. Errors: out
+    /// of memory.
     pub fn new(
         alloc: Global,
         statuses: Vec<Status>,
@@ -74,14 +70,14 @@ impl<H: Keeper> Store<H> {
         })
     }
 
-    /// Returns what keeps the entries.
+    /// Returns the keeper of the entries.
     pub fn keeper(&self) -> &H
         ensures { H.entries result.now ≡ self.now.history }
     {
         &self.history
     }
 
-    /// Returns how many entries there are so far.
+    /// Returns the number of entries.
     #[inline(always)]
     pub fn entries(&self) -> usize
         ensures { result ≡ length self.now.history }
@@ -89,7 +85,7 @@ impl<H: Keeper> Store<H> {
         self.history.count()
     }
 
-    /// Returns how many of the entries so far are growths.
+    /// Returns the number of growths among the entries.
     #[inline(always)]
     pub fn growths(&self) -> usize
         ensures { result ≡ length (growths_of self.now.history) }
@@ -97,7 +93,7 @@ impl<H: Keeper> Store<H> {
         self.growths
     }
 
-    /// Returns the status of a process: live with its local state and last token, or done.
+    /// Returns the status of a process.
     pub fn status(&self, process: usize) -> &Status
         requires { process < length self.now.state.processes }
         ensures { result.now ≡ status self.now.state process }
@@ -105,7 +101,7 @@ impl<H: Keeper> Store<H> {
         &self.statuses[process]
     }
 
-    /// Returns how many tokens a channel holds, and its capacity.
+    /// Returns the number of tokens in a channel, and its capacity.
     pub fn tokens_and_capacity(&self, channel: usize) -> (usize, usize)
         requires { channel < length self.now.state.channels }
         ensures tokens { result.0 ≡ length (tokens self.now.state channel) }
@@ -137,7 +133,7 @@ impl<H: Keeper> Store<H> {
 }
 
 impl Store<Wide> {
-    /// Returns the entries so far.
+    /// Returns the entries.
     pub fn history(&self) -> &[Entry]
         ensures { result.now ≡ self.now.history }
     {
@@ -146,8 +142,7 @@ impl Store<Wide> {
 }
 
 impl Store<Unkept> {
-    /// Forgets the entries so far: what is told goes on from the state that they led to, and there is room
-    /// for as many entries as at the start.
+    /// Forgets the entries. The history starts again from the current state, with as much room as at first.
     pub fn forget(&mut self)
         ensures { self.new ≡ state_and_history self.old.state [] self.old.limit }
     {
@@ -167,9 +162,8 @@ impl<H: Keeper> Store<H> {
         self.note(process, Deed::Stopped);
     }
 
-    /// Removes the first token of a channel, gives it to the process that reads it, and appends the
-    /// entry. Returns the token. The channel must hold one, and there must be room for the entry.
-    /// `next` is the process's local state from then on.
+    /// Moves the first token of a channel to the process that reads it, appends the entry, and returns the
+    /// token. There must be a token, and room for the entry. `next` is the new local state.
     #[inline(always)]
     pub fn take(&mut self, process: usize, channel: usize, next: Local) -> Token
         requires process { process < length self.old.state.processes }
@@ -189,9 +183,8 @@ impl<H: Keeper> Store<H> {
         token
     }
 
-    /// Appends the token that a process writes to a channel, and appends the entry. The channel must
-    /// hold fewer tokens than its capacity, and there must be room for the entry. `next` is the
-    /// process's local state from then on.
+    /// Appends the token that a process writes to a channel, and the entry; there must be room for both.
+    /// `next` is the new local state.
     #[inline(always)]
     pub fn put(&mut self, process: usize, channel: usize, next: Local, token: Token)
         requires process { process < length self.old.state.processes }
@@ -200,7 +193,7 @@ impl<H: Keeper> Store<H> {
         requires room { length self.old.history < self.old.limit }
         ensures { self.new ≡ more self.old (with_channel (with_status self.old.state process (Live next None)) channel (tokens self.old.state channel ++ token ∷ []) (capacity self.old.state channel)) (Did process (Put channel token)) }
     {
-        // The status first: its words are then out of the way while the token is put.
+        // The status first: its stores are then done while the token is put.
         self.statuses[process] = Status::Live {
             local: next,
             last: None,
@@ -210,8 +203,7 @@ impl<H: Keeper> Store<H> {
         self.note(process, Deed::Put { channel, token });
     }
 
-    /// Appends a token to a channel, from outside of the network: no process wrote it, and no entry tells
-    /// of it. The channel must hold fewer tokens than its capacity.
+    /// Appends a token to a channel from outside the network, without an entry. The channel must have room.
     pub fn feed(&mut self, channel: usize, token: Token)
         requires channel { channel < length self.old.state.channels }
         requires space { length (tokens self.old.state channel) < capacity self.old.state channel }
@@ -221,8 +213,7 @@ impl<H: Keeper> Store<H> {
         fed.put(token);
     }
 
-    /// Removes the first token of a channel and returns it to the outside of the network: no process read
-    /// it, and no entry tells of it. The channel must hold one.
+    /// Removes the first token, which must exist, and returns it to outside the network, without an entry.
     pub fn drain(&mut self, channel: usize) -> Token
         requires channel { channel < length self.old.state.channels }
         requires some { 0 < length (tokens self.old.state channel) }
@@ -234,8 +225,7 @@ impl<H: Keeper> Store<H> {
     }
 
     /// Sets the capacity of a channel to `to` tokens, and appends the entry. There must be room for it.
-    ///
-    /// Errors: memory was refused. Nothing has then changed.
+    /// Errors: out of memory; nothing has then changed.
     pub fn grow(&mut self, channel: usize, to: usize) -> Result<(), AllocError>
         requires channel { channel < length self.old.state.channels }
         requires within { length (tokens self.old.state channel) ≤ to }

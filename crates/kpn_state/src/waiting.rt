@@ -7,15 +7,13 @@ use crate::candidates::Candidates;
 use crate::marks::Marks;
 use std::alloc::{AllocError, Global};
 
-/// The parked processes as their channels see them: the candidates for a growth, and the marks. All
-/// memory is taken by `new`.
+/// Parked processes as their channels see them: growth candidates, and marks. Only `new` allocates.
 pub struct Waiting {
     pub candidates: Candidates,
     pub marks: Marks,
 }
 
-// Written out, so that letting go of what waits is a call, which is proved once, and not done field by field wherever
-// one ends.
+// Written out, so that each drop is one call, proved once, and not a drop of each field.
 impl Drop for Waiting {
     fn drop(self) {
         let Waiting {
@@ -26,8 +24,7 @@ impl Drop for Waiting {
 }
 
 impl Waiting {
-    /// Makes what stands while nobody is parked: no candidates, but room for one of each process, and no
-    /// mark at any channel. Fails if memory was refused.
+    /// Creates an empty wait set, with room for a candidate of each process. Errors: out of memory.
     pub fn new(alloc: Global, processes: usize, channels: usize) -> Result<Waiting, AllocError>
         ensures candidates { IfOk result (λ w. w.candidates ≡ candidate_list [] processes) }
         ensures marks { IfOk result (λ w. w.marks ≡ mark_lists (replicate channels false) (replicate channels false)) }

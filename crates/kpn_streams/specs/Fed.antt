@@ -1,4 +1,4 @@
--- What a process of a card writes, if its inputs hold certain tokens and get no more: no network, no channel, no schedule.
+-- What a process of a card writes if its inputs hold certain tokens and get no more.
 use Rattle.std.specs.Prelude.{◌≡◌, ℕ, zero, suc, ◌≤◌, nat_lt, if◌then◌else◌, List, [], ◌∷◌, Some, None, length, get_or, set, replicate}
 use Rattle.kpn_model.specs.declared.token.Token.{Token}
 use Rattle.kpn_model.specs.declared.kinds.Card.{Card}
@@ -8,40 +8,39 @@ use Rattle.kpn_model.specs.declared.history.Status.{Status}
 use Rattle.kpn_model.specs.declared.history.Status.TheVariants.{Live, Done}
 use Rattle.kpn_model.specs.Network.{Family}
 
--- nothing on each of this many outputs
 abbrev pub nothing : ℕ → List (List Token)
 nothing outputs = replicate outputs []
 
--- these, with t before what is on output k
+-- puts t before what is on output k
 abbrev pub put_first : Token → ℕ → List (List Token) → List (List Token)
 put_first t k [] = []
 put_first t zero (l ∷ ls) = (t ∷ l) ∷ ls
 put_first t (suc k) (l ∷ ls) = l ∷ put_first t k ls
 
--- how a process goes on after a read of input j, which holds the tokens ts: with the first of them, or it waits for ever
+-- after a read of input j, which holds the tokens ts: continues with the first of them, or waits forever
 abbrev pub after_read : (Status → List (List Token) → List (List Token)) → ℕ → List ℕ → List (List Token) → ℕ → List Token → List (List Token)
 after_read go outputs next ins j [] = nothing outputs
 after_read go outputs next ins j (t ∷ ts) = go (Live next (Some t)) (set ins j ts)
 
--- and after an act: a write to an output that it doesn't have waits for ever too
+-- a write to a missing output waits forever too
 abbrev pub after_act : (Status → List (List Token) → List (List Token)) → ℕ → List ℕ → List (List Token) → Act → List (List Token)
 after_act go outputs next ins Stop = nothing outputs
 after_act go outputs next ins (Read j) = after_read go outputs next ins j (get_or ins j [])
 after_act go outputs next ins (Write j t) = if nat_lt j outputs then put_first t j (go (Live next None) ins) else nothing outputs
 
 module _ (kinds : Family) (card : Card) where
-  -- what a process of the card writes to each of its outputs in at most n acts, from this status, if its inputs hold these tokens
+  -- what a process of the card writes to each output in at most n acts, from this status and these inputs
   abbrev pub written_in : ℕ → ℕ → Status → List (List Token) → List (List Token)
   written_in outputs zero s ins = nothing outputs
   written_in outputs (suc n) Done ins = nothing outputs
   written_in outputs (suc n) (Live local last) ins =
       after_act (written_in outputs n) outputs (kinds.answer card local last).next ins (kinds.answer card local last).act
 
-  -- from this status it writes these, and however long one waits no more
+  -- from this status it writes these, and never more
   pub record WritesFrom (s : Status) (ins outs : List (List Token)) : Type 0 where
     pub enough : ℕ
     pub written : (n : ℕ) → enough ≤ n → written_in (length outs) n s ins ≡ outs
 
-  -- a process of the card, fed with these tokens and no more, writes these and no more, a list for each input and each output
+  -- fed with these tokens and no more, a process of the card writes these and no more
   abbrev pub Writes : List (List Token) → List (List Token) → Type 0
   Writes ins outs = WritesFrom (Live (kinds.start card) None) ins outs

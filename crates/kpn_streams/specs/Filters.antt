@@ -5,12 +5,11 @@ use Rattle.kpn_compute.specs.Filters.{filter_family}
 use Rattle.kpn_streams.specs.Fed.{Writes}
 use Rattle.kpn_streams.specs.Functions.{words}
 
--- a scan: what the steps write for these words, one after the other, each with what the last one kept
+-- a scan: what the steps write for these words, each with what the one before kept
 abbrev pub scanned : (List ℕ → ℕ → List ℕ × ℕ) → List ℕ → List ℕ → List ℕ
 scanned step kept [] = []
 scanned step kept (w ∷ ws) = (step kept w).1 ∷ scanned step (step kept w).0 ws
 
--- the filters with this start and this step write the scan of what they read
 abbrev pub FiltersScan : (Card → List ℕ) → (Card → List ℕ → ℕ → List ℕ × ℕ) → Type 0
 FiltersScan start step =
     (card : Card) (ws : List ℕ) → Writes (filter_family start step) card (words ws ∷ []) (words (scanned (step card) (start card) ws) ∷ [])

@@ -1,5 +1,4 @@
--- What each of the twelve standard kinds writes, as a function of what it is fed with (Kahn 1974). The arguments that are called
--- `others` say nothing.
+-- What each standard kind writes when fed (Kahn 1974). The arguments `others` don't matter.
 use Rattle.std.specs.Prelude.{ℕ, ◌≤◌, Bool, not, List, [], ◌∷◌, map, take}
 use Rattle.std.specs.List.{range_with_len}
 use Rattle.std.specs.List.Sorted.{IsStrictlyIncreasing}
@@ -15,44 +14,39 @@ use Rattle.kpn_streams.specs.Joined.{TakesTurns, IsRisingUnion}
 abbrev pub CountWrites : Type 0
 CountWrites = (from n : ℕ) (others : List ℕ) → Writes standard (card_of_kind Count (from ∷ n ∷ others)) [] (words (range_with_len from n) ∷ [])
 
--- sink: nothing, however many outputs one looks at
+-- sink: nothing, on any number of outputs
 abbrev pub SinkWrites : Type 0
 SinkWrites = (n : ℕ) (others : List ℕ) (ts : List Token) (outputs : ℕ) → Writes standard (card_of_kind Sink (n ∷ others)) (ts ∷ []) (nothing outputs)
 
--- take: the first n numbers
 abbrev pub TakeWrites : Type 0
 TakeWrites = (n : ℕ) (others xs : List ℕ) → Writes standard (card_of_kind Take (n ∷ others)) (words xs ∷ []) (words (take n xs) ∷ [])
 
--- copy: the numbers, on both outputs
 abbrev pub CopyWrites : Type 0
 CopyWrites = (others xs : List ℕ) → Writes standard (card_of_kind Copy others) (words xs ∷ []) (words xs ∷ words xs ∷ [])
 
--- prefix: v, and then the numbers
+-- prefix: v, then the numbers
 abbrev pub PrefixWrites : Type 0
 PrefixWrites = (v : ℕ) (others xs : List ℕ) → Writes standard (card_of_kind Prefix (v ∷ others)) (words xs ∷ []) (words (v ∷ xs) ∷ [])
 
--- add: the sums
 abbrev pub AddWrites : Type 0
 AddWrites = (others xs ys : List ℕ) → Writes standard (card_of_kind Add others) (words xs ∷ words ys ∷ []) (words (sums xs ys) ∷ [])
 
--- scale: the products by k
 abbrev pub ScaleWrites : Type 0
 ScaleWrites = (k : ℕ) (others xs : List ℕ) → Writes standard (card_of_kind Scale (k ∷ others)) (words xs ∷ []) (words (products k xs) ∷ [])
 
--- weave: a numbers of the first stream, then b of the second, and again
+-- weave: a numbers of the first stream, then b of the second, in turn
 abbrev pub WeaveWrites : Type 0
 WeaveWrites =
     (a b : ℕ) (others xs ys : List ℕ) → Writes standard (card_of_kind Weave (a ∷ b ∷ others)) (words xs ∷ words ys ∷ []) (words (woven a b xs ys) ∷ [])
 
--- merge: the lesser of the two heads, and one of two equal ones
+-- merge: the lesser of the two heads, one of two equal ones
 abbrev pub MergeWrites : Type 0
 MergeWrites = (others xs ys : List ℕ) → Writes standard (card_of_kind Merge others) (words xs ∷ words ys ∷ []) (words (merged xs ys) ∷ [])
 
--- divides: for each number whether m divides it
 abbrev pub DividesWrites : Type 0
 DividesWrites = (m : ℕ) (others xs : List ℕ) → Writes standard (card_of_kind Divides (m ∷ others)) (words xs ∷ []) (flags (divided m xs) ∷ [])
 
--- switch: on output 0 the numbers whose flag is false, on output 1 those whose flag is true
+-- switch: on output 0 the numbers whose flag is false, on output 1 the others
 abbrev pub SwitchWrites : Type 0
 SwitchWrites =
     (others xs : List ℕ) (fs : List Bool)
@@ -63,10 +57,8 @@ abbrev pub SelectWrites : Type 0
 SelectWrites =
     (others xs ys : List ℕ) (fs : List Bool) → Writes standard (card_of_kind Select others) (words xs ∷ words ys ∷ flags fs ∷ []) (words (selected fs xs ys) ∷ [])
 
--- what weave writes takes turns
 abbrev pub WeaveTakesTurns : Type 0
 WeaveTakesTurns = (a b : ℕ) → 1 ≤ a → 1 ≤ b → TakesTurns a b (woven a b)
 
--- what merge writes of two rising streams is their rising union, as far as both come
 abbrev pub MergeIsUnion : Type 0
 MergeIsUnion = (xs ys : List ℕ) → IsStrictlyIncreasing xs → IsStrictlyIncreasing ys → IsRisingUnion xs ys (merged xs ys)

@@ -1,35 +1,31 @@
-//! The equations of a network, solved by functions on streams.
+//! Solves a network's equations with functions on streams.
 ghost use Rattle.kpn_model.specs.Network.{Family};
 ghost use Rattle.kpn_model.specs.Families.{family};
 ghost use Rattle.kpn_streams.specs.Solving.{TestTellsPorts, TestTellsOrder, EquationByTest, FedIsAlone, FedIsAll, StepIsBelow, ApproximationsAreBelow, ApproximationsGrow, RunIsApproximated, LimitIsLeast, FixedIsComputed, SolvedIsSolution, SolutionSolves, SolvedIsComputed, OrderedIsComputed, AlikeComputeTheSame};
 
 use kpn_model::Kinds;
 
-/// Ghost lemma: how a network's equations are solved by functions on streams, with no machine, for
-/// every family of kinds and every network.
+/// Ghost lemma: how functions on streams solve a network's equations, without a machine, for every family and
+/// network.
 ///
-/// What a process of a card writes that is fed with certain tokens is a function (`Writes`). `fed_alone`:
-/// in a network such a process writes this alone, for streams that begin with these tokens; `fed_all`:
-/// and no more, for streams that have no others. So the equation of a channel is that it has its start
-/// tokens, and then what that function makes of the tokens of other channels (`HasEquation`). `ports`,
-/// `order`: which ports a process has, and whether channels are in order, so that there is no loop, is
-/// found by tests; `equation`: so an equation of a network that is written out needs only what the
-/// channel's writer writes.
+/// What a process of a card writes, if it is fed with certain tokens, is a function (`Writes`). In a network
+/// it writes this alone, for streams that begin with these tokens (`fed_alone`), and no more, for streams
+/// without others (`fed_all`). So the equation of a channel is: its start tokens, then what that function
+/// makes of the tokens of other channels (`HasEquation`). Tests find the ports of a process (`ports`) and
+/// whether channels are in order, without loops (`order`). So the equation of a written-out network needs only
+/// what the channel's writer writes (`equation`).
 ///
-/// `limit`: approximations that begin with nothing, and of which each next one is what the equations make
-/// of the one before, have the least solution for their limit (Kleene 1952, Kahn 1974). `grow`: each
-/// begins with the one before. `below`: the streams of each pre-fixed point, so of each solution, begin
-/// with each approximation. `approximated`: with the streams of a run, whether it is over or not, some
-/// approximation begins; so what holds of all first parts of all approximations holds of what is written.
+/// Approximations start empty; the equations make each of the one before. `limit`: their limit is the least
+/// solution (Kleene 1952, Kahn 1974). `grow`: each begins with the one before. `below`: each pre-fixed point,
+/// so each solution, begins with each of them. `approximated`: the streams of any run, over or not, are
+/// prefixes of some approximation; so what holds of all prefixes of approximations holds of what is written.
 ///
-/// Where the streams are finite, the network computes them (`HasStreams`): they are the least solution, a
-/// run that terminates or ends in a deadlock has just these, and every run has first parts of them.
-/// `fixed`: so it is with an approximation that is the one before again. `solved`: tokens that solve the
-/// equations are a solution, `solves`: and those of a solution solve them. `computed`: the network
-/// computes them if the streams of each pre-fixed point begin with them; `step`: to show that, by an
-/// induction of one's own, streams that begin with certain tokens begin with what an equation makes of
-/// these. `ordered`: if there is no loop, the network computes whatever tokens solve the equations.
-/// `alike`: what a network computes doesn't depend on names, sorts and capacities.
+/// Finite streams that are the least solution are computed by the network (`HasStreams`): natural ends have
+/// exactly these, every run prefixes of them. `fixed`: so is an approximation that equals the one before.
+/// `solved`, `solves`: tokens that solve the equations are a solution, and conversely. `computed`: the network
+/// computes them if each pre-fixed point begins with them; `step` helps to show this by induction: streams
+/// that begin with certain tokens begin with what an equation makes of these. `ordered`: without loops the
+/// network computes any tokens that solve the equations. `alike`: names, sorts and capacities don't matter.
 pub fn solving()
     ensures ports { TestTellsPorts }
     ensures order { TestTellsOrder }
@@ -49,7 +45,7 @@ pub fn solving()
     ensures alike { (kinds : Family) → AlikeComputeTheSame kinds }
 {}
 
-/// Ghost lemma: the laws of [`solving`] for a family that is given as a type.
+/// Ghost lemma: the laws of [`solving`] for the family of a type.
 pub fn solving_of<K: Kinds>()
     ensures equation { EquationByTest (family K.Kinds) }
     ensures fed_alone { FedIsAlone (family K.Kinds) }

@@ -1,9 +1,8 @@
-//! What each kind of process means, as a function on streams: what it writes, fed with certain tokens
-//! and no more (Kahn 1974). No network, no channel and no schedule are needed to say it. And a network's
-//! equations, solved by such functions: docs/least-solution.md goes through it.
+//! Kinds as functions on streams: what a process writes, fed with certain tokens and no more (Kahn 1974),
+//! without network, channel and schedule; and a network's equations, solved with such functions.
+//! docs/least-solution.md explains it.
 //!
-//! A function here does nothing. What it ensures are theorems; a caller that calls it may use them from
-//! there on.
+//! A function here does nothing. It ensures theorems, which its caller may use.
 #![tactic(auto)]
 
 mod equations;

@@ -18,13 +18,12 @@ view_of seen = record { seen = seen; note = nothing }
 abbrev pub noted : View → Seen → View
 noted v note = record { seen = v.seen; note = note }
 
--- the new goes on from the old, and is the old if that had ended
+-- the new continues the old, and equals it if that had ended
 pub record ContinuesSeen (old new : Seen) : Type 0 where
   pub front : IsPrefix old.entries new.entries
   pub ended : old.phase ≢ Running → new ≡ old
 
--- the first seat's view is what is published, the word shows it, and it goes on from what any seat has seen or was given as a
--- note
+-- the word shows what the first seat has seen, which continues what any seat has seen or was given as a note
 pub record WordIsTrue (s : State (Unit {0}) View) : Type 0 where
   pub published : Seen
   pub first : (v : View) × (get_elem? s.views 0 ≡ some v) × (v.seen ≡ published)
@@ -35,14 +34,13 @@ pub record WordIsTrue (s : State (Unit {0}) View) : Type 0 where
 abbrev pub It : Type 0
 It = Me (Unit {0}) View
 
--- the word shows what is seen now, which goes on from what was seen
+-- the word shows what is seen now, which continues what was seen before
 abbrev pub Looks : Step (Unit {0}) → It → ℕ → It → Type 0
 Looks s me found now = (found ≡ word_of now.0.seen.entries now.0.seen.phase) × (length now.0.seen.entries < 2 ^ 22) × ContinuesSeen me.0.seen now.0.seen × (now.0.note ≡ me.0.note) × (now.1 ≡ me.1)
 
--- the seat has now seen this
 abbrev pub Publishes : Seen → Step (Unit {0}) → It → ℕ → It → Type 0
 Publishes news s me stored now = now ≡ (record { seen = news; note = me.0.note }, me.1)
 
--- what was seen goes on from the note, and the note is removed
+-- what was seen continues the note, which is removed
 abbrev pub Compares : Step (Unit {0}) → It → ℕ → It → Type 0
 Compares s me found now = (now ≡ (view_of me.0.seen, me.1)) × ContinuesSeen me.0.note me.0.seen

@@ -1,4 +1,4 @@
-//! The published word, the right to publish, and the watchers.
+//! The published word, its publisher, and the watchers.
 ghost use Rattle.std.specs.Prelude.{◌≡◌, ◌≢◌, ◌+◌, ◌^◌, ◌<◌, ◌↔◌, [], length, IfOk, OnErr, IsErr};
 ghost use mathlib.Core.List.{IsPrefix};
 ghost use Rattle.kpn_model.specs.History.{growths as growths_of};
@@ -12,10 +12,10 @@ use kpn_state::Keeper;
 use std::alloc::{AllocError, Global};
 use std::marker::{Brand, Model};
 
-/// The greatest number of watchers of a board.
+/// The most watchers of a board.
 pub const MOST_WATCHERS: u32 = 64;
 
-/// The published word, which shows how far a history has come. Contracts see which board it is.
+/// The published word, which shows the progress of a history. Contracts see which board it is.
 #[derive(Drop)]
 pub struct Board {
     table: Table<(), View, (), WordRule, Global>,
@@ -34,8 +34,8 @@ impl Model for Board {
     ghost invariant = { λ b. b.table.shared.table_id.words ≡ 1 };
 }
 
-/// The right to publish on a board. There is one for each board. Contracts see its board, the history
-/// and the phase that it published last, and how many watchers were made.
+/// The right to publish on a board; each board has one. Contracts see its board, the history and phase
+/// published last, and how many watchers were made.
 #[derive(Drop)]
 pub struct Publisher {
     seat: Seat<(), View>,
@@ -55,7 +55,7 @@ impl Model for Publisher {
     ghost invariant = { λ p. (p.seat.id ≡ 0) × (p.seat.me.0.note ≡ nothing) × (p.seat.me.1 ≡ []) × (p.watchers ≤ MOST_WATCHERS) };
 }
 
-/// A reader of a board. Contracts see its board, and the history and the phase that it has seen.
+/// A reader of a board. Contracts see its board, and the history and phase that it has seen.
 #[derive(Drop)]
 pub struct Watcher {
     seat: Seat<(), View>,
@@ -76,12 +76,12 @@ impl Model for Watcher {
 /// Why there is no watcher.
 #[derive(Clone, Copy, PartialEq, Eq, Debug)]
 pub enum WatchFault {
-    /// 64 watchers were made, those that have ended included.
+    /// 64 watchers were made, including those that have ended.
     Full = 1,
 }
 
 impl WatchFault {
-    /// Returns the number of the fault: 1.
+    /// Returns the number of the fault, 1.
     pub fn number(&self) -> u8
         ensures { result ≡ 1 }
     {
@@ -92,8 +92,7 @@ impl WatchFault {
 }
 
 impl Board {
-    /// Makes a board, which shows the empty history of a run that goes on, and its publisher. Fails if
-    /// memory was refused.
+    /// Makes a board with the empty history of a running run, and its publisher. Errors: out of memory.
     pub fn new(alloc: Global) -> Result<(Board, Publisher), AllocError>
         ensures { IfOk result (λ r. r.1 ≡ record { board = r.0; entries = []; phase = Phase.Running; watchers = 0 }) }
     {
@@ -101,9 +100,9 @@ impl Board {
         Ok((Board { table }, Publisher { seat, watchers: 0 }))
     }
 
-    /// Publishes a history, its number of growths and its phase, by one store. The publisher must be
-    /// this board's. The history must go on from the published one, and if that had ended, it must be
-    /// the same with the same phase. It must have fewer than 2^22 entries.
+    /// Publishes a history, its number of growths and its phase with one store. The publisher must be this
+    /// board's. The history must continue the published one, and have fewer than 2^22 entries. If that had
+    /// ended, history and phase must be the same.
     pub fn publish(&self, publisher: &mut Publisher, history: &[Entry], growths: u32, phase: Phase)
         requires board { publisher.old.board ≡ self.now }
         requires goes_on { IsPrefix publisher.old.entries history.now }
@@ -121,9 +120,9 @@ impl Board {
         );
     }
 
-    /// Publishes kept entries, their number of growths and their phase, by one store, as `publish` does a
-    /// history that is a slice. The publisher must be this board's. The entries must go on from the published
-    /// ones, and if these had ended, they must be the same with the same phase. There must be fewer than 2^22.
+    /// Publishes kept entries, their number of growths and their phase with one store, like `publish`. The
+    /// publisher must be this board's. The entries must continue the published ones, and be fewer than 2^22.
+    /// If those had ended, entries and phase must be the same.
     pub fn publish_kept<H: Keeper>(
         &self,
         publisher: &mut Publisher,
@@ -141,8 +140,7 @@ impl Board {
         self.publish_as::<Brand, &H>(publisher, kept, kept.count() as u32, growths, phase);
     }
 
-    // A step's `Play` sees no argument, so what to publish is passed to it by the type N, which a call chooses by
-    // what has the entries.
+    // A step's `Play` sees no argument: the type N, chosen from `_from`, carries what to publish.
     fn publish_as<N: News, T: Copy>(
         &self,
         publisher: &mut Publisher,
@@ -170,8 +168,8 @@ impl Board {
             .store::<Publish<N>>(&mut publisher.seat, 0, progress.to_word());
     }
 
-    /// Makes a watcher that has seen what is published. The publisher must be this board's. Fails
-    /// exactly if 64 were made before; nothing changes then.
+    /// Makes a watcher that has seen what is published. The publisher must be this board's. Fails exactly if
+    /// 64 were made before; nothing changes then.
     pub fn split(&self, publisher: &mut Publisher) -> Result<Watcher, WatchFault>
         requires { publisher.old.board ≡ self.now }
         ensures seen { IfOk result (λ w. w ≡ record { board = publisher.old.board; entries = publisher.old.entries; phase = publisher.old.phase }) }
@@ -187,9 +185,9 @@ impl Board {
         Ok(Watcher { seat })
     }
 
-    /// Shows the watcher what is published, by one load, and returns its numbers. The history goes on
-    /// from the one that the watcher saw before, and is the same if that had ended. The watcher must be
-    /// this board's. Takes no lock and no memory, and waits for nobody.
+    /// Shows the watcher what is published, with one load, and returns its numbers. The history continues the
+    /// one seen before, and equals it if that had ended. The watcher must be this board's. Takes no lock and
+    /// no memory, and never waits.
     pub fn look(&self, watcher: &mut Watcher) -> Progress
         requires { watcher.old.board ≡ self.now }
         ensures board { watcher.new.board ≡ watcher.old.board }
@@ -201,8 +199,7 @@ impl Board {
         Progress::of_word(word)
     }
 
-    /// Ends a watcher of this board. What is published goes on from what the watcher had seen, and is
-    /// the same if the watcher had seen an end.
+    /// Ends a watcher of this board. What is published continues what it saw, and equals it after an end.
     pub fn join(&self, watcher: Watcher, publisher: &mut Publisher)
         requires watcher { watcher.board ≡ self.now }
         requires publisher { publisher.old.board ≡ self.now }

@@ -11,8 +11,7 @@ use kpn_model::{End, Entry};
 use kpn_state::Keeper;
 use std::marker::Model;
 
-/// A publisher that keeps how many entries and growths it published, so that it counts only the new
-/// entries of a history that goes on. Contracts see what they see of the publisher.
+/// A publisher that counts only new entries. Contracts see it as the publisher.
 #[derive(Drop)]
 pub struct CountingPublisher {
     publisher: Publisher,
@@ -33,7 +32,6 @@ impl Model for CountingPublisher {
     ghost invariant = { λ p. (p.entries ≡ length p.publisher.entries) × (p.growths ≡ length (growths_of p.publisher.entries)) × (p.phase ≡ p.publisher.phase) × (length p.publisher.entries < 2 ^ 22) };
 }
 
-/// How many growths there are among the entries.
 fn growths_in(entries: &[Entry]) -> usize
     ensures { result ≡ count_by is_growth entries.now }
 {
@@ -44,7 +42,7 @@ fn growths_in(entries: &[Entry]) -> usize
 }
 
 impl CountingPublisher {
-    /// Makes the counting publisher of a board that shows the empty history.
+    /// Makes the counting publisher of a board with the empty history.
     pub fn new(publisher: Publisher) -> CountingPublisher
         requires { (publisher.entries ≡ []) × (publisher.phase ≡ Phase.Running) }
         ensures { result ≡ publisher }
@@ -57,9 +55,8 @@ impl CountingPublisher {
         }
     }
 
-    /// Publishes a history with its end, if it has one, on the publisher's board. The history must go
-    /// on from the published one, and if that had ended, it must be the same with the same end. It must
-    /// have fewer than 2^22 entries.
+    /// Publishes a history and its end, if any, on the publisher's board. The history must continue the
+    /// published one, and have fewer than 2^22 entries. If that had ended, history and end must be the same.
     pub fn publish(&mut self, board: &Board, history: &[Entry], ended: Option<End>)
         requires board { self.old.board ≡ board.now }
         requires goes_on { IsPrefix self.old.entries history.now }
@@ -72,8 +69,7 @@ impl CountingPublisher {
         self.publish_counted(board, history, growths, ended);
     }
 
-    /// Publishes a history as `publish` does, whose number of growths the caller knows: takes the same time
-    /// however many entries are new.
+    /// Publishes a history like `publish`, with a known number of growths, in constant time.
     pub fn publish_counted(
         &mut self,
         board: &Board,
@@ -94,8 +90,7 @@ impl CountingPublisher {
         board.publish(&mut self.publisher, history, self.growths, self.phase);
     }
 
-    /// Publishes kept entries as `publish_counted` does a history that is a slice, with their end, if they have
-    /// one: takes the same time however many entries are new.
+    /// Publishes kept entries and their end, if any, like `publish_counted`, in constant time.
     pub fn publish_kept<H: Keeper>(
         &mut self,
         board: &Board,
@@ -119,8 +114,7 @@ impl CountingPublisher {
         self.phase = phase;
     }
 
-    /// Makes a watcher of the publisher's board that has seen what is published. Fails exactly if 64
-    /// were made before; nothing changes then.
+    /// Makes a watcher that has seen what is published. Fails exactly if 64 were made; nothing changes then.
     pub fn watch(&mut self, board: &Board) -> Result<Watcher, WatchFault>
         requires { self.old.board ≡ board.now }
         ensures seen { IfOk result (λ w. w ≡ record { board = self.old.board; entries = self.old.entries; phase = self.old.phase }) }
@@ -131,8 +125,8 @@ impl CountingPublisher {
         board.split(&mut self.publisher)
     }
 
-    /// Ends a watcher of the publisher's board, and returns what is published. The history goes on from
-    /// what the watcher had seen, and is the same if the watcher had seen an end.
+    /// Ends a watcher of the publisher's board, and returns what is published. The history continues what the
+    /// watcher saw, and equals it if the watcher saw an end.
     pub fn join(&mut self, board: &Board, watcher: Watcher) -> Progress
         requires board { self.old.board ≡ board.now }
         requires watcher { watcher.board ≡ board.now }

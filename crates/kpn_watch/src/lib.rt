@@ -1,4 +1,4 @@
-//! How far a history has come, published in one word that watchers read without a lock.
+//! The progress of a history, published in one word that watchers read without a lock.
 //!
 //! ```text
 //! let (board, mut publisher) = Board::new(rt.alloc())?;
@@ -8,10 +8,10 @@
 //! board.join(watcher, &mut publisher);
 //! ```
 //!
-//! A `Board` holds the word. A history only grows at its end, so one number says which prefix of it is
-//! meant: the word is `entries * 2^25 + growths * 8 + phase`, where the phase is 0 while the run goes
-//! on and else the number of its end. There is one `Publisher` for each board, and there are at most 64
-//! `Watcher`s. What a watcher sees goes on from all that it saw before.
+//! A `Board` holds the word. A history only grows at its end, so one number identifies a prefix of it: the
+//! word is `entries * 2^25 + growths * 8 + phase`. The phase is 0 during the run, else the number of its end.
+//! Each board has one `Publisher` and at most 64 `Watcher`s. What a watcher sees continues all that it saw
+//! before.
 #![tactic(auto)]
 
 mod board;

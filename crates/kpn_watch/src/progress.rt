@@ -1,10 +1,10 @@
-//! How far a history has come.
+//! The progress of a history.
 ghost use Rattle.std.specs.Prelude.{◌≡◌, ◌+◌, ◌*◌, ◌/◌, ◌%◌, ◌^◌, ◌<◌};
 ghost use Rattle.kpn_watch.specs.Phases.{number_of_phase, phase_of};
 
 use kpn_model::End;
 
-/// Whether a run goes on, or how it ended: `Running`, or the name of its end.
+/// Whether a run is still running, or how it ended.
 #[derive(Clone, Copy, PartialEq, Eq, Debug)]
 pub enum Phase {
     Running,
@@ -15,7 +15,7 @@ pub enum Phase {
     Memory,
 }
 
-/// How many entries a history has, how many of them are growths, and its phase.
+/// The numbers of entries and of growths of a history, and its phase.
 #[derive(Clone, Copy, PartialEq, Eq, Debug)]
 pub struct Progress {
     pub entries: u32,
@@ -38,8 +38,7 @@ impl Phase {
         }
     }
 
-    /// Returns the phase's number in the published word: 0 while the run goes on, else 1 to 5 in the
-    /// order of the variants.
+    /// Returns the phase's number in the published word, 0 to 5 in the order of the variants.
     pub fn number(self) -> u64
         ensures { result ≡ number_of_phase self }
     {
@@ -69,7 +68,6 @@ impl Phase {
 }
 
 impl Progress {
-    // The published word of these numbers.
     pub(crate) fn to_word(self) -> u64
         requires entries { self.entries < 2 ^ 22 }
         requires growths { self.growths < 2 ^ 22 }
@@ -78,7 +76,6 @@ impl Progress {
         (u64::from(self.entries) << 25) + (u64::from(self.growths) << 3) + self.phase.number()
     }
 
-    // The numbers from which a published word was made.
     pub(crate) fn of_word(word: u64) -> Progress
         requires size { word < 2 ^ 47 }
         requires phase { word % 8 < 6 }

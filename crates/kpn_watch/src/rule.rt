@@ -1,27 +1,24 @@
-//! What the seats at a board have seen, the rule that relates it to the word, and their steps.
-//!
-//! The publisher has the first seat, and each watcher has one. The rule: the word shows what the first
-//! seat has seen, and that goes on from what each other seat has seen.
+//! What the seats at a board have seen, the rule that relates it to the word, and their steps. The publisher
+//! has the first seat, each watcher another.
 use crate::progress::Phase;
 use atomic_table::{Join, Play, Split, TableRule};
 use kpn_model::Entry;
 use std::collections::LinkedList;
 use std::marker::{Brand, PhantomData};
 
-/// A history and its phase, as a seat has seen them. No value of this type is ever made.
+/// A history and its phase, as a seat has seen them. No value is ever made.
 pub struct Seen {
     pub entries: LinkedList<Entry>,
     pub phase: Phase,
 }
 
-/// What a seat has seen, and what another has seen that is to be compared with it. No value of this
-/// type is ever made.
+/// What a seat has seen, and a note: what another has seen, to be compared with it. No value is ever made.
 pub struct View {
     pub seen: Seen,
     pub note: Seen,
 }
 
-/// The rule: the word shows what the first seat has seen, and the others have seen a prefix of that.
+/// The rule: the word shows what the first seat has seen, which continues what each other seat has seen.
 pub struct WordRule;
 
 impl TableRule<(), View, ()> for WordRule {
@@ -32,7 +29,7 @@ impl TableRule<(), View, ()> for WordRule {
     ghost first = { λ _. view_of nothing };
 }
 
-/// The load by which a seat sees what is published.
+/// The load with which a seat sees what is published.
 pub struct Look;
 
 impl Play<(), View> for Look {
@@ -41,7 +38,7 @@ impl Play<(), View> for Look {
     ghost then = { Looks };
 }
 
-/// What is to be published. Each call chooses it.
+/// The news to publish, chosen by each call.
 pub trait News {
     ghost use Rattle.kpn_watch.specs.declared.rule.Seen.{Seen};
 
@@ -54,7 +51,7 @@ impl News for Brand {
     ghost news = { nothing };
 }
 
-/// The store by which the first seat publishes.
+/// The store with which the first seat publishes.
 pub struct Publish<N: News>(PhantomData<N>);
 
 impl<N: News> Play<(), View> for Publish<N> {
@@ -63,7 +60,7 @@ impl<N: News> Play<(), View> for Publish<N> {
     ghost then = { Publishes N.news };
 }
 
-/// The load by which the first seat compares what it was given as a note.
+/// The load with which the first seat compares its note.
 pub struct Compare;
 
 impl Play<(), View> for Compare {
@@ -72,8 +69,7 @@ impl Play<(), View> for Compare {
     ghost then = { Compares };
 }
 
-/// The step that gives what the first seat has seen to a new seat, and takes a seat's view back as a
-/// note.
+/// The step that gives what the first seat has seen to a new seat, and takes a seat's view back as a note.
 pub struct Note;
 
 impl Split<View> for Note {
