@@ -1,4 +1,4 @@
-//! What the end of a run says of the network: whether it finished, ran dry, or waits in a circle; and which
+//! What the end of a run says of the network: that it finished, ran dry, or waits in a cycle; and which
 //! process waits for which.
 #![tactic(auto)]
 
