@@ -1,4 +1,4 @@
--- Which channels may be fed and drained: the faults of the lists of inputs and outputs.
+-- Which channels may be fed and drained.
 use Rattle.std.specs.Prelude.{◌≡◌, ℕ, ◌&&◌, ◌||◌, Bool, true, false, not, nat_lt, List, [], ◌∷◌, Option, Some, None, length, get_or, if◌then◌else◌}
 use Rattle.std.specs.List.{list_any}
 use Rattle.kpn_model.specs.declared.kinds.Card.{Card}
@@ -50,7 +50,7 @@ end_fault kinds net cards inputs outputs =
     else if list_any (has_live_reader kinds net cards) outputs then Some Reader
     else None
 
--- bodies with these cards, or the inputs and outputs, have this fault; with `Memory` they have none
+-- the fault of bodies with these cards, or of the inputs and outputs; none if `Memory`
 abbrev pub IsFlowFault : Family → Network → List Card → List ℕ → List ℕ → FlowFault → Type 0
 IsFlowFault kinds net cards inputs outputs Bodies = IsOpenFault net.processes cards WrongBodies
 IsFlowFault kinds net cards inputs outputs OtherCard = IsOpenFault net.processes cards WrongCard

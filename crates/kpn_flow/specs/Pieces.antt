@@ -11,15 +11,14 @@ use Rattle.kpn_flow.specs.Preloaded.{IsAtEnds, preloaded, without_growths, all_f
 use Rattle.kpn_flow.specs.Flows.{FlowView, is_among, AreEnds}
 
 -- the deeds are a run of the network that held all the tokens from the start; its stream on each output is
--- what left it, then what is there, then what is to come; and its streams approach the least solution (Kahn
--- 1974)
+-- what left it, what is there and what is to come; its streams approach the least solution (Kahn 1974)
 pub record IsOneRunWithStreams (kinds : Family) (net : Network) (outputs : List ℕ) (xs : List Event) (M : State) (later : ℕ → List Token) (sizes : ℕ → ℕ) : Type 0 where
   pub one : IsOneRun kinds net xs M later sizes
   pub outputs_are : (c : ℕ) → is_among outputs c ≡ true → stream (preloaded net (all_fed xs later) sizes) (without_growths (entries_of xs)) c ≡ (drained xs c ++ tokens M c) ++ later c
   pub approach : ApproachLeastSolution kinds (preloaded net (all_fed xs later) sizes) (without_growths (entries_of xs)) one.state
 
 -- whatever events led to the flow's state, and whatever is to come, the deeds are a run of the network that
--- held all those tokens from the start, with room for all
+-- held all those tokens from the start
 abbrev pub IsOneRunInPieces : Family → FlowView → Type 0
 IsOneRunInPieces kinds s =
     (xs : List Event) (later : ℕ → List Token) (sizes : ℕ → ℕ)

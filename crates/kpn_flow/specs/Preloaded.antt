@@ -50,7 +50,7 @@ pub record IsOpenRun (kinds : Family) (net : Network) (xs : List Event) (later :
   pub room : (c : ℕ) → c < length net.channels → length (channel_of net c).tokens + length (all_fed xs later c) + length (put_on (entries_of xs) c) ≤ sizes c
 
 -- the deeds are a run of the network that held all the tokens from the start; each process has the same
--- state, and each channel has what left it, then what is there, then what is to come
+-- state, and each channel what left it, what is there and what is to come
 pub record IsOneRun (kinds : Family) (net : Network) (xs : List Event) (M : State) (later : ℕ → List Token) (sizes : ℕ → ℕ) : Type 0 where
   pub state : State
   pub run : IsRun kinds (preloaded net (all_fed xs later) sizes) (without_growths (entries_of xs)) state

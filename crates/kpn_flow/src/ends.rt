@@ -70,8 +70,8 @@ fn any_no_channel<K: Kinds>(net: &Net<K>, channels: &[usize]) -> bool
     channels.iter().any(|c| is_no_channel(net, *c))
 }
 
-/// Returns whether a process stops at once, according to its body. Only the outside writes to a channel with
-/// such a writer, or reads from one with such a reader.
+/// Returns whether a process stops at once, according to its body. Then only the outside writes to, or reads
+/// from, its channels.
 ///
 /// ```text
 /// if stops_at_once(bodies, process) {

@@ -34,9 +34,9 @@ use std::marker::Model;
 /// A network that one thread runs, perhaps forever, in bounded memory. It is fed at its inputs and drained at
 /// its outputs, and keeps no history.
 ///
-/// The writer of an input stops at once, like `count 0 0`, so that only the outside writes to it; so does the
-/// reader of an output, like `sink 0`. So feeding in pieces equals having all tokens from the start, as
-/// `assure_one_run` says (docs/endless.md).
+/// The writer of an input stops at once, like `count 0 0`, so only the outside writes to it; so does the
+/// reader of an output, like `sink 0`. So feeding in pieces equals having all tokens from the start
+/// (`assure_one_run`; docs/endless.md).
 pub struct Flow<B: Body> {
     net: Net<B::Kinds>,
     core: Core<Unkept>,
@@ -47,8 +47,8 @@ pub struct Flow<B: Body> {
     counts: Counts,
 }
 
-// Written out so that dropping a flow is one call, proved once. Otherwise it would be most of the proof of a
-// flow's owner.
+// Written out so that dropping a flow is one call, proved once. Otherwise it is most of the proof of a flow's
+// owner.
 impl<B: Body> Drop for Flow<B> {
     fn drop(self) {
         let Flow {
@@ -261,9 +261,9 @@ impl<B: Body> Flow<B> {
         self.core.store.tokens_and_capacity(channel)
     }
 
-    /// Returns whether each process has stopped or waits for a token: nothing more comes out unless more is
-    /// fed. If two such flows of one network were fed the same, each output has given and holds the same
-    /// (`comparable`).
+    /// Returns whether each process has stopped or waits for a token, so that nothing more comes out unless
+    /// more is fed. If two such flows of one network were fed the same, each output has given and holds the
+    /// same (`comparable`).
     pub fn is_exhausted(&self) -> bool
         ensures waits { result ≡ list_all waits_to_read self.now.standings }
         ensures exhausted { IsTrue result → IsExhausted (family B.Kinds.Kinds) self.now.network self.now.state }
@@ -272,7 +272,7 @@ impl<B: Body> Flow<B> {
     }
 
     /// Returns how the flow stands, without running it: `Cut` if a process is ready, or waits for room where
-    /// neither feeding nor draining helps; otherwise the pause that `advance` would return.
+    /// neither feeding nor draining helps; otherwise what `advance` would return.
     ///
     /// ```text
     /// self.flow.stand()
@@ -284,11 +284,11 @@ impl<B: Body> Flow<B> {
         stand(&self.net, &self.core, inputs, self.outputs.as_slice())
     }
 
-    /// Ghost lemma: what holds of each flow at all times. Events led to its state in which tokens came only
-    /// into inputs and left only outputs, and the entries were counted. Whatever these events were, and
-    /// whatever is to come, the deeds are a run of the network that held all those tokens from the start.
-    /// That run's stream on an output is what was drained and then what is there, and every solution of that
-    /// network's equations begins with it (Kahn 1974).
+    /// Ghost lemma: what holds of each flow at all times. In the events that led to its state tokens came
+    /// only into inputs and left only outputs, and the entries were counted. Whatever these events were, and
+    /// whatever is to come, the deeds are a run of the network that held all those tokens from the start. Its
+    /// stream on an output is what was drained and then what is there, and every solution of that network's
+    /// equations begins with it (Kahn 1974).
     pub fn assure_one_run(&self)
         ensures ends { AreEnds (family B.Kinds.Kinds) self.now.network self.now.inputs self.now.outputs }
         ensures unended { (c : ℕ) → is_among self.now.unended c ≡ true → is_among self.now.inputs c ≡ true }
@@ -301,9 +301,9 @@ impl<B: Body> Flow<B> {
 
 impl<B: Body> Flow<B> {
     /// Runs the flow until fewer than two of the `most` allowed entries are left or nothing can be done.
-    /// Takes no memory except that of growths; counts the entries but keeps none. A channel grows only if
-    /// neither feeding an unended input nor draining lets a process continue (after Parks 1995). Unless the
-    /// pause is `Cut`, `standings` has what each process waits for.
+    /// Takes no memory except that of growths, and keeps no entries. A channel grows only if neither feeding
+    /// an unended input nor draining lets a process continue (after Parks 1995). Unless `Cut`, `standings`
+    /// has what each process waits for.
     ///
     /// ```text
     /// let pause = self.flow.advance(most);
@@ -325,8 +325,8 @@ impl<B: Body> Flow<B> {
         )
     }
 
-    /// Ends an input: it can no longer be fed. A process that waits for a token in it waits forever, without
-    /// a pause `Starved`. Changes nothing if the channel is no input or has ended.
+    /// Ends an input: it can no longer be fed. A process that waits for a token in it then waits forever, and
+    /// `advance` does not return `Starved` for it. Changes nothing if the channel is no input or has ended.
     ///
     /// ```text
     /// for port in self.inputs.iter() {
@@ -351,7 +351,7 @@ fn has_sort(token: Token, sort: Sort) -> bool
 }
 
 impl<B: Body> Flow<B> {
-    /// Returns whether a channel is an input that has not ended and a token has its sort.
+    /// Returns whether a channel is an unended input and a token has its sort.
     ///
     /// ```text
     /// if !flow.may_feed(channel, token) {
@@ -415,7 +415,7 @@ impl<B: Body> Flow<B> {
 }
 
 impl<B: Body> Flow<B> {
-    /// Returns whether a channel is an input that has not ended and all tokens have its sort.
+    /// Returns whether a channel is an unended input and all tokens have its sort.
     ///
     /// ```text
     /// if !self.flow.may_feed_all(channel, batch.as_slice()) {
@@ -437,8 +437,8 @@ impl<B: Body> Flow<B> {
         self.is_input(channel)
     }
 
-    /// Puts tokens into an input, in order, as many as there is room for, and returns how many.
-    /// `may_feed_all` must be true.
+    /// Puts as many tokens as there is room for into an input, in order, and returns how many. `may_feed_all`
+    /// must be true.
     ///
     /// ```text
     /// if !self.flow.may_feed_all(channel, batch.as_slice()) {
@@ -464,8 +464,8 @@ impl<B: Body> Flow<B> {
         fed
     }
 
-    /// Moves as many tokens as there are and fit from an output to the front of a buffer, in order, and
-    /// returns how many.
+    /// Moves as many tokens as there are and fit from an output to the front of a buffer, in order. Returns
+    /// how many.
     ///
     /// ```text
     /// let mut buffer = [Token::Word(0); BATCH];

@@ -4,17 +4,16 @@ ghost use Rattle.kpn_flow.specs.Pieces.{PiecesAreComparable, ExhaustedAreTheSame
 ghost use Rattle.kpn_flow.specs.Preloaded.{FeedingIsPreloading};
 
 /// Ghost lemma: a run that is fed and drained in pieces does, growths aside, what a run does that has all the
-/// tokens in its inputs from the start, even those still to come, with room for all. Holds for every family
-/// of kinds and every network in which only the outside writes to inputs and reads from outputs.
+/// tokens in its inputs from the start, even those still to come, with room for all. Holds for all kinds and
+/// networks in which only the outside writes to inputs and reads from outputs.
 pub fn preloading()
     ensures { (kinds : Family) → FeedingIsPreloading kinds }
 {}
 
 /// Ghost lemma: the pieces and times of feeding don't change what comes out. If two flows of one network get
-/// the same in the end, what one has given at an output, and holds in it, is a prefix of the other's, or the
-/// reverse (Kahn 1974). If both were fed the same, and in neither a process can continue or waits for room,
-/// both are the same, and each process has the same status. Holds for every family of kinds and every
-/// network.
+/// the same in the end, what they have given at an output, and hold in it, is prefix-comparable (Kahn 1974).
+/// If both were fed the same, and in neither a process can continue or waits for room, it is the same, and
+/// each process has the same status. Holds for all kinds and networks.
 pub fn comparable()
     ensures begun_alike { (kinds : Family) → PiecesAreComparable kinds }
     ensures same { (kinds : Family) → ExhaustedAreTheSame kinds }

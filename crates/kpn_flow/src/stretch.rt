@@ -1,4 +1,4 @@
-//! One stretch of a flow: it asks ready processes, or resolves what follows when none is ready.
+//! One stretch of a flow.
 ghost use Rattle.std.specs.Prelude.{◌≡◌, ℕ, ◌+◌, ◌*◌, ◌≤◌, [], length, map, option_map, sum_by, false, IfSome, IfNone};
 ghost use Rattle.std.specs.List.{list_any};
 ghost use Rattle.kpn_model.specs.Families.{family};
@@ -73,7 +73,7 @@ fn rest<K: Kinds>(
 
 /// Asks ready processes until there are `until` entries or none is ready. If none is ready at first, grows
 /// the chosen channel, or returns why nothing can be done. The history then has only this stretch's entries.
-/// `again` is the process to ask first, and afterwards the one to ask next.
+/// `again` is the process to ask first, and then the one to ask next.
 pub(crate) fn stretch<B: Body>(
     net: &Net<B::Kinds>,
     core: &mut Core<Unkept>,

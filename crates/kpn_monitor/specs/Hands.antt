@@ -24,12 +24,12 @@ abbrev pub TakesOutAll : MachineView → List Input → MachineView → Type 0
 TakesOutAll s [] t = t ≡ s
 TakesOutAll s (i ∷ tasks) t = (m : MachineView) × TakesOut s i m × TakesOutAll m tasks t
 
--- a process may have gone out again at once, with the first of these tasks
+-- a process may have gone out again at once, with the first task
 abbrev pub GoesOutAgain : MachineView → List Input → MachineView → List Input → Type 0
 GoesOutAgain s again t rest = ((again ≡ rest) × (t ≡ s)) ⊎ ((i : Input) × (again ≡ i ∷ rest) × TakesOut s i t)
 
--- the answers to the first tasks are committed in order, each with its outcome and number of entries;
--- processes go out again with the tasks `again`; the tasks `left` remain
+-- the answers to the first tasks are committed in order, with these outcomes; processes go out again with
+-- `again`; `left` remain
 abbrev pub Gives : Family → MachineView → List Input → List Outcome → List Input → MachineView → List Input → Type 0
 Gives kinds s tasks [] again t left = (t ≡ s) × (left ≡ tasks) × (again ≡ [])
 Gives kinds s [] (o ∷ outcomes) again t left = ⊥
@@ -48,7 +48,7 @@ TakesBackAll s (i ∷ tasks) t = (m : MachineView) × TakesBackAll s tasks m × 
 abbrev pub GivesBack : Family → MachineView → List Input → List Outcome → MachineView → List Input → Type 0
 GivesBack kinds s tasks outcomes t left = (m : MachineView) × (again : List Input) × Gives kinds s tasks outcomes again m left × TakesBackAll m again t
 
--- the answers to the first tasks were committed, each with its outcome; the tasks `left` remain
+-- the answers to the first tasks were committed, with these outcomes; `left` remain
 abbrev pub WereCommitted : Family → (Card → List ℕ → Option Token → Type 0) → Network → List Input → List Outcome → List Input → Type 0
 WereCommitted kinds admits net tasks [] left = left ≡ tasks
 WereCommitted kinds admits net [] (o ∷ outcomes) left = ⊥

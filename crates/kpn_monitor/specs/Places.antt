@@ -25,8 +25,8 @@ AreTaken [] = Unit {0}
 AreTaken (None ∷ places) = ⊥
 AreTaken (Some i ∷ places) = AreTaken places
 
--- at most 64 places: the first `kept` hold tasks that went out again, those from there to `given` may be
--- free, and the rest hold tasks, the first of them called
+-- at most 64 places: the first `kept` hold tasks that went out again, then some may be free, and from `given`
+-- on they hold tasks, the first of them called
 pub record IsLaidOut (kinds : Family) (places : List (Option Input)) (answers : List Answer) (given kept : ℕ) : Type 0 where
   pub few : length places ≤ 64
   pub in_order : kept ≤ given

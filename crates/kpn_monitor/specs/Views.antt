@@ -34,15 +34,14 @@ pub record UnderLock : Type 0 where
   pub overs : ℕ
   pub watchers : ℕ
 
--- a hand: its tasks, in the order taken; how many of them, from the first, were called; and the outcomes of
--- the answers that it gave last
+-- a hand: its tasks, in the order taken; how many, from the first, were called; and the last outcomes
 pub record Holding : Type 0 where
   pub tasks : List Input
   pub called : ℕ
   pub outcomes : List Outcome
 
--- the places of a hand: the tasks that went out again; those with answers not given, and how many of these,
--- from the first, were called; how many answers were given, and their outcomes
+-- the places of a hand: the tasks that went out again; those with answers not given, and how many of them
+-- were called; how many answers were given, and their outcomes
 pub record Placed : Type 0 where
   pub again : List Input
   pub tasks : List Input

@@ -54,9 +54,8 @@ impl<B: Body, E: EntryLedger, O: Ledger, H: Keeper> Unclosed<B, E, O, H> {
     }
 }
 
-/// What a closed monitor leaves: the machine's network, history, standings and end, and the receipts. The
-/// receipts are the sum of the seats' shares of entries, and there are as many as entries. Only
-/// `Monitor::close` makes a `Closed`.
+/// The machine's network, history, standings and end, and the receipts: the sum of the seats' shares of
+/// entries, as many as entries. Only `Monitor::close` makes one.
 #[derive(Drop)]
 pub struct Closed<K: Kinds, E: EntryLedger, H: Keeper = Wide> {
     chronicle: Chronicle<K, H>,
@@ -125,9 +124,9 @@ impl<K: Kinds, E: EntryLedger, H: Keeper> Closed<K, E, H> {
         self.chronicle.end()
     }
 
-    /// Consumes a watcher of this monitor, and returns the numbers of entries and growths of the whole
-    /// history and how it ended. What the watcher saw is a prefix of the history, and all of it if it saw an
-    /// end. Takes no memory and never waits.
+    /// Consumes a watcher of this monitor, and returns the numbers of entries and growths and how the run
+    /// ended. What the watcher saw is a prefix of the history, and all of it if it saw an end. Takes no
+    /// memory and never waits.
     pub fn settle(&mut self, watcher: Watcher) -> Progress
         requires { watcher.board ≡ E.board }
         ensures goes_on { IsPrefix watcher.entries self.old.machine.history }

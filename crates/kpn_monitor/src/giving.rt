@@ -29,8 +29,7 @@ pub(crate) fn give_one<B: Body, H: Keeper>(
     machine.commit_asked(finished)
 }
 
-/// Commits the first answer; its process does not go out again. Not inlined, to keep it out of the way of the
-/// answers after which processes do.
+/// Not inlined, to keep it out of the way of the answers after which processes go out again.
 #[inline(never)]
 fn give_up<B: Body, H: Keeper>(machine: &mut Machine<B, H>, places: &mut Places<B>)
     requires called { 0 < places.old.called }
@@ -43,7 +42,7 @@ fn give_up<B: Body, H: Keeper>(machine: &mut Machine<B, H>, places: &mut Places<
     places.note(outcome);
 }
 
-/// Commits the first answer. The process goes out again at once if it can and fewer than `keep` have.
+/// Commits the first answer. Its process goes out again at once if it can and fewer than `keep` have.
 #[inline(always)]
 fn give_first<B: Body, H: Keeper>(machine: &mut Machine<B, H>, places: &mut Places<B>, keep: usize)
     requires called { 0 < places.old.called }
@@ -62,7 +61,7 @@ fn give_first<B: Body, H: Keeper>(machine: &mut Machine<B, H>, places: &mut Plac
     give_up(machine, places);
 }
 
-/// Removes the first task, which was called, with its answer, which the machine did not ask for.
+/// For an answer that the machine did not ask for.
 #[cold]
 #[inline(never)]
 fn refuse<B: Body>(places: &mut Places<B>) -> Finished<B>
@@ -75,8 +74,8 @@ fn refuse<B: Body>(places: &mut Places<B>) -> Finished<B>
     places.leave()
 }
 
-/// Commits the answers in these places, one after the other. At most `keep` processes that can continue go
-/// out again at once. Stops at an answer that the machine did not ask for, and returns it.
+/// Commits the answers, one after the other. At most `keep` processes that can continue go out again at once.
+/// Stops at an answer that the machine did not ask for, and returns it.
 #[inline(always)]
 pub(crate) fn give_all<B: Body, H: Keeper>(
     machine: &mut Machine<B, H>,
@@ -104,7 +103,7 @@ pub(crate) fn give_all<B: Body, H: Keeper>(
     None
 }
 
-/// Returns to the machine the tasks that went out again, except any whose process is no longer out with it.
+/// Takes back the tasks that went out again, except any whose process is no longer out.
 #[cold]
 #[inline(never)]
 pub(crate) fn give_back<B: Body, H: Keeper>(machine: &mut Machine<B, H>, places: &mut Places<B>)

@@ -33,7 +33,7 @@ use std::marker::Model;
 use std::sync::ledger::{Book, Ledger, Share};
 
 /// Resting workers count as sharers of the ready processes until this many answers per process were
-/// committed, from the start of a run and from each pause without commits.
+/// committed, from the start and from each pause without commits.
 const TRIAL: u64 = 16;
 
 /// What a worker gets: a task, or the end of the run.
@@ -59,7 +59,7 @@ pub enum Next {
 /// The result of asking processes in place.
 #[derive(Clone, Copy, Debug, PartialEq, Eq)]
 pub enum Went {
-    /// At least one answer was taken: how many, and whether the worker waited for the lock.
+    /// At least one answer: how many, and whether the worker waited for the lock.
     On { answers: u64, waited: bool },
     /// No answer: no process was ready, or none was to be asked.
     Nowhere,
@@ -124,8 +124,7 @@ impl<B: Body, E: EntryLedger, O: Ledger, H: Keeper> Guarded<B, E, O, H> {
         }
     }
 
-    /// Takes a task, or meets the end of the run. Returns `None` if there is neither, or if the book of overs
-    /// is full.
+    /// Returns `None` if no process is ready, or if the run has ended and the book of overs is full.
     pub(crate) fn take(&mut self, seat: &mut Seat<E, O>) -> Option<Taken<B>>
         ensures none { IfNone result ((seat.new ≡ seat.old) × (self.new ≡ self.old)) }
         ensures nothing { IfNone result (FoundNothing (family B.Kinds.Kinds) B.Kinds.admits E.net) }
@@ -152,7 +151,6 @@ impl<B: Body, E: EntryLedger, O: Ledger, H: Keeper> Guarded<B, E, O, H> {
         }
     }
 
-    /// Commits an answer, publishes the new entries, and books them.
     pub(crate) fn commit(
         &mut self,
         board: &Board,
@@ -173,9 +171,8 @@ impl<B: Body, E: EntryLedger, O: Ledger, H: Keeper> Guarded<B, E, O, H> {
         Ok(outcome)
     }
 
-    /// Commits the answers of a hand, then publishes and books the new entries. At most `keep` processes go
-    /// out again at once, with their tasks in the hand. Stops at an answer that the machine did not ask for,
-    /// and returns it.
+    /// Commits the answers of a hand, publishes and books the new entries. At most `keep` processes go out
+    /// again at once. Stops at an answer that the machine did not ask for, and returns it.
     pub(crate) fn give(
         &mut self,
         board: &Board,
@@ -202,7 +199,7 @@ impl<B: Body, E: EntryLedger, O: Ledger, H: Keeper> Guarded<B, E, O, H> {
         refused
     }
 
-    // Notes in the seat that the run has ended, if it has; takes no task.
+    // Notes in the seat that the run has ended, if it has.
     fn meet_end(&mut self, seat: &mut Seat<E, O>) -> Next
         ensures machine { self.new.machine ≡ self.old.machine }
         ensures none { result ≢ Next.Tasks }
@@ -222,8 +219,8 @@ impl<B: Body, E: EntryLedger, O: Ledger, H: Keeper> Guarded<B, E, O, H> {
         }
     }
 
-    /// Takes tasks until the hand, which holds only tasks that just went out again, has `wanted`. If it is
-    /// empty or `most` is 0, it meets the end of the run, if there is one.
+    /// Fills the hand, which holds only tasks that just went out again, up to `wanted`. If it is empty or
+    /// `most` is 0, meets the end of the run, if there is one.
     pub(crate) fn deal(
         &mut self,
         hand: &mut Hand<B>,
@@ -294,8 +291,8 @@ impl<B: Body, E: EntryLedger, O: Ledger, H: Keeper> Guarded<B, E, O, H> {
         }
     }
 
-    /// Asks ready processes in place, then publishes and books the new entries. If no answer was taken, it
-    /// meets the end of the run, if there is one.
+    /// Asks ready processes in place, publishes and books the new entries. Without an answer, meets the end
+    /// of the run, if there is one.
     pub(crate) fn ask_in_place(
         &mut self,
         board: &Board,
@@ -328,7 +325,6 @@ impl<B: Body, E: EntryLedger, O: Ledger, H: Keeper> Guarded<B, E, O, H> {
         Went::On { answers, waited }
     }
 
-    // Returns the hand's share of its own processes and the ready ones, at most `most`.
     fn wanted(&self, hand: &Hand<B>, most: usize) -> usize
         ensures some { (1 ≤ result) × (result ≤ 64) }
         ensures most { 1 ≤ most → result ≤ most }
@@ -386,9 +382,8 @@ impl<B: Body, E: EntryLedger, O: Ledger, H: Keeper> Guarded<B, E, O, H> {
         self.held_up_at = self.machine.commits();
     }
 
-    // Returns how workers share the ready processes: one by one until there are as many answers as processes,
-    // so that each process was taken once; then, during a trial, among all workers; and then among those
-    // awake.
+    // One by one until there are as many answers as processes, so that each was taken once; then, during a
+    // trial, among all workers; then among those awake.
     fn sharing(&self) -> Sharing {
         let answers = self.machine.commits();
         let processes = self.machine.net().processes() as u64;
@@ -414,8 +409,7 @@ impl<B: Body, E: EntryLedger, O: Ledger, H: Keeper> Guarded<B, E, O, H> {
         self.waiting = self.waiting.saturating_sub(1);
     }
 
-    /// Returns which waiting threads to wake: all if the run has ended, else at most one per ready process.
-    /// No contract covers waking.
+    /// All if the run has ended, else at most one per ready process. No contract covers waking.
     pub(crate) fn wakes(&self) -> Wakes {
         if self.waiting == 0 {
             return Wakes::AtMost(0);

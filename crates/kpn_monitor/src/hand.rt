@@ -21,13 +21,12 @@ pub(crate) enum Sharing {
     OneByOne,
     /// In equal shares among all workers.
     AmongAll,
-    /// In equal shares among the workers awake if more processes are ready than there are workers, otherwise
-    /// among all.
+    /// Among the workers awake if more processes are ready than there are workers, otherwise among all.
     AmongAwake,
 }
 
-/// The tasks that a worker holds, at most 64, and the outcomes of the answers that it gave last. No contract
-/// mentions `sharers`, the number of workers that share the ready processes.
+/// The tasks that a worker holds, at most 64, and the outcomes of the answers it gave last. `sharers` workers
+/// share the ready processes; no contract mentions them.
 #[derive(Drop)]
 pub struct Hand<B: Body> {
     places: Places<B>,
@@ -71,8 +70,8 @@ impl<B: Body> Hand<B> {
         self.processors = processors.max(1);
     }
 
-    /// Calls the first task not called yet, and returns the number of its process. Returns `None` exactly if
-    /// all were called; then nothing changes. Takes no lock and no memory.
+    /// Calls the first task not called yet, and returns the number of its process; `None` exactly if all were
+    /// called. Takes no lock and no memory.
     #[inline]
     pub fn call(&mut self) -> Option<usize>
         ensures none { IfNone result ((self.old.called ≡ length self.old.tasks) × (self.new ≡ self.old)) }
@@ -82,7 +81,7 @@ impl<B: Body> Hand<B> {
         self.places.call()
     }
 
-    /// Returns the outcomes of the answers that were given last, in the order of their tasks.
+    /// Returns the outcomes of the answers given last, in the order of their tasks.
     pub fn outcomes(&self) -> &[Outcome]
         ensures { result.now ≡ self.now.outcomes }
     {
@@ -98,8 +97,8 @@ impl<B: Body> Hand<B> {
     }
 
     /// Commits the answers, one after the other. At most `keep` processes that can continue go out again at
-    /// once, with their tasks as the hand's next. Stops at an answer that the machine did not ask for, and
-    /// returns it; then, and if the run has ended, none stays out.
+    /// once. Stops at an answer that the machine did not ask for, and returns it; then, and if the run has
+    /// ended, none stays out.
     pub(crate) fn give<H: Keeper>(
         &mut self,
         machine: &mut Machine<B, H>,
@@ -149,7 +148,7 @@ impl<B: Body> Hand<B> {
         };
     }
 
-    /// Returns how many of `ready` ready processes to take: the worker's share, at least one, at most `most`.
+    /// Returns the worker's share of `ready` processes, at least one, at most `most`.
     pub(crate) fn wanted(&self, ready: usize, most: usize, sharing: Sharing) -> usize
         ensures some { (1 ≤ result) × (result ≤ 64) }
         ensures most { 1 ≤ most → result ≤ most }

@@ -1,5 +1,5 @@
-//! A Parks machine that threads share under one lock. Ledgers count the entries of each worker's commits, and
-//! watchers read a board without the lock.
+//! A Parks machine that threads share under a lock, with ledgers of their entries, and a board that watchers
+//! read without the lock.
 //!
 //! ```text
 //! match monitor.take(rt, seat) {

@@ -35,17 +35,17 @@ use std::time::{Duration, Instant};
 
 const PARTS: u32 = 65536;
 
-/// How often a thread tries the lock before it sleeps, and how long it pauses between tries.
+/// How often a thread tries the lock before it sleeps, and how long it pauses in between.
 const LOOKS: u32 = 250;
 
 const PAUSES: u32 = 8;
 
-/// A machine that threads share under a lock. Each commit also publishes the length of the history on a board
-/// that is read without the lock. The type names the network, the board and two ledgers, so a seat's type
-/// names its monitor.
+/// A machine that threads share under a lock. Each commit also publishes its progress on a board that is read
+/// without the lock. The type names the network, the board and two ledgers, so a seat's type names its
+/// monitor.
 ///
-/// One ledger counts entries, the other the ends that were met ("overs"). Each seat has a share of both; a
-/// book under the lock has each total.
+/// One ledger counts entries, the other the ends met ("overs"). Each seat has a share of both, and a book
+/// under the lock each total.
 pub struct Monitor<B: Body, E: EntryLedger, O: Ledger, H: Keeper = Wide> {
     state: Mutex<Guarded<B, E, O, H>>,
     /// Where threads wait, with the lock of `state`, for a ready process or the end.
@@ -59,7 +59,7 @@ pub struct Monitor<B: Body, E: EntryLedger, O: Ledger, H: Keeper = Wide> {
     ghost named: { board ≡ E.board },
 }
 
-// Written out so that dropping a monitor is one call, proved once, instead of field by field at each place.
+// Written out so that dropping a monitor is one call, proved once.
 impl<B: Body, E: EntryLedger, O: Ledger, H: Keeper> Drop for Monitor<B, E, O, H> {
     fn drop(self) {
         let Monitor {
@@ -103,9 +103,9 @@ impl<B: Body, E: EntryLedger, O: Ledger, H: Keeper> Monitor<B, E, O, H> {
         (monitor, Seat::whole(PARTS, entry_share, over_share))
     }
 
-    /// Takes a ready process out as a task. If the run has ended, returns its end, sets the seat's share of
-    /// overs to 1, and wakes resting threads. Waits while no process is ready and the run has not ended. A
-    /// dropped task leaves its process out for good.
+    /// Takes a ready process out as a task; or, if the run has ended, returns its end, sets the seat's share
+    /// of overs to 1, and wakes resting threads. Waits for one of these. A dropped task leaves its process
+    /// out for good.
     pub fn take<R: Wait>(&self, rt: &R, seat: &mut Seat<E, O>) -> Taken<B>
         ensures task { (t : Input) → result ≡ Taken.Task t → seat.new ≡ seat.old }
         ensures over { (e : EndV) → result ≡ Taken.Over e → seat.new ≡ record seat.old { overs = 1 } }
@@ -128,8 +128,8 @@ impl<B: Body, E: EntryLedger, O: Ledger, H: Keeper> Monitor<B, E, O, H> {
         unreachable!()
     }
 
-    /// Commits an answer and publishes the new entries, holding the lock once. The seat's share grows by
-    /// their number. It may be another seat than the one that took the task.
+    /// Commits an answer and publishes the new entries, holding the lock once. The share of the seat, which
+    /// may be another than took the task, grows by their number.
     ///
     /// Errors: the machine did not ask for this answer. Returns it, and leaves the seat unchanged.
     pub fn commit<R: Wait>(
@@ -156,8 +156,7 @@ impl<B: Body, E: EntryLedger, O: Ledger, H: Keeper> Monitor<B, E, O, H> {
     /// the ready processes.
     ///
     /// The seat's share of entries grows by the number of new entries. Afterwards the hand has a task; or
-    /// none, because no process was ready or `most` is 0; or the run has ended, and the seat's share of overs
-    /// is 1.
+    /// none, because no process was ready or `most` is 0; or the run has ended, and the share of overs is 1.
     ///
     /// Errors: the machine did not ask for an answer. Returns it. The answers before it are committed; those
     /// after it stay in the hand.
@@ -194,12 +193,12 @@ impl<B: Body, E: EntryLedger, O: Ledger, H: Keeper> Monitor<B, E, O, H> {
         answer
     }
 
-    /// Asks ready processes in place, one after the other, and takes each answer like `commit`, until `most`
-    /// answers were taken, no process is ready or the run has ended. Calls the bodies under the lock, so they
-    /// must be quick and wait for nobody: one that waits for another body could wait forever.
+    /// Asks ready processes in place, and takes each answer like `commit`, until `most` answers were taken,
+    /// no process is ready or the run has ended. Calls the bodies under the lock, so they must be quick, and
+    /// must not wait for another body: that could be forever.
     ///
     /// The seat's share of entries grows by the number of new entries. `On` has the number of answers, 1 to
-    /// `most`. If none was taken and the run has ended, the seat's share of overs is 1.
+    /// `most`. Without an answer, if the run has ended, the share of overs is 1.
     pub fn ask_in_place<R: Wait>(&self, rt: &R, seat: &mut Seat<E, O>, most: u64) -> Went
         ensures went { (outcomes : List OutcomeV) × (length outcomes ≡ answers_of result) × (seat.new.entries ≡ seat.old.entries + sum_by entries_appended outcomes) × WentRounds (family B.Kinds.Kinds) B.Kinds.admits E.net outcomes }
         ensures parts { seat.new.parts ≡ seat.old.parts }
@@ -230,10 +229,9 @@ impl<B: Body, E: EntryLedger, O: Ledger, H: Keeper> Monitor<B, E, O, H> {
     /// ever wanted to rest do.
     ///
     /// One resting thread is the lookout, or two if one was idle. It alone wakes after `limit`, and then
-    /// after doubled times, to look whether a process is ready although few answers were committed since its
-    /// last look (none for a while, if as many threads are awake as can run at once). If so, it stops
-    /// resting, and another becomes the lookout. Resting threads wait at another lock than the machine's. No
-    /// contract covers this.
+    /// after doubled times, to see whether a process is ready although few answers were committed since (none
+    /// for a while, if as many threads are awake as can run at once). If so, it stops resting, and another
+    /// becomes the lookout. Resting threads wait at another lock than the machine's. No contract covers this.
     pub fn rest<R: Wait + Clock>(
         &self,
         rt: &R,
@@ -306,7 +304,7 @@ impl<B: Body, E: EntryLedger, O: Ledger, H: Keeper> Monitor<B, E, O, H> {
     }
 
     /// Wakes all resting workers and lets none rest any more: for a run that has ended, or to have the
-    /// workers leave. Waits only for the lock of the resting threads.
+    /// workers leave. Waits only for the resting threads' lock.
     pub fn rouse<R: Wait>(&self, rt: &R) {
         let mut resters = self.resters.lock(rt);
         let some = resters.note_end();
@@ -341,8 +339,8 @@ impl<B: Body, E: EntryLedger, O: Ledger, H: Keeper> Monitor<B, E, O, H> {
         }
     }
 
-    /// Makes a watcher that has seen the history so far, which is a run from the start of the network. Fails
-    /// if 64 watchers were made.
+    /// Makes a watcher that has seen the history so far, which is a run of the network. Fails if 64 watchers
+    /// were made.
     pub fn watch<R: Wait>(&self, rt: &R) -> Result<Watcher, WatchFault>
         ensures board { IfOk result (λ w. w.board ≡ E.board) }
         ensures run { IfOk result (λ w. (M : State) × IsRun (family B.Kinds.Kinds) E.net w.entries M) }
@@ -350,9 +348,8 @@ impl<B: Body, E: EntryLedger, O: Ledger, H: Keeper> Monitor<B, E, O, H> {
         self.state.lock(rt).watch(&self.board)
     }
 
-    /// Updates the watcher to what is published, and returns its numbers. What it saw before is a prefix of
-    /// the history, and all of it if it saw an end. It must be this monitor's. Takes no lock and no memory,
-    /// and never waits.
+    /// Updates this monitor's watcher to what is published, and returns its numbers. What it saw before is a
+    /// prefix of the history, and all of it if it saw an end. Takes no lock and no memory, and never waits.
     pub fn look(&self, watcher: &mut Watcher) -> Progress
         requires { watcher.old.board ≡ E.board }
         ensures board { watcher.new.board ≡ E.board }
@@ -366,8 +363,8 @@ impl<B: Body, E: EntryLedger, O: Ledger, H: Keeper> Monitor<B, E, O, H> {
 
 impl<B: Body, E: EntryLedger, O: Ledger, H: Keeper> Monitor<B, E, O, H> {
     /// Closes the monitor if the seats' shares add up to the books, as they do if the seats have all parts.
-    /// The history is then a run with as many entries as receipts, ended if one of the seats met its end. A
-    /// process may still be out. Never waits.
+    /// The history is a run with as many entries as receipts, ended if a seat met its end. A process may
+    /// still be out. Never waits.
     ///
     /// Errors: the shares do not add up to the books. Returns the monitor and the seats.
     pub fn close(

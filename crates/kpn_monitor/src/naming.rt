@@ -2,8 +2,8 @@
 use std::marker::Brand;
 use std::sync::ledger::Ledger;
 
-/// The ledger of a monitor's entries. Its type also names the monitor's network and board. Calling a function
-/// generic over it with `std::marker::Brand` chooses these names.
+/// The ledger of a monitor's entries; the type also names the network and the board. Calling a generic
+/// function with `std::marker::Brand` chooses these names.
 pub trait EntryLedger: Ledger {
     ghost use Rattle.atomic_table.specs.Seated.{TableId};
     ghost use Rattle.kpn_model.specs.Network.{Network};

@@ -12,7 +12,7 @@ use std::marker::Model;
 use std::sync::ledger::Blank;
 
 /// A fresh machine, with a board and two ledgers that no type names yet. Contracts see the machine, the
-/// board, and the name and parts of each ledger. `H` keeps the machine's entries.
+/// board, and the name and parts of each ledger. `H` keeps the entries.
 #[derive(Drop)]
 pub struct Opening<B: Body, H: Keeper = Wide> {
     machine: Machine<B, H>,

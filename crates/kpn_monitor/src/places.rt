@@ -15,11 +15,11 @@ use std::marker::Model;
 
 pub(crate) const MOST_TASKS: usize = 64;
 
-/// The tasks of a hand, each in its own place, and the answers of those called. `new` takes all memory.
+/// The tasks of a hand, and the answers of those called. `new` takes all memory.
 ///
-/// Answers are given in the order of their tasks. Meanwhile the first places hold tasks that went out again;
-/// then come free places, then tasks with answers not given yet. A task that goes out again stays in its
-/// place unless an earlier one is free.
+/// Answers are given in order. Meanwhile the first places hold tasks that went out again; then come free
+/// places, then tasks with answers not given yet. A task that goes out again stays in its place unless an
+/// earlier one is free.
 #[derive(Drop)]
 pub(crate) struct Places<B: Body> {
     places: Vec<Option<Task<B>>>,
@@ -66,7 +66,7 @@ impl<B: Body> Places<B> {
         self.places.len() - self.given
     }
 
-    /// Calls the first task not called yet, and returns the number of its process; `None` if all were called.
+    /// Calls the first task not called yet, and returns the number of its process.
     #[inline(always)]
     pub(crate) fn call(&mut self) -> Option<usize>
         ensures none { IfNone result ((self.old.called ≡ length self.old.tasks) × (self.new ≡ self.old)) }
@@ -152,9 +152,8 @@ impl<B: Body> Places<B> {
 }
 
 impl<B: Body> Places<B> {
-    /// Commits the first answer and keeps the task as the process's next one, if the process can go out again
-    /// at once: its read or write can be done, and the run continues. Otherwise returns false and changes
-    /// nothing.
+    /// Commits the first answer and keeps the task as the process's next one, if it can go out again at once:
+    /// its read or write can be done, and the run continues. Otherwise returns false.
     #[inline(always)]
     pub(crate) fn stay<H: Keeper>(&mut self, machine: &mut Machine<B, H>) -> bool
         requires called { 0 < self.old.called }
@@ -185,7 +184,7 @@ impl<B: Body> Places<B> {
         self.outcomes.push_reserved(outcome);
     }
 
-    /// Makes the tasks that went out again the next to call, once all answers were given.
+    /// Makes the tasks that went out again the next to call.
     pub(crate) fn settle(&mut self)
         requires { self.old.tasks ≡ [] }
         ensures { self.new ≡ record { again = []; tasks = self.old.again; called = 0; given = 0; outcomes = self.old.outcomes } }

@@ -2,7 +2,7 @@
 
 use std::time::{Duration, Instant};
 
-/// A lookout's rests double up to this many microseconds, but only up to `ALERT_REST` if answers come slowly
+/// A lookout's rests double up to this many microseconds, or up to `ALERT_REST` if answers come slowly
 /// although a processor is free.
 const LONGEST_REST: u64 = 2_000;
 
@@ -13,7 +13,7 @@ const ALERT_REST: u64 = 200;
 const SLOW: u64 = 300;
 
 /// With a process ready, one more thread helps even without a free processor if nothing was committed for
-/// this long, in nanoseconds: the threads awake may be waiting for it.
+/// this many nanoseconds: the threads awake may be waiting for it.
 const STALL: u128 = 1_000_000;
 
 #[derive(Clone, Copy, Debug, PartialEq, Eq)]
@@ -24,8 +24,7 @@ pub enum Rest {
     Spare,
 }
 
-/// Counts of the threads that ever wanted to rest, that rest now and that are lookouts; and whether the run
-/// has ended.
+/// How many threads have ever wanted to rest, rest now, and are lookouts.
 #[derive(Drop)]
 pub(crate) struct Resters {
     known: usize,
@@ -44,8 +43,8 @@ impl Resters {
         }
     }
 
-    /// Counts a thread that wants to rest; `is_new` if for the first time. Returns false if it should not:
-    /// the run has ended, or it is spare and all others rest.
+    /// Counts a thread that wants to rest. Returns false if it should not: the run has ended, or it is spare
+    /// and all others rest.
     pub(crate) fn begin(&mut self, is_new: bool, why: Rest) -> bool {
         if is_new {
             self.known = self.known.saturating_add(1);
@@ -58,8 +57,8 @@ impl Resters {
         true
     }
 
-    /// Whether a thread that rests for this reason should be a lookout: the run has not ended, and there is
-    /// none, or at most one if the thread is idle.
+    /// Whether a resting thread should be a lookout: the run has not ended, and there is none, or at most one
+    /// if it is idle.
     pub(crate) fn want_lookout(&self, why: Rest) -> bool {
         let others = match why {
             Rest::Idle => 1,
@@ -98,7 +97,7 @@ impl Resters {
     }
 }
 
-/// What a lookout sees: whether there is work, and how many answers were committed so far.
+/// What a lookout sees.
 #[derive(Clone, Copy)]
 pub(crate) struct Sighting {
     time: Option<Instant>,
@@ -115,8 +114,8 @@ impl Sighting {
         }
     }
 
-    /// Whether one more thread helps: there is work, and since `earlier` few answers were committed, or,
-    /// without a free processor, none for long.
+    /// Whether one more thread helps: there is work, and few answers since `earlier`, or, without a free
+    /// processor, none for long.
     pub(crate) fn shows_want(&self, earlier: &Sighting, has_processor: bool) -> bool {
         if !self.has_work {
             return false;

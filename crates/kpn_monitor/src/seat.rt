@@ -7,8 +7,8 @@ use crate::naming::EntryLedger;
 use std::marker::Model;
 use std::sync::ledger::{Book, Ledger, Share};
 
-/// A share of each ledger (of entries and of overs), and some of the ledgers' 65,536 parts. It can't be
-/// copied. Contracts see these three numbers.
+/// A share of each ledger (of entries and of overs), and some of their 65,536 parts. It can't be copied.
+/// Contracts see these three numbers.
 #[derive(Drop)]
 pub struct Seat<E: EntryLedger, O: Ledger> {
     parts: u32,
@@ -43,8 +43,8 @@ impl<E: EntryLedger, O: Ledger> Seat<E, O> {
         }
     }
 
-    /// Splits off a seat of one part with empty shares. Returns `None` exactly if only one part is left; then
-    /// nothing changes. Takes no lock.
+    /// Splits off a seat of one part with empty shares; returns `None` exactly if only one part is left.
+    /// Takes no lock.
     pub fn split(&mut self) -> Option<Seat<E, O>>
         ensures { MatchOption result ((self.old.parts ≡ 1) × (self.new ≡ self.old)) (λ s. (s ≡ record { parts = 1; entries = 0; overs = 0 }) × (1 < self.old.parts) × (self.new ≡ record self.old { parts = self.old.parts - 1 })) }
     {

@@ -28,7 +28,7 @@ use std::sync::Wait;
 use std::sync::ledger::Ledger;
 use std::thread::{Threads, for_each_mut};
 
-/// A seat of a run by a crew: one part of each ledger of its monitor. It is lent, so a crew can't lose it.
+/// A seat of a run by a crew: one part of each ledger of its monitor, lent, so that a crew can't lose it.
 #[derive(Drop)]
 pub struct CrewSeat<E: EntryLedger, O: Ledger> {
     seat: Seat<E, O>,
@@ -60,8 +60,8 @@ impl<E: EntryLedger, O: Ledger> CrewSeat<E, O> {
         seat
     }
 
-    /// Takes a process out as a task, or returns the end of the run (`Monitor::take`). Waits while no process
-    /// is ready and the run has not ended. A dropped task leaves its process out for good.
+    /// Takes a process out as a task, or returns the end of the run (`Monitor::take`), whichever comes first.
+    /// A dropped task leaves its process out for good.
     ///
     /// ```text
     /// for _ in self.rt.forever() {
@@ -125,8 +125,8 @@ impl<E: EntryLedger, O: Ledger> CrewSeat<E, O> {
     }
 }
 
-/// What the caller's own threads do. They share a monitor, and its type names the run (`E` and `O`), so the
-/// method is generic over the names.
+/// What the caller's own threads do. The type of their monitor names the run (`E` and `O`), so the method is
+/// generic over the names.
 ///
 /// ```text
 /// impl<'a, R: Wait + Eprint + Sync> Crew<CardBody<Standard>> for Counting<'a, R> {
@@ -148,7 +148,7 @@ impl<E: EntryLedger, O: Ledger> CrewSeat<E, O> {
 /// }
 /// ```
 pub trait Crew<B: Body>: Sync {
-    /// Called once in each thread, with its seat. It may return at the end of the run, or earlier.
+    /// Called once in each thread, with its seat. May return before the end of the run.
     fn work<E: EntryLedger, O: Ledger>(
         &self,
         monitor: &Monitor<B, E, O>,
@@ -157,12 +157,10 @@ pub trait Crew<B: Body>: Sync {
 }
 
 /// Runs a network from its start with `seats` threads that do what `crew` says, and a body for each process,
-/// in order. Each thread has one seat. The calling thread has one too, and does the work of each thread that
-/// can't be started.
+/// in order. The calling thread is one, and does the work of each that can't be started.
 ///
-/// The crew may take tasks, ask bodies and commit answers in any way, pause, and leave before the end. The
-/// history keeps all promises of [`run_watched`](crate::run_watched), under the same clauses (Kahn 1974,
-/// Parks 1995).
+/// The crew may take tasks, ask bodies and commit answers in any way, pause, and leave early. The history
+/// keeps all promises of [`run_watched`](crate::run_watched) (Kahn 1974, Parks 1995).
 ///
 /// Errors: the bodies are not one for each process, with its card (`Bodies`, `Card`): returns the network and
 /// bodies unchanged. Out of memory (`Memory`): returns the network and bodies with the same cards. Nothing

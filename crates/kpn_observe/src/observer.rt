@@ -19,9 +19,9 @@ pub enum Wish {
     Stop,
 }
 
-/// Sees how far a run is, and may stop it. Called by the calling thread before any worker starts; then in its
-/// own thread; and once more when the workers are done. If that thread can't be started, it is called only at
-/// the start and at the end. The workers don't wait for it, but the run does not return before it does.
+/// Sees how far a run is, and may stop it. Called by the calling thread before any worker starts, then in its
+/// own thread (unless that can't be started), and once more when the workers are done. The workers don't wait
+/// for it, but the run returns after it.
 ///
 /// ```text
 /// impl<'a, R: Clock + Sync> Observer for Deadline<'a, R> {
@@ -34,8 +34,8 @@ pub enum Wish {
 /// }
 /// ```
 pub trait Observer: Sync {
-    /// Called with the numbers of entries and of growths, and with whether the run has ended. On `Stop` the
-    /// workers finish what they hold and take nothing more.
+    /// Called with the numbers of entries and growths, and whether the run has ended. On `Stop` the workers
+    /// finish what they hold and take nothing more.
     fn see(&self, progress: Progress) -> Wish;
 }
 

@@ -12,13 +12,13 @@ use kpn_model::{End, Kinds};
 use kpn_report::{Report, places_of, report_of};
 use std::alloc::{AllocError, Global};
 
-/// Returns the report of what a machine left, like `kpn_run::report` of a `Finish`: of a run that was watched
-/// or run by a crew (`WatchedRun::chronicle`), or of a monitor that you closed (`Closed::into_chronicle`).
-/// Returns `None` exactly if the run has no end.
+/// Returns the report of what a machine left, like `kpn_run::report`: of a run that was watched or run by a
+/// crew (`WatchedRun::chronicle`), or of a monitor that you closed (`Closed::into_chronicle`). Returns `None`
+/// exactly if the run has no end.
 ///
-/// It has why the run ended, and the detail if the run is over, which is that of every such run of the
-/// network, with streams below every solution of the network's equations, and the least solution if the run
-/// terminated or deadlocked (Kahn 1974, Parks 1995). Errors: out of memory.
+/// If the run is over, the detail is that of every such run of the network. Its streams are below every
+/// solution of the network's equations, and are the least solution if the run terminated or deadlocked (Kahn
+/// 1974, Parks 1995). Errors: out of memory.
 ///
 /// ```text
 /// let report = chronicle_report(alloc, run.chronicle()).expect(rt, "memory");

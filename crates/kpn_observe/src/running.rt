@@ -68,22 +68,17 @@ pub enum WatchedFault<B: Body> {
 }
 
 /// Runs a network from its start, with 1 to 16 workers and a body for each process, in order, until its end
-/// or until the observer stops it. Calls the observer once per `period`.
+/// or until the observer, called once per `period`, stops it.
 ///
-/// Stopped or not, the run keeps the promises of `kpn_run::run`:
-///
-/// - `closed`: the history is a run with as many entries as receipts, and an end, if any, is justified.
-/// - `budget`: the end is not `Budget` if some run that is over has fewer entries than the budget.
-/// - `within`: no channel ever holds more tokens than its capacity.
-/// - `comparable`: deeds and streams are prefix-comparable with those of any run, from any starting
-///   capacities; so every run that terminates or deadlocks has at least these (Kahn 1974).
-/// - `room`: if capacity b suffices for the network, no channel of capacity b or more grows (Parks 1995).
-/// - `streams`: the streams are below every solution of the network's equations.
+/// Stopped or not, the history is a run with as many entries as receipts, and an end, if any, is justified
+/// (`closed`). The other clauses are those of `kpn_run::run`. So every run that terminates or deadlocks has
+/// at least its deeds and streams (`comparable`; Kahn 1974); and if capacity b suffices for the network, no
+/// channel of capacity b or more grows (`room`; Parks 1995). The streams are below every solution of the
+/// network's equations (`streams`).
 ///
 /// The observer is called before the start, with no entries, then in its own thread, and once more when the
-/// workers are done. No contract says how often. Once it returns `Stop`, each worker finishes what it holds
-/// and takes nothing more. The calling thread is one worker, and does the work of each thread that can't be
-/// started.
+/// workers are done; no contract says how often. Once it returns `Stop`, workers finish what they hold and
+/// take nothing more. The calling thread is one worker, and does the work of each that can't be started.
 ///
 /// Errors: see [`WatchedFault`].
 ///

@@ -10,11 +10,11 @@ use kpn_network::Net;
 use kpn_state::{Keeper, Wide};
 use std::marker::Model;
 
-/// A run that ended, was stopped by its observer or was left by its crew: its machine's network, history,
-/// standings and end, and as many receipts as entries.
+/// A run that ended, was stopped by its observer or was left by its crew: what its machine left, and as many
+/// receipts as entries.
 ///
-/// Each entry is from a commit under the lock, so the history is a run in each case. After an observer's stop
-/// it includes what the workers held; a crew may leave with uncommitted tasks.
+/// The history is a run in each case. After a stop it includes what the workers held; a crew may leave with
+/// uncommitted tasks.
 #[derive(Drop)]
 pub struct WatchedRun<K: Kinds, H: Keeper = Wide> {
     chronicle: Chronicle<K, H>,
@@ -82,8 +82,8 @@ impl<K: Kinds, H: Keeper> WatchedRun<K, H> {
         self.receipts
     }
 
-    /// Returns how the run ended; `None` if it was stopped or left before. The history is a run from the
-    /// start of the network in each case, and an end is justified.
+    /// Returns how the run ended; `None` if it was stopped or left before. The history is a run in each case,
+    /// and an end is justified.
     ///
     /// ```text
     /// if run.end().is_none() {

@@ -6,8 +6,8 @@ use Rattle.kpn_machine.specs.declared.opening.OpenFault.{OpenFault}
 use Rattle.kpn_machine.specs.declared.opening.OpenFault.TheVariants.{Memory}
 use Rattle.kpn_machine.specs.Opening.{IsOpenFault}
 
--- returned are this network and bodies, and the first fault that applies; if out of memory, the bodies may be
--- others with the same cards
+-- this network and these bodies are returned, with the first fault; out of memory, other bodies with the same
+-- cards
 pub record IsHandedBack {B : Type 0} (card : B → Card) (net : Network) (bodies : List B) (same : Network) (back : List B) (fault : OpenFault) : Type 0 where
   pub net_is : same ≡ net
   pub cards_are : map card back ≡ map card bodies

@@ -31,8 +31,8 @@ IsOutcome kinds net cause history detail =
     IsNatural cause → (sizes : ℕ → ℕ) (F : List Entry) (N : State) (b : End) → IsFinal kinds (resized net sizes) F N b → IsNatural b
     → (d : Detail) × (detail ≡ Some d) × HasOutcome kinds net (resized net sizes) history F N d
 
--- in each solution of the network's equations each stream begins with the detail's; if the run terminated or
--- deadlocked, the detail's streams are the least solution
+-- in each solution each stream begins with the detail's; if the run terminated or deadlocked, the detail's
+-- streams are the least solution
 pub record HasLeastStreams (kinds : Family) (net : Network) (cause : End) (d : Detail) : Type 0 where
   pub below : (T : Streams) → Obeys kinds net T → (c : ℕ) → BeginsWith (T c) (get_or d.streams c [])
   pub least : IsNatural cause → IsLeastSolution kinds net (listed d.streams)

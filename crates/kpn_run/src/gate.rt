@@ -14,8 +14,8 @@ pub trait Gate: Sync {
     /// Called with the number of the process before its answer is committed.
     fn before_commit(&self, process: usize);
 
-    /// Whether workers may ask bodies under the lock, without this gate. Only for bodies that wait for
-    /// nobody: one that waits for another under the lock would wait forever.
+    /// Whether workers may ask bodies under the lock, without this gate. Not for bodies that wait for others:
+    /// one under the lock would wait forever.
     fn lets_ask_in_place(&self) -> bool {
         false
     }
@@ -29,8 +29,8 @@ impl Gate for Open {
 }
 
 /// The gate that does nothing, for bodies that wait for nobody. While their calls are short, one worker of
-/// `run` asks them under the lock, which is as fast as no lock. While they are longer, and in `work` always,
-/// it is like `Open`.
+/// `run` asks them under the lock, which is as fast as no lock. Otherwise, and always in `work`, it is like
+/// `Open`.
 pub struct Prompt;
 
 impl Gate for Prompt {

@@ -2,9 +2,9 @@
 use crate::gate::Gate;
 use std::sync::atomic::{AtomicU64, Ordering};
 
-/// A gate that delays the answers of one process until another has passed it a number of times, or until it
-/// has looked a number of times. Tests make rare schedules with it; no schedule changes the result of a run.
-/// It promises only that each call returns.
+/// A gate that delays the answers of one process until another has passed it a number of times, or for a
+/// number of looks. Tests make rare schedules with it; no schedule changes the result. It promises only that
+/// each call returns.
 #[derive(Drop)]
 pub struct Hold {
     process: usize,

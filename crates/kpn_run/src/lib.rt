@@ -1,4 +1,4 @@
-//! Workers over a monitor: runs a network with 1 to 16 of them.
+//! Runs a network with 1 to 16 workers over a monitor.
 //!
 //! ```text
 //! match run(rt, alloc, net, bodies, workers, &Prompt) {

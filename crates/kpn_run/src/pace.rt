@@ -6,7 +6,8 @@ use kpn_monitor::{Next, Rest};
 
 /// The greatest number of tasks in a round.
 const MOST: usize = 64;
-/// If a round's calls take less time than this many of its exchanges, the next round has twice as many tasks.
+/// If a round's calls take less time than this many of its exchanges, the next round may have twice as many
+/// tasks.
 const FEW_EXCHANGES: u64 = 8;
 /// If they take longer than this many, it has half as many.
 const MANY_EXCHANGES: u64 = 16;
@@ -22,10 +23,9 @@ const ALONE_ROUNDS: u32 = 31;
 const MOST_ALONE_ROUNDS: u32 = 1_023;
 /// A worker is spare once the rounds that didn't pay outnumber those that did by this many.
 const PATIENCE: u32 = 8;
-/// A worker starts to ask bodies in place if the calls of a round took less than `SHORT_CALL` on average. It
-/// takes one answer the first time it holds the lock, then up to twice as many each time, at most
-/// `MOST_IN_PLACE`. It stops if they take longer than `LONG_ANSWER` each, including the machine's work, plus
-/// `START`.
+/// A worker starts to ask bodies in place if a round's calls took less than `SHORT_CALL` on average: first
+/// one per holding of the lock, then up to twice as many each time, at most `MOST_IN_PLACE`. It stops if they
+/// take longer than `LONG_ANSWER` each, including the machine's work, plus `START`.
 const SHORT_CALL: u64 = 150;
 
 const MOST_IN_PLACE: u64 = 256;
@@ -36,7 +36,7 @@ const START: u64 = 2_000;
 /// The strain of waiting for the lock to ask in place: another worker is doing so.
 const WAITED: u32 = 2;
 /// A worker without a task looks for one for `LOOKS` times as long as its last calls took, at most for
-/// `LONGEST_LOOK`, before it rests.
+/// `LONGEST_LOOK`, and then rests.
 const LOOKS: u64 = 4;
 
 const LONGEST_LOOK: u64 = 50_000;
@@ -195,7 +195,7 @@ impl Pace {
     }
 
     /// A spare worker that rested is spare again after a few more rounds that don't pay. One that was needed
-    /// although spare does not ask again for a while.
+    /// does not ask again for a while.
     pub(crate) fn rested(&mut self, rested: bool, now: u64) {
         self.looking = 0;
         self.then = now;

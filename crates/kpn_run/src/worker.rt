@@ -49,7 +49,7 @@ impl Stopwatch {
     }
 }
 
-/// Calls the tasks of a hand, calls the gate after each, and exchanges the answers for other tasks, until the
+/// Calls the tasks of a hand and the gate after each, and exchanges the answers for other tasks, until the
 /// run has ended, an answer is refused, or the workers should stop. In between it asks bodies in place, while
 /// the gate lets it and that is quicker. A worker that should stop finishes what it holds, and lets the
 /// others rest no more. Returns the refused answer, if any.
