@@ -52,8 +52,8 @@ AreTaken words = fault_of kpn words ≡ []
 abbrev pub IsChoice : List Text → Choice → Type 0
 IsChoice words choice = AreTaken words × IsChoiceOf (subcommand_of kpn words) choice
 
--- the command line refuses the arguments with this kind of error, or out of memory; or it accepts them, and
--- the text of `--workers` is no number of workers
+-- the command line refuses the arguments with this kind of error, or out of memory; or the text of
+-- `--workers` is no number of workers
 abbrev pub IsWordsFault : List Text → WordsFault → Type 0
 IsWordsFault words (Parser e) = HasKind (fault_of kpn words) e
 IsWordsFault words Workers = AreTaken words × HasRefusedWorkers (subcommand_of kpn words)

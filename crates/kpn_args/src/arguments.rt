@@ -81,7 +81,7 @@ pub enum Choice<'a> {
     },
 }
 
-/// Why the arguments give no choice. Its `Display` is the text for the user, and ends its line.
+/// Why the arguments give no choice. Its `Display` is the text for the user, with a line feed.
 #[derive(Debug, Drop)]
 pub enum WordsFault {
     /// The command line refuses the arguments, they ask for help or the version, or out of memory.
@@ -139,9 +139,9 @@ impl error::Error for WordsFault {}
 
 /// Reads what the arguments ask for. The first is the program's name.
 ///
-/// Errors: `Parser` if the command line refuses the arguments, with clap's kind of error (also for help and
-/// the version), or if out of memory. `Workers` if it accepts them, but the text of `--workers` is not a
-/// number from 1 to `MAX_WORKERS`.
+/// Errors: `Parser`, with clap's kind of error, if the command line refuses the arguments or they ask for
+/// help or the version, or if out of memory. `Workers` if the text of `--workers` is not a number from 1 to
+/// `MAX_WORKERS`.
 pub fn read_words<'a>(alloc: Global, words: &'a [&'a str]) -> Result<Choice<'a>, WordsFault>
     ensures ok { IfOk result (IsChoice (map (λ w. w.now) words.entry.now)) }
     ensures workers { IfOk result HasFewWorkers }

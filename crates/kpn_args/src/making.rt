@@ -1,5 +1,5 @@
-//! Makes a command line one argument or subcommand at a time. An out-of-memory error is passed on to the end,
-//! so the caller checks once.
+//! Makes a command line one argument or subcommand at a time, passing an error on to the end, where the
+//! caller sees it.
 ghost use Rattle.std.specs.Prelude.{◌≡◌, false};
 ghost use Rattle.clap.specs.Words.{App, Rule, rule_of, with_rule, with_subcommand};
 ghost use Rattle.kpn_args.specs.Made.{Makes, MakesLocal};

@@ -51,8 +51,8 @@ pub record TellsLost (workers : ℕ) (status : Status) (text : List ℕ) : Type 
 abbrev pub IsTextOfEveryRun : Family → Network → Option ℕ → List ℕ → Type 0
 IsTextOfEveryRun kinds net channel text = (F : List Entry) (N : State) (b : End) → IsFinal kinds net F N b → text ≡ report_text kinds net b F N channel
 
--- a run from the start ended, and its end is justified; it took no more room than the network needs, and its
--- streams approach the least solution
+-- a run ended, with a justified end; it took no more room than the network needs, and its streams approach
+-- the least solution
 pub record TellsRun (kinds : Family) (net : Network) (channel : Option ℕ) (status : Status) (text : List ℕ) : Type 0 where
   pub history : List Entry
   pub state : State

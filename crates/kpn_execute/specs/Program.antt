@@ -28,7 +28,7 @@ abbrev pub TellsLoaded : Choice → Result Network NetFault → Status → List 
 TellsLoaded choice (Ok net) status text = TellsOf choice net status text
 TellsLoaded choice (Err fault) status text = (status ≡ status_of_fault fault) × (text ≡ refused_line fault)
 
--- the input is loaded, and the choice's text is written; of the input its bytes are known, if at all, and
+-- the input is loaded, and the choice's text is written; known of the input are its bytes, if at all, and
 -- whether a read had failed before and after
 pub record Serves (choice : Choice) (input : Option (List ℕ)) (failed_before failed_after : Bool) (before after : SinkView) (status : ℕ) (fault : Option NetFault) : Type 0 where
   pub loaded : Result Network NetFault

@@ -25,7 +25,6 @@ struct Told {
     text: String,
 }
 
-/// A network to run with 1 to 16 workers, and a body for each process.
 #[derive(Drop)]
 struct RunRequest<B: Body> {
     net: Net<B::Kinds>,
@@ -35,12 +34,12 @@ struct RunRequest<B: Body> {
 
 /// Runs a network with 1 to 16 workers and a body for each process, and writes the report, with the stream of
 /// the channel named by `show`. A single worker is the calling thread, without a lock. Several call the
-/// bodies outside the lock, so a body may wait for another's call.
+/// bodies outside the lock, so a body may wait for another.
 ///
-/// If the run is over, each run of the network that is over has the same text, whatever the schedule. If
-/// capacity b suffices for the network, no channel of capacity b or more grows (Parks 1995;
-/// docs/least-room.md). The streams are below every solution of the network's equations, and are the least
-/// solution if the run terminated or deadlocked (Kahn 1974; docs/least-solution.md).
+/// If the run is over, each run of the network that is over has the same text. If capacity b suffices for the
+/// network, no channel of capacity b or more grows (Parks 1995; docs/least-room.md). The streams are below
+/// every solution of the network's equations, and are the least solution if the run terminated or deadlocked
+/// (Kahn 1974; docs/least-solution.md).
 ///
 /// Returns the exit status:
 ///
@@ -92,7 +91,6 @@ fn channel_to_show<'a, K: Kinds>(
     }
 }
 
-/// Runs a network and writes the report, with the stream of `channel`, if any.
 fn tell<B: Body, S: Sink, R: Wait + Clock + Threads + Sync>(
     rt: &R,
     alloc: Global,
@@ -111,8 +109,7 @@ fn tell<B: Body, S: Sink, R: Wait + Clock + Threads + Sync>(
     }
 }
 
-/// Runs a network in the calling thread. `tell` calls it with bodies that fit, so opening a machine fails
-/// only if out of memory.
+/// `tell` calls it with bodies that fit, so opening a machine fails only if out of memory.
 #[inline(never)]
 fn tell_alone<B: Body, S: Sink>(
     alloc: Global,

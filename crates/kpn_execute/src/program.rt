@@ -23,10 +23,10 @@ use std::thread::Threads;
 pub const KINDS: &str =
     "add, copy, count, divides, merge, prefix, scale, select, sink, switch, take and weave";
 
-/// The exit status, and for a refused description its fault and what is wrong with it and where.
+/// The exit status, and the fault of a refused description and what is wrong with it and where.
 ///
 /// There is no message if the description was accepted, if the fault says all (`Memory` and `Input`), or if
-/// out of memory for the message. Contracts only say that a message isn't empty.
+/// out of memory for it. Contracts only say that a message isn't empty.
 #[derive(Drop)]
 pub struct Served {
     pub status: u8,
@@ -34,8 +34,8 @@ pub struct Served {
     pub message: Option<String>,
 }
 
-/// Does what the arguments ask for; the first is the program's name. Reads a description from the source, and
-/// writes that it is a network (`check`), how its run ended (`run`), or that it is refused.
+/// Does what the arguments ask for; the first is the program's name. Reads a description, and writes that it
+/// is a network (`check`), how its run ended (`run`), or that it is refused.
 ///
 /// The status is 2 if the description is refused (4 if out of memory), and 7 if a write fails; otherwise 0
 /// for `check`, and for `run` that of `execute_standard`.

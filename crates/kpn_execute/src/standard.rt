@@ -1,4 +1,4 @@
-//! Runs networks of standard kinds; the bodies are made here.
+//! Networks of standard kinds.
 ghost use Rattle.std.specs.Prelude.{◌≡◌, ◌<◌, ◌≤◌, All, IsSome, IfOk, IfSome, OnErr, Some, length, option_map, slice_get};
 ghost use Rattle.kpn_standard.specs.Standard.{standard};
 ghost use Rattle.kpn_standard.specs.Signatures.{card_of_kind};
@@ -22,8 +22,7 @@ use std::rt::Clock;
 use std::sync::Wait;
 use std::thread::Threads;
 
-/// Runs a network of standard kinds with 1 to 16 workers, and writes the report, like `execute`. Makes a body
-/// for each process, with its own closure.
+/// Runs a network of standard kinds, like `execute`, and makes a body for each process, with its own closure.
 ///
 /// Returns the exit status of `execute`, or 4 if out of memory for a body (`refused 14`).
 pub fn execute_standard<S: Sink, R: Wait + Clock + Threads + Sync>(
@@ -46,10 +45,10 @@ pub fn execute_standard<S: Sink, R: Wait + Clock + Threads + Sync>(
     }
 }
 
-/// Makes the bodies of a network with these cards and runs it. Errors: out of memory for a body; nothing is
-/// written. Each closure has only the code of its kind, so no call looks up the kind. They are made here,
-/// since no function could return a boxed closure, and no macro can hold their clauses. The network is in an
-/// `Option`, since with a `Net` by value no proof is found of a loop that makes closures.
+/// Errors: out of memory for a body; nothing is written. Each closure has only the code of its kind, so no
+/// call looks up the kind. They are made here, since no function could return a boxed closure, and no macro
+/// can hold their clauses. The network is in an `Option`, since with a `Net` by value no proof is found of a
+/// loop that makes closures.
 fn make_and_execute<S: Sink, R: Wait + Clock + Threads + Sync>(
     rt: &R,
     alloc: Global,

@@ -1,4 +1,4 @@
--- The lines about a description or a run, and the exit status of a refused description.
+-- The lines about a description or a run.
 use Rattle.std.specs.Prelude.{ℕ, codes, decimal, List, ◌++◌, length}
 use Rattle.kpn_sketch.specs.declared.fault.NetFault.{NetFault}
 use Rattle.kpn_sketch.specs.declared.fault.NetFault.TheVariants.{Memory}

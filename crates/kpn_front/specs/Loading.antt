@@ -39,8 +39,7 @@ module _ (change : Sketch → Sketch) (named : List ℕ → Option (ℕ × ℕ))
   abbrev pub IsNetOf : Network → Type 0
   IsNetOf net = IsWhole failed text × ((sketch : Sketch) × Describes text sketch × (first_fault named signature (change sketch) ≡ None) × (net ≡ net_of named (change sketch)))
 
-  -- a read failed or the text is too long; otherwise reading the text has a fault, or the described sketch
-  -- has one
+  -- a read failed, the text is too long or can't be read, or the described sketch has a fault
   abbrev pub IsLoadFault : NetFault → Type 0
   IsLoadFault Memory = failed ≡ false
   IsLoadFault Input = (failed ≡ true) ⊎ (longest < length text)

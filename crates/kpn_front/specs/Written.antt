@@ -10,8 +10,8 @@ pub record SinkView : Type 0 where
   pub contents : Option (List ℕ)
   pub takes : ℕ → Bool
 
--- the text is written, and the number is the status's; or the write fails, which it does not if the sink
--- takes that many bytes, and the number is that of `WriteFailed`
+-- the text is written, with the status's number; or the write fails, but not if the sink takes that many
+-- bytes
 pub record Says (status : Status) (text : List ℕ) (before after : SinkView) (number : ℕ) : Type 0 where
   pub said : number ≢ code_of WriteFailed → (number ≡ code_of status) × Appends before.contents after.contents text
   pub written_if_it_fits : before.takes (length text) ≡ true → number ≢ code_of WriteFailed

@@ -10,8 +10,7 @@ use std::alloc::Global;
 /// The most bytes to read in one call.
 const CHUNK: usize = 4096;
 
-/// The fault of a description, and its text. With `Input` or `Memory` the text may be empty: it was not read
-/// to its end.
+/// The fault of a description, and its text. With `Input` or `Memory` the text may be empty.
 #[derive(Drop)]
 pub struct Refused {
     pub fault: NetFault,
@@ -20,9 +19,8 @@ pub struct Refused {
 
 /// Reads a description to its end, and makes its network. Reads at most 1,048,577 bytes.
 ///
-/// Errors: `Input` if the source has more than 1,048,576 bytes or a read fails, whatever the bytes. Otherwise
-/// the fault that `read_sketch` or `Net::check` finds; or `Memory` if out of memory. The bytes read are
-/// consumed.
+/// Errors: `Input` if the source has more than 1,048,576 bytes or a read fails, whatever the bytes; the fault
+/// that `read_sketch` or `Net::check` finds; or `Memory` if out of memory. The bytes read are consumed.
 pub fn load<K: Kinds, S: Source>(alloc: Global, source: &mut S) -> Result<Net<K>, NetFault>
     ensures loads { S.has_failed source.old ≡ false → IfSome (S.remaining source.old) (λ text. Loads K.named K.signature (S.has_failed source.new) text result) }
     ensures failed { S.has_failed source.old ≡ false → S.has_failed source.new ≡ true → result ≡ Err NetFault.Input }
@@ -32,7 +30,7 @@ pub fn load<K: Kinds, S: Source>(alloc: Global, source: &mut S) -> Result<Net<K>
     load_or_refuse(alloc, source).map_err(|refused| refused.fault)
 }
 
-/// Loads a network like `load`, and returns a refused description's text with its fault.
+/// Loads a network like `load`, and returns a refused description's text, too.
 pub fn load_or_refuse<K: Kinds, S: Source>(alloc: Global, source: &mut S) -> Result<Net<K>, Refused>
     ensures loads { S.has_failed source.old ≡ false → IfSome (S.remaining source.old) (λ text. Loads K.named K.signature (S.has_failed source.new) text (without_text result)) }
     ensures text { IfSome (S.remaining source.old) (λ text. IfErr result (IsTextOf text)) }

@@ -16,8 +16,8 @@ pub trait Source {
 
     ghost has_failed: { Self → Bool };
 
-    /// Reads the next bytes into the front of `buf`, and returns their number, at most the length of `buf`; 0
-    /// only at the end or if `buf` is empty. A read that fails consumes nothing.
+    /// Reads the next bytes into the front of `buf`, and returns their number; 0 only at the end or if `buf`
+    /// is empty. A read that fails consumes nothing.
     fn read(&mut self, buf: &mut [u8]) -> io::Result<usize>
         ensures bound { ReadsAtMost result buf.new }
         ensures bytes { ReadConsumes (remaining self.old) (remaining self.new) result buf.new }
@@ -93,7 +93,7 @@ impl Source for &[u8] {
     }
 }
 
-/// A vector, with bytes written to its end. A write that fits its capacity does not fail.
+/// A vector; writes append to it. One that fits its capacity does not fail.
 impl Sink for Vec<u8> {
     ghost seen = { λ v. record { contents = Some v.items; takes = λ n. nat_le (vec_len v + n) (vec_capacity v) } };
 

@@ -67,7 +67,7 @@ process_look true place = codes ", color=\"#c0392b\", penwidth=2"
 process_look false (Some Stopped) = codes ", fillcolor=\"#e3e3e3\""
 process_look false _ = []
 
--- the number of a port at this end of an edge, if the process has a second one
+-- only if the process has a second port
 abbrev pub port_part : List ℕ → ℕ → Option ℕ → List ℕ
 port_part end port None = []
 port_part end port (Some second) = codes ", " ++ end ++ codes "label=\"" ++ decimal port ++ codes "\""
@@ -91,8 +91,7 @@ kind_text title card = let t = title card.kind in t.0 ++ argument_part t.1 card 
 abbrev pub stays : Channel → Bool
 stays l = l.writer / 8 == l.reader / 8
 
--- the picture has rows if there are more than twelve processes, and more than half of the channels stay in a
--- row
+-- there are rows if there are more than twelve processes, and more than half of the channels stay in a row
 abbrev pub has_rows : Network → Bool
 has_rows net = nat_lt 12 (length net.processes) && nat_lt (length net.channels / 2) (count_by stays net.channels)
 

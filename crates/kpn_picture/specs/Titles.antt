@@ -24,7 +24,7 @@ abbrev pub both_title : (ℕ → List ℕ × ℕ) → (ℕ → List ℕ × ℕ) 
 both_title first second number = (if number % 2 == 0 then first else second) (number / 2)
 
 -- a name means this kind, with this number of arguments; or it is refused, since two joined families have it:
--- no card of the number that it means has ports
+-- no card of its number has ports
 abbrev pub MeansKind : (Card → Option Signature) → Option (ℕ × ℕ) → ℕ × ℕ → Type 0
 MeansKind ports None kind = ⊥
 MeansKind ports (Some meant) kind = (meant ≡ kind) ⊎ ((args : List ℕ) → ports (record { kind = meant.0; args = args }) ≡ None)

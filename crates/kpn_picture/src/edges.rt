@@ -109,7 +109,7 @@ fn look<K: Kinds>(net: &Net<K>, left: &Left<'_>, c: usize) -> &'static str
     edge_look(is_jammed(net, left.places, c), has_grown)
 }
 
-/// Appends the number of a port at an end of an edge, if the process has a second one.
+/// Only if the process has a second port.
 fn push_port(
     out: &mut String,
     end: &str,

@@ -23,7 +23,7 @@ pub(crate) fn rankdir(direction: Direction) -> &'static str
     }
 }
 
-/// Returns the look of an edge: red and bold on a cycle of waits; blue, or with blue text, if it grew.
+/// Red and bold on a cycle of waits; blue, or with blue text, if it grew.
 pub(crate) fn edge_look(is_jammed: bool, has_grown: bool) -> &'static str
     ensures { result.now ≡ edge_look is_jammed has_grown }
 {
@@ -35,7 +35,7 @@ pub(crate) fn edge_look(is_jammed: bool, has_grown: bool) -> &'static str
     }
 }
 
-/// Returns the look of a process: with a red frame on a cycle of waits, grey if it has stopped.
+/// With a red frame on a cycle of waits, grey if it has stopped.
 pub(crate) fn process_look(is_on_cycle: bool, place: Option<Place>) -> &'static str
     ensures { result.now ≡ process_look is_on_cycle place }
 {
@@ -46,7 +46,6 @@ pub(crate) fn process_look(is_on_cycle: bool, place: Option<Place>) -> &'static 
     }
 }
 
-/// Returns the text of a sort; empty for words.
 pub(crate) fn sort_part(sort: Sort) -> &'static str
     ensures { result.now ≡ sort_part sort }
 {

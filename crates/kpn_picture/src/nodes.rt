@@ -15,7 +15,7 @@ use kpn_verdict::{is_on_cycle, place_at};
 use std::alloc::AllocError;
 use std::fmt::Write;
 
-/// Returns how many of a card's arguments are below 0: the argument after those of its title has it.
+/// How many of a card's arguments are below 0: the argument after its title's has it.
 fn below(card: &Card, arity: usize) -> u64
     ensures { result ≡ below card.now arity }
 {

@@ -12,7 +12,7 @@ use kpn_network::Net;
 use std::alloc::{AllocError, Global};
 
 /// How a run left a network: the place of each process, and the last capacity and remaining tokens of each
-/// channel. For what a list lacks, no place is drawn, and a channel as at first.
+/// channel. If a list is too short, no place is drawn, and a channel is drawn as at first.
 #[derive(Clone, Copy)]
 pub struct Left<'a> {
     pub places: &'a [Place],
@@ -44,16 +44,16 @@ fn head(alloc: Global, direction: Direction) -> Result<String, AllocError>
     Ok(out)
 }
 
-/// Returns the picture of a network as a directed graph in the language of Graphviz. A process is a box with
-/// its name and kind. A channel is an edge from its writer to its reader, with its name and whatever is
-/// unusual: a sort of flags, a capacity other than 1, tokens. A port has its number if the process has
-/// several. For a run that ended it shows the verdict and the end, each process's place, and each channel's
-/// growth and tokens; channels on a cycle of waits are red.
+/// Returns the picture of a network as a directed graph in the language of Graphviz: boxes for processes,
+/// with name and kind, and edges for channels, from writer to reader, with name and whatever is unusual: a
+/// sort of flags, a capacity other than 1, tokens. A port has its number if the process has several. For a
+/// run that ended it shows the verdict and the end, each process's place, and each channel's growth and
+/// tokens; channels on a cycle of waits are red.
 ///
-/// If there are more than 12 processes, and most channels stay within a row, the processes are in rows of
-/// eight, in order (in columns, if the direction is down).
+/// More than 12 processes are in rows of eight, in order (in columns, if the direction is down), if most
+/// channels stay within a row.
 ///
-/// Names are quoted and need no escapes, since they have no quote, backslash or line feed (`processes` and
+/// Names are quoted without escapes, since they have no quote, backslash or line feed (`processes` and
 /// `channels`). Errors: out of memory.
 pub fn picture_of<K: Titled>(
     alloc: Global,

@@ -32,7 +32,6 @@ fn staying<K: Kinds>(net: &Net<K>) -> usize
     staying
 }
 
-/// Whether the picture has rows: it has many processes, and most channels stay in a row.
 pub(crate) fn has_rows<K: Kinds>(net: &Net<K>) -> bool
     ensures { result ≡ has_rows net.now }
 {

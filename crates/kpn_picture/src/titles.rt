@@ -12,7 +12,7 @@ use kpn_model::{Card, Kinds};
 use kpn_signals::{Signal, Signals};
 use kpn_standard::{Kind, Standard};
 
-/// A family with titles for its kinds: the name of each in descriptions, and its number of arguments.
+/// A family with titles for its kinds: the name in descriptions, and the number of arguments.
 pub trait Titled: Kinds {
     ghost use Rattle.std.specs.Prelude.{◌≡◌, ℕ, List, IsSome};
     ghost use Rattle.kpn_picture.specs.Titles.{MeansKind, below};
@@ -20,9 +20,9 @@ pub trait Titled: Kinds {
     ghost title: { ℕ → List ℕ × ℕ };
 
     /// Returns the title of a card's kind: its name and its number of arguments. The name means this kind,
-    /// unless each description refuses it because two joined families have it, or the card has one more
-    /// argument, n > 0: then its first n arguments are below 0, and the card has m for the argument -1 - m.
-    /// The card must have a signature.
+    /// unless descriptions refuse it because two joined families have it, or the card has one more argument,
+    /// n > 0: then its first n arguments are below 0, and the card has m for the argument -1 - m. The card
+    /// must have a signature.
     fn title(card: &Card) -> (&'static str, usize)
         requires { IsSome (Self.signature card.now) }
         ensures name { result.0.now ≡ (title card.now.kind).0 }
@@ -82,8 +82,8 @@ fn title_of_kind(kind: Kind) -> (&'static str, usize)
 impl Titled for Signals {
     ghost title = { signals_title };
 
-    /// Returns the title of a card's kind. Its name means this kind if no argument is below 0; kinds with
-    /// arguments below 0 have the names that descriptions use.
+    /// Returns the title of a card's kind. Its name means this kind if no argument is below 0; otherwise it
+    /// is the name that descriptions use.
     fn title(card: &Card) -> (&'static str, usize)
         requires { IsSome (ports card.now) }
         ensures name { result.0.now ≡ (signals_title card.now.kind).0 }

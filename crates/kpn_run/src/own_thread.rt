@@ -16,8 +16,8 @@ pub struct Worked<B: Body, E: EntryLedger, O: Ledger> {
 }
 
 /// Takes a task, calls it, calls the gate and commits the answer, until the run has ended or an answer is
-/// refused. Returns the seat, which has met an end unless an answer was refused, and that answer. May wait
-/// for other workers.
+/// refused. Returns the seat, which has met an end unless an answer was refused, and the refused answer, if
+/// any. May wait for other workers.
 pub fn work<B: Body, E: EntryLedger, O: Ledger, R: Wait, G: Gate>(
     rt: &R,
     monitor: &Monitor<B, E, O>,

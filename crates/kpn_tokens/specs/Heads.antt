@@ -1,4 +1,4 @@
--- What comes before the records of a file: the head of a WAV file, or a row of names.
+-- The head of a file: that of a WAV file, or a row of names.
 use Rattle.std.specs.Prelude.{◌≡◌, ◌<◌, ◌≤◌, ◌+◌, ◌-◌, ◌*◌, ◌%◌, ◌^◌, ◌==◌, ◌&&◌, ◌||◌, ℕ, Bool, true, false, bytes_eq, codes, drop, length, min, nat_le, position, take, if◌then◌else◌, List, [], ◌∷◌, Option, Some, None, Result, Ok, Err}
 use Rattle.std.specs.List.{flat_map}
 use Rattle.std.specs.Str.{is_utf8, trim}
@@ -23,26 +23,26 @@ use Rattle.kpn_tokens.specs.declared.layouts.RecordFault.TheVariants.{NoField}
 use Rattle.kpn_tokens.specs.Rows.{separator_byte}
 use Rattle.kpn_tokens.specs.Samples.{bytes_in}
 
--- the number of n bytes at a place, little-endian; and whether these letters are there
+-- a little-endian number of n bytes; and whether these letters are at a place
 abbrev pub number_at : ℕ → ℕ → List ℕ → ℕ
 number_at n place bytes = little_number n (drop place bytes)
 
 abbrev pub has_letters : List ℕ → ℕ → List ℕ → Bool
 has_letters letters place bytes = bytes_eq (take 4 (drop place bytes)) letters
 
--- a chunk: four letters, its number of bytes, and these, padded to an even number
+-- a chunk: four letters, its number of bytes, and these, padded to even
 abbrev pub chunk_size : ℕ → List ℕ → ℕ
 chunk_size place bytes = number_at 4 (place + 4) bytes
 
 abbrev pub after_chunk : ℕ → List ℕ → ℕ
 after_chunk place bytes = place + 8 + chunk_size place bytes + chunk_size place bytes % 2
 
--- of the chunks from one place on, the first with these letters is at another place
+-- from one place on, the first chunk with these letters is at another
 pub data Finds (bytes letters : List ℕ) : ℕ → ℕ → Type 0 where
   here : {place : ℕ} → place + 8 ≤ length bytes → has_letters letters place bytes ≡ true → Finds bytes letters place place
   later : {place found : ℕ} → place + 8 ≤ length bytes → has_letters letters place bytes ≡ false → Finds bytes letters (after_chunk place bytes) found → Finds bytes letters place found
 
--- a WAV file: after twelve bytes come its chunks; one has the format, and one the samples
+-- a WAV file: its chunks come after twelve bytes; one has the format, and one the samples
 abbrev pub is_wav : List ℕ → Bool
 is_wav bytes = has_letters (codes "RIFF") 0 bytes && has_letters (codes "WAVE") 8 bytes
 
@@ -80,7 +80,7 @@ wav_coding Eight = Signed
 abbrev pub wav_sample : Width → Sample
 wav_sample width = record { width = width; coding = wav_coding width; endian = Little; clips = false }
 
--- how many bytes the samples have; without a number, to the end of the file
+-- how many bytes the samples have; `None`: to the end of the file
 abbrev pub size_told : ℕ → Option ℕ
 size_told n = if (n == 0) || (n == 0xFFFFFFFF) then None else Some n
 
@@ -101,8 +101,8 @@ pub record IsWavHead (bytes : List ℕ) (head : WavHead) : Type 0 where
   pub start : head.start ≡ samples + 8
   pub size : head.size ≡ size_told (chunk_size samples bytes)
 
--- why there is none: the file does not begin like this; it has another format, or none before its samples;
--- these do not begin, and no more bytes come; or they begin too late
+-- why there is none: the file does not begin like this; another format, or none before the samples; these do
+-- not begin, and no more bytes come; or they begin too late
 abbrev pub IsWavFault : List ℕ → Bool → WavFault → Type 0
 IsWavFault bytes last NotWav = is_wav bytes ≡ false
 IsWavFault bytes last NotPcm = (format : ℕ) × FormatAt bytes format × (width_told format bytes ≡ None)
@@ -124,12 +124,12 @@ abbrev pub IsFrameOf : WavHead → ℕ → Frame → Type 0
 IsFrameOf head channel frame =
     (channel < head.channels) × (frame ≡ record { before = channel * bytes_in head.sample.width; sample = head.sample; after = (head.channels - 1 - channel) * bytes_in head.sample.width })
 
--- how many bytes the frames have, at most 2 ^ 32 - 1, which also stands for an unknown number
+-- how many bytes the frames have; at most 2 ^ 32 - 1, also for an unknown number
 abbrev pub body_size : Option ℕ → ℕ → ℕ
 body_size None block = 2 ^ 32 - 1
 body_size (Some frames) block = min (frames * block) (2 ^ 32 - 1)
 
--- a number of a head as little-endian bytes; and four letters as a number
+-- a number as little-endian bytes; and four letters as a number
 abbrev pub number_bytes : HeadNumber → List ℕ
 number_bytes (Short n) = little_bytes 2 n
 number_bytes (Long n) = little_bytes 4 n

@@ -28,7 +28,7 @@ is_hexadecimal text = (slice_index text 0 == 48) && ((slice_index text 1 == 120)
 abbrev pub are_digits : ℕ → List ℕ → Bool
 are_digits base text = list_any (is_digit base) text && list_all (λ b. is_digit base b || is_underscore b) text
 
--- the number of digits in this base, `after` of them after a point, in units of 10 ^ -places
+-- digits in this base, `after` of them after a point, in units of 10 ^ -places
 abbrev pub digits_said : ℕ → ℕ → List ℕ → ℕ → Result ℕ RecordFault
 digits_said places base digits after =
     if not (are_digits base digits) then Err NotAWord
@@ -36,7 +36,7 @@ digits_said places base digits after =
     else if nat_lt places after then Err TooPrecise
     else Ok (digits_value base digits * 10 ^ (places - after))
 
--- the number of a text without a sign, in units of 10 ^ -places; a hexadecimal one is a word itself
+-- a text without a sign, in units of 10 ^ -places; a hexadecimal number is the word itself
 abbrev pub number_said : ℕ → List ℕ → Result ℕ RecordFault
 number_said places text =
     if is_hexadecimal text then digits_said 0 16 (drop 2 text) 0
@@ -71,7 +71,7 @@ last_digits (suc k) n = last_digits k (n / 10) ++ (48 + n % 10) ∷ []
 abbrev pub units_text : ℕ → ℕ → List ℕ
 units_text places n = if places == 0 then decimal n else decimal (n / 10 ^ places) ++ codes "." ++ last_digits places n
 
--- from 2 ^ 63 on a word is a number below zero, unless words are unsigned
+-- from 2 ^ 63 on a word is below zero, unless words are unsigned
 abbrev pub is_below_zero : Decimals → ℕ → Bool
 is_below_zero decimals n = not decimals.is_unsigned && nat_le (2 ^ 63) n
 

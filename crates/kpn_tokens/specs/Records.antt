@@ -29,7 +29,7 @@ rest (Lines decimals) text = after_first is_line_feed text
 rest (Fields column) text = after_first is_line_feed text
 rest (Frames frame) text = drop (frame_size frame) text
 
--- the first column of a line, up to a comment and to a comma, without surrounding blanks
+-- the first column, up to a comment and to a comma, without surrounding blanks
 abbrev pub cell : List ℕ → List ℕ
 cell line = trim (before_first (λ b. b == 44) (before_first (λ b. b == 35) line))
 
@@ -54,7 +54,7 @@ abbrev pub listed : Option Token → List Token
 listed None = []
 listed (Some token) = token ∷ []
 
--- the records of a text have these tokens, in order; the last line needs no line feed
+-- the records of a text have these tokens; the last line needs no line feed
 pub data Say (layout : Layout) (sort : Sort) : List ℕ → List Token → Type 0 where
   nothing : {text : List ℕ} → length text ≡ 0 → Say layout sort text []
   next : {text : List ℕ} {tokens : List Token} (said : Option Token) → 0 < length text → record_said layout sort (first layout text) ≡ Ok said
@@ -66,7 +66,7 @@ pub data Begin (layout : Layout) (sort : Sort) : List ℕ → List Token → Typ
   more : {text : List ℕ} {tokens : List Token} (said : Option Token) → 0 < length text → record_said layout sort (first layout text) ≡ Ok said
       → Begin layout sort (rest layout text) tokens → Begin layout sort text (listed said ++ tokens)
 
--- the first record of a text with a fault, counted from 1, and the fault
+-- the first record with a fault, counted from 1, and the fault
 pub data Fails (layout : Layout) (sort : Sort) : List ℕ → ℕ → RecordFault → Type 0 where
   here : {text : List ℕ} {fault : RecordFault} → 0 < length text → record_said layout sort (first layout text) ≡ Err fault → Fails layout sort text 1 fault
   later : {text : List ℕ} {number : ℕ} {fault : RecordFault} (said : Option Token) → 0 < length text → record_said layout sort (first layout text) ≡ Ok said
@@ -81,7 +81,7 @@ IsEnded (Frames frame) text = frame_size frame ≤ length text
 abbrev pub IsWhole : Layout → List ℕ → Bool → Type 0
 IsWhole layout text last = (last ≡ true) ⊎ IsEnded layout text
 
--- where the first record ends, and how many bytes it uses with its line feed
+-- where the first record ends, without and with its line feed
 pub record IsCut (layout : Layout) (text : List ℕ) (last : Bool) (cut : Cut) : Type 0 where
   pub ends : cut.length ≡ length (first layout text)
   pub taken : take cut.length text ≡ first layout text
@@ -105,7 +105,6 @@ fits (Frames frame) token = has_sample frame.sample token
 abbrev pub misfits : Layout → List Token → ℕ
 misfits layout tokens = count_by (λ token. not (fits layout token)) tokens
 
--- a token that does not fit may be written as the nearest that does
 abbrev pub clips : Layout → Bool
 clips (Lines decimals) = false
 clips (Fields column) = false
@@ -126,7 +125,7 @@ AllFit layout sort (token ∷ tokens) = IsOf sort token × (fits layout token �
 abbrev pub ReadsBack : Layout → Type 0
 ReadsBack layout = (sort : Sort) (tokens : List Token) → AllFit layout sort tokens → Say layout sort (flat_map (record_text layout) tokens) tokens
 
--- the token at this place is the first that does not fit, and those before it were appended
+-- the token at this place is the first that does not fit; those before it were appended
 pub record IsRefused (layout : Layout) (old new : List ℕ) (tokens : List Token) (place : ℕ) : Type 0 where
   pub unclipped : clips layout ≡ false
   pub first_misfit : position (λ token. not (fits layout token)) tokens ≡ Some place

@@ -32,7 +32,7 @@ separator_byte Tab = 9
 abbrev pub config_of : Separator → Config
 config_of separator = record default_config { delimiter = separator_byte separator }
 
--- the rows of a line: none if it is blank, otherwise one, unless a carriage return within it ends a row
+-- the rows of a line: none if it is blank, more than one if a carriage return within it ends a row
 abbrev pub rows_of : Separator → List ℕ → List (List (List ℕ))
 rows_of separator line = records (config_of separator) (strip_bom (line ++ 10 ∷ []))
 

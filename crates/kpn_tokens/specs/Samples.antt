@@ -16,7 +16,7 @@ use Rattle.kpn_tokens.specs.declared.layouts.Width.TheVariants.{One, Two, Three,
 use Rattle.kpn_tokens.specs.declared.layouts.RecordFault.{RecordFault}
 use Rattle.kpn_tokens.specs.declared.layouts.RecordFault.TheVariants.{NotAFlag, CutShort}
 
--- how many bytes a sample has, and how many numbers of that width there are, or half as many
+-- how many bytes a sample has, how many numbers of that width there are, and half of these
 abbrev pub bytes_in : Width → ℕ
 bytes_in One = 1
 bytes_in Two = 2
@@ -39,8 +39,7 @@ abbrev pub bytes_of : Endian → ℕ → ℕ → List ℕ
 bytes_of Little n x = little_bytes n x
 bytes_of Big n x = big_bytes n x
 
--- the word for a number: itself; in two's complement, less all numbers if its first bit is set; or less half
--- of them
+-- the word for a number: itself; two's complement; or offset by half of all numbers
 abbrev pub word_from : Coding → Width → ℕ → ℕ
 word_from Unsigned width n = n
 word_from Signed width n = if nat_lt n (half_of width) then n else n + (2 ^ 64 - numbers_of width)
@@ -58,7 +57,7 @@ is_fit Unsigned width word = nat_lt word (numbers_of width)
 is_fit Signed width word = nat_lt word (half_of width) || nat_le (2 ^ 64 - half_of width) word
 is_fit Offset width word = nat_lt word (half_of width) || nat_le (2 ^ 64 - half_of width) word
 
--- the nearest word with a number; one from 2 ^ 63 on that does not fit is a number below zero
+-- the nearest word with a number; one from 2 ^ 63 on that does not fit is below zero
 abbrev pub least : Coding → Width → ℕ
 least Unsigned width = 0
 least Signed width = 2 ^ 64 - half_of width

@@ -14,7 +14,7 @@ use Rattle.kpn_tokens.specs.Records.{AllFit, Say}
 use Rattle.kpn_tokens.specs.Rows.{cells_text}
 use Rattle.kpn_tokens.specs.Samples.{bytes_in, channel_text}
 
--- a row: a line of fields, empty for an absent token; or a frame of samples, 0 for an absent token
+-- a line of fields, empty for an absent token; or a frame of samples, 0 for an absent token
 abbrev pub row_text : Table → List Cell → List ℕ
 row_text (Rows separator) cells = cells_text separator cells ++ codes "\n"
 row_text (Samples sample) cells = flat_map (λ cell. channel_text sample cell.token) cells
@@ -48,7 +48,7 @@ cell_at place column = record { decimals = column.decimals; token = slice_get co
 abbrev pub below : ColumnView → ColumnView
 below column = record { decimals = column.decimals; tokens = drop 1 column.tokens }
 
--- the first n rows of columns; the token is absent where a column has none
+-- the first n rows; a token is absent where a column has none
 abbrev pub rows : ℕ → List ColumnView → List (List Cell)
 rows zero columns = []
 rows (suc n) columns = map first_cell columns ∷ rows n (map below columns)

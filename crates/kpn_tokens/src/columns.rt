@@ -22,8 +22,8 @@ impl TokenColumn<'_> {
     }
 }
 
-/// Appends columns side by side, with as many rows as the longest has tokens, and no token where a column has
-/// none (see [`append_row`]).
+/// Appends columns side by side, as many rows as the longest has tokens, and no token where a column has none
+/// (see [`append_row`]).
 ///
 /// Errors: out of memory. Some rows may have been appended.
 pub fn append_table(

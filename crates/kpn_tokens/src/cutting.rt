@@ -6,8 +6,8 @@ ghost use Rattle.kpn_tokens.specs.Rows.{is_line_feed};
 
 use crate::layouts::{Cut, Layout};
 
-/// Returns where the first record ends, if it is complete. With `is_last` it need not be: a line then needs
-/// no line feed, and a frame that ends early is a fault when read.
+/// Returns where the first record ends, if it is complete. With `is_last` it need not be: a line needs no
+/// line feed, and reading finds the fault of a frame that ends early.
 pub fn record_in(layout: Layout, bytes: &[u8], is_last: bool) -> Option<Cut>
     ensures cut { IfSome result (IsCut layout bytes.now is_last) }
     ensures none { IfNone result ((first layout bytes.now ≡ bytes.now) × (is_last ≡ true → bytes.now ≡ [])) }

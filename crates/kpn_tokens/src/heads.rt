@@ -1,4 +1,4 @@
-//! What comes before the records of a file: the head of a WAV file, or a row of names.
+//! The head of a file: that of a WAV file, or a row of names.
 ghost use Rattle.std.specs.Prelude.{◌≡◌, ◌<◌, ◌≤◌, ◌+◌, ◌*◌, ◌^◌, ◌++◌, ◌⊎◌, ℕ, true, false, None, Some, IfNone, IfSome, MatchOption, MatchResult, OnOk, length};
 ghost use Rattle.std.specs.List.{flat_map};
 ghost use Rattle.kpn_tokens.specs.Heads.{Finds, IsFrameOf, IsWavResult, after_chunk, body_size, chunk_size, has_letters, if_filled, is_pcm, is_wav, number_at, number_bytes, size_told, wav_sample, wav_text, width_of, width_told};
@@ -27,9 +27,9 @@ enum HeadNumber {
     Long(u32),
 }
 
-/// What a WAV file says before its samples: its number of channels, its samples per second for each channel,
-/// and how a sample is written; how many bytes come before the samples; and how many bytes the samples have.
-/// Without that number they extend to the end of the file.
+/// What a WAV file says before its samples: how many channels it has, samples per second of each, how a
+/// sample is written, where the samples start, and how many bytes they have; without that number they extend
+/// to the end of the file.
 #[derive(Clone, Copy, Debug, PartialEq, Eq)]
 pub struct WavHead {
     pub channels: u16,
@@ -54,8 +54,8 @@ pub enum WavFault {
     TooLong,
 }
 
-/// Returns the head of a WAV file from its first bytes; `None` if they do not reach its samples and more
-/// bytes may come.
+/// Returns the head of a WAV file from its first bytes; `None` if its samples are not reached and more bytes
+/// may come.
 ///
 /// Errors: see [`WavFault`].
 pub fn wav_head(bytes: &[u8], is_last: bool) -> Result<Option<WavHead>, WavFault>
@@ -101,7 +101,6 @@ fn is_wav(bytes: &[u8]) -> bool
     has_letters(bytes, 0, b"RIFF") && has_letters(bytes, 8, b"WAVE")
 }
 
-/// Returns the place of the first chunk with these letters.
 fn chunk_in(bytes: &[u8], letters: &[u8]) -> Option<usize>
     ensures { MatchOption result ((found : ℕ) → Finds bytes.now letters.now 12 found → ⊥) (λ found. Finds bytes.now letters.now 12 found × (found + 8 ≤ length bytes.now)) }
 {
@@ -130,7 +129,6 @@ fn chunk_size(bytes: &[u8], place: usize) -> usize
     LittleEndian::read_u32(&bytes[place + 4..]) as usize
 }
 
-/// Returns the place of the next chunk.
 fn after_chunk(bytes: &[u8], place: usize) -> usize
     requires { place + 8 ≤ length bytes.now }
     ensures { result ≡ after_chunk place bytes.now }
@@ -146,7 +144,6 @@ fn short_at(bytes: &[u8], place: usize) -> u16
     LittleEndian::read_u16(&bytes[place..])
 }
 
-/// Returns the sample width of a format, if it is PCM.
 fn width_told(bytes: &[u8], format: usize) -> Option<Width>
     requires { format + 8 + chunk_size format bytes.now ≤ length bytes.now }
     ensures { result ≡ width_told format bytes.now }
@@ -160,7 +157,6 @@ fn width_told(bytes: &[u8], format: usize) -> Option<Width>
     }
 }
 
-/// Whether a format is PCM, or its extensible form.
 fn is_pcm(bytes: &[u8], format: usize) -> bool
     requires whole { format + 8 + chunk_size format bytes.now ≤ length bytes.now }
     requires long { 16 ≤ chunk_size format bytes.now }
@@ -173,7 +169,7 @@ fn is_pcm(bytes: &[u8], format: usize) -> bool
     tag == 0xFFFE && chunk_size(bytes, format) >= 26 && short_at(bytes, format + 32) == 1
 }
 
-/// Returns the width if a frame has exactly one sample of it for each channel.
+/// The width, if a frame has exactly one sample of it for each channel.
 fn if_filled(bytes: &[u8], format: usize, width: Width) -> Option<Width>
     requires { format + 24 ≤ length bytes.now }
     ensures { result ≡ if_filled format bytes.now (Some width) }
@@ -186,7 +182,7 @@ fn if_filled(bytes: &[u8], format: usize, width: Width) -> Option<Width>
     }
 }
 
-/// Returns the width of a sample with this number of bits, if such WAV files can be read.
+/// The width of a sample of this many bits, if such files can be read.
 fn width_of(bits: u16) -> Option<Width>
     ensures { result ≡ width_of bits }
 {
@@ -218,7 +214,6 @@ fn head_of(bytes: &[u8], format: usize, samples: usize, width: Width) -> WavHead
     }
 }
 
-/// Returns how many bytes the samples have, if the file says so.
 fn size_told(size: u32) -> Option<u32>
     ensures { result ≡ size_told size }
 {
@@ -245,8 +240,7 @@ pub fn wav_sample(width: Width) -> Sample
 }
 
 impl WavHead {
-    /// Returns the frames in which a channel has its samples; `None` if there is no such channel, or if a
-    /// frame is too long.
+    /// Returns the frames of a channel; `None` if there is no such channel, or if a frame is too long.
     pub fn frame(&self, channel: u16) -> Option<Frame>
         ensures some { IfSome result (IsFrameOf self.now channel) }
         ensures none { IfNone result (channel < self.now.channels → 2 ^ 16 ≤ self.now.channels * bytes_in self.now.sample.width) }
@@ -268,7 +262,7 @@ impl WavHead {
     }
 }
 
-/// Appends the head of a WAV file with this number of channels, samples of this width, and `rate` frames per
+/// Appends the head of a WAV file with `channels` channels, samples of this width and `rate` frames per
 /// second. `frames` frames follow it, or any number if `None`, and one more byte if their bytes are odd.
 ///
 /// Errors: out of memory. Some bytes may have been appended.
@@ -303,7 +297,7 @@ pub fn append_wav_head(
     )
 }
 
-/// Returns how many bytes the frames have, at most 2^32 - 1, which also stands for an unknown number.
+/// How many bytes the frames have; at most 2^32 - 1, also for an unknown number.
 fn body_size(frames: Option<u32>, block: u64) -> u64
     requires { block < 2 ^ 20 }
     ensures size { result ≡ body_size frames block }

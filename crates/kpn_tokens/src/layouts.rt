@@ -5,10 +5,10 @@ ghost use Rattle.kpn_tokens.specs.Samples.{bytes_in, frame_size};
 
 use kpn_model::Token;
 
-/// How to cut the body of a file into records, and how a record writes a token.
+/// How to cut the body of a file into records, and how they write tokens.
 #[derive(Clone, Copy, Debug, PartialEq, Eq)]
 pub enum Layout {
-    /// A token per line, in its first column: up to `#`, which begins a comment, and to the first comma.
+    /// A token per line, in its first column: before `#`, which begins a comment, and the first comma.
     Lines(Decimals),
     /// A token per line, in one of its fields.
     Fields(Column),
@@ -16,7 +16,7 @@ pub enum Layout {
     Frames(Frame),
 }
 
-/// How a word is written in decimal digits: in units of 10^-`digits`. With two digits, `21.37` is the word
+/// How a word is written in decimal digits, in units of 10^-`digits`: with two digits, `21.37` is the word
 /// 2137. A word from 2^63 on is written as a number below zero unless words are unsigned.
 #[derive(Clone, Copy, Debug, PartialEq, Eq)]
 pub struct Decimals {
@@ -55,8 +55,8 @@ pub struct Frame {
     pub after: u16,
 }
 
-/// How a word is written in bytes. One that does not fit is a fault, or written as the nearest if the sample
-/// clips.
+/// How a word is written in bytes. If it does not fit, that is a fault, or the nearest is written if the
+/// sample clips.
 #[derive(Clone, Copy, Debug, PartialEq, Eq)]
 pub struct Sample {
     pub width: Width,
@@ -76,7 +76,7 @@ pub enum Width {
 }
 
 /// Which words numbers of this width represent: themselves; two's complement; or offset by half of all
-/// numbers, so that half stands for 0, as in WAV files of 8 bits.
+/// numbers, as in WAV files of 8 bits.
 #[derive(Clone, Copy, Debug, PartialEq, Eq)]
 pub enum Coding {
     Unsigned,

@@ -1,7 +1,7 @@
 //! Tokens in files: lines of text, a column of a CSV file, and samples.
 //!
-//! A [`Layout`] says how to cut a file into records, each with one token or none, and how a record writes a
-//! token. A head may come before the records: of a WAV file, or a row of names.
+//! A [`Layout`] says how to cut a file into records, each with one token or none, and how they write tokens.
+//! A head may come before the records: of a WAV file, or a row of names.
 #![tactic(auto)]
 
 mod appending;

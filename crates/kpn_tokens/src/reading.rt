@@ -15,8 +15,8 @@ use std::alloc::Global;
 /// The most tokens of a file.
 pub const MOST_TOKENS: usize = 1000000;
 
-/// Why a file has no tokens: a fault of the record of this number, counted from 1; more than 1,000,000
-/// tokens; or out of memory.
+/// Why a file has no tokens: the fault of a record, with its number from 1; more than 1,000,000 tokens; or
+/// out of memory.
 #[derive(Clone, Copy, Debug, PartialEq, Eq)]
 pub enum TokensFault {
     Record { number: usize, fault: RecordFault },
@@ -24,8 +24,7 @@ pub enum TokensFault {
     Memory,
 }
 
-/// Returns the tokens of a file, reading each record like [`token_of_record`]. The last line needs no line
-/// feed.
+/// Returns the tokens of a file, each record read like [`token_of_record`]. The last line needs no line feed.
 ///
 /// Errors: see [`TokensFault`]. Of faulty records it is the first.
 pub fn read_tokens(
@@ -82,7 +81,6 @@ fn token_at(
     }
 }
 
-/// Returns the first record of a file, without its line feed, and what follows.
 fn first_record(layout: Layout, bytes: &[u8]) -> (&[u8], &[u8])
     requires { 0 < length bytes.now }
     ensures first { result.0.now ≡ first layout bytes.now }

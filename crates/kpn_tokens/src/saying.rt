@@ -18,10 +18,10 @@ use std::str;
 /// Returns the token of a record, given without its line feed; `None` if it has none, like a blank line; or
 /// what is wrong with it. Only a line of fields takes memory.
 ///
-/// A line has its token in its first column: before `#`, which begins a comment, and before the first comma,
-/// without surrounding blanks. A number is decimal, or hexadecimal after `0x` or `0X`, with or without a
-/// sign, from -2^63 to 2^64 - 1. A flag is `true` or `false`. Its frame describes a sample; a flag is 0 or 1.
-/// A byte order mark before a line is ignored.
+/// A line has its token in its first column, before `#`, which begins a comment, and the first comma, without
+/// surrounding blanks. A number is decimal, or hexadecimal after `0x` or `0X`, with or without a sign, from
+/// -2^63 to 2^64 - 1. A flag is `true` or `false`; as a sample, 1 or 0. A byte order mark before a line is
+/// ignored.
 ///
 /// Errors: out of memory.
 pub fn token_of_record(
@@ -40,7 +40,7 @@ pub fn token_of_record(
     }
 }
 
-/// A line: how many bytes it has without its line feed, and what it says.
+/// A line: its bytes without the line feed, and what it says.
 #[derive(Clone, Copy, Debug)]
 pub struct Line {
     pub length: usize,
@@ -85,7 +85,6 @@ fn any_line_in(decimals: Decimals, sort: Sort, bytes: &[u8]) -> Option<Line>
     }
 }
 
-/// Returns a text without a byte order mark before it.
 fn without_mark(text: &[u8]) -> &[u8]
     ensures { result.now ≡ strip_bom text.now }
 {
@@ -112,14 +111,13 @@ fn said_by_line(decimals: Decimals, sort: Sort, line: &[u8]) -> Result<Option<To
     token_in(decimals, sort, cell)
 }
 
-/// Returns the first column of a line, without surrounding blanks.
+/// The first column, without surrounding blanks.
 fn cell_of(line: &str) -> &str
     ensures { result.now ≡ cell line.now }
 {
     before(before(line, '#'), ',').trim()
 }
 
-/// Returns the text before an ASCII character, or all of it.
 fn before(text: &str, mark: char) -> &str
     requires { mark < 128 }
     ensures { result.now ≡ before_first (λ b. b == mark) text.now }

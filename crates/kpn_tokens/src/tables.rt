@@ -36,8 +36,8 @@ impl Table {
     }
 }
 
-/// Appends a row with a cell for each channel: a line of texts, with an empty field for an absent token; or a
-/// frame of samples, with 0 for an absent token, and the nearest for a token without a sample.
+/// Appends a row with a cell for each channel: a line of texts, empty for an absent token; or a frame of
+/// samples, 0 for an absent token, and the nearest for one without a sample.
 ///
 /// Errors: out of memory. Some cells may have been appended.
 pub fn append_row(out: &mut Vec<u8>, table: Table, cells: &[Cell]) -> Result<(), AllocError>
@@ -84,7 +84,6 @@ fn append_samples(out: &mut Vec<u8>, sample: &Sample, cells: &[Cell]) -> Result<
     Ok(())
 }
 
-/// Returns the word for a token; 0 if there is none.
 fn word_of_channel(token: Option<Token>) -> u64
     ensures { result ≡ channel_word token }
 {

@@ -6,28 +6,27 @@ ghost use Rattle.kpn_tokens.specs.WordLines.{IsNumberLine, IsWordLine};
 /// The most digits to read; each number of this many fits 64 bits.
 const MOST_DIGITS: usize = 18;
 
-/// How many digits a text begins with, and their number.
 #[derive(Clone, Copy, Debug, PartialEq, Eq)]
 struct Digits {
     count: usize,
     number: u64,
 }
 
-/// A line of a number: its bytes without the line feed, and the number.
+/// The line's bytes without the line feed, and its number.
 #[derive(Clone, Copy, Debug, PartialEq, Eq)]
 struct NumberLine {
     length: usize,
     number: u64,
 }
 
-/// A line of a word: its bytes without the line feed, and the word.
+/// The line's bytes without the line feed, and its word.
 #[derive(Clone, Copy, Debug, PartialEq, Eq)]
 pub(crate) struct WordLine {
     pub(crate) length: usize,
     pub(crate) word: u64,
 }
 
-/// Returns the first line of a text, if it is a word of at most 18 digits, with or without a minus.
+/// The first line, if it is a word of at most 18 digits, with or without a minus.
 #[inline(always)]
 pub(crate) fn word_line_in(text: &[u8]) -> Option<WordLine>
     ensures { IfSome result (λ line. IsWordLine text.now line.length line.word) }

@@ -1,5 +1,5 @@
-//! What the end of a run says of the network: that it finished, ran dry, or waits in a cycle; and which
-//! process waits for which.
+//! What the end of a run says of the network: finished, ran dry, or waits in a cycle; and which process waits
+//! for which.
 #![tactic(auto)]
 
 mod text;

@@ -9,9 +9,9 @@ use kpn_network::names::{channel_name, process_name};
 use std::alloc::{AllocError, Global};
 use std::fmt::Write;
 
-/// Returns the line of a verdict on a run that left the processes in `places`, like `verdict ran dry`. A
-/// cycle has its processes and channels in the direction of the tokens: in `verdict cycle ad c2 cp c1`, `cp`
-/// waits at `c2` for `ad`, and `ad` at `c1` for `cp`.
+/// Returns the line of a verdict, like `verdict ran dry`, on a run that left the processes in `places`. A
+/// cycle is in the direction of the tokens: in `verdict cycle ad c2 cp c1`, `cp` waits at `c2` for `ad`, and
+/// `ad` at `c1` for `cp`.
 ///
 /// Errors: out of memory.
 pub fn verdict_text<K: Kinds>(
@@ -61,7 +61,7 @@ fn push_cycle<K: Kinds>(
     push_circle(out, net, places, net.processes(), process, process)
 }
 
-/// Appends the cycle on which a process waits for `goal`, of at most `most` processes.
+/// The cycle on which a process waits for `goal`, of at most `most` processes.
 fn push_circle<K: Kinds>(
     out: &mut String,
     net: &Net<K>,
@@ -85,7 +85,6 @@ fn push_circle<K: Kinds>(
     }
 }
 
-/// Appends a process, and the channel at which another waits for it.
 fn push_wait<K: Kinds>(
     out: &mut String,
     net: &Net<K>,

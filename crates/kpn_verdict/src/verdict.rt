@@ -7,8 +7,8 @@ use crate::waits::is_on_cycle;
 use kpn_model::{End, Kinds, Place, Verdict};
 use kpn_network::Net;
 
-/// Returns what the end of a run says of the network, given each process's place, in order, as from
-/// `places_of` of `kpn_report`.
+/// Returns what the end of a run says of the network, given each process's place, in order (`places_of` of
+/// `kpn_report`).
 pub fn verdict_of<K: Kinds>(net: &Net<K>, places: &[Place], end: End) -> Verdict
     ensures { IsVerdict net.now places.now end result }
 {
@@ -30,7 +30,6 @@ fn verdict_of_deadlock<K: Kinds>(net: &Net<K>, places: &[Place]) -> Verdict
     }
 }
 
-/// Returns the lowest-numbered process that waits for itself, directly or indirectly.
 fn first_on_cycle<K: Kinds>(net: &Net<K>, places: &[Place]) -> Option<usize>
     ensures some { IfSome result (IsFirstOnCycle net.now places.now) }
     ensures none { result ≡ None → HasNoCycle net.now places.now }

@@ -1,4 +1,4 @@
-//! Which process waits for which after a run, and the cycles of these waits.
+//! Which process waits for which, and the cycles of these waits.
 ghost use Rattle.std.specs.Prelude.{◌≡◌, ◌<◌, false, length, slice_get};
 ghost use Rattle.std.specs.Option.{option_map_or};
 ghost use Rattle.kpn_model.specs.Waits.{other_end, waits_for, is_met, is_on_cycle, stands_at_read, stands_at_write, is_jammed};
@@ -74,8 +74,8 @@ fn stands_at_write(place: Option<Place>, c: usize) -> bool
     }
 }
 
-/// Returns whether a process on a cycle of waits waits at this channel: its reader for a token, or its writer
-/// for room. No process of such a cycle continues unless a channel grows.
+/// Returns whether a process on a cycle of waits waits at this channel, for a token or for room. No process
+/// of such a cycle continues unless a channel grows.
 pub fn is_jammed<K: Kinds>(net: &Net<K>, places: &[Place], c: usize) -> bool
     requires { c < length net.now.channels }
     ensures { result ≡ is_jammed net.now places.now c }
