@@ -140,8 +140,8 @@ impl error::Error for WordsFault {}
 /// Reads what the arguments ask for. The first is the program's name.
 ///
 /// Errors: `Parser`, with clap's kind of error, if the command line refuses the arguments or they ask for
-/// help or the version, or if out of memory. `Workers` if the text of `--workers` is not a number from 1 to
-/// `MAX_WORKERS`.
+/// help or the version, or if out of memory. Otherwise `Workers`, if the text of `--workers` is not a number
+/// from 1 to `MAX_WORKERS`.
 pub fn read_words<'a>(alloc: Global, words: &'a [&'a str]) -> Result<Choice<'a>, WordsFault>
     ensures ok { IfOk result (IsChoice (map (λ w. w.now) words.entry.now)) }
     ensures workers { IfOk result HasFewWorkers }

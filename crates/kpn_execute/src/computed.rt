@@ -12,8 +12,8 @@ use std::rt::Clock;
 use std::sync::Wait;
 use std::thread::Threads;
 
-/// Runs a network of a family with a plain function for its answers, like `execute`, and makes a body for
-/// each process.
+/// Runs a network of a family with a plain function for its answers, with 1 to 16 workers, like `execute`,
+/// and makes a body for each process.
 ///
 /// Returns the exit status of `execute`, or 4 if out of memory for the bodies (`refused 14`).
 pub fn execute_net<K: Computes, S: Sink, R: Wait + Clock + Threads + Sync>(

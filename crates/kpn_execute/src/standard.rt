@@ -22,7 +22,8 @@ use std::rt::Clock;
 use std::sync::Wait;
 use std::thread::Threads;
 
-/// Runs a network of standard kinds, like `execute`, and makes a body for each process, with its own closure.
+/// Runs a network of standard kinds with 1 to 16 workers, like `execute`, and makes a body for each process,
+/// with its own closure.
 ///
 /// Returns the exit status of `execute`, or 4 if out of memory for a body (`refused 14`).
 pub fn execute_standard<S: Sink, R: Wait + Clock + Threads + Sync>(

@@ -2,7 +2,7 @@
 ghost use Rattle.std.specs.Prelude.{◌≡◌, ◌+◌};
 ghost use Rattle.std.specs.Io.Iter.{u64_saturate};
 
-/// The entries and the growths since a flow was opened; each number stays at `u64::MAX` once it is there.
+/// The numbers of entries and growths since a flow was opened; each stays at `u64::MAX` once it is there.
 #[derive(Clone, Copy, Debug, PartialEq, Eq)]
 pub struct Counts {
     pub entries: u64,

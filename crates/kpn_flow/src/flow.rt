@@ -76,7 +76,7 @@ impl<B: Body> Model for Flow<B> {
     ghost invariant = { λ m. IsFlowing (family B.Kinds.Kinds) B.Kinds.admits (flow_view m.net m.core.store.state m.core.standings m.inputs.items m.unended.items m.outputs.items m.counts) (map (option_map B.card) m.bodies.items) m.core.store.limit × AreWaiting m.net m.core.store.state m.core.standings m.core.waiting };
 }
 
-/// Why a flow was not opened. Returns the network and the bodies.
+/// Why a flow was not opened, with the network and the bodies.
 #[derive(Drop)]
 pub struct FlowRefused<B: Body> {
     pub net: Net<B::Kinds>,

@@ -124,7 +124,8 @@ impl<B: Body, E: EntryLedger, O: Ledger, H: Keeper> Guarded<B, E, O, H> {
         }
     }
 
-    /// Returns `None` if no process is ready, or if the run has ended and the book of overs is full.
+    /// Takes a task, or meets the end of the run. Returns `None` if no process is ready, or if the book of
+    /// overs is full.
     pub(crate) fn take(&mut self, seat: &mut Seat<E, O>) -> Option<Taken<B>>
         ensures none { IfNone result ((seat.new ≡ seat.old) × (self.new ≡ self.old)) }
         ensures nothing { IfNone result (FoundNothing (family B.Kinds.Kinds) B.Kinds.admits E.net) }

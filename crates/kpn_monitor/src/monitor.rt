@@ -129,7 +129,7 @@ impl<B: Body, E: EntryLedger, O: Ledger, H: Keeper> Monitor<B, E, O, H> {
     }
 
     /// Commits an answer and publishes the new entries, holding the lock once. The share of the seat, which
-    /// may be another than took the task, grows by their number.
+    /// need not be the one that took the task, grows by their number.
     ///
     /// Errors: the machine did not ask for this answer. Returns it, and leaves the seat unchanged.
     pub fn commit<R: Wait>(

@@ -16,6 +16,7 @@ const SLOW: u64 = 300;
 /// this many nanoseconds: the threads awake may be waiting for it.
 const STALL: u128 = 1_000_000;
 
+/// Why a thread rests.
 #[derive(Clone, Copy, Debug, PartialEq, Eq)]
 pub enum Rest {
     /// It found nothing to do.

@@ -83,7 +83,7 @@ impl<E: EntryLedger, O: Ledger> CrewSeat<E, O> {
         monitor.take(rt, &mut self.seat)
     }
 
-    /// Commits an answer (`Monitor::commit`). It may be another seat than the one that took the task.
+    /// Commits an answer (`Monitor::commit`). The seat need not be the one that took the task.
     ///
     /// Errors: the machine did not ask for this answer. Returns it, and leaves the seat unchanged.
     ///

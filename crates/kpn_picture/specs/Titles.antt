@@ -15,7 +15,7 @@ standard_title number = option_map_or (λ kind. ((row_of kind).name, (row_of kin
 abbrev pub signals_title : ℕ → List ℕ × ℕ
 signals_title number = option_map_or called_by (signal_numbered number) ([], 0)
 
--- how many of a card's arguments, from the first on, are below 0: the argument after the title's has it
+-- the argument after those of a card's title: how many of these, from the first on, are below 0
 abbrev pub below : Card → ℕ → ℕ
 below card arity = if nat_lt arity 3 then at card.args arity else 0
 

@@ -109,7 +109,7 @@ fn look<K: Kinds>(net: &Net<K>, left: &Left<'_>, c: usize) -> &'static str
     edge_look(is_jammed(net, left.places, c), has_grown)
 }
 
-/// Only if the process has a second port.
+/// Does nothing unless the process has a second port.
 fn push_port(
     out: &mut String,
     end: &str,

@@ -15,7 +15,7 @@ use kpn_verdict::{is_on_cycle, place_at};
 use std::alloc::AllocError;
 use std::fmt::Write;
 
-/// How many of a card's arguments are below 0: the argument after its title's has it.
+/// Returns the argument after those of a card's title: how many of these are below 0.
 fn below(card: &Card, arity: usize) -> u64
     ensures { result ≡ below card.now arity }
 {

@@ -11,7 +11,7 @@ use crate::samples::{append_sample, is_word_fit, word_of_token};
 use kpn_model::Token;
 use std::alloc::AllocError;
 
-/// Why tokens were not written: the token at this place, from 0, has no sample; or out of memory.
+/// Why tokens were not written: the token at this place, counted from 0, has no sample; or out of memory.
 #[derive(Clone, Copy, Debug, PartialEq, Eq)]
 pub enum AppendFault {
     DoesNotFit { place: usize },
@@ -31,7 +31,7 @@ impl From<AllocError> for AppendFault {
 /// Appends each token as a record for [`read_tokens`](crate::read_tokens). Returns how many did not fit and
 /// were written as the nearest that does.
 ///
-/// Errors: see [`AppendFault`]. The tokens before one that does not fit have been appended; out of memory,
+/// Errors: see [`AppendFault`]. The tokens before one that does not fit have been appended. If out of memory,
 /// some may have been.
 pub fn append_tokens(
     out: &mut Vec<u8>,
@@ -58,7 +58,7 @@ pub fn append_tokens(
 
 /// Counts the tokens that do not fit a layout, if the nearest may be written.
 ///
-/// Errors: the nearest may not be written. Returns the place of the first that does not fit, from 0.
+/// Errors: the nearest may not be written. Returns the place of the first that does not fit, counted from 0.
 pub fn count_misfits(layout: Layout, tokens: &[Token]) -> Result<usize, usize>
     ensures clipped { IfOk result (λ n. n ≡ misfits layout tokens.now) }
     ensures unclipped { clips layout ≡ false → IfOk result (λ n. n ≡ 0) }

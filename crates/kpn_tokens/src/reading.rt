@@ -15,8 +15,8 @@ use std::alloc::Global;
 /// The most tokens of a file.
 pub const MOST_TOKENS: usize = 1000000;
 
-/// Why a file has no tokens: the fault of a record, with its number from 1; more than 1,000,000 tokens; or
-/// out of memory.
+/// Why a file has no tokens: the fault of a record, with its number, counted from 1; more than 1,000,000
+/// tokens; or out of memory.
 #[derive(Clone, Copy, Debug, PartialEq, Eq)]
 pub enum TokensFault {
     Record { number: usize, fault: RecordFault },
